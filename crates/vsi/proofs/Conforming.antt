@@ -6,12 +6,12 @@ use Rattle.vsi_lattice.specs.declared.lattice.Lattice.{Lattice}
 use Rattle.vsi_conform.specs.Conforms.{Conforms, IsUnbounded}
 use Rattle.vsi_conform.specs.declared.interface.Interface.{Interface}
 use Rattle.vsi_conform.specs.declared.reader.Asked.{Asked}
-use Rattle.vsi.specs.declared.stop.Stop.{Stop}
+use Rattle.vsi.specs.declared.failure.Failure.{Failure}
 use Rattle.vsi.specs.Holding.{Holding}
 use Rattle.vsi.specs.Performed.{IsAskedAt, IsVerdict}
-use Rattle.vsi.specs.Refusals.{NoOther, StopsBy}
+use Rattle.vsi.specs.Refusals.{NoOther, FailsBy}
 use Rattle.vsi.specs.Reasons.{RefusesAsked, RefusesPolicy}
-use Rattle.vsi.proofs.Reasons.{stops_by}
+use Rattle.vsi.proofs.Reasons.{fails_by}
 
 -- A Boolean that is true exactly if a text conforms, where no line is about its bound, gives its verdict.
 pub is_verdict : (conforms : Bool) (line : Option (Vec ℕ)) (l : Lattice) (source : List ℕ) (i : Interface) →
@@ -22,14 +22,14 @@ is_verdict false None l source i is exact unbounded = λ conforms. false≢true 
 is_verdict false (Some line) l source i is exact unbounded = unbounded
 
 -- An interface whose lattice is refused has no answer.
-pub refuses_asked : (old new : Holding) (path : List ℕ) (asked : Asked) (other : Stop → Type 0) → new ≡ old →
-    IsAskedAt old path asked → (stop : Stop) → StopsBy (RefusesPolicy new path asked.policy) NoOther stop →
-    StopsBy (RefusesAsked old path) other stop
-refuses_asked old new path asked other same is stop told =
-    stops_by (RefusesPolicy new path asked.policy) (RefusesAsked old path) other
+pub refuses_asked : (old new : Holding) (path : List ℕ) (asked : Asked) (other : Failure → Type 0) → new ≡ old →
+    IsAskedAt old path asked → (failure : Failure) → FailsBy (RefusesPolicy new path asked.policy) NoOther failure →
+    FailsBy (RefusesAsked old path) other failure
+refuses_asked old new path asked other same is failure told =
+    fails_by (RefusesPolicy new path asked.policy) (RefusesAsked old path) other
     (λ reason refused. record {
       asked = asked;
       interface = is;
       refused = subst (λ h. RefusesPolicy h path asked.policy reason) same refused;
     })
-    stop told
+    failure told

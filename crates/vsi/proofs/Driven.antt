@@ -6,7 +6,7 @@ use Rattle.std.proofs.Math.Seq.{take-append_seam}
 use Rattle.std.proofs.lemmas.Bool.{eq-eqb, le-ltb, lt-ltb, ne_eqb}
 use Rattle.std.proofs.KnownBytes.{Appends-trans, Consumes-all, Consumes-trans}
 use Rattle.std.proofs.lemmas.Result.{on_ok_weaker}
-use Rattle.vsi.specs.declared.stop.Stop.{Stop}
+use Rattle.vsi.specs.declared.failure.Failure.{Failure}
 use Rattle.vsi_drive.specs.Control.{Control}
 use Rattle.vsi_drive.specs.Cycles.{cycle, store_behind, text_of}
 use Rattle.vsi.specs.Driven.{Drives, DrivesInput, begun, grown, last_line, whole_lines}
@@ -114,7 +114,7 @@ grown_long line byte long = ap (λ b. if b then line else line ++ byte ∷ []) (
 
 -- Where the input is at its end, the controller has been driven by all of it.
 pub driven_whole : {T : Type 0} (c : Control) (m mid words : List ℤ) (bytes cur line : List ℕ)
-    (first rest last old between new : Option (List ℕ)) (result : Result T Stop) → Consumes first rest bytes →
+    (first rest last old between new : Option (List ℕ)) (result : Result T Failure) → Consumes first rest bytes →
     Consumes rest last [] → IsAtEnd last → cur ≡ begun [] bytes →
     Drives c m mid (whole_lines [] bytes) old between → line ≡ cur →
     OnOk result (Drives c mid words (last_line line) between new) → OnOk result (DrivesInput c m words first old new)

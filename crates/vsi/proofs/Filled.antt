@@ -2,21 +2,21 @@
 use Rattle.std.proofs.Common.{◌≡◌, ℕ, List, Result, Ok, Err, subst}
 use Rattle.std.specs.Prelude.{◌≢◌, ◌<◌, Option, IfErr, IfOk, OnOk}
 use Rattle.std.specs.Borrow.{Bor}
-use Rattle.vsi.specs.declared.stop.Stop.{Stop}
-use Rattle.vsi.specs.Stops.{status_of}
+use Rattle.vsi.specs.declared.failure.Failure.{Failure}
+use Rattle.vsi.specs.Failures.{status_of}
 use Rattle.vsi.specs.Holding.{Delivers, Holding}
 
 -- A deed that fills no file leaves the files as they were.
-pub alone : {T : Type 0} (A : Type 0) (result : Result T Stop) (left holds : Holding) → left ≡ holds → OnOk result A →
+pub alone : {T : Type 0} (A : Type 0) (result : Result T Failure) (left holds : Holding) → left ≡ holds → OnOk result A →
     OnOk result ((left ≡ holds) × A)
 alone A (Ok x) left holds same does = (same, does)
-alone A (Err stop) left holds same does = tt
+alone A (Err failure) left holds same does = tt
 
 -- Two properties of one result hold together.
-pub both_done : {T : Type 0} (A B : Type 0) (result : Result T Stop) → OnOk result A → OnOk result B → OnOk result
+pub both_done : {T : Type 0} (A B : Type 0) (result : Result T Failure) → OnOk result A → OnOk result B → OnOk result
     (A × B)
 both_done A B (Ok x) a b = (a, b)
-both_done A B (Err stop) a b = tt
+both_done A B (Err failure) a b = tt
 
 -- A text has been put into the requested file, by files that held the same before.
 pub delivered_of : (out : Option (Bor (List ℕ))) (text same : List ℕ) (old before new : Holding) → text ≡ same →
@@ -24,9 +24,9 @@ pub delivered_of : (out : Option (Bor (List ℕ))) (text same : List ℕ) (old b
 delivered_of out text same old before new is kept done =
     subst (λ h. Delivers out same h new) kept (subst (λ t. Delivers out t old new) is done)
 
--- A property of the files after an answer that stops early holds if the status says that it has.
-pub unfilled_at : {T : Type 0} (A : Type 0) (answer : Result T Stop) (status : ℕ) →
-    IfErr answer (λ stop. status_of stop < 4 → A) → IfOk answer (λ x. status ≡ 0) →
-    IfErr answer (λ stop. status ≡ status_of stop) → status ≢ 0 → status < 4 → A
-unfilled_at A (Ok x) status so done stopped some early = absurd (some done)
-unfilled_at A (Err stop) status so done stopped some early = so (subst (λ n. n < 4) stopped early)
+-- A property of the files after an answer that fails early holds if the status says that it has.
+pub unfilled_at : {T : Type 0} (A : Type 0) (answer : Result T Failure) (status : ℕ) →
+    IfErr answer (λ failure. status_of failure < 4 → A) → IfOk answer (λ x. status ≡ 0) →
+    IfErr answer (λ failure. status ≡ status_of failure) → status ≢ 0 → status < 4 → A
+unfilled_at A (Ok x) status so done failed some early = absurd (some done)
+unfilled_at A (Err failure) status so done failed some early = so (subst (λ n. n < 4) failed early)

@@ -1,4 +1,4 @@
--- The content of the store's file after a drive that stops.
+-- The content of the store's file after a drive that fails.
 use Rattle.std.proofs.Common.{◌≡◌, ◌≢◌, ◌-◌, ◌∙◌, ℕ, ℤ, List, Some, None, inl, inr, refl, sym, subst}
 use Rattle.std.specs.Prelude.{Option}
 use Rattle.std.specs.Borrow.{Bor}

@@ -1,4 +1,4 @@
--- The output that requests leave if they stop.
+-- The output that requests leave if they fail.
 use Rattle.std.proofs.Common.{◌≡◌, ◌+◌, ◌-◌, ◌≤◌, ◌<◌, ◌⊎◌, ◌++◌, ◌∙◌, ℕ, ℤ, List, [], Bool, true, false, Option, Some, Result, Ok, Err, inl, inr, refl, sym, ap, subst, arith}
 use Rattle.std.specs.Prelude.{◌≢◌, IfOk, IfErr}
 use Rattle.std.specs.Global.{Vec}
@@ -17,18 +17,18 @@ use Rattle.vsi_devices.proofs.Traces.{trace_rest}
 use Rattle.vsi_arguments.specs.declared.request.Driving.{Driving}
 use Rattle.vsi_arguments.specs.declared.request.Execution.{Execution}
 use Rattle.vsi_arguments.specs.declared.request.Judging.{Judging}
-use Rattle.vsi_arguments.specs.declared.request.Outset.{Outset}
+use Rattle.vsi_arguments.specs.declared.request.InitialStore.{InitialStore}
 use Rattle.vsi_arguments.specs.declared.request.Request.{Request}
 use Rattle.vsi_arguments.specs.declared.request.Request.TheVariants as request
-use Rattle.vsi.specs.declared.stop.Stop.{Stop}
-use Rattle.vsi.specs.declared.stop.Stop.TheVariants.{Memory}
+use Rattle.vsi.specs.declared.failure.Failure.{Failure}
+use Rattle.vsi.specs.declared.failure.Failure.TheVariants.{Memory}
 use Rattle.vsi.specs.Admitted.{IsAdmitted}
 use Rattle.vsi.specs.Holding.{Holding, IsImageAt}
 use Rattle.vsi.specs.Partly.{AnswersCheck, AnswersDrive, AnswersRun, DrivenText, Leaves, Partly, WritesPart, cut_from}
 use Rattle.vsi.specs.Files.{BeginsAt, IsBudgetOf, IsStoredAt, LooksAt, OfFiles, shown}
 use Rattle.vsi.specs.Performed.{ToldJson, control_of, judgement_of}
 use Rattle.vsi.specs.Reasons.{ToldRefusal}
-use Rattle.vsi.specs.Stops.{status_of}
+use Rattle.vsi.specs.Failures.{status_of}
 use Rattle.vsi.proofs.Partly.{Partly-weaker, spent_leaf, whole_part}
 
 -- The line of JSON of a text is an answer of `check --json`, whether it accepts the text or not.
@@ -68,17 +68,17 @@ cut_within (request.Lattice arguments) = omega arith
 cut_within (request.Lsp serving) = omega arith
 cut_within (request.Explain page) = omega arith
 
--- Where the explanation of a stop has found no memory, the same is left.
+-- Where the explanation of a failure has found no memory, the same is left.
 pub leaves_memory : (Kind : List ℕ → Type 0) (asked : Request) (old new : Option (List ℕ)) →
     Partly Kind old new → Leaves Kind (cut_from asked) old new Memory
 leaves_memory Kind asked old new part =
     record { partly = part; silent = λ other below. absurd (omega (arith, below, cut_within asked)) }
 
--- If the status isn't 0, the output is left as a stopped answer leaves it.
-pub partly_at : {T : Type 0} (A : Type 0) (answer : Result T Stop) (status : ℕ) → IfErr answer (λ stop. A) →
+-- If the status isn't 0, the output is left as a failed answer leaves it.
+pub partly_at : {T : Type 0} (A : Type 0) (answer : Result T Failure) (status : ℕ) → IfErr answer (λ failure. A) →
     IfOk answer (λ x. status ≡ 0) → status ≢ 0 → A
 partly_at A (Ok x) status so done some = absurd (some done)
-partly_at A (Err stop) status so done some = so
+partly_at A (Err failure) status so done some = so
 
 -- ---- runs.
 
@@ -98,7 +98,7 @@ steps_part true code budget s old new (k, within, written) = steps_text code k b
 steps_part false code budget s old new (k, within, written) = whole_part [] old new written
 
 -- A run that has ended has written its trace.
-pub traced_part : (holds : Holding) (e : Execution) (o : Outset) (traced : Bool) (image : Image) (words given : List ℤ)
+pub traced_part : (holds : Holding) (e : Execution) (o : InitialStore) (traced : Bool) (image : Image) (words given : List ℤ)
     (budget : ℕ) (told : Option (List ℕ)) (trace : List ℕ) (old new : Option (List ℕ)) →
     IsBudgetOf e.budget image budget → BeginsAt holds e o image given → words ≡ given →
     RunsApart traced image words budget told trace → Appends old new trace →
@@ -118,7 +118,7 @@ traced_part holds e o traced image words given budget told trace old new within 
     )
 
 -- Where it has halted, a part of the text of the store has been written after it.
-pub shown_part : (holds : Holding) (e : Execution) (o : Outset) (traced : Bool) (image : Image) (words given : List ℤ)
+pub shown_part : (holds : Holding) (e : Execution) (o : InitialStore) (traced : Bool) (image : Image) (words given : List ℤ)
     (budget : ℕ) (text delivered trace : List ℕ) (old mid new : Option (List ℕ)) →
     IsBudgetOf e.budget image budget → BeginsAt holds e o image given → words ≡ given →
     RunsApart traced image words budget (Some text) trace → Appends old mid trace → delivered ≡ text →
@@ -144,7 +144,7 @@ shown_part holds e o traced image words given budget text delivered trace old mi
           (subst (λ t. WritesPart (shown o.out t) mid new) is part),
     )
 
--- The output of a call that only writes, if it has stopped.
+-- The output of a call that only writes, if it has failed.
 written_part : (text : List ℕ) (old new : Option (List ℕ)) (Steps : Type 0) (error : EngineError) →
     IsOfWriting error → (error ≡ engine.WriteFault → WritesPart text old new) → (error ≡ engine.Memory → Steps) →
     (Steps → WritesPart text old new) → WritesPart text old new
@@ -157,7 +157,7 @@ written_part text old new Steps (engine.Store e) only write memory f = absurd on
 written_part text old new Steps engine.Memory only write memory f = f (memory refl)
 
 -- A run that is cut short has written a part of its trace.
-pub cut_part : (holds : Holding) (e : Execution) (o : Outset) (traced : Bool) (image : Image) (words given : List ℤ)
+pub cut_part : (holds : Holding) (e : Execution) (o : InitialStore) (traced : Bool) (image : Image) (words given : List ℤ)
     (budget : ℕ) (error : EngineError) (old new : Option (List ℕ)) → IsBudgetOf e.budget image budget →
     BeginsAt holds e o image given → words ≡ given → IsOfWriting error →
     (error ≡ engine.WriteFault → WritesPart (trace_of traced image.code.items budget (start image words)) old new) →
@@ -180,18 +180,18 @@ cut_part holds e o traced image words given budget error old new within begins s
           memory (steps_part traced image.code.items budget (start image words) old new),
     )
 
--- A call that only writes stops no earlier than with a fault.
-pub device_leaf : (Kind : List ℕ → Type 0) (error : EngineError) (old new : Option (List ℕ)) (stop : Stop) →
-    IsOfWriting error → (error ≡ engine.WriteFault → status_of stop ≡ 4) → (error ≡ engine.Memory → stop ≡ Memory) →
-    Partly Kind old new → Leaves Kind 3 old new stop
-device_leaf Kind engine.ReadFault old new stop only write memory part = absurd only
-device_leaf Kind engine.WriteFault old new stop only write memory part =
-    let four = write refl in spent_leaf Kind old new stop (omega (arith, four)) part
-device_leaf Kind (engine.Compile e) old new stop only write memory part = absurd only
-device_leaf Kind (engine.Decode e) old new stop only write memory part = absurd only
-device_leaf Kind (engine.Verify e) old new stop only write memory part = absurd only
-device_leaf Kind (engine.Store e) old new stop only write memory part = absurd only
-device_leaf Kind engine.Memory old new stop only write memory part =
+-- A call that only writes fails no earlier than with a fault.
+pub device_leaf : (Kind : List ℕ → Type 0) (error : EngineError) (old new : Option (List ℕ)) (failure : Failure) →
+    IsOfWriting error → (error ≡ engine.WriteFault → status_of failure ≡ 4) → (error ≡ engine.Memory → failure ≡ Memory) →
+    Partly Kind old new → Leaves Kind 3 old new failure
+device_leaf Kind engine.ReadFault old new failure only write memory part = absurd only
+device_leaf Kind engine.WriteFault old new failure only write memory part =
+    let four = write refl in spent_leaf Kind old new failure (omega (arith, four)) part
+device_leaf Kind (engine.Compile e) old new failure only write memory part = absurd only
+device_leaf Kind (engine.Decode e) old new failure only write memory part = absurd only
+device_leaf Kind (engine.Verify e) old new failure only write memory part = absurd only
+device_leaf Kind (engine.Store e) old new failure only write memory part = absurd only
+device_leaf Kind engine.Memory old new failure only write memory part =
     subst (Leaves Kind 3 old new) (sym (memory refl)) (spent_leaf Kind old new Memory (omega arith) part)
 
 -- ---- controllers.

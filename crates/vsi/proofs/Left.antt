@@ -25,7 +25,7 @@ use Rattle.vsi_answers.proofs.Agreement as answers
 use Rattle.vsi_answers.proofs.Views.{same_fields, view_moved}
 use Rattle.vsi_arguments.specs.declared.request.Compilation.{Compilation}
 use Rattle.vsi_arguments.specs.declared.request.Execution.{Execution}
-use Rattle.vsi_arguments.specs.declared.request.Outset.{Outset}
+use Rattle.vsi_arguments.specs.declared.request.InitialStore.{InitialStore}
 use Rattle.vsi_arguments.specs.declared.request.Request.{Request}
 use Rattle.vsi_arguments.specs.declared.request.Request.TheVariants.{Build, View}
 use Rattle.vsi_asked.specs.Asked.{AsksFor, given}
@@ -53,7 +53,7 @@ record Leaves (holds : Holding) (path image : List ℕ) (left : Holding) : Type 
   others : KeepsOthers image holds left
 
 -- A class has been shown a text, of a run that begins so, within some budget.
-record Sees (holds : Holding) (path class : List ℕ) (e : Execution) (o : Outset) (text : Vec ℕ) : Type 0 where
+record Sees (holds : Holding) (path class : List ℕ) (e : Execution) (o : InitialStore) (text : Vec ℕ) : Type 0 where
   lattice : Lattice
   viewer : ℕ
   looks : LooksAt holds path class lattice viewer
@@ -136,7 +136,7 @@ image_left holds left path image held asked leaves im tells same at =
     at.are
 
 -- If the stores agree, two texts of the left files that a class has been shown are equal.
-left_alike : (holds left : Holding) (path image class policy held : List ℕ) (e₁ e₂ : Execution) (o₁ o₂ : Outset)
+left_alike : (holds left : Holding) (path image class policy held : List ℕ) (e₁ e₂ : Execution) (o₁ o₂ : InitialStore)
     (t₁ t₂ : Vec ℕ) → Leaves holds path image left → path ≢ image → left path ≡ Some policy →
     left image ≡ Some held → e₁.image.now ≡ image → e₂.image.now ≡ image →
     BeginAlike left path class e₁ o₁ e₂ o₂ → Sees left path class e₁ o₁ t₁ → Sees left path class e₂ o₂ t₂ →
@@ -204,7 +204,7 @@ leaves_of holds c d i j left old new same done =
     }
 
 -- A run begins with the words that one of the same paths and settings begins with.
-begins_of : (holds : Holding) (l m x y : Bor (List ℕ)) (e f : Execution) (o p : Outset) (im : Image)
+begins_of : (holds : Holding) (l m x y : Bor (List ℕ)) (e f : Execution) (o p : InitialStore) (im : Image)
     (words : List ℤ) → SameView l m x y e f o p → BeginsAt holds f p im words → BeginsAt holds e o im words
 begins_of holds l m x y e f o p im words same at = record {
   image = subst (λ n. IsImageAt holds n im) same.image at.image;
@@ -216,14 +216,14 @@ begins_of holds l m x y e f o p im words same at = record {
 }
 
 -- A view that the arguments request sees a run, and shows it.
-record Shown (holds : Holding) (path class : List ℕ) (e : Execution) (o : Outset) (left : Holding)
+record Shown (holds : Holding) (path class : List ℕ) (e : Execution) (o : InitialStore) (left : Holding)
     (old new : Option (List ℕ)) : Type 0 where
   text : Vec ℕ
   sees : Sees holds path class e o text
   shows : Shows holds o text.items left old new
 
 -- It is the one that has been performed.
-shown_of : (holds : Holding) (l m x y : Bor (List ℕ)) (e f : Execution) (o p : Outset) (left : Holding)
+shown_of : (holds : Holding) (l m x y : Bor (List ℕ)) (e f : Execution) (o p : InitialStore) (left : Holding)
     (old new : Option (List ℕ)) → SameView l m x y e f o p → PerformsView holds m.now y.now f p left old new →
     Shown holds l.now x.now e o left old new
 shown_of holds l m x y e f o p left old new same done =
@@ -247,7 +247,7 @@ shown_of holds l m x y e f o p left old new same done =
       };
     }
 
--- A build that the arguments request without help leaves an image if they are obeyed to the end.
+-- A build that the arguments request without help leaves an image if they are carried out to the end.
 build_done : (holds : Holding) (input : Option (List ℕ)) (words : List (String Global)) (c : Compilation)
     (image : Bor (List ℕ)) (left : Holding) (old new : Option (List ℕ)) → AsksFor words (Build c image) →
     ¬ (AsksHelp words) → Done holds input words left old new → Leaves holds c.lattice.now image.now left
@@ -259,12 +259,12 @@ build_done holds input words c image left old new asked unhelped (inr (request, 
 
 -- A view that they ask for sees a run and shows it.
 view_done : (holds : Holding) (input : Option (List ℕ)) (words : List (String Global)) (l x : Bor (List ℕ))
-    (e : Execution) (o : Outset) (left : Holding) (old new : Option (List ℕ)) → AsksFor words (View l x e o) →
+    (e : Execution) (o : InitialStore) (left : Holding) (old new : Option (List ℕ)) → AsksFor words (View l x e o) →
     ¬ (AsksHelp words) → Done holds input words left old new → Shown holds l.now x.now e o left old new
 view_done holds input words l x e o left old new asked unhelped (inl help) = absurd (unhelped help.1)
 view_done holds input words l x e o left old new asked unhelped (inr (request, asks, performed)) =
     let one = one_view words l x e o asked request asks in
-    shown_of holds l one.lattice x one.class e one.execution o one.outset left old new one.same
+    shown_of holds l one.lattice x one.class e one.execution o one.initial_store left old new one.same
     (subst (λ (r : Request). Performs holds input r left old new) one.is performed)
 
 -- The contents of a file that are known.

@@ -10,12 +10,12 @@ pub mod Leaving
 pub mod Filled
 pub mod Driven
 pub mod ScreenLemmas
-pub mod Stopped
+pub mod Failed
 pub mod NoteLemmas
 pub mod Checked
 pub mod Mended
 pub mod Documented
-pub mod Obeyed
+pub mod CarriedOut
 pub mod Refused
 pub mod Unrun
 pub mod Unbounded

@@ -19,10 +19,10 @@ use Rattle.vsi_devices.specs.declared.counted.Counted.{Counted}
 use Rattle.vsi.specs.Holding.{Holding}
 use Rattle.vsi.specs.Noted.{Count, Counts, IsNote, Nothing, Notes, NotesOf, Noting, Sentences, TellsNote, noting}
 use Rattle.vsi.specs.Screen.{colour_length, is_tame, is_tame_after, tamed}
-use Rattle.vsi.specs.Stops.{Gets, status_of}
-use Rattle.vsi.specs.declared.stop.Stop.{Stop}
+use Rattle.vsi.specs.Failures.{Gets, status_of}
+use Rattle.vsi.specs.declared.failure.Failure.{Failure}
 use Rattle.vsi.proofs.ScreenLemmas.{tamed_tame}
-use Rattle.vsi.proofs.Stopped.{done_at_zero}
+use Rattle.vsi.proofs.Failed.{done_at_zero}
 
 -- A text that begins with a plain byte begins with no sequence for colours.
 plain_begins : (b : ℕ) (rest : List ℕ) → is_plain b ≡ true → colour_length (b ∷ rest) ≡ 0
@@ -112,11 +112,11 @@ notes_kept holds words note (inl help) = inl (help.0, ap tamed help.1)
 notes_kept holds words note (inr is) = inr (is.0, is.1, note_kept holds (noting is.0) note is.2)
 
 -- A fact is a fact after every answer.
-pub each_done : {T : Type 0} (A : Type 0) (answer : Result T Stop) → A → OnOk answer A
+pub each_done : {T : Type 0} (A : Type 0) (answer : Result T Failure) → A → OnOk answer A
 each_done A (Ok x) fact = fact
-each_done A (Err stop) fact = tt
+each_done A (Err failure) fact = tt
 
--- The lines after an answer without a stop are those of their kind.
+-- The lines after an answer without a failure are those of their kind.
 pub noted_ok : {T : Type 0} (holds : Holding) (n : Noting) (x : T) (note : List ℕ) → Notes holds n (Ok x) note →
     IsNote holds n note
 noted_ok holds (Count e o has_count) x note is = is
@@ -125,9 +125,9 @@ noted_ok holds Nothing x note is = is
 
 -- The lines after a request are written at status 0.
 pub tells_note : {T E : Type 0} (holds : Holding) (words : List (String Global)) (contents : E → Option (List ℕ))
-    (old new : Counted E) (lines : List ℕ) (answer : Result T Stop) (status : ℕ) →
+    (old new : Counted E) (lines : List ℕ) (answer : Result T Failure) (status : ℕ) →
     OnOk answer (NotesOf holds words lines) → OnOk answer (Gets contents old new (tamed lines)) →
-    IfErr answer (λ stop. status ≡ status_of stop) → status ≡ 0 → TellsNote holds words contents old new
+    IfErr answer (λ failure. status ≡ status_of failure) → status ≡ 0 → TellsNote holds words contents old new
 tells_note holds words contents old new lines answer status noted gets is zero = record {
   note = tamed lines;
   tame = tamed_tame lines;

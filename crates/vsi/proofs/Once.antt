@@ -5,7 +5,7 @@ use Rattle.std.specs.Borrow.{Bor}
 use Rattle.std.specs.declared.alloc.Global.{Global}
 use Rattle.vsi_arguments.specs.declared.request.Compilation.{Compilation}
 use Rattle.vsi_arguments.specs.declared.request.Execution.{Execution}
-use Rattle.vsi_arguments.specs.declared.request.Outset.{Outset}
+use Rattle.vsi_arguments.specs.declared.request.InitialStore.{InitialStore}
 use Rattle.vsi_arguments.specs.declared.request.Request.{Request}
 use Rattle.vsi_arguments.specs.declared.request.Document.TheVariants as document
 use Rattle.vsi_arguments.specs.declared.request.Request.TheVariants.{Build, Document, Explain, Layout, Mend, View}
@@ -93,7 +93,7 @@ one_build words c i asks request asked =
     asks.spelled.named asked.spelled.named refl refl)
 
 -- The paths, the class and the settings of two views.
-pub record SameView (l m x y : Bor (List ℕ)) (e f : Execution) (o p : Outset) : Type 0 where
+pub record SameView (l m x y : Bor (List ℕ)) (e f : Execution) (o p : InitialStore) : Type 0 where
   pub lattice : m.now ≡ l.now
   pub class : y.now ≡ x.now
   pub image : f.image.now ≡ e.image.now
@@ -103,7 +103,7 @@ pub record SameView (l m x y : Bor (List ℕ)) (e f : Execution) (o p : Outset) 
   pub is_full : p.is_full ≡ o.is_full
 
 -- Two views that the same arguments request are the same.
-same_view : (words : List (String Global)) (l m x y : Bor (List ℕ)) (e f : Execution) (o p : Outset) →
+same_view : (words : List (String Global)) (l m x y : Bor (List ℕ)) (e f : Execution) (o p : InitialStore) →
     Spells words (View l x e o) → Spells words (View m y f p) → SameView l m x y e f o p
 same_view words l m x y e f o p first second =
     let rest : second.rest ≡ first.rest =
@@ -123,23 +123,23 @@ same_view words l m x y e f o p first second =
     }
 
 -- Arguments that request a view request only that view.
-pub record OneView (l x : Bor (List ℕ)) (e : Execution) (o : Outset) (request : Request) : Type 0 where
+pub record OneView (l x : Bor (List ℕ)) (e : Execution) (o : InitialStore) (request : Request) : Type 0 where
   pub lattice : Bor (List ℕ)
   pub class : Bor (List ℕ)
   pub execution : Execution
-  pub outset : Outset
-  pub is : request ≡ View lattice class execution outset
-  pub same : SameView l lattice x class e execution o outset
+  pub initial_store : InitialStore
+  pub is : request ≡ View lattice class execution initial_store
+  pub same : SameView l lattice x class e execution o initial_store
 
 -- It is that view.
-pub one_view : (words : List (String Global)) (l x : Bor (List ℕ)) (e : Execution) (o : Outset) →
+pub one_view : (words : List (String Global)) (l x : Bor (List ℕ)) (e : Execution) (o : InitialStore) →
     AsksFor words (View l x e o) → (request : Request) → AsksFor words request → OneView l x e o request
 one_view words l x e o asks (View m y f p) asked =
     record {
       lattice = m;
       class = y;
       execution = f;
-      outset = p;
+      initial_store = p;
       is = refl;
       same = same_view words l m x y e f o p asks.spelled asked.spelled;
     }

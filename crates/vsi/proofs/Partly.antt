@@ -1,14 +1,14 @@
--- Parts of answers, and what a stop leaves of the output.
+-- Parts of answers, and what a failure leaves of the output.
 use Rattle.std.proofs.Common.{◌≡◌, ◌<◌, ◌⊎◌, ◌++◌, ℕ, List, [], Bool, true, false, Option, Result, Ok, Err, inl, inr, length, take, refl, sym, subst, arith}
 use Rattle.std.specs.Prelude.{IfOk, IfErr, IsErrAnd, IsOkAnd, OnOk}
 use Rattle.std.specs.Global.{Vec}
 use Rattle.std.specs.Io.KnownBytes.{Appends, Keeps}
 use Rattle.std.proofs.KnownBytes.{Appends-nil, Keeps-refl}
 use Rattle.std.proofs.lemmas.List.{take_all}
-use Rattle.vsi.specs.declared.stop.Stop.{Stop}
-use Rattle.vsi.specs.declared.stop.Stop.TheVariants.{Refused, Interface, Audit, Unsteady, Differs, Usage, NoClass, OutOfBudget, FileFault, LostFile, Memory}
+use Rattle.vsi.specs.declared.failure.Failure.{Failure}
+use Rattle.vsi.specs.declared.failure.Failure.TheVariants.{Refused, Interface, Audit, Unsteady, Differs, Usage, NoClass, OutOfBudget, FileFault, LostFile, Memory}
 use Rattle.vsi.specs.Partly.{BytesOf, Leaves, Partly, WritesPart}
-use Rattle.vsi.specs.Stops.{status_of}
+use Rattle.vsi.specs.Failures.{status_of}
 use Rattle.vsi.proofs.Reasons.{handed}
 
 -- Nothing of a text has been written.
@@ -30,110 +30,110 @@ Partly-weaker Kind Wider old new f (inr (text, is, part)) = inr (text, f text is
 pub kept_partly : (Kind : List ℕ → Type 0) (old : Option (List ℕ)) → Partly Kind old old
 kept_partly Kind old = inl (Keeps-refl old)
 
--- A fact that doesn't depend on the stop holds for the stop that an answer is.
-pub any_stop : {T : Type 0} (A : Type 0) (result : Result T Stop) → A → IfErr result (λ stop. A)
-any_stop A (Ok x) a = tt
-any_stop A (Err stop) a = a
+-- A fact that doesn't depend on the failure holds for the failure that an answer is.
+pub any_failure : {T : Type 0} (A : Type 0) (result : Result T Failure) → A → IfErr result (λ failure. A)
+any_failure A (Ok x) a = tt
+any_failure A (Err failure) a = a
 
 -- A fact that always holds also holds if an answer is given.
-pub on_ok_of : {T A : Type 0} (result : Result T Stop) → A → OnOk result A
+pub on_ok_of : {T A : Type 0} (result : Result T Failure) → A → OnOk result A
 on_ok_of (Ok x) a = a
-on_ok_of (Err stop) a = tt
+on_ok_of (Err failure) a = tt
 
--- A stop that comes before anything is written leaves the output.
-pub kept_leaf : (Kind : List ℕ → Type 0) (from : ℕ) (old : Option (List ℕ)) (stop : Stop) →
-    Leaves Kind from old old stop
-kept_leaf Kind from old stop = record { partly = inl (Keeps-refl old); silent = λ other below. Keeps-refl old }
+-- A failure that comes before anything is written leaves the output.
+pub kept_leaf : (Kind : List ℕ → Type 0) (from : ℕ) (old : Option (List ℕ)) (failure : Failure) →
+    Leaves Kind from old old failure
+kept_leaf Kind from old failure = record { partly = inl (Keeps-refl old); silent = λ other below. Keeps-refl old }
 
--- An answer that is such a stop leaves the output too.
-pub kept_leaves : {T : Type 0} (Kind : List ℕ → Type 0) (from : ℕ) (old : Option (List ℕ)) (result : Result T Stop) →
+-- An answer that is such a failure leaves the output too.
+pub kept_leaves : {T : Type 0} (Kind : List ℕ → Type 0) (from : ℕ) (old : Option (List ℕ)) (result : Result T Failure) →
     IfErr result (Leaves Kind from old old)
 kept_leaves Kind from old (Ok x) = tt
-kept_leaves Kind from old (Err stop) = kept_leaf Kind from old stop
+kept_leaves Kind from old (Err failure) = kept_leaf Kind from old failure
 
 -- A fault, or lack of memory, leaves a part of an answer.
-pub late_leaf : (Kind : List ℕ → Type 0) (old new : Option (List ℕ)) (stop : Stop) → 3 < status_of stop →
-    Partly Kind old new → Leaves Kind 4 old new stop
-late_leaf Kind old new stop late part = record { partly = part; silent = λ other below. absurd (omega arith) }
+pub late_leaf : (Kind : List ℕ → Type 0) (old new : Option (List ℕ)) (failure : Failure) → 3 < status_of failure →
+    Partly Kind old new → Leaves Kind 4 old new failure
+late_leaf Kind old new failure late part = record { partly = part; silent = λ other below. absurd (omega arith) }
 
--- An answer that is such a stop leaves the same.
-pub late_leaves : {T : Type 0} (Kind : List ℕ → Type 0) (old new : Option (List ℕ)) (result : Result T Stop) →
-    IfErr result (λ stop. 3 < status_of stop) → Partly Kind old new → IfErr result (Leaves Kind 4 old new)
+-- An answer that is such a failure leaves the same.
+pub late_leaves : {T : Type 0} (Kind : List ℕ → Type 0) (old new : Option (List ℕ)) (result : Result T Failure) →
+    IfErr result (λ failure. 3 < status_of failure) → Partly Kind old new → IfErr result (Leaves Kind 4 old new)
 late_leaves Kind old new (Ok x) late part = tt
-late_leaves Kind old new (Err stop) late part = late_leaf Kind old new stop late part
+late_leaves Kind old new (Err failure) late part = late_leaf Kind old new failure late part
 
--- And a late stop that is passed on.
-pub late_handed : {T : Type 0} (Kind : List ℕ → Type 0) (old new : Option (List ℕ)) (result : Result T Stop)
-    (stop : Stop) → IsErrAnd result (λ s. s ≡ stop) → 3 < status_of stop → Partly Kind old new →
+-- And a late failure that is passed on.
+pub late_handed : {T : Type 0} (Kind : List ℕ → Type 0) (old new : Option (List ℕ)) (result : Result T Failure)
+    (failure : Failure) → IsErrAnd result (λ s. s ≡ failure) → 3 < status_of failure → Partly Kind old new →
     IfErr result (Leaves Kind 4 old new)
-late_handed Kind old new result stop is late part =
-    handed (Leaves Kind 4 old new) stop result is (late_leaf Kind old new stop late part)
+late_handed Kind old new result failure is late part =
+    handed (Leaves Kind 4 old new) failure result is (late_leaf Kind old new failure late part)
 
--- A run that is out of budget, or stops later, leaves a part of an answer.
-pub spent_leaf : (Kind : List ℕ → Type 0) (old new : Option (List ℕ)) (stop : Stop) → 2 < status_of stop →
-    Partly Kind old new → Leaves Kind 3 old new stop
-spent_leaf Kind old new stop late part = record { partly = part; silent = λ other below. absurd (omega arith) }
+-- A run that is out of budget, or fails later, leaves a part of an answer.
+pub spent_leaf : (Kind : List ℕ → Type 0) (old new : Option (List ℕ)) (failure : Failure) → 2 < status_of failure →
+    Partly Kind old new → Leaves Kind 3 old new failure
+spent_leaf Kind old new failure late part = record { partly = part; silent = λ other below. absurd (omega arith) }
 
--- An answer that is such a stop leaves the same.
-pub spent_leaves : {T : Type 0} (Kind : List ℕ → Type 0) (old new : Option (List ℕ)) (result : Result T Stop) →
-    IfErr result (λ stop. 3 < status_of stop) → Partly Kind old new → IfErr result (Leaves Kind 3 old new)
+-- An answer that is such a failure leaves the same.
+pub spent_leaves : {T : Type 0} (Kind : List ℕ → Type 0) (old new : Option (List ℕ)) (result : Result T Failure) →
+    IfErr result (λ failure. 3 < status_of failure) → Partly Kind old new → IfErr result (Leaves Kind 3 old new)
 spent_leaves Kind old new (Ok x) late part = tt
-spent_leaves Kind old new (Err stop) late part = spent_leaf Kind old new stop (omega (arith, late)) part
+spent_leaves Kind old new (Err failure) late part = spent_leaf Kind old new failure (omega (arith, late)) part
 
 -- Lack of memory that is passed on leaves a part of an answer too.
-pub memory_handed : {T : Type 0} (Kind : List ℕ → Type 0) (old new : Option (List ℕ)) (result : Result T Stop)
-    (stop : Stop) → IsErrAnd result (λ s. s ≡ stop) → stop ≡ Memory → Partly Kind old new →
+pub memory_handed : {T : Type 0} (Kind : List ℕ → Type 0) (old new : Option (List ℕ)) (result : Result T Failure)
+    (failure : Failure) → IsErrAnd result (λ s. s ≡ failure) → failure ≡ Memory → Partly Kind old new →
     IfErr result (Leaves Kind 3 old new)
-memory_handed Kind old new result stop is wants part =
-    handed (Leaves Kind 3 old new) stop result is
+memory_handed Kind old new result failure is wants part =
+    handed (Leaves Kind 3 old new) failure result is
     (subst (Leaves Kind 3 old new) (sym wants) (spent_leaf Kind old new Memory (omega arith) part))
 
 -- A fault of the output leaves a part of what was to be written.
 pub fault_leaves : {T : Type 0} (Kind : List ℕ → Type 0) (old new : Option (List ℕ)) (text : List ℕ)
-    (result : Result T Stop) → Kind text → IfErr result (λ stop. status_of stop ≡ 4) → WritesPart text old new →
+    (result : Result T Failure) → Kind text → IfErr result (λ failure. status_of failure ≡ 4) → WritesPart text old new →
     IfErr result (Leaves Kind 4 old new)
 fault_leaves Kind old new text (Ok x) is fault part = tt
-fault_leaves Kind old new text (Err stop) is fault part =
-    late_leaf Kind old new stop (omega arith) (inr (text, is, part))
+fault_leaves Kind old new text (Err failure) is fault part =
+    late_leaf Kind old new failure (omega arith) (inr (text, is, part))
 
 -- The output that an answer leaves if it may be a difference.
 pub answer_leaves : {T : Type 0} (Kind : List ℕ → Type 0) (told : Type 0) (old new : Option (List ℕ)) (text : List ℕ)
-    (result : Result T Stop) → Kind text →
-    IfErr result (λ stop. ((stop ≡ Differs) × told) ⊎ (status_of stop ≡ 4)) → WritesPart text old new →
+    (result : Result T Failure) → Kind text →
+    IfErr result (λ failure. ((failure ≡ Differs) × told) ⊎ (status_of failure ≡ 4)) → WritesPart text old new →
     IfErr result (Leaves Kind 4 old new)
-answer_leaves Kind told old new text (Ok x) is stopped part = tt
-answer_leaves Kind told old new text (Err stop) is (inl differs) part =
+answer_leaves Kind told old new text (Ok x) is failed part = tt
+answer_leaves Kind told old new text (Err failure) is (inl differs) part =
     record { partly = inr (text, is, part); silent = λ other below. absurd (other differs.0) }
-answer_leaves Kind told old new text (Err stop) is (inr fault) part =
-    late_leaf Kind old new stop (omega arith) (inr (text, is, part))
+answer_leaves Kind told old new text (Err failure) is (inr fault) part =
+    late_leaf Kind old new failure (omega arith) (inr (text, is, part))
 
 -- The output that is left when an answer is written.
-pub put_leaves : {T : Type 0} (Kind : Vec ℕ → Type 0) (old new : Option (List ℕ)) (answer : Result (Vec ℕ) Stop)
-    (result : Result T Stop) → IfOk answer Kind →
-    IfErr result (λ stop. Keeps old new
-    ⊎ ((status_of stop ≡ 4) × IsOkAnd answer (λ text. WritesPart text.items old new))) →
+pub put_leaves : {T : Type 0} (Kind : Vec ℕ → Type 0) (old new : Option (List ℕ)) (answer : Result (Vec ℕ) Failure)
+    (result : Result T Failure) → IfOk answer Kind →
+    IfErr result (λ failure. Keeps old new
+    ⊎ ((status_of failure ≡ 4) × IsOkAnd answer (λ text. WritesPart text.items old new))) →
     IfErr result (Leaves (BytesOf Kind) 4 old new)
 put_leaves Kind old new answer (Ok x) is left = tt
-put_leaves Kind old new answer (Err stop) is (inl kept) = record { partly = inl kept; silent = λ other below. kept }
-put_leaves Kind old new (Ok text) (Err stop) is (inr (four, part)) =
-    late_leaf (BytesOf Kind) old new stop (omega (arith, four)) (inr (text.items, (text, is, refl), part))
-put_leaves Kind old new (Err other) (Err stop) is (inr (four, part)) = absurd part
+put_leaves Kind old new answer (Err failure) is (inl kept) = record { partly = inl kept; silent = λ other below. kept }
+put_leaves Kind old new (Ok text) (Err failure) is (inr (four, part)) =
+    late_leaf (BytesOf Kind) old new failure (omega (arith, four)) (inr (text.items, (text, is, refl), part))
+put_leaves Kind old new (Err other) (Err failure) is (inr (four, part)) = absurd part
 
 -- Where the writing of an answer has failed, a part of it has been written.
-pub put_left : {T U : Type 0} (answer : Result U Stop) (part : U → Type 0) (kept : Type 0) (x : U)
-    (result : Result T Stop) → answer ≡ Ok x → IfErr result (λ stop. status_of stop ≡ 4) → part x →
-    IfErr result (λ stop. kept ⊎ ((status_of stop ≡ 4) × IsOkAnd answer part))
+pub put_left : {T U : Type 0} (answer : Result U Failure) (part : U → Type 0) (kept : Type 0) (x : U)
+    (result : Result T Failure) → answer ≡ Ok x → IfErr result (λ failure. status_of failure ≡ 4) → part x →
+    IfErr result (λ failure. kept ⊎ ((status_of failure ≡ 4) × IsOkAnd answer part))
 put_left answer part kept x (Ok y) is fault so = tt
-put_left answer part kept x (Err stop) is fault so = inr (fault, subst (λ a. IsOkAnd a part) (sym is) so)
+put_left answer part kept x (Err failure) is fault so = inr (fault, subst (λ a. IsOkAnd a part) (sym is) so)
 
 -- If there is no text, the output is unchanged.
-pub put_kept : {T : Type 0} (late : Stop → Type 0) (old : Option (List ℕ)) (result : Result T Stop) →
-    IfErr result (λ stop. Keeps old old ⊎ late stop)
+pub put_kept : {T : Type 0} (late : Failure → Type 0) (old : Option (List ℕ)) (result : Result T Failure) →
+    IfErr result (λ failure. Keeps old old ⊎ late failure)
 put_kept late old (Ok x) = tt
-put_kept late old (Err stop) = inl (Keeps-refl old)
+put_kept late old (Err failure) = inl (Keeps-refl old)
 
--- Each stop has a status above 0.
-pub some_status : (stop : Stop) → 0 < status_of stop
+-- Each failure has a status above 0.
+pub some_status : (failure : Failure) → 0 < status_of failure
 some_status (Refused text cause) = omega arith
 some_status (Interface text error) = omega arith
 some_status (Audit text error) = omega arith
@@ -146,9 +146,9 @@ some_status (FileFault path) = omega arith
 some_status (LostFile path) = omega arith
 some_status Memory = omega arith
 
--- An answer that may be cut at any stop leaves a part of what it writes.
-pub cut_leaves : {T : Type 0} (Kind : List ℕ → Type 0) (old new : Option (List ℕ)) (result : Result T Stop) →
+-- An answer that may be cut at any failure leaves a part of what it writes.
+pub cut_leaves : {T : Type 0} (Kind : List ℕ → Type 0) (old new : Option (List ℕ)) (result : Result T Failure) →
     IfErr result (λ _. Partly Kind old new) → IfErr result (Leaves Kind 1 old new)
 cut_leaves Kind old new (Ok x) part = tt
-cut_leaves Kind old new (Err stop) part =
-    record { partly = part; silent = λ other below. absurd (omega (arith, some_status stop)) }
+cut_leaves Kind old new (Err failure) part =
+    record { partly = part; silent = λ other below. absurd (omega (arith, some_status failure)) }

@@ -1,4 +1,4 @@
--- The reason of a stopped step is the reason of the whole, and the claims about a refusal.
+-- The reason of a failed step is the reason of the whole, and the claims about a refusal.
 use Rattle.std.proofs.Common.{◌≡◌, ◌⊎◌, ℕ, List, Result, Ok, Err, subst, inl, inr}
 use Rattle.std.specs.Borrow.{Bor}
 use Rattle.std.specs.Prelude.{IfErr, IsErrAnd, IsSomeAnd, MatchResult, Option, Some, None}
@@ -17,60 +17,60 @@ use Rattle.vsi_answers.specs.Requests.{Answer, FormatsTo, ReadsLattice}
 use Rattle.vsi_answers.specs.declared.unanswered.Unanswered.{Unanswered}
 use Rattle.vsi_arguments.specs.declared.request.Compilation.{Compilation}
 use Rattle.vsi_arguments.specs.declared.request.Search.{Search}
-use Rattle.vsi.specs.declared.stop.Stop.{Stop}
+use Rattle.vsi.specs.declared.failure.Failure.{Failure}
 use Rattle.vsi.specs.Holding.{Holding, IsLatticeAt, IsReadAt}
 use Rattle.vsi.specs.Input.{two_classes}
 use Rattle.vsi.specs.Files.{AreFiles}
 use Rattle.vsi.specs.Performed.{profile_of}
-use Rattle.vsi.specs.Refusals.{AsksCanonical, LacksClass, LacksClassAt, NoOther, RefusesFile, RefusesFiles, RefusesLattice, RefusesProgramAt, RefusesSource, StopsBy}
+use Rattle.vsi.specs.Refusals.{AsksCanonical, LacksClass, LacksClassAt, NoOther, RefusesFile, RefusesFiles, RefusesLattice, RefusesProgramAt, RefusesSource, FailsBy}
 use Rattle.vsi.specs.Reasons.{OtherLeak, WhyDraw}
-use Rattle.vsi.specs.Stops.{stop_of}
+use Rattle.vsi.specs.Failures.{failure_of}
 use Rattle.vsi_answers.proofs.Told.{source_told}
-use Rattle.vsi.proofs.Reasons.{StopsBy-weaker, answered_stops, handed, stopped_by, stops_by}
+use Rattle.vsi.proofs.Reasons.{FailsBy-weaker, answered_fails, handed, failed_by, fails_by}
 
 -- ---- which file is refused.
 
 -- A lattice file that is refused is why a compilation has no answer.
 pub refuses_lattice : {T : Type 0} (holds : Holding) (c : Compilation) (Ask : Lattice → List ℕ → Answer → Type 0)
-    (result : Result T Stop) (stop : Stop) → IsErrAnd result (λ s. s ≡ stop) →
-    StopsBy (RefusesLattice holds c.lattice.now) NoOther stop →
-    IfErr result (StopsBy (RefusesFiles holds c Ask) NoOther)
-refuses_lattice holds c Ask result stop is told =
-    stopped_by (RefusesLattice holds c.lattice.now) (RefusesFiles holds c Ask) NoOther (λ reason why. inl why)
-    result stop is told
+    (result : Result T Failure) (failure : Failure) → IsErrAnd result (λ s. s ≡ failure) →
+    FailsBy (RefusesLattice holds c.lattice.now) NoOther failure →
+    IfErr result (FailsBy (RefusesFiles holds c Ask) NoOther)
+refuses_lattice holds c Ask result failure is told =
+    failed_by (RefusesLattice holds c.lattice.now) (RefusesFiles holds c Ask) NoOther (λ reason why. inl why)
+    result failure is told
 
 -- Why a lattice and a source text have no answer is why the files that hold them have none.
 pub refuses_files : (holds : Holding) (c : Compilation) (Ask : Lattice → List ℕ → Answer → Type 0) (l : Lattice)
-    (text source : List ℕ) (answer : Answer) (result : Result (Vec ℕ) Stop) → AreFiles holds c l text →
+    (text source : List ℕ) (answer : Answer) (result : Result (Vec ℕ) Failure) → AreFiles holds c l text →
     source ≡ text →
-    MatchResult answer (λ t. result ≡ Ok t) (λ reason. result ≡ Err (stop_of reason)) → Ask l source answer →
-    IfErr result (StopsBy (RefusesFiles holds c Ask) NoOther)
+    MatchResult answer (λ t. result ≡ Ok t) (λ reason. result ≡ Err (failure_of reason)) → Ask l source answer →
+    IfErr result (FailsBy (RefusesFiles holds c Ask) NoOther)
 refuses_files holds c Ask l text source answer result files same is told =
-    IfErr-weaker result (StopsBy (λ reason. Ask l text (Err reason)) NoOther)
-    (StopsBy (RefusesFiles holds c Ask) NoOther)
-    (stops_by (λ reason. Ask l text (Err reason)) (RefusesFiles holds c Ask) NoOther
+    IfErr-weaker result (FailsBy (λ reason. Ask l text (Err reason)) NoOther)
+    (FailsBy (RefusesFiles holds c Ask) NoOther)
+    (fails_by (λ reason. Ask l text (Err reason)) (RefusesFiles holds c Ask) NoOther
     (λ reason why. inr (record { lattice = l; source = text; files = files; is = why })))
-    (answered_stops (Ask l text) answer result is (subst (λ s. Ask l s answer) same told))
+    (answered_fails (Ask l text) answer result is (subst (λ s. Ask l s answer) same told))
 
 -- The same, under the profile of a compilation.
 pub refuses_by : (holds : Holding) (c : Compilation) (Ask : Lattice → Profile → List ℕ → Answer → Type 0)
-    (l : Lattice) (text source : List ℕ) (P : Profile) (answer : Answer) (result : Result (Vec ℕ) Stop) →
+    (l : Lattice) (text source : List ℕ) (P : Profile) (answer : Answer) (result : Result (Vec ℕ) Failure) →
     AreFiles holds c l text → source ≡ text → P ≡ profile_of c.is_strict →
-    MatchResult answer (λ t. result ≡ Ok t) (λ reason. result ≡ Err (stop_of reason)) → Ask l P source answer →
-    IfErr result (StopsBy (RefusesFiles holds c (λ m s a. Ask m (profile_of c.is_strict) s a)) NoOther)
+    MatchResult answer (λ t. result ≡ Ok t) (λ reason. result ≡ Err (failure_of reason)) → Ask l P source answer →
+    IfErr result (FailsBy (RefusesFiles holds c (λ m s a. Ask m (profile_of c.is_strict) s a)) NoOther)
 refuses_by holds c Ask l text source P answer result files same by is told =
     refuses_files holds c (λ m s a. Ask m (profile_of c.is_strict) s a) l text source answer result files same is
     (subst (λ Q. Ask l Q source answer) by told)
 
 -- Bytes of a file that are refused as a lattice file.
-pub refuses_declared : {T : Type 0} (holds : Holding) (path bytes text : List ℕ) (result : Result T Stop) →
+pub refuses_declared : {T : Type 0} (holds : Holding) (path bytes text : List ℕ) (result : Result T Failure) →
     IsReadAt holds path bytes → text ≡ bytes →
-    IfErr result (StopsBy (λ reason. ReadsLattice text (Err reason)) NoOther) →
-    IfErr result (StopsBy (RefusesLattice holds path) NoOther)
+    IfErr result (FailsBy (λ reason. ReadsLattice text (Err reason)) NoOther) →
+    IfErr result (FailsBy (RefusesLattice holds path) NoOther)
 refuses_declared holds path bytes text result read same told =
-    IfErr-weaker result (StopsBy (λ reason. ReadsLattice text (Err reason)) NoOther)
-    (StopsBy (RefusesLattice holds path) NoOther)
-    (stops_by (λ reason. ReadsLattice text (Err reason)) (RefusesLattice holds path) NoOther
+    IfErr-weaker result (FailsBy (λ reason. ReadsLattice text (Err reason)) NoOther)
+    (FailsBy (RefusesLattice holds path) NoOther)
+    (fails_by (λ reason. ReadsLattice text (Err reason)) (RefusesLattice holds path) NoOther
     (λ reason why. record {
       bytes = bytes;
       read = read;
@@ -80,15 +80,15 @@ refuses_declared holds path bytes text result read same told =
 
 -- Bytes of a file that have no tree.
 pub refuses_tree : (holds : Holding) (path bytes text : List ℕ) (l : Lattice) (answer : Answer)
-    (result : Result (Vec ℕ) Stop) → IsReadAt holds path bytes → text ≡ bytes → Declares two_classes l →
-    MatchResult answer (λ t. result ≡ Ok t) (λ reason. result ≡ Err (stop_of reason)) → FormatsTo l text answer →
-    IfErr result (StopsBy (RefusesFile holds path AsksCanonical) NoOther)
+    (result : Result (Vec ℕ) Failure) → IsReadAt holds path bytes → text ≡ bytes → Declares two_classes l →
+    MatchResult answer (λ t. result ≡ Ok t) (λ reason. result ≡ Err (failure_of reason)) → FormatsTo l text answer →
+    IfErr result (FailsBy (RefusesFile holds path AsksCanonical) NoOther)
 refuses_tree holds path bytes text l answer result read same declared is told =
-    IfErr-weaker result (StopsBy (λ reason. FormatsTo l bytes (Err reason)) NoOther)
-    (StopsBy (RefusesFile holds path AsksCanonical) NoOther)
-    (stops_by (λ reason. FormatsTo l bytes (Err reason)) (RefusesFile holds path AsksCanonical) NoOther
+    IfErr-weaker result (FailsBy (λ reason. FormatsTo l bytes (Err reason)) NoOther)
+    (FailsBy (RefusesFile holds path AsksCanonical) NoOther)
+    (fails_by (λ reason. FormatsTo l bytes (Err reason)) (RefusesFile holds path AsksCanonical) NoOther
     (λ reason why. record { bytes = bytes; read = read; is = (l, declared, why) }))
-    (answered_stops (FormatsTo l bytes) answer result is (subst (λ s. FormatsTo l s answer) same told))
+    (answered_fails (FormatsTo l bytes) answer result is (subst (λ s. FormatsTo l s answer) same told))
 
 -- ---- texts without a program.
 
@@ -100,21 +100,21 @@ tells_program : (l : Lattice) (text : List ℕ) (error : CompileError) → Refus
 tells_program l text error refused exact =
     source_told (IsProgramFault l text) l text error (λ other. (refused, λ program. other (exact program)))
 
--- The stop for a file's source text without a program claims that there is none.
+-- The failure for a file's source text without a program claims that there is none.
 pub refuses_program : (holds : Holding) (l : Lattice) (path text judged told : List ℕ) (error : CompileError)
-    (stop : Stop) → IsReadAt holds path text → judged ≡ text → told ≡ text →
+    (failure : Failure) → IsReadAt holds path text → judged ≡ text → told ≡ text →
     RefusesProgram (class_named l) judged error → (HasProgram (class_named l) judged → error ≡ compiler.Memory) →
-    StopsBy (Because (TellsSource (λ e. e ≡ error) l told) ⊥) NoOther stop →
-    StopsBy (RefusesProgramAt holds l path) NoOther stop
-refuses_program holds l path text judged told error stop read of_judged of_told refused exact is =
-    stops_by (Because (TellsSource (λ e. e ≡ error) l text) ⊥) (RefusesProgramAt holds l path) NoOther
+    FailsBy (Because (TellsSource (λ e. e ≡ error) l told) ⊥) NoOther failure →
+    FailsBy (RefusesProgramAt holds l path) NoOther failure
+refuses_program holds l path text judged told error failure read of_judged of_told refused exact is =
+    fails_by (Because (TellsSource (λ e. e ≡ error) l text) ⊥) (RefusesProgramAt holds l path) NoOther
     (λ reason why. record {
       text = text;
       read = read;
       is = tells_program l text error (subst (λ t. RefusesProgram (class_named l) t error) of_judged refused)
           (subst (λ t. HasProgram (class_named l) t → error ≡ compiler.Memory) of_judged exact) reason why;
     })
-    stop (subst (λ t. StopsBy (Because (TellsSource (λ e. e ≡ error) l t) ⊥) NoOther stop) of_told is)
+    failure (subst (λ t. FailsBy (Because (TellsSource (λ e. e ≡ error) l t) ⊥) NoOther failure) of_told is)
 
 -- ---- graphs.
 
@@ -140,40 +140,40 @@ WhyLeak holds s reason =
     RefusesLattice holds s.lattice.now reason ⊎ RefusesSource holds s.lattice.now s.source.now reason
 
 -- A lattice file that is refused is why nothing is searched.
-pub leak_lattice : {T : Type 0} (holds : Holding) (s : Search) (result : Result T Stop) (stop : Stop) →
-    IsErrAnd result (λ e. e ≡ stop) → StopsBy (RefusesLattice holds s.lattice.now) NoOther stop →
-    IfErr result (StopsBy (WhyLeak holds s) (OtherLeak holds s))
-leak_lattice holds s result stop is told =
-    stopped_by (RefusesLattice holds s.lattice.now) (WhyLeak holds s) (OtherLeak holds s) (λ reason why. inl why)
-    result stop is told
+pub leak_lattice : {T : Type 0} (holds : Holding) (s : Search) (result : Result T Failure) (failure : Failure) →
+    IsErrAnd result (λ e. e ≡ failure) → FailsBy (RefusesLattice holds s.lattice.now) NoOther failure →
+    IfErr result (FailsBy (WhyLeak holds s) (OtherLeak holds s))
+leak_lattice holds s result failure is told =
+    failed_by (RefusesLattice holds s.lattice.now) (WhyLeak holds s) (OtherLeak holds s) (λ reason why. inl why)
+    result failure is told
 
 -- A class that the lattice lacks is missing in that of the file.
-lacks_named : (holds : Holding) (path : List ℕ) (l : Lattice) (name : Option (Bor (List ℕ))) (stop : Stop) →
-    IsLatticeAt holds path l → IsSomeAnd name (λ n. LacksClass l n.now stop) →
-    IsSomeAnd name (λ n. LacksClassAt holds path n.now stop)
-lacks_named holds path l None stop at lacks = lacks
-lacks_named holds path l (Some n) stop at lacks = (l, at, lacks)
+lacks_named : (holds : Holding) (path : List ℕ) (l : Lattice) (name : Option (Bor (List ℕ))) (failure : Failure) →
+    IsLatticeAt holds path l → IsSomeAnd name (λ n. LacksClass l n.now failure) →
+    IsSomeAnd name (λ n. LacksClassAt holds path n.now failure)
+lacks_named holds path l None failure at lacks = lacks
+lacks_named holds path l (Some n) failure at lacks = (l, at, lacks)
 
 -- A class that the lattice lacks is passed on.
-pub leak_lacking : {T : Type 0} (holds : Holding) (s : Search) (l : Lattice) (result : Result T Stop) (stop : Stop) →
-    IsErrAnd result (λ e. e ≡ stop) → IsLatticeAt holds s.lattice.now l →
-    StopsBy (λ reason. ⊥) (λ e. IsSomeAnd s.class (λ name. LacksClass l name.now e)) stop →
-    IfErr result (StopsBy (WhyLeak holds s) (OtherLeak holds s))
-leak_lacking holds s l result stop is at told =
-    handed (StopsBy (WhyLeak holds s) (OtherLeak holds s)) stop result is
-    (StopsBy-weaker (λ reason. ⊥) (WhyLeak holds s) (λ e. IsSomeAnd s.class (λ name. LacksClass l name.now e))
+pub leak_lacking : {T : Type 0} (holds : Holding) (s : Search) (l : Lattice) (result : Result T Failure) (failure : Failure) →
+    IsErrAnd result (λ e. e ≡ failure) → IsLatticeAt holds s.lattice.now l →
+    FailsBy (λ reason. ⊥) (λ e. IsSomeAnd s.class (λ name. LacksClass l name.now e)) failure →
+    IfErr result (FailsBy (WhyLeak holds s) (OtherLeak holds s))
+leak_lacking holds s l result failure is at told =
+    handed (FailsBy (WhyLeak holds s) (OtherLeak holds s)) failure result is
+    (FailsBy-weaker (λ reason. ⊥) (WhyLeak holds s) (λ e. IsSomeAnd s.class (λ name. LacksClass l name.now e))
     (OtherLeak holds s) (λ reason none. absurd none) (λ e lacks. inl (lacks_named holds s.lattice.now l s.class e at
-    lacks)) stop told)
+    lacks)) failure told)
 
 -- So is a source text without a program.
 pub leak_program : (holds : Holding) (s : Search) (l : Lattice) (text judged told : List ℕ) (error : CompileError)
-    (stop : Stop) → IsLatticeAt holds s.lattice.now l → IsReadAt holds s.source.now text → judged ≡ text →
+    (failure : Failure) → IsLatticeAt holds s.lattice.now l → IsReadAt holds s.source.now text → judged ≡ text →
     told ≡ text → RefusesProgram (class_named l) judged error →
     (HasProgram (class_named l) judged → error ≡ compiler.Memory) →
-    StopsBy (Because (TellsSource (λ e. e ≡ error) l told) ⊥) NoOther stop →
-    StopsBy (WhyLeak holds s) (OtherLeak holds s) stop
-leak_program holds s l text judged told error stop declared read of_judged of_told refused exact is =
-    stops_by (RefusesProgramAt holds l s.source.now) (WhyLeak holds s) (OtherLeak holds s)
+    FailsBy (Because (TellsSource (λ e. e ≡ error) l told) ⊥) NoOther failure →
+    FailsBy (WhyLeak holds s) (OtherLeak holds s) failure
+leak_program holds s l text judged told error failure declared read of_judged of_told refused exact is =
+    fails_by (RefusesProgramAt holds l s.source.now) (WhyLeak holds s) (OtherLeak holds s)
     (λ reason why. inr (record { classes = l; declared = declared; refused = why }))
-    stop
-    (refuses_program holds l s.source.now text judged told error stop read of_judged of_told refused exact is)
+    failure
+    (refuses_program holds l s.source.now text judged told error failure read of_judged of_told refused exact is)

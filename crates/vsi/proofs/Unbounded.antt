@@ -3,20 +3,20 @@ use Rattle.std.proofs.Common.{◌≡◌, Bool, true, false, Some, None, refl, sy
 use Rattle.vsi_answers.specs.declared.unanswered.Unanswered.{Unanswered}
 use Rattle.vsi_arguments.specs.declared.request.Emission.{Emission}
 use Rattle.vsi_image.specs.declared.instr.Image.{Image}
-use Rattle.vsi.specs.declared.stop.Stop.{Stop}
-use Rattle.vsi.specs.declared.stop.Stop.TheVariants as stops
+use Rattle.vsi.specs.declared.failure.Failure.{Failure}
+use Rattle.vsi.specs.declared.failure.Failure.TheVariants as fails
 use Rattle.vsi.specs.Holding.{Holding}
 use Rattle.vsi.specs.Performed.{IsEmittedFrom}
-use Rattle.vsi.specs.Refusals.{IsUnbounded, StopsBy}
+use Rattle.vsi.specs.Refusals.{IsUnbounded, FailsBy}
 use Rattle.vsi.specs.Reasons.{LacksEmitBound}
-use Rattle.vsi.proofs.Reasons.{StopsBy-weaker}
+use Rattle.vsi.proofs.Reasons.{FailsBy-weaker}
 
--- A stop that says why no bound was found for the requested image has the line of `bound`.
+-- A failure that says why no bound was found for the requested image has the line of `bound`.
 unbounded_says : (holds : Holding) (asked : Emission) (image : Image) →
-    IsEmittedFrom holds asked.lattice asked.file image → asked.is_bounded ≡ true → (stop : Stop) →
-    IsUnbounded image stop → LacksEmitBound holds asked stop
-unbounded_says holds asked image held bounded (stops.Refused text (Some cause)) is = absurd is
-unbounded_says holds asked image held bounded (stops.Refused text None) is = record {
+    IsEmittedFrom holds asked.lattice asked.file image → asked.is_bounded ≡ true → (failure : Failure) →
+    IsUnbounded image failure → LacksEmitBound holds asked failure
+unbounded_says holds asked image held bounded (fails.Refused text (Some cause)) is = absurd is
+unbounded_says holds asked image held bounded (fails.Refused text None) is = record {
   bounded = bounded;
   told = record { text = text; is_bounded = false };
   bounds = record {
@@ -27,30 +27,30 @@ unbounded_says holds asked image held bounded (stops.Refused text None) is = rec
   unbounded = refl;
   says = refl;
 }
-unbounded_says holds asked image held bounded (stops.Interface text error) is = absurd is
-unbounded_says holds asked image held bounded (stops.Audit text error) is = absurd is
-unbounded_says holds asked image held bounded (stops.Unsteady text error) is = absurd is
-unbounded_says holds asked image held bounded stops.Differs is = absurd is
-unbounded_says holds asked image held bounded (stops.Usage text) is = absurd is
-unbounded_says holds asked image held bounded (stops.NoClass name) is = absurd is
-unbounded_says holds asked image held bounded stops.OutOfBudget is = absurd is
-unbounded_says holds asked image held bounded (stops.FileFault path) is = absurd is
-unbounded_says holds asked image held bounded (stops.LostFile path) is = absurd is
-unbounded_says holds asked image held bounded stops.Memory is = absurd is
+unbounded_says holds asked image held bounded (fails.Interface text error) is = absurd is
+unbounded_says holds asked image held bounded (fails.Audit text error) is = absurd is
+unbounded_says holds asked image held bounded (fails.Unsteady text error) is = absurd is
+unbounded_says holds asked image held bounded fails.Differs is = absurd is
+unbounded_says holds asked image held bounded (fails.Usage text) is = absurd is
+unbounded_says holds asked image held bounded (fails.NoClass name) is = absurd is
+unbounded_says holds asked image held bounded fails.OutOfBudget is = absurd is
+unbounded_says holds asked image held bounded (fails.FileFault path) is = absurd is
+unbounded_says holds asked image held bounded (fails.LostFile path) is = absurd is
+unbounded_says holds asked image held bounded fails.Memory is = absurd is
 
 -- If the requested image has no bound, this is the reason that there is no C.
-pub lacks_bound : (why : Unanswered → Type 0) (holds : Holding) (asked : Emission) (image : Image) (stop : Stop) →
+pub lacks_bound : (why : Unanswered → Type 0) (holds : Holding) (asked : Emission) (image : Image) (failure : Failure) →
     IsEmittedFrom holds asked.lattice asked.file image →
-    StopsBy (λ reason. ⊥) (λ s. (asked.is_bounded ≡ true) × IsUnbounded image s) stop →
-    StopsBy why (LacksEmitBound holds asked) stop
-lacks_bound why holds asked image stop held =
-    StopsBy-weaker (λ reason. ⊥) why (λ s. (asked.is_bounded ≡ true) × IsUnbounded image s) (LacksEmitBound holds asked)
-    (λ reason none. absurd none) (λ s is. unbounded_says holds asked image held is.0 s is.1) stop
+    FailsBy (λ reason. ⊥) (λ s. (asked.is_bounded ≡ true) × IsUnbounded image s) failure →
+    FailsBy why (LacksEmitBound holds asked) failure
+lacks_bound why holds asked image failure held =
+    FailsBy-weaker (λ reason. ⊥) why (λ s. (asked.is_bounded ≡ true) × IsUnbounded image s) (LacksEmitBound holds asked)
+    (λ reason none. absurd none) (λ s is. unbounded_says holds asked image held is.0 s is.1) failure
 
 -- An image has no bound, and a function without a budget is requested.
-pub bounded_lacks : (image : Image) (is_bounded : Bool) (stop : Stop) → is_bounded ≡ true →
-    StopsBy (λ reason. ⊥) (IsUnbounded image) stop →
-    StopsBy (λ reason. ⊥) (λ s. (is_bounded ≡ true) × IsUnbounded image s) stop
-bounded_lacks image is_bounded stop bounded =
-    StopsBy-weaker (λ reason. ⊥) (λ reason. ⊥) (IsUnbounded image) (λ s. (is_bounded ≡ true) × IsUnbounded image s)
-    (λ reason none. none) (λ s is. (bounded, is)) stop
+pub bounded_lacks : (image : Image) (is_bounded : Bool) (failure : Failure) → is_bounded ≡ true →
+    FailsBy (λ reason. ⊥) (IsUnbounded image) failure →
+    FailsBy (λ reason. ⊥) (λ s. (is_bounded ≡ true) × IsUnbounded image s) failure
+bounded_lacks image is_bounded failure bounded =
+    FailsBy-weaker (λ reason. ⊥) (λ reason. ⊥) (IsUnbounded image) (λ s. (is_bounded ≡ true) × IsUnbounded image s)
+    (λ reason none. none) (λ s is. (bounded, is)) failure

@@ -1,4 +1,4 @@
--- The words that a controller begins with, and the reason why it doesn't, as a stop claims it.
+-- The words that a controller begins with, and the reason why it doesn't, as a failure claims it.
 use Rattle.std.proofs.Common.{◌≡◌, ◌∙◌, ℕ, ℤ, List, [], Result, Ok, Err, Some, false, inl, inr, refl, sym, ap, subst}
 use Rattle.std.specs.Prelude.{Bool, Option, IfErr, IfOk, IsErrAnd}
 use Rattle.std.specs.Borrow.{Bor}
@@ -24,14 +24,14 @@ use Rattle.vsi_answers.specs.declared.unanswered.Unanswered.{Unanswered}
 use Rattle.vsi_answers.specs.declared.unanswered.Unanswered.TheVariants as unanswered
 use Rattle.vsi_arguments.specs.declared.request.Driving.{Driving}
 use Rattle.vsi_arguments.specs.declared.request.NameLists.{NameLists}
-use Rattle.vsi.specs.declared.stop.Stop.{Stop}
+use Rattle.vsi.specs.declared.failure.Failure.{Failure}
 use Rattle.vsi.specs.Holding.{Holding, IsImageAt, IsStoreAt}
 use Rattle.vsi.specs.Files.{IsBudgetOf, IsFullAt, IsStoredAt, LooksAt}
-use Rattle.vsi.specs.Refusals.{IsNoMemory, NoOther, RefusesFirst, StopsBy}
+use Rattle.vsi.specs.Refusals.{IsNoMemory, NoOther, RefusesFirst, FailsBy}
 use Rattle.vsi.specs.Performed.{control_of}
 use Rattle.vsi.specs.Reasons.{IsBoundaryStart, LacksDrive, RefusesControl, SaysShort, WhyDrive}
-use Rattle.vsi.proofs.Reasons.{StopsBy-weaker, handed, stopped_by, stops_by}
-use Rattle.vsi.proofs.Unrun.{held_stopped, kind_told}
+use Rattle.vsi.proofs.Reasons.{FailsBy-weaker, handed, failed_by, fails_by}
+use Rattle.vsi.proofs.Unrun.{held_failed, kind_told}
 
 -- A run that begins with a store file alone begins with its words.
 pub begins_stored : (holds : Holding) (store : Option (Bor (List ℕ))) (im : Image) (file : List ℕ) (is_full : Bool)
@@ -65,14 +65,14 @@ RefusesBeginning holds store image is_full reason =
     (file : List ℕ) × IsStoreAt holds store file × BeginsWith image file [] is_full (Err reason)
 
 -- It doesn't do for the image of a file.
-pub first_stopped : {T : Type 0} (holds new : Holding) (path : List ℕ) (store : Option (Bor (List ℕ)))
-    (is_full : Bool) (so : Unanswered → Type 0) (other : Stop → Type 0) (image : Image) (result : Result T Stop)
-    (stop : Stop) → IsImageAt holds path image → new ≡ holds →
+pub first_failed : {T : Type 0} (holds new : Holding) (path : List ℕ) (store : Option (Bor (List ℕ)))
+    (is_full : Bool) (so : Unanswered → Type 0) (other : Failure → Type 0) (image : Image) (result : Result T Failure)
+    (failure : Failure) → IsImageAt holds path image → new ≡ holds →
     ((reason : Unanswered) → RefusesFirst holds path store is_full reason → so reason) →
-    IsErrAnd result (λ s. s ≡ stop) → StopsBy (RefusesBeginning new store image is_full) NoOther stop →
-    IfErr result (StopsBy so other)
-first_stopped holds new path store is_full so other image result stop held same f =
-    held_stopped (λ h. RefusesBeginning h store image is_full) holds new so other result stop same
+    IsErrAnd result (λ s. s ≡ failure) → FailsBy (RefusesBeginning new store image is_full) NoOther failure →
+    IfErr result (FailsBy so other)
+first_failed holds new path store is_full so other image result failure held same f =
+    held_failed (λ h. RefusesBeginning h store image is_full) holds new so other result failure same
     (λ reason refused. f reason (record {
       image = image;
       held = held;
@@ -92,17 +92,17 @@ lacking_fault : (l : Lattice) (image : Image) (error : ViewError) → LacksContr
     IsViewFault l image (fault.View error)
 lacking_fault l image error (i, first, is) = subst (λ e. IsViewFault l image (fault.View e)) (sym is) first
 
--- The stop for that fault claims that the controller is refused.
-pub controller_stops : (lists : NameLists) (l : Lattice) (driver : ℕ) (image : Image) (budget : ℕ) (error : ViewError)
-    (stop : Stop) → LacksController l image error →
-    StopsBy (Because (TellsFault (λ f. (f ≡ fault.View error) × IsNoMemory f)) ⊥) NoOther stop →
-    StopsBy (RefusesControl lists l driver image budget) NoOther stop
-controller_stops lists l driver image budget error stop lacks told =
-    stops_by (Because (TellsFault (λ f. (f ≡ fault.View error) × IsNoMemory f)) ⊥)
+-- The failure for that fault claims that the controller is refused.
+pub controller_fails : (lists : NameLists) (l : Lattice) (driver : ℕ) (image : Image) (budget : ℕ) (error : ViewError)
+    (failure : Failure) → LacksController l image error →
+    FailsBy (Because (TellsFault (λ f. (f ≡ fault.View error) × IsNoMemory f)) ⊥) NoOther failure →
+    FailsBy (RefusesControl lists l driver image budget) NoOther failure
+controller_fails lists l driver image budget error failure lacks told =
+    fails_by (Because (TellsFault (λ f. (f ≡ fault.View error) × IsNoMemory f)) ⊥)
     (RefusesControl lists l driver image budget) NoOther
     (λ reason is. inl (kind_told (IsViewFault l image) (fault.View error) (λ other. lacking_fault l image error lacks)
     reason is))
-    stop told
+    failure told
 
 -- A report of one fault of a start is a report of a fault of its kind.
 start_told : (Kind : StartFault → Type 0) (f : StartFault) → Kind f → (reason : Unanswered) →
@@ -115,26 +115,26 @@ start_told Kind f kind (unanswered.Refused text (cause.Raised e)) told = absurd 
 start_told Kind f kind unanswered.OutOfBudget told = absurd told
 start_told Kind f kind unanswered.Memory told = tt
 
--- The stop for a fault of the boundary claims that the controller is refused.
-pub boundary_stops : (lists : NameLists) (l : Lattice) (driver : ℕ) (image : Image) (budget : ℕ) (f : BoundaryFault)
-    (stop : Stop) → boundary_fault (control_of lists l driver image budget) ≡ Some f →
-    StopsBy (Because (TellsStartFault (λ g. g ≡ start.Boundary f)) ⊥) NoOther stop →
-    StopsBy (RefusesControl lists l driver image budget) NoOther stop
-boundary_stops lists l driver image budget f stop is told =
-    stops_by (Because (TellsStartFault (λ g. g ≡ start.Boundary f)) ⊥) (RefusesControl lists l driver image budget)
+-- The failure for a fault of the boundary claims that the controller is refused.
+pub boundary_fails : (lists : NameLists) (l : Lattice) (driver : ℕ) (image : Image) (budget : ℕ) (f : BoundaryFault)
+    (failure : Failure) → boundary_fault (control_of lists l driver image budget) ≡ Some f →
+    FailsBy (Because (TellsStartFault (λ g. g ≡ start.Boundary f)) ⊥) NoOther failure →
+    FailsBy (RefusesControl lists l driver image budget) NoOther failure
+boundary_fails lists l driver image budget f failure is told =
+    fails_by (Because (TellsStartFault (λ g. g ≡ start.Boundary f)) ⊥) (RefusesControl lists l driver image budget)
     NoOther
     (λ reason why. inr (start_told (IsBoundaryStart (control_of lists l driver image budget)) (start.Boundary f)
     (f, refl, is) reason why))
-    stop told
+    failure told
 
--- A drive whose controller is refused stops for that reason.
-pub control_stopped : {T : Type 0} (holds : Holding) (d : Driving) (l : Lattice) (driver : ℕ) (image : Image)
-    (budget : ℕ) (result : Result T Stop) (stop : Stop) → LooksAt holds d.lattice.now d.class.now l driver →
+-- A drive whose controller is refused fails for that reason.
+pub control_failed : {T : Type 0} (holds : Holding) (d : Driving) (l : Lattice) (driver : ℕ) (image : Image)
+    (budget : ℕ) (result : Result T Failure) (failure : Failure) → LooksAt holds d.lattice.now d.class.now l driver →
     IsImageAt holds d.execution.image.now image → IsBudgetOf d.execution.budget image budget →
-    IsErrAnd result (λ s. s ≡ stop) → StopsBy (RefusesControl d.lists l driver image budget) NoOther stop →
-    IfErr result (StopsBy (WhyDrive holds d) (LacksDrive holds d))
-control_stopped holds d l driver image budget result stop looks held within is told =
-    stopped_by (RefusesControl d.lists l driver image budget) (WhyDrive holds d) (LacksDrive holds d)
+    IsErrAnd result (λ s. s ≡ failure) → FailsBy (RefusesControl d.lists l driver image budget) NoOther failure →
+    IfErr result (FailsBy (WhyDrive holds d) (LacksDrive holds d))
+control_failed holds d l driver image budget result failure looks held within is told =
+    failed_by (RefusesControl d.lists l driver image budget) (WhyDrive holds d) (LacksDrive holds d)
     (λ reason refused. elim refused [
       | inl view ↦ inr (inr (inr (inl (record {
         lattice = l;
@@ -155,18 +155,18 @@ control_stopped holds d l driver image budget result stop looks held within is t
         is = boundary;
       }))))
     ])
-    result stop is told
+    result failure is told
 
--- If the budget isn't enough for the image of a file, the caller that passes the stop on says so.
-pub short_stopped : {T : Type 0} (holds : Holding) (d : Driving) (why : Unanswered → Type 0) (l : Lattice)
-    (driver : ℕ) (image : Image) (budget : ℕ) (result : Result T Stop) (stop : Stop) →
+-- If the budget isn't enough for the image of a file, the caller that passes the failure on says so.
+pub short_failed : {T : Type 0} (holds : Holding) (d : Driving) (why : Unanswered → Type 0) (l : Lattice)
+    (driver : ℕ) (image : Image) (budget : ℕ) (result : Result T Failure) (failure : Failure) →
     LooksAt holds d.lattice.now d.class.now l driver → IsImageAt holds d.execution.image.now image →
-    IsBudgetOf d.execution.budget image budget → IsErrAnd result (λ s. s ≡ stop) →
-    StopsBy (λ reason. ⊥) (λ s. (d.is_unbounded ≡ false) × SaysShort l image budget s) stop →
-    IfErr result (StopsBy why (LacksDrive holds d))
-short_stopped holds d why l driver image budget result stop looks held within is told =
-    handed (StopsBy why (LacksDrive holds d)) stop result is
-    (StopsBy-weaker (λ reason. ⊥) why (λ s. (d.is_unbounded ≡ false) × SaysShort l image budget s)
+    IsBudgetOf d.execution.budget image budget → IsErrAnd result (λ s. s ≡ failure) →
+    FailsBy (λ reason. ⊥) (λ s. (d.is_unbounded ≡ false) × SaysShort l image budget s) failure →
+    IfErr result (FailsBy why (LacksDrive holds d))
+short_failed holds d why l driver image budget result failure looks held within is told =
+    handed (FailsBy why (LacksDrive holds d)) failure result is
+    (FailsBy-weaker (λ reason. ⊥) why (λ s. (d.is_unbounded ≡ false) × SaysShort l image budget s)
     (LacksDrive holds d) (λ reason none. absurd none)
     (λ s short. inr (record {
       bounded = short.0;
@@ -178,4 +178,4 @@ short_stopped holds d why l driver image budget result stop looks held within is
       within = within;
       is = short.1;
     }))
-    stop told)
+    failure told)

@@ -1,4 +1,4 @@
--- The reason why an image isn't run, or runs aren't compared, as a stop claims it.
+-- The reason why an image isn't run, or runs aren't compared, as a failure claims it.
 use Rattle.std.proofs.Common.{◌≡◌, ℕ, ℤ, ◌<◌, ◌⊎◌, List, Result, Err, inl, inr, length, refl, sym, subst, arith}
 use Rattle.std.specs.Prelude.{Option, IfErr, IsErrAnd}
 use Rattle.std.specs.Borrow.{Bor}
@@ -26,19 +26,19 @@ use Rattle.vsi_devices.specs.declared.error.EngineError.{EngineError}
 use Rattle.vsi_devices.specs.declared.error.EngineError.TheVariants as engine
 use Rattle.vsi_arguments.specs.declared.request.Budget.{Budget}
 use Rattle.vsi_arguments.specs.declared.request.Execution.{Execution}
-use Rattle.vsi_arguments.specs.declared.request.Outset.{Outset}
-use Rattle.vsi.specs.declared.stop.Stop.{Stop}
-use Rattle.vsi.specs.declared.stop.Stop.TheVariants as stops
+use Rattle.vsi_arguments.specs.declared.request.InitialStore.{InitialStore}
+use Rattle.vsi.specs.declared.failure.Failure.{Failure}
+use Rattle.vsi.specs.declared.failure.Failure.TheVariants as fails
 use Rattle.vsi.specs.Holding.{Holding, IsImageAt, IsLatticeAt, IsStoreAt}
 use Rattle.vsi.specs.Input.{two_classes}
 use Rattle.vsi.specs.Files.{BeginsAt}
-use Rattle.vsi.specs.Refusals.{IsNoMemory, LacksBound, LacksBoundAt, LacksClass, LacksClassAt, NoOther, RefusesImage, RefusesLattice, RefusesStart, RefusesStore, StopsBy}
+use Rattle.vsi.specs.Refusals.{IsNoMemory, LacksBound, LacksBoundAt, LacksClass, LacksClassAt, NoOther, RefusesImage, RefusesLattice, RefusesStart, RefusesStore, FailsBy}
 use Rattle.vsi.specs.Reasons.{HasNoText, IsUnusable}
-use Rattle.vsi.specs.Stops.{status_of}
-use Rattle.vsi.proofs.Reasons.{StopsBy-weaker, handed, late_stops, stopped_by, stops_by}
+use Rattle.vsi.specs.Failures.{status_of}
+use Rattle.vsi.proofs.Reasons.{FailsBy-weaker, handed, late_fails, failed_by, fails_by}
 
 -- The image of a run is refused, or the words that it begins with.
-abbrev pub Unstarted : Holding → Execution → Outset → Unanswered → Type 0
+abbrev pub Unstarted : Holding → Execution → InitialStore → Unanswered → Type 0
 Unstarted holds e o reason = RefusesImage holds e.image.now reason ⊎ RefusesStart holds e o reason
 
 -- A lattice file is refused, or an image.
@@ -46,85 +46,85 @@ abbrev pub Unseen : Holding → List ℕ → List ℕ → Unanswered → Type 0
 Unseen holds lattice image reason = RefusesLattice holds lattice reason ⊎ RefusesImage holds image reason
 
 -- Lack of memory claims no reason.
-pub memory_stops : (why : Unanswered → Type 0) (other : Stop → Type 0) (stop : Stop) → stop ≡ stops.Memory →
-    StopsBy why other stop
-memory_stops why other stop is = subst (StopsBy why other) (sym is) tt
+pub memory_fails : (why : Unanswered → Type 0) (other : Failure → Type 0) (failure : Failure) → failure ≡ fails.Memory →
+    FailsBy why other failure
+memory_fails why other failure is = subst (FailsBy why other) (sym is) tt
 
 -- Nor does it where it is passed on.
-pub memory_stopped : {T : Type 0} (why : Unanswered → Type 0) (other : Stop → Type 0) (result : Result T Stop)
-    (stop : Stop) → IsErrAnd result (λ s. s ≡ stop) → stop ≡ stops.Memory → IfErr result (StopsBy why other)
-memory_stopped why other result stop is wants =
-    handed (StopsBy why other) stop result is (memory_stops why other stop wants)
+pub memory_failed : {T : Type 0} (why : Unanswered → Type 0) (other : Failure → Type 0) (result : Result T Failure)
+    (failure : Failure) → IsErrAnd result (λ s. s ≡ failure) → failure ≡ fails.Memory → IfErr result (FailsBy why other)
+memory_failed why other result failure is wants =
+    handed (FailsBy why other) failure result is (memory_fails why other failure wants)
 
--- A late stop that is passed on claims no reason.
-pub handed_late : {T : Type 0} (why : Unanswered → Type 0) (other : Stop → Type 0) (result : Result T Stop) →
-    IfErr result (λ stop. 3 < status_of stop) → IfErr result (StopsBy why other)
+-- A late failure that is passed on claims no reason.
+pub handed_late : {T : Type 0} (why : Unanswered → Type 0) (other : Failure → Type 0) (result : Result T Failure) →
+    IfErr result (λ failure. 3 < status_of failure) → IfErr result (FailsBy why other)
 handed_late why other result late =
-    IfErr-weaker result (λ stop. 3 < status_of stop) (StopsBy why other) (late_stops why other) late
+    IfErr-weaker result (λ failure. 3 < status_of failure) (FailsBy why other) (late_fails why other) late
 
 -- A fault of the output claims no reason.
-pub fault_stops : (why : Unanswered → Type 0) (other : Stop → Type 0) (stop : Stop) → status_of stop ≡ 4 →
-    StopsBy why other stop
-fault_stops why other stop four = late_stops why other stop (omega (arith, four))
+pub fault_fails : (why : Unanswered → Type 0) (other : Failure → Type 0) (failure : Failure) → status_of failure ≡ 4 →
+    FailsBy why other failure
+fault_fails why other failure four = late_fails why other failure (omega (arith, four))
 
 -- Nor does the answer that such a fault is.
-pub fault_stopped : {T : Type 0} (why : Unanswered → Type 0) (other : Stop → Type 0) (result : Result T Stop) →
-    IfErr result (λ stop. status_of stop ≡ 4) → IfErr result (StopsBy why other)
-fault_stopped why other result fault =
-    IfErr-weaker result (λ stop. status_of stop ≡ 4) (StopsBy why other) (fault_stops why other) fault
+pub fault_failed : {T : Type 0} (why : Unanswered → Type 0) (other : Failure → Type 0) (result : Result T Failure) →
+    IfErr result (λ failure. status_of failure ≡ 4) → IfErr result (FailsBy why other)
+fault_failed why other result fault =
+    IfErr-weaker result (λ failure. status_of failure ≡ 4) (FailsBy why other) (fault_fails why other) fault
 
--- A class that the lattice of a file lacks is missing, where its stop is passed on.
-pub lacks_stopped : {T : Type 0} (holds : Holding) (path name : List ℕ) (why : Unanswered → Type 0) (l : Lattice)
-    (result : Result T Stop) (stop : Stop) → IsLatticeAt holds path l → IsErrAnd result (λ s. s ≡ stop) →
-    StopsBy (λ reason. ⊥) (LacksClass l name) stop → IfErr result (StopsBy why (LacksClassAt holds path name))
-lacks_stopped holds path name why l result stop at is told =
-    handed (StopsBy why (LacksClassAt holds path name)) stop result is
-    (StopsBy-weaker (λ reason. ⊥) why (LacksClass l name) (LacksClassAt holds path name) (λ reason none. absurd none)
-    (λ s lacks. (l, at, lacks)) stop told)
+-- A class that the lattice of a file lacks is missing, where its failure is passed on.
+pub lacks_failed : {T : Type 0} (holds : Holding) (path name : List ℕ) (why : Unanswered → Type 0) (l : Lattice)
+    (result : Result T Failure) (failure : Failure) → IsLatticeAt holds path l → IsErrAnd result (λ s. s ≡ failure) →
+    FailsBy (λ reason. ⊥) (LacksClass l name) failure → IfErr result (FailsBy why (LacksClassAt holds path name))
+lacks_failed holds path name why l result failure at is told =
+    handed (FailsBy why (LacksClassAt holds path name)) failure result is
+    (FailsBy-weaker (λ reason. ⊥) why (LacksClass l name) (LacksClassAt holds path name) (λ reason none. absurd none)
+    (λ s lacks. (l, at, lacks)) failure told)
 
--- Why a step has stopped is why the whole has, where the files hold what they held.
-pub held_stopped : {T : Type 0} (Why : Holding → Unanswered → Type 0) (old new : Holding) (so : Unanswered → Type 0)
-    (other : Stop → Type 0) (result : Result T Stop) (stop : Stop) → new ≡ old →
-    ((reason : Unanswered) → Why old reason → so reason) → IsErrAnd result (λ s. s ≡ stop) →
-    StopsBy (Why new) NoOther stop → IfErr result (StopsBy so other)
-held_stopped Why old new so other result stop same f is told =
-    stopped_by (Why old) so other f result stop is (subst (λ h. StopsBy (Why h) NoOther stop) same told)
+-- Why a step has failed is why the whole has, where the files hold what they held.
+pub held_failed : {T : Type 0} (Why : Holding → Unanswered → Type 0) (old new : Holding) (so : Unanswered → Type 0)
+    (other : Failure → Type 0) (result : Result T Failure) (failure : Failure) → new ≡ old →
+    ((reason : Unanswered) → Why old reason → so reason) → IsErrAnd result (λ s. s ≡ failure) →
+    FailsBy (Why new) NoOther failure → IfErr result (FailsBy so other)
+held_failed Why old new so other result failure same f is told =
+    failed_by (Why old) so other f result failure is (subst (λ h. FailsBy (Why h) NoOther failure) same told)
 
--- Why a lattice file or an image is refused is why the whole has stopped, and a class that is missing is missing.
-pub unseen_stopped : {T : Type 0} (holds : Holding) (lattice image : List ℕ) (so : Unanswered → Type 0)
-    (other : Stop → Type 0) (result : Result T Stop) (stop : Stop) →
+-- Why a lattice file or an image is refused is why the whole has failed, and a class that is missing is missing.
+pub unseen_failed : {T : Type 0} (holds : Holding) (lattice image : List ℕ) (so : Unanswered → Type 0)
+    (other : Failure → Type 0) (result : Result T Failure) (failure : Failure) →
     ((reason : Unanswered) → RefusesLattice holds lattice reason → so reason) →
-    ((reason : Unanswered) → RefusesImage holds image reason → so reason) → IsErrAnd result (λ s. s ≡ stop) →
-    StopsBy (Unseen holds lattice image) other stop → IfErr result (StopsBy so other)
-unseen_stopped holds lattice image so other result stop of_lattice of_image is told =
-    handed (StopsBy so other) stop result is
-    (StopsBy-weaker (Unseen holds lattice image) so other other
+    ((reason : Unanswered) → RefusesImage holds image reason → so reason) → IsErrAnd result (λ s. s ≡ failure) →
+    FailsBy (Unseen holds lattice image) other failure → IfErr result (FailsBy so other)
+unseen_failed holds lattice image so other result failure of_lattice of_image is told =
+    handed (FailsBy so other) failure result is
+    (FailsBy-weaker (Unseen holds lattice image) so other other
     (λ reason unseen. elim unseen [
       | inl refused ↦ of_lattice reason refused
       | inr refused ↦ of_image reason refused
     ])
-    (λ s lacks. lacks) stop told)
+    (λ s lacks. lacks) failure told)
 
--- A stop at something missing is one at something missing of a wider kind.
-pub more_stopped : {T : Type 0} (why : Unanswered → Type 0) (other more : Stop → Type 0) (result : Result T Stop) →
-    ((stop : Stop) → other stop → more stop) → IfErr result (StopsBy why other) → IfErr result (StopsBy why more)
-more_stopped why other more result f is =
-    IfErr-weaker result (StopsBy why other) (StopsBy why more)
-    (StopsBy-weaker why why other more (λ reason so. so) f) is
+-- A failure at something missing is one at something missing of a wider kind.
+pub more_failed : {T : Type 0} (why : Unanswered → Type 0) (other more : Failure → Type 0) (result : Result T Failure) →
+    ((failure : Failure) → other failure → more failure) → IfErr result (FailsBy why other) → IfErr result (FailsBy why more)
+more_failed why other more result f is =
+    IfErr-weaker result (FailsBy why other) (FailsBy why more)
+    (FailsBy-weaker why why other more (λ reason so. so) f) is
 
--- If no bound was found for the image of a file, the caller that passes the stop on lacks that bound.
-pub unbounded_stopped : {T : Type 0} (holds : Holding) (path : List ℕ) (budget : Budget) (image : Image)
-    (why : Unanswered → Type 0) (other : Stop → Type 0) (result : Result T Stop) (stop : Stop) →
-    IsImageAt holds path image → ((s : Stop) → LacksBoundAt holds path budget s → other s) →
-    IsErrAnd result (λ s. s ≡ stop) → StopsBy (λ reason. ⊥) (LacksBound budget image) stop →
-    IfErr result (StopsBy why other)
-unbounded_stopped holds path budget image why other result stop held f is told =
-    handed (StopsBy why other) stop result is
-    (StopsBy-weaker (λ reason. ⊥) why (LacksBound budget image) other (λ reason none. absurd none)
-    (λ s lacks. f s (image, held, lacks)) stop told)
+-- If no bound was found for the image of a file, the caller that passes the failure on lacks that bound.
+pub unbounded_failed : {T : Type 0} (holds : Holding) (path : List ℕ) (budget : Budget) (image : Image)
+    (why : Unanswered → Type 0) (other : Failure → Type 0) (result : Result T Failure) (failure : Failure) →
+    IsImageAt holds path image → ((s : Failure) → LacksBoundAt holds path budget s → other s) →
+    IsErrAnd result (λ s. s ≡ failure) → FailsBy (λ reason. ⊥) (LacksBound budget image) failure →
+    IfErr result (FailsBy why other)
+unbounded_failed holds path budget image why other result failure held f is told =
+    handed (FailsBy why other) failure result is
+    (FailsBy-weaker (λ reason. ⊥) why (LacksBound budget image) other (λ reason none. absurd none)
+    (λ s lacks. f s (image, held, lacks)) failure told)
 
 -- An image and the words with which it begins, from the contents of the files.
-pub begins_at : (holds : Holding) (e : Execution) (o : Outset) (image : Image) (file given : List ℕ)
+pub begins_at : (holds : Holding) (e : Execution) (o : InitialStore) (image : Image) (file given : List ℕ)
     (words : List ℤ) → IsImageAt holds e.image.now image → IsStoreAt holds e.store file → given ≡ file →
     Begins image given (texts o.settings.items) o.is_full words → length words ≡ length image.globals.items →
     BeginsAt holds e o image words
@@ -137,14 +137,14 @@ begins_at holds e o image file given words held read same begins whole = record 
 }
 
 -- The words with which a run would begin are refused for the contents of the files.
-pub start_stopped : {T : Type 0} (holds : Holding) (e : Execution) (o : Outset) (so : Unanswered → Type 0)
-    (other : Stop → Type 0) (image : Image) (file given : List ℕ) (result : Result T Stop) (stop : Stop) →
+pub start_failed : {T : Type 0} (holds : Holding) (e : Execution) (o : InitialStore) (so : Unanswered → Type 0)
+    (other : Failure → Type 0) (image : Image) (file given : List ℕ) (result : Result T Failure) (failure : Failure) →
     IsImageAt holds e.image.now image → IsStoreAt holds e.store file → given ≡ file →
-    ((reason : Unanswered) → RefusesStart holds e o reason → so reason) → IsErrAnd result (λ s. s ≡ stop) →
-    StopsBy (λ reason. BeginsWith image given (texts o.settings.items) o.is_full (Err reason)) NoOther stop →
-    IfErr result (StopsBy so other)
-start_stopped holds e o so other image file given result stop held read same f is told =
-    stopped_by (λ reason. BeginsWith image given (texts o.settings.items) o.is_full (Err reason)) so other
+    ((reason : Unanswered) → RefusesStart holds e o reason → so reason) → IsErrAnd result (λ s. s ≡ failure) →
+    FailsBy (λ reason. BeginsWith image given (texts o.settings.items) o.is_full (Err reason)) NoOther failure →
+    IfErr result (FailsBy so other)
+start_failed holds e o so other image file given result failure held read same f is told =
+    failed_by (λ reason. BeginsWith image given (texts o.settings.items) o.is_full (Err reason)) so other
     (λ reason why. f reason (record {
       image = image;
       held = held;
@@ -152,7 +152,7 @@ start_stopped holds e o so other image file given result stop held read same f i
       read = read;
       is = subst (λ b. BeginsWith image b (texts o.settings.items) o.is_full (Err reason)) same why;
     }))
-    result stop is told
+    result failure is told
 
 -- A store file, or no bytes without one, is refused for an image.
 abbrev pub RefusesWords : Holding → Option (Bor (List ℕ)) → Image → Unanswered → Type 0
@@ -171,29 +171,29 @@ kind_told Kind fault kind (unanswered.Refused text (cause.Raised e)) told = absu
 kind_told Kind fault kind unanswered.OutOfBudget told = absurd told
 kind_told Kind fault kind unanswered.Memory told = tt
 
--- The stop for a refused store file reports its fault.
-pub words_stop : (holds : Holding) (path : Option (Bor (List ℕ))) (image : Image) (file : List ℕ) (error : StoreError)
-    (stop : Stop) → IsStoreAt holds path file → IsRefusal (globals image.globals.items) file error →
-    StopsBy (Because (TellsFault (λ f. (f ≡ fault.Store error) × IsNoMemory f)) ⊥) NoOther stop →
-    StopsBy (RefusesWords holds path image) NoOther stop
-words_stop holds path image file error stop read refused told =
-    stops_by (Because (TellsFault (λ f. (f ≡ fault.Store error) × IsNoMemory f)) ⊥) (RefusesWords holds path image)
+-- The failure for a refused store file reports its fault.
+pub words_failure : (holds : Holding) (path : Option (Bor (List ℕ))) (image : Image) (file : List ℕ) (error : StoreError)
+    (failure : Failure) → IsStoreAt holds path file → IsRefusal (globals image.globals.items) file error →
+    FailsBy (Because (TellsFault (λ f. (f ≡ fault.Store error) × IsNoMemory f)) ⊥) NoOther failure →
+    FailsBy (RefusesWords holds path image) NoOther failure
+words_failure holds path image file error failure read refused told =
+    fails_by (Because (TellsFault (λ f. (f ≡ fault.Store error) × IsNoMemory f)) ⊥) (RefusesWords holds path image)
     NoOther
     (λ reason is. (
       file,
       read,
       kind_told (IsStoreFault image file) (fault.Store error) (λ other. (other, refused)) reason is,
     ))
-    stop told
+    failure told
 
 -- A store file is refused for the image of a file.
-pub store_stopped : {T : Type 0} (holds new : Holding) (path : List ℕ) (store : Option (Bor (List ℕ)))
-    (so : Unanswered → Type 0) (other : Stop → Type 0) (image : Image) (result : Result T Stop) (stop : Stop) →
+pub store_failed : {T : Type 0} (holds new : Holding) (path : List ℕ) (store : Option (Bor (List ℕ)))
+    (so : Unanswered → Type 0) (other : Failure → Type 0) (image : Image) (result : Result T Failure) (failure : Failure) →
     IsImageAt holds path image → new ≡ holds →
-    ((reason : Unanswered) → RefusesStore holds path store reason → so reason) → IsErrAnd result (λ s. s ≡ stop) →
-    StopsBy (RefusesWords new store image) NoOther stop → IfErr result (StopsBy so other)
-store_stopped holds new path store so other image result stop held same f =
-    held_stopped (λ h. RefusesWords h store image) holds new so other result stop same
+    ((reason : Unanswered) → RefusesStore holds path store reason → so reason) → IsErrAnd result (λ s. s ≡ failure) →
+    FailsBy (RefusesWords new store image) NoOther failure → IfErr result (FailsBy so other)
+store_failed holds new path store so other image result failure held same f =
+    held_failed (λ h. RefusesWords h store image) holds new so other result failure same
     (λ reason refused. f reason (record {
       image = image;
       held = held;
@@ -203,39 +203,39 @@ store_stopped holds new path store so other image result stop held same f =
     }))
 
 -- An answer that is a difference claims one, and a fault of the output claims no reason.
-pub answer_stopped : {T : Type 0} (why : Unanswered → Type 0) (other : Stop → Type 0) (told : Type 0)
-    (result : Result T Stop) → IfErr result (λ stop. ((stop ≡ stops.Differs) × told) ⊎ (status_of stop ≡ 4)) →
-    (told → other stops.Differs) → IfErr result (StopsBy why other)
-answer_stopped why other told result stopped f =
-    IfErr-weaker result (λ stop. ((stop ≡ stops.Differs) × told) ⊎ (status_of stop ≡ 4)) (StopsBy why other)
-    (λ stop is. elim is [
-      | inl (differs, tells) ↦ subst (StopsBy why other) (sym differs) (f tells)
-      | inr fault ↦ fault_stops why other stop fault
+pub answer_failed : {T : Type 0} (why : Unanswered → Type 0) (other : Failure → Type 0) (told : Type 0)
+    (result : Result T Failure) → IfErr result (λ failure. ((failure ≡ fails.Differs) × told) ⊎ (status_of failure ≡ 4)) →
+    (told → other fails.Differs) → IfErr result (FailsBy why other)
+answer_failed why other told result failed f =
+    IfErr-weaker result (λ failure. ((failure ≡ fails.Differs) × told) ⊎ (status_of failure ≡ 4)) (FailsBy why other)
+    (λ failure is. elim is [
+      | inl (differs, tells) ↦ subst (FailsBy why other) (sym differs) (f tells)
+      | inr fault ↦ fault_fails why other failure fault
     ])
-    stopped
+    failed
 
--- A call that only writes stops at a fault of the output, or for lack of memory.
-pub ended_stops : (why : Unanswered → Type 0) (other : Stop → Type 0) (error : EngineError) (stop : Stop) →
-    IsOfWriting error → (error ≡ engine.WriteFault → status_of stop ≡ 4) → (error ≡ engine.Memory → stop ≡
-    stops.Memory) →
-    StopsBy why other stop
-ended_stops why other engine.ReadFault stop only write memory = absurd only
-ended_stops why other engine.WriteFault stop only write memory = fault_stops why other stop (write refl)
-ended_stops why other (engine.Compile e) stop only write memory = absurd only
-ended_stops why other (engine.Decode e) stop only write memory = absurd only
-ended_stops why other (engine.Verify e) stop only write memory = absurd only
-ended_stops why other (engine.Store e) stop only write memory = absurd only
-ended_stops why other engine.Memory stop only write memory = memory_stops why other stop (memory refl)
+-- A call that only writes fails at a fault of the output, or for lack of memory.
+pub ended_fails : (why : Unanswered → Type 0) (other : Failure → Type 0) (error : EngineError) (failure : Failure) →
+    IsOfWriting error → (error ≡ engine.WriteFault → status_of failure ≡ 4) → (error ≡ engine.Memory → failure ≡
+    fails.Memory) →
+    FailsBy why other failure
+ended_fails why other engine.ReadFault failure only write memory = absurd only
+ended_fails why other engine.WriteFault failure only write memory = fault_fails why other failure (write refl)
+ended_fails why other (engine.Compile e) failure only write memory = absurd only
+ended_fails why other (engine.Decode e) failure only write memory = absurd only
+ended_fails why other (engine.Verify e) failure only write memory = absurd only
+ended_fails why other (engine.Store e) failure only write memory = absurd only
+ended_fails why other engine.Memory failure only write memory = memory_fails why other failure (memory refl)
 
 -- The lack of a text for an image is reported under the two classes.
-pub textless_stops : (why : Unanswered → Type 0) (holds : Holding) (path : List ℕ) (image shown : Image) (l : Lattice)
-    (error : AuditError) (stop : Stop) → IsImageAt holds path image → Declares two_classes l → shown ≡ image →
-    StopsBy (λ reason. ⊥)
-    (λ s. (text : Vec ℕ) × (s ≡ stops.Audit text error) × IsAuditText l shown error text.items) stop →
-    StopsBy why (HasNoText holds path) stop
-textless_stops why holds path image shown l error stop held declared same told =
-    StopsBy-weaker (λ reason. ⊥) why
-    (λ s. (text : Vec ℕ) × (s ≡ stops.Audit text error) × IsAuditText l shown error text.items)
+pub textless_fails : (why : Unanswered → Type 0) (holds : Holding) (path : List ℕ) (image shown : Image) (l : Lattice)
+    (error : AuditError) (failure : Failure) → IsImageAt holds path image → Declares two_classes l → shown ≡ image →
+    FailsBy (λ reason. ⊥)
+    (λ s. (text : Vec ℕ) × (s ≡ fails.Audit text error) × IsAuditText l shown error text.items) failure →
+    FailsBy why (HasNoText holds path) failure
+textless_fails why holds path image shown l error failure held declared same told =
+    FailsBy-weaker (λ reason. ⊥) why
+    (λ s. (text : Vec ℕ) × (s ≡ fails.Audit text error) × IsAuditText l shown error text.items)
     (HasNoText holds path) (λ reason none. absurd none)
     (λ s is. subst (HasNoText holds path) (sym is.1)
     (record {
@@ -245,11 +245,11 @@ textless_stops why holds path image shown l error stop held declared same told =
       declared = declared;
       told = subst (λ i. IsAuditText l i error is.0.items) same is.2;
     }))
-    stop told
+    failure told
 
 -- An interface that is refused has no reason of another kind.
-pub unusable_stops : (why : Unanswered → Type 0) (other : Stop → Type 0) →
-    ((stop : Stop) → IsUnusable stop → other stop) → (stop : Stop) → StopsBy (λ reason. ⊥) IsUnusable stop →
-    StopsBy why other stop
-unusable_stops why other f stop told =
-    StopsBy-weaker (λ reason. ⊥) why IsUnusable other (λ reason none. absurd none) f stop told
+pub unusable_fails : (why : Unanswered → Type 0) (other : Failure → Type 0) →
+    ((failure : Failure) → IsUnusable failure → other failure) → (failure : Failure) → FailsBy (λ reason. ⊥) IsUnusable failure →
+    FailsBy why other failure
+unusable_fails why other f failure told =
+    FailsBy-weaker (λ reason. ⊥) why IsUnusable other (λ reason none. absurd none) f failure told

@@ -11,29 +11,29 @@ use Rattle.vsi_types.specs.declared.rules.Profile.{Profile}
 use Rattle.vsi_answers.specs.declared.unanswered.Unanswered.{Unanswered}
 use Rattle.vsi_conform.specs.Checking.{TellsAnswer}
 use Rattle.vsi_arguments.specs.declared.request.Compilation.{Compilation}
-use Rattle.vsi.specs.declared.stop.Stop.{Stop}
+use Rattle.vsi.specs.declared.failure.Failure.{Failure}
 use Rattle.vsi.specs.Holding.{Holding}
 use Rattle.vsi.specs.Files.{AreFiles, OfFiles, Writes}
 use Rattle.vsi.specs.Performed.{BuildsFile, PerformsBuild, ToldAccepted, ToldFlows, ToldRaises, profile_of}
 use Rattle.vsi.specs.Refusals.{AsksCheck, AsksFlows, AsksMend}
-use Rattle.vsi.specs.Stops.{status_of, stop_of}
+use Rattle.vsi.specs.Failures.{status_of, failure_of}
 use Rattle.vsi.proofs.Answered.{answered_told}
 
 -- A text that is written is of the kind that the answer is.
-pub writes_of : (Kind : Vec ℕ → Type 0) (old new : Option (List ℕ)) (answer : Result (Vec ℕ) Stop) →
+pub writes_of : (Kind : Vec ℕ → Type 0) (old new : Option (List ℕ)) (answer : Result (Vec ℕ) Failure) →
     IfOk answer Kind → IsOkAnd answer (λ text. Appends old new text.items) → Writes Kind old new
 writes_of Kind old new (Ok text) is written = record { text = text; is = is; written = written }
-writes_of Kind old new (Err stop) is written = absurd written
+writes_of Kind old new (Err failure) is written = absurd written
 
 -- The same, where the text has been written.
-pub put_writes : {T : Type 0} (Kind : Vec ℕ → Type 0) (old new : Option (List ℕ)) (answer : Result (Vec ℕ) Stop)
-    (result : Result T Stop) → IfOk answer Kind →
+pub put_writes : {T : Type 0} (Kind : Vec ℕ → Type 0) (old new : Option (List ℕ)) (answer : Result (Vec ℕ) Failure)
+    (result : Result T Failure) → IfOk answer Kind →
     OnOk result (IsOkAnd answer (λ text. Appends old new text.items)) → OnOk result (Writes Kind old new)
 put_writes Kind old new answer result is done = on_ok_weaker result (writes_of Kind old new answer is) done
 
 -- The same, where no file has been filled.
 pub put_alone : {T : Type 0} (Kind : Vec ℕ → Type 0) (old new : Option (List ℕ)) (left holds : Holding)
-    (answer : Result (Vec ℕ) Stop) (result : Result T Stop) → left ≡ holds → IfOk answer Kind →
+    (answer : Result (Vec ℕ) Failure) (result : Result T Failure) → left ≡ holds → IfOk answer Kind →
     OnOk result (IsOkAnd answer (λ text. Appends old new text.items)) →
     OnOk result ((left ≡ holds) × Writes Kind old new)
 put_alone Kind old new left holds answer result kept is done =
@@ -41,7 +41,7 @@ put_alone Kind old new left holds answer result kept is done =
 
 -- A build writes nothing to the output.
 pub build_performs : {T : Type 0} (holds : Holding) (c : Compilation) (image : List ℕ) (left : Holding)
-    (old : Option (List ℕ)) (result : Result T Stop) → OnOk result (BuildsFile holds c image left) →
+    (old : Option (List ℕ)) (result : Result T Failure) → OnOk result (BuildsFile holds c image left) →
     OnOk result (PerformsBuild holds c image left old old)
 build_performs holds c image left old result builds =
     on_ok_weaker result (λ is. record { builds = is; kept = Keeps-refl old }) builds
@@ -56,9 +56,9 @@ answer_so l j k text source b c out e f g tells =
 -- An answer about a lattice and a source text is an answer about the files that hold them.
 pub told_files : (holds : Holding) (c : Compilation)
     (Ask : Lattice → List ℕ → Result (Vec ℕ) Unanswered → Type 0) (Told : Lattice → List ℕ → Vec ℕ → Type 0)
-    (l : Lattice) (text source : List ℕ) (answer : Result (Vec ℕ) Unanswered) (result : Result (Vec ℕ) Stop) →
+    (l : Lattice) (text source : List ℕ) (answer : Result (Vec ℕ) Unanswered) (result : Result (Vec ℕ) Failure) →
     ((m : Lattice) (s : List ℕ) (t : Vec ℕ) → Ask m s (Ok t) → Told m s t) → AreFiles holds c l text →
-    source ≡ text → MatchResult answer (λ t. result ≡ Ok t) (λ reason. result ≡ Err (stop_of reason)) →
+    source ≡ text → MatchResult answer (λ t. result ≡ Ok t) (λ reason. result ≡ Err (failure_of reason)) →
     Ask l source answer → IfOk result (OfFiles holds c Told)
 told_files holds c Ask Told l text source answer result f files same is told =
     IfOk-weaker result (λ t. Ask l text (Ok t)) (OfFiles holds c Told)
@@ -68,9 +68,9 @@ told_files holds c Ask Told l text source answer result f files same is told =
 -- The same, under the profile of a compilation.
 pub told_by : (holds : Holding) (c : Compilation)
     (Ask : Lattice → Profile → List ℕ → Result (Vec ℕ) Unanswered → Type 0) (l : Lattice) (text source : List ℕ)
-    (P : Profile) (answer : Result (Vec ℕ) Unanswered) (result : Result (Vec ℕ) Stop) → AreFiles holds c l text →
+    (P : Profile) (answer : Result (Vec ℕ) Unanswered) (result : Result (Vec ℕ) Failure) → AreFiles holds c l text →
     source ≡ text → P ≡ profile_of c.is_strict →
-    MatchResult answer (λ t. result ≡ Ok t) (λ reason. result ≡ Err (stop_of reason)) → Ask l P source answer →
+    MatchResult answer (λ t. result ≡ Ok t) (λ reason. result ≡ Err (failure_of reason)) → Ask l P source answer →
     IfOk result (OfFiles holds c (λ m s t. Ask m (profile_of c.is_strict) s (Ok t)))
 told_by holds c Ask l text source P answer result files same by is told =
     told_files holds c (λ m s a. Ask m (profile_of c.is_strict) s a) (λ m s t. Ask m (profile_of c.is_strict) s (Ok t))

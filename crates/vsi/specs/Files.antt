@@ -17,7 +17,7 @@ use Rattle.vsi_arguments.specs.declared.request.Budget.{Budget}
 use Rattle.vsi_arguments.specs.declared.request.Budget.TheVariants.{Number, Auto}
 use Rattle.vsi_arguments.specs.declared.request.Compilation.{Compilation}
 use Rattle.vsi_arguments.specs.declared.request.Execution.{Execution}
-use Rattle.vsi_arguments.specs.declared.request.Outset.{Outset}
+use Rattle.vsi_arguments.specs.declared.request.InitialStore.{InitialStore}
 use Rattle.vsi.specs.Holding.{Holding, IsImageAt, IsLatticeAt, IsReadAt, IsStoreAt}
 
 -- ---- what is written.
@@ -55,7 +55,7 @@ pub record OfFile (holds : Holding) (path : List ℕ) (Kind : List ℕ → Vec �
   pub is : Kind bytes text
 
 -- The image in a file, and the words that a run of it begins with: those of the store file, changed by the settings.
-pub record BeginsAt (holds : Holding) (e : Execution) (o : Outset) (im : Image) (words : List ℤ) : Type 0 where
+pub record BeginsAt (holds : Holding) (e : Execution) (o : InitialStore) (im : Image) (words : List ℤ) : Type 0 where
   pub image : IsImageAt holds e.image.now im
   pub file : List ℕ
   pub read : IsStoreAt holds e.store file

@@ -10,9 +10,9 @@ use Rattle.vsi_answers.specs.declared.unanswered.Cause.{Cause}
 use Rattle.vsi_answers.specs.declared.unanswered.Unanswered.{Unanswered}
 use Rattle.vsi_answers.specs.declared.unanswered.Unanswered.TheVariants.{Refused, OutOfBudget}
 use Rattle.vsi_devices.specs.declared.counted.Counted.{Counted}
-use Rattle.vsi.specs.declared.stop.Stop.{Stop}
+use Rattle.vsi.specs.declared.failure.Failure.{Failure}
 use Rattle.vsi.specs.Screen.{is_tame}
-use Rattle.vsi.specs.Stops.{Gets, note_behind, status_of, text_of_stop}
+use Rattle.vsi.specs.Failures.{Gets, note_after, status_of, text_of_failure}
 
 -- The lattice file of one class below another, under which the input is compiled.
 abbrev pub two_classes : List ℕ
@@ -43,30 +43,30 @@ pub record AnswersInput (remaining : Option (List ℕ)) (bytes : List ℕ) : Typ
   pub is : bytes ≡ text.items
 
 -- A source is read from a reader, and its run under the two classes has no answer, for this reason.
-pub record StopsRun (remaining : Option (List ℕ)) (reason : Unanswered) : Type 0 where
+pub record FailsRun (remaining : Option (List ℕ)) (reason : Unanswered) : Type 0 where
   pub source : List ℕ
   pub given : IsReadFrom remaining source
   pub lattice : Lattice
   pub declared : Declares two_classes lattice
-  pub stopped : RunsSourceTo lattice source 1000000 (Err reason)
+  pub failed : RunsSourceTo lattice source 1000000 (Err reason)
 
 -- A source read from a reader is refused, and the text of the refusal has this property.
 abbrev pub RefusesRun : Option (List ℕ) → (List ℕ → Type 0) → Type 0
 RefusesRun remaining told =
-    (text : Vec ℕ) × (cause : Cause) × StopsRun remaining (Refused text cause) × told text.items
+    (text : Vec ℕ) × (cause : Cause) × FailsRun remaining (Refused text cause) × told text.items
 
 -- The image of a source read from a reader hasn't halted within a million instructions, and the text that says so has
 -- this property.
 abbrev pub SpendsRun : Option (List ℕ) → (List ℕ → Type 0) → Type 0
-SpendsRun remaining told = StopsRun remaining OutOfBudget × told (codes "out of budget\n")
+SpendsRun remaining told = FailsRun remaining OutOfBudget × told (codes "out of budget\n")
 
--- A writer has got the text of a stop with this property and this status, followed by a note of which no byte controls
+-- A writer has got the text of a failure with this property and this status, followed by a note of which no byte controls
 -- a terminal except for its colours, unless a call of it failed.
-pub record TellsStop {E : Type 0} (So : Stop → Type 0) (status : ℕ) (contents : E → Option (List ℕ))
+pub record TellsFailure {E : Type 0} (So : Failure → Type 0) (status : ℕ) (contents : E → Option (List ℕ))
     (old new : Counted E) : Type 0 where
-  pub stop : Stop
+  pub failure : Failure
   pub note : List ℕ
-  pub so : So stop
-  pub stopped : status ≡ status_of stop
+  pub so : So failure
+  pub failed : status ≡ status_of failure
   pub tame : is_tame note ≡ true
-  pub told : Gets contents old new (text_of_stop stop ++ note_behind stop note)
+  pub told : Gets contents old new (text_of_failure failure ++ note_after failure note)

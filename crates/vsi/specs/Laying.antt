@@ -5,8 +5,8 @@ use Rattle.std.specs.Io.KnownBytes.{Appends, Keeps}
 use Rattle.vsi_compiler.specs.Source.{IsCanonicalText}
 use Rattle.vsi_layout.specs.Layout.{IsLayout}
 use Rattle.vsi_layout.specs.Places.{IsChangeText}
-use Rattle.vsi.specs.declared.stop.Stop.{Stop}
-use Rattle.vsi.specs.declared.stop.Stop.TheVariants.{Differs}
+use Rattle.vsi.specs.declared.failure.Failure.{Failure}
+use Rattle.vsi.specs.declared.failure.Failure.TheVariants.{Differs}
 use Rattle.vsi.specs.Holding.{Holding, IsReadAt, Replaces}
 
 -- The canonical text of a text that has a tree.
@@ -65,10 +65,10 @@ AnswersLayout false true holds source bytes = ⊥
 AnswersLayout false false holds source bytes = PrintsLayout holds source bytes
 
 -- A text differs from its layout, and the lines that say where have been written.
-abbrev pub ToldChanges : (List ℕ → Type 0) → Option (List ℕ) → Option (List ℕ) → Stop → Type 0
-ToldChanges Kind old new stop = (stop ≡ Differs) × ((lines : List ℕ) × Kind lines × Appends old new lines)
+abbrev pub ToldChanges : (List ℕ → Type 0) → Option (List ℕ) → Option (List ℕ) → Failure → Type 0
+ToldChanges Kind old new failure = (failure ≡ Differs) × ((lines : List ℕ) × Kind lines × Appends old new lines)
 
--- The other reason to stop, which only `--check` has: the text of the file differs from its layout.
-abbrev pub OtherLayout : Bool → Holding → List ℕ → Option (List ℕ) → Option (List ℕ) → Stop → Type 0
-OtherLayout true holds source old new stop = ToldChanges (DiffersIn holds source) old new stop
-OtherLayout false holds source old new stop = ⊥
+-- The other reason to fail, which only `--check` has: the text of the file differs from its layout.
+abbrev pub OtherLayout : Bool → Holding → List ℕ → Option (List ℕ) → Option (List ℕ) → Failure → Type 0
+OtherLayout true holds source old new failure = ToldChanges (DiffersIn holds source) old new failure
+OtherLayout false holds source old new failure = ⊥

@@ -1,4 +1,4 @@
-pub mod Stops
+pub mod Failures
 pub mod Screen
 pub mod Input
 pub mod Words

@@ -5,7 +5,7 @@ use Rattle.vsi_image.specs.declared.instr.Image.{Image}
 use Rattle.vsi_machine.specs.Counting.{HaltsIn}
 use Rattle.vsi_machine.specs.CountTexts.{count_line}
 use Rattle.vsi_arguments.specs.declared.request.Execution.{Execution}
-use Rattle.vsi_arguments.specs.declared.request.Outset.{Outset}
+use Rattle.vsi_arguments.specs.declared.request.InitialStore.{InitialStore}
 use Rattle.vsi_arguments.specs.declared.request.Request.{Request}
 use Rattle.vsi_arguments.specs.declared.request.Request.TheVariants as request
 use Rattle.vsi_asked.specs.Asked.{AsksFor}
@@ -14,12 +14,12 @@ use Rattle.vsi_devices.specs.declared.counted.Counted.{Counted}
 use Rattle.vsi.specs.Files.{BeginsAt}
 use Rattle.vsi.specs.Holding.{Holding}
 use Rattle.vsi.specs.Screen.{is_tame}
-use Rattle.vsi.specs.Stops.{Gets}
-use Rattle.vsi.specs.declared.stop.Stop.{Stop}
+use Rattle.vsi.specs.Failures.{Gets}
+use Rattle.vsi.specs.declared.failure.Failure.{Failure}
 
 -- The kind of these lines: the count of the run of an image file, if it is requested, sentences for a person, or none.
 pub data Noting : Type 0 where
-  Count : Execution → Outset → Bool → Noting
+  Count : Execution → InitialStore → Bool → Noting
   Sentences : Noting
   Nothing : Noting
 
@@ -39,7 +39,7 @@ Counts false image words note = note ≡ []
 Counts true image words note = (n : ℕ) × HaltsIn image words n × (n < 2 ^ 64) × (note ≡ count_line n)
 
 -- The same for the run of an image file.
-pub record CountsRun (holds : Holding) (e : Execution) (o : Outset) (has_count : Bool) (note : List ℕ) : Type 0 where
+pub record CountsRun (holds : Holding) (e : Execution) (o : InitialStore) (has_count : Bool) (note : List ℕ) : Type 0 where
   pub image : Image
   pub words : List ℤ
   pub begins : BeginsAt holds e o image words
@@ -52,7 +52,7 @@ IsNote holds Sentences note = Unit {0}
 IsNote holds Nothing note = note ≡ []
 
 -- The same after an answer: a count is claimed only where everything was done.
-abbrev pub Notes : {T : Type 0} → Holding → Noting → Result T Stop → List ℕ → Type 0
+abbrev pub Notes : {T : Type 0} → Holding → Noting → Result T Failure → List ℕ → Type 0
 Notes holds (Count e o has_count) answer note = OnOk answer (CountsRun holds e o has_count note)
 Notes holds Sentences answer note = Unit {0}
 Notes holds Nothing answer note = note ≡ []

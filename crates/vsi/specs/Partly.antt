@@ -1,4 +1,4 @@
--- The output that a stopped request leaves: nothing new, or the beginning of one of its answers.
+-- The output that a failed request leaves: nothing new, or the beginning of one of its answers.
 use Rattle.std.specs.Prelude.{◌≡◌, ◌≢◌, ◌<◌, ◌⊎◌, ℕ, ◌++◌, ℤ, Bool, true, false, List, Option, IfSome, take}
 use Rattle.std.specs.Global.{Vec}
 use Rattle.std.specs.Io.KnownBytes.{Appends, Keeps}
@@ -17,11 +17,11 @@ use Rattle.vsi_arguments.specs.declared.request.Driving.{Driving}
 use Rattle.vsi_arguments.specs.declared.request.Execution.{Execution}
 use Rattle.vsi_arguments.specs.declared.request.Judging.{Judging}
 use Rattle.vsi_arguments.specs.declared.request.Mending.{Mending}
-use Rattle.vsi_arguments.specs.declared.request.Outset.{Outset}
+use Rattle.vsi_arguments.specs.declared.request.InitialStore.{InitialStore}
 use Rattle.vsi_arguments.specs.declared.request.Request.{Request}
 use Rattle.vsi_arguments.specs.declared.request.Request.TheVariants as request
-use Rattle.vsi.specs.declared.stop.Stop.{Stop}
-use Rattle.vsi.specs.declared.stop.Stop.TheVariants.{Differs}
+use Rattle.vsi.specs.declared.failure.Failure.{Failure}
+use Rattle.vsi.specs.declared.failure.Failure.TheVariants.{Differs}
 use Rattle.vsi.specs.Admitted.{IsAdmitted}
 use Rattle.vsi.specs.Driven.{lines_of}
 use Rattle.vsi.specs.Holding.{Holding, IsImageAt}
@@ -32,7 +32,7 @@ use Rattle.vsi.specs.Raises.{ToldUnserved}
 use Rattle.vsi.specs.Reasons.{ToldRefusal}
 use Rattle.vsi.specs.Seeing.{SeesFiles}
 use Rattle.vsi.specs.Shaping.{ShapedText}
-use Rattle.vsi.specs.Stops.{status_of}
+use Rattle.vsi.specs.Failures.{status_of}
 use Rattle.vsi.specs.Tried.{TriesFile}
 
 -- ---- a part of an answer.
@@ -68,7 +68,7 @@ AnswersMend false holds asked =
     OfFiles holds asked.compilation (ToldRaises false asked.is_applied asked.compilation.is_strict)
 
 -- `run`: the whole trace of the run, and nothing without `--trace`.
-pub record TracesRun (holds : Holding) (e : Execution) (o : Outset) (traced : Bool) (bytes : List ℕ) : Type 0 where
+pub record TracesRun (holds : Holding) (e : Execution) (o : InitialStore) (traced : Bool) (bytes : List ℕ) : Type 0 where
   pub image : Image
   pub words : List ℤ
   pub begins : BeginsAt holds e o image words
@@ -77,18 +77,18 @@ pub record TracesRun (holds : Holding) (e : Execution) (o : Outset) (traced : Bo
   pub is : bytes ≡ trace_of traced image.code.items budget (start image words)
 
 -- `run`: the trace of a run that halts, and after it the text of the store.
-pub record ShowsRun (holds : Holding) (e : Execution) (o : Outset) (traced : Bool) (bytes : List ℕ) : Type 0 where
+pub record ShowsRun (holds : Holding) (e : Execution) (o : InitialStore) (traced : Bool) (bytes : List ℕ) : Type 0 where
   pub trace : List ℕ
   pub text : List ℕ
   pub ran : RunsFiles holds e o traced trace text
   pub is : bytes ≡ trace ++ shown o.out text
 
 -- `run`: the trace, and after it the text of the store if the run halts.
-abbrev pub AnswersRun : Holding → Execution → Outset → Bool → List ℕ → Type 0
+abbrev pub AnswersRun : Holding → Execution → InitialStore → Bool → List ℕ → Type 0
 AnswersRun holds e o traced bytes = TracesRun holds e o traced bytes ⊎ ShowsRun holds e o traced bytes
 
 -- `view`: the lines that the class sees, and nothing if they go to a file.
-abbrev pub AnswersView : Holding → List ℕ → List ℕ → Execution → Outset → List ℕ → Type 0
+abbrev pub AnswersView : Holding → List ℕ → List ℕ → Execution → InitialStore → List ℕ → Type 0
 AnswersView holds path class e o bytes =
     (text : Vec ℕ) × ViewsFiles holds path class e o text × (bytes ≡ shown o.out text.items)
 
@@ -150,7 +150,7 @@ Answers holds given (request.Lattice arguments) = BytesOf (ShapedText arguments.
 Answers holds given (request.Lsp serving) = AreFrames
 Answers holds given (request.Explain page) = λ bytes. bytes ≡ page.now
 
--- ---- what a stop leaves.
+-- ---- what a failure leaves.
 
 -- The least status at which a request may have written a part of an answer: a run that is out of budget has written its
 -- trace, a server whose client goes away has written messages, and any other request is cut short by a fault or by lack
@@ -160,8 +160,8 @@ cut_from (request.Run e o has_trace has_count) = 3
 cut_from (request.Lsp serving) = 1
 cut_from asked = 4
 
--- The output that a stop leaves: only first bytes of an answer of this kind, and nothing at all below this status,
--- unless the stop is a difference, which is the answer itself.
-pub record Leaves (Kind : List ℕ → Type 0) (from : ℕ) (old new : Option (List ℕ)) (stop : Stop) : Type 0 where
+-- The output that a failure leaves: only first bytes of an answer of this kind, and nothing at all below this status,
+-- unless the failure is a difference, which is the answer itself.
+pub record Leaves (Kind : List ℕ → Type 0) (from : ℕ) (old new : Option (List ℕ)) (failure : Failure) : Type 0 where
   pub partly : Partly Kind old new
-  pub silent : stop ≢ Differs → status_of stop < from → Keeps old new
+  pub silent : failure ≢ Differs → status_of failure < from → Keeps old new

@@ -63,7 +63,7 @@ use Rattle.vsi_arguments.specs.declared.request.Execution.{Execution}
 use Rattle.vsi_arguments.specs.declared.request.Judging.{Judging}
 use Rattle.vsi_arguments.specs.declared.request.Mending.{Mending}
 use Rattle.vsi_arguments.specs.declared.request.NameLists.{NameLists}
-use Rattle.vsi_arguments.specs.declared.request.Outset.{Outset}
+use Rattle.vsi_arguments.specs.declared.request.InitialStore.{InitialStore}
 use Rattle.vsi_arguments.specs.declared.request.Search.{Search}
 use Rattle.vsi_arguments.specs.declared.request.Request.{Request}
 use Rattle.vsi_arguments.specs.declared.request.Request.TheVariants as request
@@ -130,7 +130,7 @@ abbrev pub ToldPage : Lattice → List ℕ → Vec ℕ → Type 0
 ToldPage l source page = HasPanel page.items source
 
 -- A run that halts: its trace, if it is traced, and the text of its store.
-pub record RunsFiles (holds : Holding) (e : Execution) (o : Outset) (traced : Bool) (trace text : List ℕ)
+pub record RunsFiles (holds : Holding) (e : Execution) (o : InitialStore) (traced : Bool) (trace text : List ℕ)
     : Type 0 where
   pub image : Image
   pub words : List ℤ
@@ -140,7 +140,7 @@ pub record RunsFiles (holds : Holding) (e : Execution) (o : Outset) (traced : Bo
   pub ran : RunsApart traced image words budget (Some text) trace
 
 -- The lines of the final store of a halting run that a class sees.
-pub record ViewsFiles (holds : Holding) (path class : List ℕ) (e : Execution) (o : Outset) (text : Vec ℕ)
+pub record ViewsFiles (holds : Holding) (path class : List ℕ) (e : Execution) (o : InitialStore) (text : Vec ℕ)
     : Type 0 where
   pub lattice : Lattice
   pub viewer : ℕ
@@ -405,7 +405,7 @@ pub record PerformsBound (holds : Holding) (asked : Bounding) (old new : Option 
   pub written : Appends old new told.text.items
 
 -- `run`: the trace, followed by the text of the store, which goes to a file if one is given.
-pub record PerformsRun (holds : Holding) (e : Execution) (o : Outset) (traced : Bool) (left : Holding)
+pub record PerformsRun (holds : Holding) (e : Execution) (o : InitialStore) (traced : Bool) (left : Holding)
     (old new : Option (List ℕ)) : Type 0 where
   pub trace : List ℕ
   pub text : List ℕ
@@ -414,7 +414,7 @@ pub record PerformsRun (holds : Holding) (e : Execution) (o : Outset) (traced : 
   pub delivered : Delivers o.out text holds left
 
 -- `view`: the lines, which go to a file if one is given.
-pub record PerformsView (holds : Holding) (path class : List ℕ) (e : Execution) (o : Outset) (left : Holding)
+pub record PerformsView (holds : Holding) (path class : List ℕ) (e : Execution) (o : InitialStore) (left : Holding)
     (old new : Option (List ℕ)) : Type 0 where
   pub text : Vec ℕ
   pub views : ViewsFiles holds path class e o text

@@ -1,4 +1,4 @@
--- The reason why a request has stopped early, given the contents of its files.
+-- The reason why a request has failed early, given the contents of its files.
 use Rattle.std.specs.Prelude.{◌≡◌, ◌⊎◌, ℕ, ℤ, Bool, true, false, List, Option, Some, None, Err, IsSomeAnd}
 use Rattle.std.specs.Global.{Vec}
 use Rattle.std.specs.Borrow.{Bor}
@@ -53,12 +53,12 @@ use Rattle.vsi_arguments.specs.declared.request.Execution.{Execution}
 use Rattle.vsi_arguments.specs.declared.request.Judging.{Judging}
 use Rattle.vsi_arguments.specs.declared.request.Mending.{Mending}
 use Rattle.vsi_arguments.specs.declared.request.NameLists.{NameLists}
-use Rattle.vsi_arguments.specs.declared.request.Outset.{Outset}
+use Rattle.vsi_arguments.specs.declared.request.InitialStore.{InitialStore}
 use Rattle.vsi_arguments.specs.declared.request.Search.{Search}
 use Rattle.vsi_arguments.specs.declared.request.Request.{Request}
 use Rattle.vsi_arguments.specs.declared.request.Request.TheVariants as request
-use Rattle.vsi.specs.declared.stop.Stop.{Stop}
-use Rattle.vsi.specs.declared.stop.Stop.TheVariants as stops
+use Rattle.vsi.specs.declared.failure.Failure.{Failure}
+use Rattle.vsi.specs.declared.failure.Failure.TheVariants as fails
 use Rattle.vsi.specs.Admitted.{IsShort}
 use Rattle.vsi.specs.Holding.{Holding, IsImageAt, IsLatticeAt, IsReadAt}
 use Rattle.vsi.specs.Laying.{OtherLayout}
@@ -69,30 +69,30 @@ use Rattle.vsi.specs.Supplied.{begins_image}
 use Rattle.vsi.specs.Tried.{AreTried, BeginsSet, IsMade, IsTriedUnder, RunsMade, policy_path}
 use Rattle.vsi.specs.Files.{BeginsAt, IsBudgetOf, LooksAt, OfFiles, Writes}
 use Rattle.vsi.specs.Performed.{BoundsFile, ComparesFiles, ConformsFiles, DocumentOf, IsAskedAt, LooksFor, compilation_of, control_of, judgement_of, named_path, profile_of, wanted_of}
-use Rattle.vsi.specs.Refusals.{AsksCanonical, AsksCheck, AsksClasses, AsksFlows, AsksImage, AsksMend, IsDifference, LacksBoundAt, LacksClass, LacksClassAt, LacksEither, NoOther, RefusesFile, RefusesFiles, RefusesFirst, RefusesImage, RefusesLattice, RefusesSource, RefusesStart, RefusesStore, StopsBy}
+use Rattle.vsi.specs.Refusals.{AsksCanonical, AsksCheck, AsksClasses, AsksFlows, AsksImage, AsksMend, IsDifference, LacksBoundAt, LacksClass, LacksClassAt, LacksEither, NoOther, RefusesFile, RefusesFiles, RefusesFirst, RefusesImage, RefusesLattice, RefusesSource, RefusesStart, RefusesStore, FailsBy}
 
--- ---- why each subcommand has stopped.
+-- ---- why each subcommand has failed.
 
 -- The line of JSON for a refused text.
 abbrev pub ToldRefusal : Judgement → Lattice → List ℕ → Vec ℕ → Type 0
 ToldRefusal j l source text = TellsRefused l j source text.items
 
 -- `check`: the text is refused, and with `--json` the refusal has been written.
-abbrev pub WhyCheck : Bool → Holding → Judging → Option (List ℕ) → Option (List ℕ) → Stop → Type 0
+abbrev pub WhyCheck : Bool → Holding → Judging → Option (List ℕ) → Option (List ℕ) → Failure → Type 0
 WhyCheck true holds asked old new =
-    StopsBy (RefusesLattice holds asked.compilation.lattice.now)
+    FailsBy (RefusesLattice holds asked.compilation.lattice.now)
     (IsDifference (Writes (OfFiles holds asked.compilation (ToldRefusal (judgement_of asked))) old new))
 WhyCheck false holds asked old new =
-    StopsBy (RefusesFiles holds asked.compilation (AsksCheck asked.is_steady asked.compilation.is_strict)) NoOther
+    FailsBy (RefusesFiles holds asked.compilation (AsksCheck asked.is_steady asked.compilation.is_strict)) NoOther
 
 -- `mend`: the text has no answer, and with `--json` the line about that has been written.
-abbrev pub WhyMend : Bool → Holding → Mending → Option (List ℕ) → Option (List ℕ) → Stop → Type 0
+abbrev pub WhyMend : Bool → Holding → Mending → Option (List ℕ) → Option (List ℕ) → Failure → Type 0
 WhyMend true holds asked old new =
-    StopsBy (RefusesLattice holds asked.compilation.lattice.now)
+    FailsBy (RefusesLattice holds asked.compilation.lattice.now)
     (IsDifference
     (Writes (OfFiles holds asked.compilation (ToldUnserved (profile_of asked.compilation.is_strict))) old new))
 WhyMend false holds asked old new =
-    StopsBy (RefusesFiles holds asked.compilation (AsksMend asked.is_applied asked.compilation.is_strict)) NoOther
+    FailsBy (RefusesFiles holds asked.compilation (AsksMend asked.is_applied asked.compilation.is_strict)) NoOther
 
 -- The lattice of an interface is refused: that of the file that it names, or its own tables.
 abbrev pub RefusesPolicy : Holding → List ℕ → Policy → Unanswered → Type 0
@@ -106,9 +106,9 @@ pub record RefusesAsked (holds : Holding) (path : List ℕ) (reason : Unanswered
   pub refused : RefusesPolicy holds path asked.policy reason
 
 -- `conform`: the interface is refused with an error that the text describes; nothing claims that the interface has it.
-abbrev pub IsUnusable : Stop → Type 0
-IsUnusable (stops.Interface text error) = text.items ≡ interface_line error
-IsUnusable stop = ⊥
+abbrev pub IsUnusable : Failure → Type 0
+IsUnusable (fails.Interface text error) = text.items ≡ interface_line error
+IsUnusable failure = ⊥
 
 -- The bytes begin as those of an image, and the image is refused.
 abbrev pub RefusesBytes : List ℕ → Unanswered → Type 0
@@ -127,12 +127,12 @@ RefusesConform holds c reason =
 
 -- `conform`: the interface is refused, or the text or the image doesn't conform to it and the difference has been
 -- written.
-abbrev pub DiffersConform : Holding → Conformance → Option (List ℕ) → Option (List ℕ) → Stop → Type 0
-DiffersConform holds c old new stop =
-    IsUnusable stop ⊎ IsDifference (Writes (ConformsFiles holds c false) old new) stop
+abbrev pub DiffersConform : Holding → Conformance → Option (List ℕ) → Option (List ℕ) → Failure → Type 0
+DiffersConform holds c old new failure =
+    IsUnusable failure ⊎ IsDifference (Writes (ConformsFiles holds c false) old new) failure
 
 -- `run`: the trace of a run that is out of budget has been written.
-pub record SpendsRun (holds : Holding) (e : Execution) (o : Outset) (traced : Bool) (old new : Option (List ℕ))
+pub record SpendsRun (holds : Holding) (e : Execution) (o : InitialStore) (traced : Bool) (old new : Option (List ℕ))
     : Type 0 where
   pub trace : List ℕ
   pub image : Image
@@ -144,13 +144,13 @@ pub record SpendsRun (holds : Holding) (e : Execution) (o : Outset) (traced : Bo
   pub written : Appends old new trace
 
 -- `run`: the image is refused, or the words that it begins with, or the run is out of budget.
-abbrev pub WhyRun : Holding → Execution → Outset → Bool → Option (List ℕ) → Option (List ℕ) → Unanswered → Type 0
+abbrev pub WhyRun : Holding → Execution → InitialStore → Bool → Option (List ℕ) → Option (List ℕ) → Unanswered → Type 0
 WhyRun holds e o traced old new reason =
     RefusesImage holds e.image.now reason ⊎ RefusesStart holds e o reason
     ⊎ ((reason ≡ unanswered.OutOfBudget) × SpendsRun holds e o traced old new)
 
 -- `view`: the run has no answer for the class.
-pub record RefusesView (holds : Holding) (path class : List ℕ) (e : Execution) (o : Outset) (reason : Unanswered)
+pub record RefusesView (holds : Holding) (path class : List ℕ) (e : Execution) (o : InitialStore) (reason : Unanswered)
     : Type 0 where
   pub lattice : Lattice
   pub viewer : ℕ
@@ -163,7 +163,7 @@ pub record RefusesView (holds : Holding) (path class : List ℕ) (e : Execution)
   pub is : ViewsTo lattice viewer image words budget (Err reason)
 
 -- `view`: the lattice is refused, or the image, or the words that it begins with, or the run has no answer.
-abbrev pub WhyView : Holding → List ℕ → List ℕ → Execution → Outset → Unanswered → Type 0
+abbrev pub WhyView : Holding → List ℕ → List ℕ → Execution → InitialStore → Unanswered → Type 0
 WhyView holds path class e o reason =
     RefusesLattice holds path reason ⊎ RefusesImage holds e.image.now reason ⊎ RefusesStart holds e o reason
     ⊎ RefusesView holds path class e o reason
@@ -196,29 +196,29 @@ pub record DiffersCompare (holds : Holding) (c : Comparison) (old new : Option (
   pub written : Appends old new told.text.items
 
 -- `compare`: the lattice has no class of the name, or no bound was found for the image.
-abbrev pub LacksCompare : Holding → Comparison → Stop → Type 0
+abbrev pub LacksCompare : Holding → Comparison → Failure → Type 0
 LacksCompare holds c = LacksEither holds c.lattice.now c.class.now c.image.now c.budget
 
 -- `compare`: something is missing, or a difference has been written.
-abbrev pub OtherCompare : Holding → Comparison → Option (List ℕ) → Option (List ℕ) → Stop → Type 0
-OtherCompare holds c old new stop =
-    LacksCompare holds c stop ⊎ IsDifference (DiffersCompare holds c old new) stop
+abbrev pub OtherCompare : Holding → Comparison → Option (List ℕ) → Option (List ℕ) → Failure → Type 0
+OtherCompare holds c old new failure =
+    LacksCompare holds c failure ⊎ IsDifference (DiffersCompare holds c old new) failure
 
--- An image is refused with the error in the stop, whose text describes that error.
-abbrev pub IsRefusedImage : Bool → Lattice → Image → Stop → Type 0
-IsRefusedImage is_strict l image (stops.Audit text error) =
+-- An image is refused with the error in the failure, whose text describes that error.
+abbrev pub IsRefusedImage : Bool → Lattice → Image → Failure → Type 0
+IsRefusedImage is_strict l image (fails.Audit text error) =
     audited.Refuses (class_named l) (order l) (profile_of is_strict) image error × IsAuditText l image error text.items
-IsRefusedImage is_strict l image (stops.Unsteady text error) =
+IsRefusedImage is_strict l image (fails.Unsteady text error) =
     steady.Refuses (class_named l) (order l) image error × IsUnsteadyText l image error text.items
-IsRefusedImage is_strict l image stop = ⊥
+IsRefusedImage is_strict l image failure = ⊥
 
 -- `audit`: the image of the file is refused, and the text says why.
-pub record RefusesAudit (holds : Holding) (a : Audit) (stop : Stop) : Type 0 where
+pub record RefusesAudit (holds : Holding) (a : Audit) (failure : Failure) : Type 0 where
   pub lattice : Lattice
   pub declared : IsLatticeAt holds a.lattice.now lattice
   pub image : Image
   pub held : IsImageAt holds a.image.now image
-  pub is : IsRefusedImage a.is_strict lattice image stop
+  pub is : IsRefusedImage a.is_strict lattice image failure
 
 -- The image of a file has no text according to this error, which this text describes; nothing claims that it has none.
 pub record LacksText (holds : Holding) (path : List ℕ) (error : AuditError) (text : List ℕ) : Type 0 where
@@ -229,9 +229,9 @@ pub record LacksText (holds : Holding) (path : List ℕ) (error : AuditError) (t
   pub told : IsAuditText lattice image error text
 
 -- `source`: the image has no text.
-abbrev pub HasNoText : Holding → List ℕ → Stop → Type 0
-HasNoText holds path (stops.Audit text error) = LacksText holds path error text.items
-HasNoText holds path stop = ⊥
+abbrev pub HasNoText : Holding → List ℕ → Failure → Type 0
+HasNoText holds path (fails.Audit text error) = LacksText holds path error text.items
+HasNoText holds path failure = ⊥
 
 -- A leak of the image of a source text that has a program, at the requested class and by a requested sign, and the text
 -- that describes the leak.
@@ -251,14 +251,14 @@ pub record TellsLeak (holds : Holding) (s : Search) (text : List ℕ) : Type 0 w
   pub told : IsLeakText lattice (globals image.globals.items) leak text
 
 -- `leak`: a leak has been found.
-abbrev pub ToldLeak : Holding → Search → Stop → Type 0
-ToldLeak holds s (stops.Refused text None) = TellsLeak holds s text.items
-ToldLeak holds s stop = ⊥
+abbrev pub ToldLeak : Holding → Search → Failure → Type 0
+ToldLeak holds s (fails.Refused text None) = TellsLeak holds s text.items
+ToldLeak holds s failure = ⊥
 
 -- `leak`: the lattice has no class of the name that is given, or a leak has been found.
-abbrev pub OtherLeak : Holding → Search → Stop → Type 0
-OtherLeak holds s stop =
-    IsSomeAnd s.class (λ class. LacksClassAt holds s.lattice.now class.now stop) ⊎ ToldLeak holds s stop
+abbrev pub OtherLeak : Holding → Search → Failure → Type 0
+OtherLeak holds s failure =
+    IsSomeAnd s.class (λ class. LacksClassAt holds s.lattice.now class.now failure) ⊎ ToldLeak holds s failure
 
 -- `emit-c` and `bound`: the image is refused, or with a lattice the lattice or the source text.
 abbrev pub WhyEmit : Holding → Option (Bor (List ℕ)) → Bor (List ℕ) → Unanswered → Type 0
@@ -274,22 +274,22 @@ WhyDocument holds (document.Audit asked) reason =
     RefusesLattice holds asked.lattice.now reason ⊎ RefusesImage holds asked.image.now reason
 WhyDocument holds (document.Bound asked) reason = WhyEmit holds asked.lattice asked.file reason
 
--- The stop is a refusal with this line.
-abbrev pub SaysLine : List ℕ → Stop → Type 0
-SaysLine line (stops.Refused text None) = text.items ≡ line
-SaysLine line stop = ⊥
+-- The failure is a refusal with this line.
+abbrev pub SaysLine : List ℕ → Failure → Type 0
+SaysLine line (fails.Refused text None) = text.items ≡ line
+SaysLine line failure = ⊥
 
 -- The request of `bound` about the image of an emission.
 abbrev pub bounding_of : Emission → Bounding
 bounding_of asked = record { lattice = asked.lattice; file = asked.file }
 
 -- `emit-c --bounded`: no bound was found for the image, and the line is that of `bound`.
-pub record LacksEmitBound (holds : Holding) (asked : Emission) (stop : Stop) : Type 0 where
+pub record LacksEmitBound (holds : Holding) (asked : Emission) (failure : Failure) : Type 0 where
   pub bounded : asked.is_bounded ≡ true
   pub told : BoundAnswer
   pub bounds : BoundsFile holds (bounding_of asked) told
   pub unbounded : told.is_bounded ≡ false
-  pub says : SaysLine told.text.items stop
+  pub says : SaysLine told.text.items failure
 
 -- `bound`: no bound was found for the image, and the line that says why has been written.
 pub record DiffersBound (holds : Holding) (asked : Bounding) (old new : Option (List ℕ)) : Type 0 where
@@ -348,13 +348,13 @@ WhyDrive holds d reason =
     ⊎ RefusesFirst holds d.execution.image.now d.execution.store d.is_full reason ⊎ RefusesController holds d reason
     ⊎ RefusesBoundary holds d reason
 
--- The text of the stop says why a budget isn't enough.
-abbrev pub SaysShort : Lattice → Image → ℕ → Stop → Type 0
-SaysShort l image budget (stops.Refused text None) = IsShort l image budget text.items
-SaysShort l image budget stop = ⊥
+-- The text of the failure says why a budget isn't enough.
+abbrev pub SaysShort : Lattice → Image → ℕ → Failure → Type 0
+SaysShort l image budget (fails.Refused text None) = IsShort l image budget text.items
+SaysShort l image budget failure = ⊥
 
 -- `drive`: the budget isn't enough, and `--unbounded` isn't given.
-pub record FallsShort (holds : Holding) (d : Driving) (stop : Stop) : Type 0 where
+pub record FallsShort (holds : Holding) (d : Driving) (failure : Failure) : Type 0 where
   pub bounded : d.is_unbounded ≡ false
   pub lattice : Lattice
   pub declared : IsLatticeAt holds d.lattice.now lattice
@@ -362,12 +362,12 @@ pub record FallsShort (holds : Holding) (d : Driving) (stop : Stop) : Type 0 whe
   pub held : IsImageAt holds d.execution.image.now image
   pub budget : ℕ
   pub within : IsBudgetOf d.execution.budget image budget
-  pub is : SaysShort lattice image budget stop
+  pub is : SaysShort lattice image budget failure
 
 -- `drive`: the lattice has no class of the name, no bound was found for the image, or the budget isn't enough.
-abbrev pub LacksDrive : Holding → Driving → Stop → Type 0
-LacksDrive holds d stop =
-    LacksEither holds d.lattice.now d.class.now d.execution.image.now d.execution.budget stop ⊎ FallsShort holds d stop
+abbrev pub LacksDrive : Holding → Driving → Failure → Type 0
+LacksDrive holds d failure =
+    LacksEither holds d.lattice.now d.class.now d.execution.image.now d.execution.budget failure ⊎ FallsShort holds d failure
 
 -- `try`: the file of the lattice that a text names is refused.
 abbrev pub RefusesNamed : Holding → List ℕ → Option (List ℕ) → Unanswered → Type 0
@@ -409,60 +409,60 @@ abbrev pub WhyTry : Holding → Attempt → Unanswered → Type 0
 WhyTry holds a reason = RefusesTriedLattice holds a reason ⊎ RefusesTriedText holds a reason
 
 -- A lattice has no class of the name, if one is given.
-abbrev pub LacksGiven : Lattice → Option (Bor (List ℕ)) → Stop → Type 0
-LacksGiven l None stop = ⊥
-LacksGiven l (Some name) stop = LacksClass l name.now stop
+abbrev pub LacksGiven : Lattice → Option (Bor (List ℕ)) → Failure → Type 0
+LacksGiven l None failure = ⊥
+LacksGiven l (Some name) failure = LacksClass l name.now failure
 
 -- `try`: the lattice of a source text has no class of the name that is given.
-pub record LacksTried (holds : Holding) (a : Attempt) (stop : Stop) : Type 0 where
+pub record LacksTried (holds : Holding) (a : Attempt) (failure : Failure) : Type 0 where
   pub text : List ℕ
   pub read : IsReadAt holds a.source.now text
   pub lattice : Lattice
   pub under : IsTriedUnder holds a.lattice a.source.now text lattice
-  pub lacks : LacksGiven lattice a.class stop
+  pub lacks : LacksGiven lattice a.class failure
 
--- The reason why a request has stopped.
-abbrev pub Why : Holding → Request → Option (List ℕ) → Option (List ℕ) → Stop → Type 0
-Why holds (request.Try attempt) old new = StopsBy (WhyTry holds attempt) (LacksTried holds attempt)
+-- The reason why a request has failed.
+abbrev pub Why : Holding → Request → Option (List ℕ) → Option (List ℕ) → Failure → Type 0
+Why holds (request.Try attempt) old new = FailsBy (WhyTry holds attempt) (LacksTried holds attempt)
 Why holds (request.Check asked) old new = WhyCheck asked.is_json holds asked old new
 Why holds (request.Document asked) old new =
-    StopsBy (WhyDocument holds asked) (IsDifference (Writes (DocumentOf holds asked false) old new))
+    FailsBy (WhyDocument holds asked) (IsDifference (Writes (DocumentOf holds asked false) old new))
 Why holds (request.Conform asked) old new =
-    StopsBy (RefusesConform holds asked) (DiffersConform holds asked old new)
-Why holds (request.Classes c) old new = StopsBy (RefusesFiles holds c (AsksClasses c.is_strict)) NoOther
-Why holds (request.Flows c has_walks) old new = StopsBy (RefusesFiles holds c (AsksFlows has_walks c.is_strict)) NoOther
+    FailsBy (RefusesConform holds asked) (DiffersConform holds asked old new)
+Why holds (request.Classes c) old new = FailsBy (RefusesFiles holds c (AsksClasses c.is_strict)) NoOther
+Why holds (request.Flows c has_walks) old new = FailsBy (RefusesFiles holds c (AsksFlows has_walks c.is_strict)) NoOther
 Why holds (request.Mend asked) old new = WhyMend asked.is_json holds asked old new
-Why holds (request.Build c image) old new = StopsBy (RefusesFiles holds c (AsksImage c.is_strict)) NoOther
-Why holds (request.List image) old new = StopsBy (RefusesFile holds image.now ListsTo) NoOther
+Why holds (request.Build c image) old new = FailsBy (RefusesFiles holds c (AsksImage c.is_strict)) NoOther
+Why holds (request.List image) old new = FailsBy (RefusesFile holds image.now ListsTo) NoOther
 Why holds (request.Audit asked) old new =
-    StopsBy
+    FailsBy
     (λ reason. RefusesLattice holds asked.lattice.now reason ⊎ RefusesImage holds asked.image.now reason)
     (RefusesAudit holds asked)
-Why holds (request.Source image) old new = StopsBy (RefusesImage holds image.now) (HasNoText holds image.now)
-Why holds (request.EmitC asked) old new = StopsBy (WhyEmit holds asked.lattice asked.file) (LacksEmitBound holds asked)
+Why holds (request.Source image) old new = FailsBy (RefusesImage holds image.now) (HasNoText holds image.now)
+Why holds (request.EmitC asked) old new = FailsBy (WhyEmit holds asked.lattice asked.file) (LacksEmitBound holds asked)
 Why holds (request.Bound asked) old new =
-    StopsBy (WhyEmit holds asked.lattice asked.file) (IsDifference (DiffersBound holds asked old new))
+    FailsBy (WhyEmit holds asked.lattice asked.file) (IsDifference (DiffersBound holds asked old new))
 Why holds (request.Run e o has_trace has_count) old new =
-    StopsBy (WhyRun holds e o has_trace old new) (LacksBoundAt holds e.image.now e.budget)
+    FailsBy (WhyRun holds e o has_trace old new) (LacksBoundAt holds e.image.now e.budget)
 Why holds (request.View lattice class e o) old new =
-    StopsBy (WhyView holds lattice.now class.now e o)
+    FailsBy (WhyView holds lattice.now class.now e o)
     (LacksEither holds lattice.now class.now e.image.now e.budget)
 Why holds (request.Drive driving) old new =
-    StopsBy (WhyDrive holds driving) (LacksDrive holds driving)
+    FailsBy (WhyDrive holds driving) (LacksDrive holds driving)
 Why holds (request.Compare comparison) old new =
-    StopsBy (WhyCompare holds comparison) (OtherCompare holds comparison old new)
+    FailsBy (WhyCompare holds comparison) (OtherCompare holds comparison old new)
 Why holds (request.Leak search) old new =
-    StopsBy
+    FailsBy
     (λ reason. RefusesLattice holds search.lattice.now reason
     ⊎ RefusesSource holds search.lattice.now search.source.now reason)
     (OtherLeak holds search)
-Why holds (request.Report c) old new = StopsBy (RefusesLattice holds c.lattice.now) NoOther
-Why holds (request.Draw drawing) old new = StopsBy (WhyDraw holds drawing.lattice.now drawing.source) NoOther
-Why holds (request.Policy looking) old new = StopsBy (WhyPolicy holds looking.lattice.now looking.old) NoOther
-Why holds (request.Format source) old new = StopsBy (RefusesFile holds source.now AsksCanonical) NoOther
+Why holds (request.Report c) old new = FailsBy (RefusesLattice holds c.lattice.now) NoOther
+Why holds (request.Draw drawing) old new = FailsBy (WhyDraw holds drawing.lattice.now drawing.source) NoOther
+Why holds (request.Policy looking) old new = FailsBy (WhyPolicy holds looking.lattice.now looking.old) NoOther
+Why holds (request.Format source) old new = FailsBy (RefusesFile holds source.now AsksCanonical) NoOther
 Why holds (request.Layout asked) old new =
-    StopsBy (RefusesFile holds asked.source.now AsksCanonical) (OtherLayout asked.is_checked holds asked.source.now old new)
-Why holds (request.Lattice arguments) old new = StopsBy (λ reason. ⊥) NoOther
+    FailsBy (RefusesFile holds asked.source.now AsksCanonical) (OtherLayout asked.is_checked holds asked.source.now old new)
+Why holds (request.Lattice arguments) old new = FailsBy (λ reason. ⊥) NoOther
 Why holds (request.Lsp serving) old new =
-    StopsBy (λ reason. ⊥) (λ stop. SaysLine unended_line stop × Serves old new)
-Why holds (request.Explain page) old new = StopsBy (λ reason. ⊥) NoOther
+    FailsBy (λ reason. ⊥) (λ failure. SaysLine unended_line failure × Serves old new)
+Why holds (request.Explain page) old new = FailsBy (λ reason. ⊥) NoOther

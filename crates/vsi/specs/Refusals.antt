@@ -21,36 +21,36 @@ use Rattle.vsi_arguments.specs.declared.request.Budget.{Budget}
 use Rattle.vsi_arguments.specs.declared.request.Budget.TheVariants.{Auto}
 use Rattle.vsi_arguments.specs.declared.request.Compilation.{Compilation}
 use Rattle.vsi_arguments.specs.declared.request.Execution.{Execution}
-use Rattle.vsi_arguments.specs.declared.request.Outset.{Outset}
-use Rattle.vsi.specs.declared.stop.Stop.{Stop}
-use Rattle.vsi.specs.declared.stop.Stop.TheVariants as stops
+use Rattle.vsi_arguments.specs.declared.request.InitialStore.{InitialStore}
+use Rattle.vsi.specs.declared.failure.Failure.{Failure}
+use Rattle.vsi.specs.declared.failure.Failure.TheVariants as fails
 use Rattle.vsi.specs.Holding.{Holding, IsImageAt, IsLatticeAt, IsReadAt, IsStoreAt}
 use Rattle.vsi.specs.Input.{two_classes}
 use Rattle.vsi.specs.Files.{AreFiles}
 use Rattle.vsi.specs.Performed.{profile_of}
 
--- ---- the meaning of a stop.
+-- ---- the meaning of a failure.
 
 -- The first property holds for the reason of a refused file or text and of a run out of budget, the second holds for
--- the other stops of status 1 and for a missing class, and nothing is claimed about mistaken arguments, file faults and
+-- the other failures of status 1 and for a missing class, and nothing is claimed about mistaken arguments, file faults and
 -- lack of memory.
-abbrev pub StopsBy : (Unanswered → Type 0) → (Stop → Type 0) → Stop → Type 0
-StopsBy why other (stops.Refused text (Some cause)) = why (unanswered.Refused text cause)
-StopsBy why other (stops.Refused text None) = other (stops.Refused text None)
-StopsBy why other (stops.Interface text error) = other (stops.Interface text error)
-StopsBy why other (stops.Audit text error) = other (stops.Audit text error)
-StopsBy why other (stops.Unsteady text error) = other (stops.Unsteady text error)
-StopsBy why other stops.Differs = other stops.Differs
-StopsBy why other (stops.Usage text) = Unit {0}
-StopsBy why other (stops.NoClass name) = other (stops.NoClass name)
-StopsBy why other stops.OutOfBudget = why unanswered.OutOfBudget
-StopsBy why other (stops.FileFault path) = Unit {0}
-StopsBy why other (stops.LostFile path) = Unit {0}
-StopsBy why other stops.Memory = Unit {0}
+abbrev pub FailsBy : (Unanswered → Type 0) → (Failure → Type 0) → Failure → Type 0
+FailsBy why other (fails.Refused text (Some cause)) = why (unanswered.Refused text cause)
+FailsBy why other (fails.Refused text None) = other (fails.Refused text None)
+FailsBy why other (fails.Interface text error) = other (fails.Interface text error)
+FailsBy why other (fails.Audit text error) = other (fails.Audit text error)
+FailsBy why other (fails.Unsteady text error) = other (fails.Unsteady text error)
+FailsBy why other fails.Differs = other fails.Differs
+FailsBy why other (fails.Usage text) = Unit {0}
+FailsBy why other (fails.NoClass name) = other (fails.NoClass name)
+FailsBy why other fails.OutOfBudget = why unanswered.OutOfBudget
+FailsBy why other (fails.FileFault path) = Unit {0}
+FailsBy why other (fails.LostFile path) = Unit {0}
+FailsBy why other fails.Memory = Unit {0}
 
--- There is no other stop of status 1, and no class is missing.
-abbrev pub NoOther : Stop → Type 0
-NoOther stop = ⊥
+-- There is no other failure of status 1, and no class is missing.
+abbrev pub NoOther : Failure → Type 0
+NoOther failure = ⊥
 
 -- The fault isn't lack of memory.
 abbrev pub IsNoMemory : Fault → Type 0
@@ -60,39 +60,39 @@ IsNoMemory (fault.Verify e) = Unit {0}
 IsNoMemory (fault.Store e) = e ≢ store.Memory
 IsNoMemory (fault.View e) = e ≢ views.Memory
 
--- The stop is a difference, and it has been reported in this way.
-abbrev pub IsDifference : Type 0 → Stop → Type 0
-IsDifference told stop = (stop ≡ stops.Differs) × told
+-- The failure is a difference, and it has been reported in this way.
+abbrev pub IsDifference : Type 0 → Failure → Type 0
+IsDifference told failure = (failure ≡ fails.Differs) × told
 
--- A lattice has no class of this name, and the stop gives that name.
-abbrev pub LacksClass : Lattice → List ℕ → Stop → Type 0
-LacksClass l name (stops.NoClass told) = (told.now ≡ name) × (class_named l name ≡ None)
-LacksClass l name stop = ⊥
+-- A lattice has no class of this name, and the failure gives that name.
+abbrev pub LacksClass : Lattice → List ℕ → Failure → Type 0
+LacksClass l name (fails.NoClass told) = (told.now ≡ name) × (class_named l name ≡ None)
+LacksClass l name failure = ⊥
 
--- The text of the stop says why no bound was found for an image.
-abbrev pub IsUnbounded : Image → Stop → Type 0
-IsUnbounded image (stops.Refused text None) = bounds.LacksBound image text.items
-IsUnbounded image stop = ⊥
+-- The text of the failure says why no bound was found for an image.
+abbrev pub IsUnbounded : Image → Failure → Type 0
+IsUnbounded image (fails.Refused text None) = bounds.LacksBound image text.items
+IsUnbounded image failure = ⊥
 
--- With the budget `auto` no bound was found for an image, and the text of the stop says why.
-abbrev pub LacksBound : Budget → Image → Stop → Type 0
-LacksBound budget image (stops.Refused text None) = (budget ≡ Auto) × bounds.LacksBound image text.items
-LacksBound budget image stop = ⊥
+-- With the budget `auto` no bound was found for an image, and the text of the failure says why.
+abbrev pub LacksBound : Budget → Image → Failure → Type 0
+LacksBound budget image (fails.Refused text None) = (budget ≡ Auto) × bounds.LacksBound image text.items
+LacksBound budget image failure = ⊥
 
 -- ---- the refused file, or the request about it.
 
 -- The lattice of a file has no class of this name.
-abbrev pub LacksClassAt : Holding → List ℕ → List ℕ → Stop → Type 0
-LacksClassAt holds path name stop = (l : Lattice) × IsLatticeAt holds path l × LacksClass l name stop
+abbrev pub LacksClassAt : Holding → List ℕ → List ℕ → Failure → Type 0
+LacksClassAt holds path name failure = (l : Lattice) × IsLatticeAt holds path l × LacksClass l name failure
 
 -- With the budget `auto` no bound was found for the image of a file.
-abbrev pub LacksBoundAt : Holding → List ℕ → Budget → Stop → Type 0
-LacksBoundAt holds path budget stop = (image : Image) × IsImageAt holds path image × LacksBound budget image stop
+abbrev pub LacksBoundAt : Holding → List ℕ → Budget → Failure → Type 0
+LacksBoundAt holds path budget failure = (image : Image) × IsImageAt holds path image × LacksBound budget image failure
 
 -- The lattice of a file has no class of this name, or no bound was found for the image of another one.
-abbrev pub LacksEither : Holding → List ℕ → List ℕ → List ℕ → Budget → Stop → Type 0
-LacksEither holds lattice class path budget stop =
-    LacksClassAt holds lattice class stop ⊎ LacksBoundAt holds path budget stop
+abbrev pub LacksEither : Holding → List ℕ → List ℕ → List ℕ → Budget → Failure → Type 0
+LacksEither holds lattice class path budget failure =
+    LacksClassAt holds lattice class failure ⊎ LacksBoundAt holds path budget failure
 
 -- A request about the bytes of a file has no answer, for this reason.
 pub record RefusesFile {T : Type 0} (holds : Holding) (path : List ℕ) (Ask : List ℕ → Result T Unanswered → Type 0)
@@ -122,7 +122,7 @@ abbrev pub RefusesFiles : Holding → Compilation → (Lattice → List ℕ → 
 RefusesFiles holds c Ask reason = RefusesLattice holds c.lattice.now reason ⊎ RefusesText holds c Ask reason
 
 -- The words that a run begins with are refused: the store file, or the settings applied to it.
-pub record RefusesStart (holds : Holding) (e : Execution) (o : Outset) (reason : Unanswered) : Type 0 where
+pub record RefusesStart (holds : Holding) (e : Execution) (o : InitialStore) (reason : Unanswered) : Type 0 where
   pub image : Image
   pub held : IsImageAt holds e.image.now image
   pub file : List ℕ

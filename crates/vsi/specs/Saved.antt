@@ -93,19 +93,19 @@ pub record SavesDrive (holds : Holding) (d : Driving) (given : Option (List ℕ)
   pub admitted : IsAdmitted d.is_unbounded lattice image budget
   pub saves : SavesInput d.save image (control_of d.lists lattice driver image budget) first d.every given old new left
 
--- A drive that stops leaves its file as it was, and no answer, or with the store after some of the lines. No other file
+-- A drive that fails leaves its file as it was, and no answer, or with the store after some of the lines. No other file
 -- has changed.
 pub record LeavesState (holds : Holding) (d : Driving) (given : Option (List ℕ)) (left : Holding)
     (old new : Option (List ℕ)) : Type 0 where
   pub touches : Touches d.save holds left
   pub state : (StaysAt d.save holds left × Keeps old new) ⊎ SavesDrive holds d given left old new
 
--- A request that stops and is a drive leaves the store's file in one of these states.
+-- A request that fails and is a drive leaves the store's file in one of these states.
 abbrev pub KeepsState : Holding → Option (List ℕ) → Request → Holding → Option (List ℕ) → Option (List ℕ) → Type 0
 KeepsState holds given (Drive d) left old new = LeavesState holds d given left old new
 KeepsState holds given asked left old new = Unit {0}
 
--- Arguments that stop, without changing a file or with what their request leaves.
+-- Arguments that fail, without changing a file or with what their request leaves.
 abbrev pub KeepsStateOf : Holding → Option (List ℕ) → List (String Global) → Holding → Option (List ℕ) →
     Option (List ℕ) → Type 0
 KeepsStateOf holds given words left old new =

@@ -2,11 +2,11 @@
 
 ghost use Rattle.std.specs.Prelude.{◌≡◌, false, IfErr, IfOk, MatchResult, OnOk};
 ghost use Rattle.vsi.specs.Admitted.{IsAdmitted, IsEnough, IsShort, short_line};
-ghost use Rattle.vsi.specs.Refusals.{StopsBy};
+ghost use Rattle.vsi.specs.Refusals.{FailsBy};
 ghost use Rattle.vsi.specs.Reasons.{SaysShort};
 ghost use Rattle.vsi_answers.specs.Bounds.{IsBound};
 
-use crate::stop::Stop;
+use crate::failure::Failure;
 use std::alloc::{AllocError, Global};
 use vsi_answers::enough_budget;
 use vsi_image::Verified;
@@ -82,17 +82,17 @@ pub(crate) fn admit<'a>(
     verified: &Verified,
     budget: u64,
     note: &mut Vec<u8>,
-) -> Result<(), Stop<'a>>
+) -> Result<(), Failure<'a>>
     ensures admitted { OnOk result
         (IsAdmitted is_unbounded classes.now verified.now budget) }
-    ensures stopped { IfErr result (StopsBy (λ reason. ⊥) (λ stop.
-        (is_unbounded ≡ false) × SaysShort classes.now verified.now budget stop)) }
+    ensures failed { IfErr result (FailsBy (λ reason. ⊥) (λ failure.
+        (is_unbounded ≡ false) × SaysShort classes.now verified.now budget failure)) }
 {
     match judged(alloc, classes, verified, budget)? {
         Ok(()) => Ok(()),
         Err(line) => {
             if !is_unbounded {
-                return Err(Stop::Refused(line, None));
+                return Err(Failure::Refused(line, None));
             }
             note.extend_from_slice(&line)?;
             Ok(())

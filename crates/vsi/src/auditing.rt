@@ -8,15 +8,15 @@ ghost use Rattle.vsi.specs.Performed as spec;
 ghost use Rattle.vsi.specs.Performed.{AuditsTo, Passes, SourceOfFile, program_version};
 ghost use Rattle.vsi_answers.specs.Judged.{AreImage, Declares};
 ghost use Rattle.vsi_evidence.specs.Evidence.{evidence_text};
-ghost use Rattle.vsi.specs.Refusals.{NoOther, RefusesImage, RefusesLattice, StopsBy};
+ghost use Rattle.vsi.specs.Refusals.{NoOther, RefusesImage, RefusesLattice, FailsBy};
 ghost use Rattle.vsi.specs.Reasons.{HasNoText, IsRefusedImage, RefusesAudit};
-ghost use Rattle.vsi.specs.declared.stop.Stop.TheVariants as stops;
+ghost use Rattle.vsi.specs.declared.failure.Failure.TheVariants as fails;
 ghost use Rattle.std.specs.Global.{Vec};
 
-use crate::desk::{Desk, Kind};
+use crate::cache::{InputCache, InputKind};
+use crate::failure::Failure;
 use crate::files::Files;
 use crate::reading::{bytes_in, declared_lattice, image_in, two_classes};
-use crate::stop::Stop;
 use crate::subcommands::profile;
 use std::alloc::{AllocError, Global};
 use vsi_answers::judged_image;
@@ -27,38 +27,43 @@ use vsi_image::{Image, Verified};
 use vsi_lattice::Lattice;
 use vsi_steady::{SteadyError, steady_in, steady_text};
 
-/// The stop for a refused image.
-fn refused_image<'a>(alloc: Global, lattice: &Lattice, image: &Image, error: AuditError) -> Stop<'a>
-    ensures { StopsBy (λ reason. ⊥)
-        (λ stop. (text : Vec ℕ) × (stop ≡ stops.Audit text error)
+/// The failure for a refused image.
+fn refused_image<'a>(
+    alloc: Global,
+    lattice: &Lattice,
+    image: &Image,
+    error: AuditError,
+) -> Failure<'a>
+    ensures { FailsBy (λ reason. ⊥)
+        (λ failure. (text : Vec ℕ) × (failure ≡ fails.Audit text error)
         × IsAuditText lattice.now image.now error text.items) result }
 {
     if let AuditError::Memory = &error {
-        return Stop::Memory;
+        return Failure::Memory;
     }
     match audit_text(alloc, lattice, image, &error) {
-        Ok(text) => Stop::Audit(text, error),
-        Err(_) => Stop::Memory,
+        Ok(text) => Failure::Audit(text, error),
+        Err(_) => Failure::Memory,
     }
 }
 
-/// The stop for a refused image that isn't steady.
+/// The failure for a refused image that isn't steady.
 fn refused_unsteady<'a>(
     alloc: Global,
     lattice: &Lattice,
     image: &Image,
     error: SteadyError,
-) -> Stop<'a>
-    ensures { StopsBy (λ reason. ⊥)
-        (λ stop. (text : Vec ℕ) × (stop ≡ stops.Unsteady text error)
+) -> Failure<'a>
+    ensures { FailsBy (λ reason. ⊥)
+        (λ failure. (text : Vec ℕ) × (failure ≡ fails.Unsteady text error)
         × IsUnsteadyText lattice.now image.now error text.items) result }
 {
     if let SteadyError::Memory = &error {
-        return Stop::Memory;
+        return Failure::Memory;
     }
     match steady_text(alloc, lattice, image, &error) {
-        Ok(text) => Stop::Unsteady(text, error),
-        Err(_) => Stop::Memory,
+        Ok(text) => Failure::Unsteady(text, error),
+        Err(_) => Failure::Memory,
     }
 }
 
@@ -68,10 +73,10 @@ fn judge<'a>(
     asked: Audit<'a>,
     classes: &Lattice,
     verified: &Verified,
-) -> Result<(), Stop<'a>>
+) -> Result<(), Failure<'a>>
     ensures told { OnOk result
         (Passes asked.entry.is_steady asked.entry.is_strict classes.now verified.now) }
-    ensures stopped { IfErr result (StopsBy (λ reason. ⊥)
+    ensures failed { IfErr result (FailsBy (λ reason. ⊥)
         (IsRefusedImage asked.entry.is_strict classes.now verified.now)) }
 {
     if asked.is_steady {
@@ -150,78 +155,78 @@ fn accepted_text(
 
 /// The bytes of a lattice file, and its lattice.
 fn policy_in<'a, F: Files>(
-    desk: &mut Desk,
+    cache: &mut InputCache,
     path: &'a str,
     files: &mut F,
-) -> Result<(Vec<u8>, Lattice), Stop<'a>>
+) -> Result<(Vec<u8>, Lattice), Failure<'a>>
     ensures kept { F.holds files.new ≡ F.holds files.old }
     ensures read { IfOk result
         (λ pair. IsReadAt (F.holds files.old) path.now pair.0.items) }
     ensures declared { IfOk result (λ pair. Declares pair.0.items pair.1) }
-    ensures stopped { IfErr result
-        (StopsBy (RefusesLattice (F.holds files.old) path.now) NoOther) }
+    ensures failed { IfErr result
+        (FailsBy (RefusesLattice (F.holds files.old) path.now) NoOther) }
 {
-    let bytes = bytes_in(desk, Kind::Lattice, path, files)?;
-    let lattice = declared_lattice(desk.alloc, bytes.as_slice())?;
+    let bytes = bytes_in(cache, InputKind::Lattice, path, files)?;
+    let lattice = declared_lattice(cache.alloc, bytes.as_slice())?;
     Ok((bytes, lattice))
 }
 
 /// The bytes of an image, and the verified image.
 fn verified_in<'a, F: Files>(
-    desk: &mut Desk,
+    cache: &mut InputCache,
     path: &'a str,
     files: &mut F,
-) -> Result<(Vec<u8>, Verified), Stop<'a>>
+) -> Result<(Vec<u8>, Verified), Failure<'a>>
     ensures kept { F.holds files.new ≡ F.holds files.old }
     ensures read { IfOk result
         (λ pair. IsReadAt (F.holds files.old) path.now pair.0.items) }
     ensures are { IfOk result (λ pair. AreImage pair.0.items pair.1) }
-    ensures stopped { IfErr result
-        (StopsBy (RefusesImage (F.holds files.old) path.now) NoOther) }
+    ensures failed { IfErr result
+        (FailsBy (RefusesImage (F.holds files.old) path.now) NoOther) }
 {
-    let bytes = bytes_in(desk, Kind::Image, path, files)?;
-    let verified = judged_image(desk.alloc, bytes.as_slice())?;
+    let bytes = bytes_in(cache, InputKind::Image, path, files)?;
+    let verified = judged_image(cache.alloc, bytes.as_slice())?;
     Ok((bytes, verified))
 }
 
 /// The output for an image that is accepted.
 pub(crate) fn audit<'a, F: Files>(
-    desk: &mut Desk,
+    cache: &mut InputCache,
     asked: Audit<'a>,
     files: &mut F,
-) -> Result<Vec<u8>, Stop<'a>>
+) -> Result<Vec<u8>, Failure<'a>>
     ensures kept { F.holds files.new ≡ F.holds files.old }
     ensures told { IfOk result (AuditsTo (F.holds files.old) asked.entry) }
-    ensures stopped { IfErr result (StopsBy (λ reason.
+    ensures failed { IfErr result (FailsBy (λ reason.
         RefusesLattice (F.holds files.old) asked.entry.lattice.now reason
         ⊎ RefusesImage (F.holds files.old) asked.entry.image.now reason)
         (RefusesAudit (F.holds files.old) asked.entry)) }
 {
-    let (policy, classes) = policy_in(desk, asked.lattice, files)?;
-    let (bytes, verified) = verified_in(desk, asked.image, files)?;
-    judge(desk.alloc, asked, &classes, &verified)?;
-    let text = accepted_text(desk.alloc, asked, &policy, &bytes)?;
+    let (policy, classes) = policy_in(cache, asked.lattice, files)?;
+    let (bytes, verified) = verified_in(cache, asked.image, files)?;
+    judge(cache.alloc, asked, &classes, &verified)?;
+    let text = accepted_text(cache.alloc, asked, &policy, &bytes)?;
     Ok(text)
 }
 
 /// The source text that is equivalent to the image.
 pub(crate) fn source<'a, F: Files>(
-    desk: &mut Desk,
+    cache: &mut InputCache,
     image: &'a str,
     files: &mut F,
-) -> Result<Vec<u8>, Stop<'a>>
+) -> Result<Vec<u8>, Failure<'a>>
     ensures kept { F.holds files.new ≡ F.holds files.old }
     ensures told { IfOk result (SourceOfFile (F.holds files.old) image.now) }
-    ensures stopped { IfErr result
-        (StopsBy (RefusesImage (F.holds files.old) image.now)
+    ensures failed { IfErr result
+        (FailsBy (RefusesImage (F.holds files.old) image.now)
         (HasNoText (F.holds files.old) image.now)) }
 {
-    let verified = image_in(desk, image, files)?;
-    match source_text(desk.alloc, &verified) {
+    let verified = image_in(cache, image, files)?;
+    match source_text(cache.alloc, &verified) {
         Ok(text) => Ok(text),
         Err(error) => {
-            let classes = two_classes(desk.alloc)?;
-            Err(refused_image(desk.alloc, &classes, verified.image(), error))
+            let classes = two_classes(cache.alloc)?;
+            Err(refused_image(cache.alloc, &classes, verified.image(), error))
         }
     }
 }

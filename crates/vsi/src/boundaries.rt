@@ -13,11 +13,11 @@ ghost use Rattle.vsi_lattice.specs.Order.{IsClass};
 ghost use Rattle.vsi.specs.Boundaries.{boundary_in, given_names, read_names, requested};
 ghost use Rattle.vsi.specs.Performed.{control_of};
 ghost use Rattle.vsi.specs.Reasons.{RefusesControl};
-ghost use Rattle.vsi.specs.Refusals.{NoOther, StopsBy};
+ghost use Rattle.vsi.specs.Refusals.{NoOther, FailsBy};
 
-use crate::desk::{Desk, Kind};
+use crate::cache::{InputCache, InputKind};
+use crate::failure::Failure;
 use crate::reading::faulty;
-use crate::stop::Stop;
 use std::alloc::{AllocError, Global};
 use vsi_answers::refused_start;
 use vsi_arguments::NameLists;
@@ -111,38 +111,45 @@ fn faulty_list<'a>(lists: NameLists<'a>, fault: BoundaryFault) -> (&'static str,
     }
 }
 
-/// The stop for a fault of the boundary. The list at fault is kept for an explanation.
-fn boundary_stop<'a>(desk: &mut Desk, lists: NameLists<'a>, fault: BoundaryFault) -> Stop<'a>
-    ensures { StopsBy (Because (TellsStartFault (λ f. f ≡ start.Boundary fault)) ⊥) NoOther result }
+/// The failure for a fault of the boundary. The list at fault is kept for an explanation.
+fn boundary_failure<'a>(
+    cache: &mut InputCache,
+    lists: NameLists<'a>,
+    fault: BoundaryFault,
+) -> Failure<'a>
+    ensures { FailsBy (Because (TellsStartFault (λ f. f ≡ start.Boundary fault)) ⊥) NoOther result }
 {
     let (option, list) = faulty_list(lists, fault);
-    if desk.keep(Kind::Names, option, list.as_bytes()).is_err() {
-        return Stop::Memory;
+    if cache
+        .keep(InputKind::Names, option, list.as_bytes())
+        .is_err()
+    {
+        return Failure::Memory;
     }
-    Stop::from(refused_start(desk.alloc, StartFault::Boundary(fault)))
+    Failure::from(refused_start(cache.alloc, StartFault::Boundary(fault)))
 }
 
 /// A controller of an image with the requested boundary.
 pub(crate) fn controller_of<'a, 'c>(
-    desk: &mut Desk,
+    cache: &mut InputCache,
     lists: NameLists<'a>,
     names: &'c Names<'a>,
     classes: &'c Lattice,
     driver: Class,
     verified: &'c Verified,
     budget: u64,
-) -> Result<Controller<'c>, Stop<'a>>
+) -> Result<Controller<'c>, Failure<'a>>
     requires class { IsClass (order classes.now) driver }
     requires names { boundary_in names.now ≡ requested lists }
     ensures control { IfOk result (λ c. control c
         ≡ control_of lists.entry classes.now driver verified.now budget) }
     ensures sound { IfOk result (λ c. boundary_fault (control c) ≡ None) }
-    ensures stopped { IfErr result (StopsBy
+    ensures failed { IfErr result (FailsBy
         (RefusesControl lists.entry classes.now driver verified.now budget) NoOther) }
 {
     match Controller::within(classes, verified, driver, budget, names.boundary()) {
         Ok(Ok(controller)) => Ok(controller),
-        Ok(Err(fault)) => Err(boundary_stop(desk, lists, fault)),
-        Err(error) => Err(faulty(desk.alloc, Fault::View(error))),
+        Ok(Err(fault)) => Err(boundary_failure(cache, lists, fault)),
+        Err(error) => Err(faulty(cache.alloc, Fault::View(error))),
     }
 }

@@ -2,24 +2,24 @@
 
 ghost use Rattle.std.specs.Prelude.{IfErr, IfOk};
 ghost use Rattle.vsi.specs.Performed.{IsBoundedC};
-ghost use Rattle.vsi.specs.Refusals.{IsUnbounded, StopsBy};
+ghost use Rattle.vsi.specs.Refusals.{IsUnbounded, FailsBy};
 ghost use Rattle.vsi_answers.specs.Bounds.{IsBound};
 
-use crate::stop::Stop;
+use crate::failure::Failure;
 use std::alloc::Global;
 use vsi_answers::enough_budget;
 use vsi_emit::{emit_bounded, emit_bounded_header};
 use vsi_image::Verified;
 
-/// The most instructions of an image's runs, or the stop with the line of `bound` that says why
+/// The most instructions of an image's runs, or the failure with the line of `bound` that says why
 /// there is no such number.
-fn most_of<'a>(alloc: Global, verified: &Verified) -> Result<u64, Stop<'a>>
+fn most_of<'a>(alloc: Global, verified: &Verified) -> Result<u64, Failure<'a>>
     ensures told { IfOk result (IsBound verified.now) }
-    ensures stopped { IfErr result (StopsBy (λ reason. ⊥) (IsUnbounded verified.now)) }
+    ensures failed { IfErr result (FailsBy (λ reason. ⊥) (IsUnbounded verified.now)) }
 {
     match enough_budget(alloc, verified)? {
         Ok(most) => Ok(most),
-        Err(line) => Err(Stop::Refused(line, None)),
+        Err(line) => Err(Failure::Refused(line, None)),
     }
 }
 
@@ -29,10 +29,10 @@ pub(crate) fn bounded_in_c<'a>(
     verified: &Verified,
     name: &[u8],
     is_header: bool,
-) -> Result<Vec<u8>, Stop<'a>>
+) -> Result<Vec<u8>, Failure<'a>>
     ensures told { IfOk result
         (λ text. IsBoundedC is_header verified.now name.now text.items) }
-    ensures stopped { IfErr result (StopsBy (λ reason. ⊥) (IsUnbounded verified.now)) }
+    ensures failed { IfErr result (FailsBy (λ reason. ⊥) (IsUnbounded verified.now)) }
 {
     let most = most_of(alloc, verified)?;
     let answer = if is_header {
@@ -43,6 +43,6 @@ pub(crate) fn bounded_in_c<'a>(
     match answer {
         Ok(text) => Ok(text),
         // The name was judged before: functions may have it.
-        Err(_) => Err(Stop::Memory),
+        Err(_) => Err(Failure::Memory),
     }
 }

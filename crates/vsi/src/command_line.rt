@@ -1,23 +1,23 @@
-//! Obeys a command line.
+//! Carries out a command line.
 
 ghost use Rattle.std.specs.Prelude.{◌≡◌, ◌≢◌, ◌<◌, ◌≤◌, ◌⊎◌, ◌++◌, [], false, Ok, Err, IfOk, IfErr, OnOk, codes};
 ghost use Rattle.std.specs.Io.KnownBytes.{Keeps};
-ghost use Rattle.vsi.specs.Done.{Done, Stopped, StopsAt};
-ghost use Rattle.vsi.specs.Input.{AnswersInput, RefusesRun, SpendsRun, StopsRun, TellsStop, WritesRun, WritesRunOf};
+ghost use Rattle.vsi.specs.Done.{Done, Failed, FailsAt};
+ghost use Rattle.vsi.specs.Input.{AnswersInput, RefusesRun, SpendsRun, FailsRun, TellsFailure, WritesRun, WritesRunOf};
 ghost use Rattle.vsi.specs.Noted.{NotesOf, TellsNote};
 ghost use Rattle.vsi.specs.Partly.{BytesOf, Partly};
 ghost use Rattle.vsi.specs.Saved.{KeepsStateOf};
 ghost use Rattle.vsi.specs.Screen.{tamed};
-ghost use Rattle.vsi.specs.Stops.{note_behind, status_of, text_of_stop, Gets, IsStreamFault, StopsFor, TellsFault};
+ghost use Rattle.vsi.specs.Failures.{note_after, status_of, text_of_failure, Gets, IsStreamFault, FailsFor, TellsFault};
 ghost use Rattle.vsi.specs.Words as spec;
 ghost use Rattle.vsi_answers.specs.Requests.{RunsSourceTo};
 ghost use Rattle.vsi_devices.specs.Counted.{device_of, faults_of};
 
+use crate::carrying_out::carry_out;
+use crate::failure::{Failure, STREAM, write};
 use crate::files::Files;
-use crate::obeying::obey;
-use crate::reading::{answered, device_stop, two_classes};
-use crate::stop::{STREAM, Stop, write};
-use crate::telling::{Told, tell_stop};
+use crate::reading::{answered, device_failure, two_classes};
+use crate::telling::{ErrorText, tell_failure};
 use std::alloc::Global;
 use std::io::{Read, Write};
 use vsi_devices::{Counted, read_all};
@@ -29,7 +29,7 @@ const DEFAULT_BUDGET: u64 = 1_000_000;
 /// The input of every subcommand except those that read the input.
 const NOTHING: &[u8] = b"";
 
-/// Obeys the arguments, and returns the exit status of the program. The arguments leave out the
+/// Carries out the arguments, and returns the exit status of the program. The arguments leave out the
 /// program's name; without any, a source text is read from the input, compiled with the classes `L`
 /// below `H`, run from zeros with a budget of 1,000,000, and the text of its store is written to
 /// the output.
@@ -73,7 +73,7 @@ pub fn command<F: Files, R: Read, W: Write, E: Write>(
         → Gets E.contents error.old error.new (codes "file fault: -\n") }
     ensures quiet { words.now ≡ [] → result ≡ 0 → Gets E.contents error.old error.new [] }
     ensures memory { result ≡ 5 → Gets E.contents error.old error.new (codes "out of memory\n") }
-    ensures told { result ≢ 0 → TellsStop (StopsAt (F.holds files.old)
+    ensures told { result ≢ 0 → TellsFailure (FailsAt (F.holds files.old)
         (spec.given_to words.now (R.remaining (device_of input.old))) words.now
         (W.contents (device_of output.old)) (W.contents (device_of output.new)))
         result E.contents error.old error.new }
@@ -91,9 +91,9 @@ pub fn command<F: Files, R: Read, W: Write, E: Write>(
     if words.is_empty() {
         return without_words(alloc, input, output, error);
     }
-    let mut told = Told::new(alloc);
-    let answer = obeyed(alloc, words, files, input, output, &mut told);
-    ended(answer, &told, error)
+    let mut error_text = ErrorText::new(alloc);
+    let answer = carried_out(alloc, words, files, input, output, &mut error_text);
+    ended(answer, &error_text, error)
 }
 
 /// Does the run without arguments, and returns the status.
@@ -126,29 +126,29 @@ fn without_words<R: Read, W: Write, E: Write>(
         → Gets E.contents error.old error.new (codes "file fault: -\n") }
     ensures quiet { result ≡ 0 → Gets E.contents error.old error.new [] }
     ensures memory { result ≡ 5 → Gets E.contents error.old error.new (codes "out of memory\n") }
-    ensures told { result ≢ 0 → TellsStop (λ stop. Unit {0}) result E.contents error.old error.new }
+    ensures told { result ≢ 0 → TellsFailure (λ failure. Unit {0}) result E.contents error.old error.new }
 {
     let answer = run_input(alloc, input, output);
-    ended(answer, &Told::new(alloc), error)
+    ended(answer, &ErrorText::new(alloc), error)
 }
 
-/// Obeys the arguments, and gives them the input only if they name a subcommand that reads it.
-fn obeyed<'a, F: Files, R: Read, W: Write>(
+/// Carries out the arguments, and gives them the input only if they name a subcommand that reads it.
+fn carried_out<'a, F: Files, R: Read, W: Write>(
     alloc: Global,
     words: &'a [String],
     files: &mut F,
     input: &mut Counted<R>,
     output: &mut Counted<W>,
-    told: &mut Told,
-) -> Result<(), Stop<'a>>
+    error_text: &mut ErrorText,
+) -> Result<(), Failure<'a>>
     requires input { faults_of input.old < u64.MAX }
     requires output { faults_of output.old < u64.MAX }
-    requires unnoted { told.old.note.items ≡ [] }
-    ensures noted { OnOk result (NotesOf (F.holds files.old) words.now told.new.note.items) }
+    requires unnoted { error_text.old.lines.items ≡ [] }
+    ensures noted { OnOk result (NotesOf (F.holds files.old) words.now error_text.new.lines.items) }
     ensures input_fault { TellsFault (faults_of input.old) (faults_of input.new) result }
     ensures output_fault { TellsFault (faults_of output.old) (faults_of output.new) result }
     ensures unread { spec.reads_input words.now ≡ false → input.new ≡ input.old }
-    ensures unfilled { IfErr result (λ stop. status_of stop < 4
+    ensures unfilled { IfErr result (λ failure. status_of failure < 4
         → F.holds files.new ≡ F.holds files.old) }
     ensures done { OnOk result (Done (F.holds files.old)
         (spec.given_to words.now (R.remaining (device_of input.old))) words.now (F.holds files.new)
@@ -156,41 +156,45 @@ fn obeyed<'a, F: Files, R: Read, W: Write>(
     ensures state { IfErr result (λ _. KeepsStateOf (F.holds files.old)
         (spec.given_to words.now (R.remaining (device_of input.old))) words.now (F.holds files.new)
         (W.contents (device_of output.old)) (W.contents (device_of output.new))) }
-    ensures stopped { IfErr result (Stopped (F.holds files.old)
+    ensures failed { IfErr result (Failed (F.holds files.old)
         (spec.given_to words.now (R.remaining (device_of input.old))) words.now
         (W.contents (device_of output.old)) (W.contents (device_of output.new))) }
 {
     if reads_input(words) {
-        return obey(alloc, words, files, input, output, told);
+        return carry_out(alloc, words, files, input, output, error_text);
     }
     let mut nothing = Counted::new(NOTHING);
-    obey(alloc, words, files, &mut nothing, output, told)
+    carry_out(alloc, words, files, &mut nothing, output, error_text)
 }
 
 /// Writes the message of an answer to standard error, and returns the status.
-fn ended<E: Write>(answer: Result<(), Stop<'_>>, told: &Told, error: &mut Counted<E>) -> u8
+fn ended<E: Write>(
+    answer: Result<(), Failure<'_>>,
+    error_text: &ErrorText,
+    error: &mut Counted<E>,
+) -> u8
     ensures bound { result ≤ 5 }
     ensures done { IfOk answer.entry (λ _. result ≡ 0) }
-    ensures stopped { IfErr answer.entry (λ stop. result ≡ status_of stop) }
+    ensures failed { IfErr answer.entry (λ failure. result ≡ status_of failure) }
     ensures count { faults_of error.old ≤ faults_of error.new }
     ensures noted { IfOk answer.entry
-        (λ _. Gets E.contents error.old error.new (tamed told.now.note.items)) }
-    ensures told { IfErr answer.entry (λ stop. Gets E.contents error.old error.new
-        (text_of_stop stop ++ note_behind stop (tamed told.now.note.items))) }
+        (λ _. Gets E.contents error.old error.new (tamed error_text.now.lines.items)) }
+    ensures told { IfErr answer.entry (λ failure. Gets E.contents error.old error.new
+        (text_of_failure failure ++ note_after failure (tamed error_text.now.lines.items))) }
     ensures memory { result ≡ 5
         → Gets E.contents error.old error.new (codes "out of memory\n") }
 {
     match answer {
         Ok(()) => {
-            told.tell(error);
+            error_text.tell(error);
             0
         }
-        Err(stop) => {
-            tell_stop(&stop, error);
-            if !stop.wants_memory() {
-                told.tell(error);
+        Err(failure) => {
+            tell_failure(&failure, error);
+            if !failure.wants_memory() {
+                error_text.tell(error);
             }
-            stop.status()
+            failure.status()
         }
     }
 }
@@ -212,25 +216,25 @@ fn run_input<'a, R: Read, W: Write>(
     alloc: Global,
     input: &mut Counted<R>,
     output: &mut Counted<W>,
-) -> Result<(), Stop<'a>>
+) -> Result<(), Failure<'a>>
     requires input { faults_of input.old < u64.MAX }
     requires output { faults_of output.old < u64.MAX }
     ensures input_fault { TellsFault (faults_of input.old) (faults_of input.new) result }
     ensures output_fault { TellsFault (faults_of output.old) (faults_of output.new) result }
-    ensures silent { IfErr result (λ stop. status_of stop ≢ 4
+    ensures silent { IfErr result (λ failure. status_of failure ≢ 4
         → Keeps (W.contents (device_of output.old)) (W.contents (device_of output.new))) }
     ensures partly { IfErr result (λ _. Partly (AnswersInput (R.remaining (device_of input.old)))
         (W.contents (device_of output.old)) (W.contents (device_of output.new))) }
     ensures ran { OnOk result (WritesRun (R.remaining (device_of input.old))
         (W.contents (device_of output.old)) (W.contents (device_of output.new))) }
-    ensures stopped { IfErr result (StopsFor (StopsRun (R.remaining (device_of input.old)))
+    ensures failed { IfErr result (FailsFor (FailsRun (R.remaining (device_of input.old)))
         (IsStreamFault ((faults_of input.old < faults_of input.new)
         ⊎ (faults_of output.old < faults_of output.new)))) }
 {
     let lattice = two_classes(alloc)?;
     match read_all(alloc, input) {
         Ok(source) => write_run(alloc, &lattice, source.as_slice(), output),
-        Err(error) => Err(device_stop(alloc, error, STREAM)),
+        Err(error) => Err(device_failure(alloc, error, STREAM)),
     }
 }
 
@@ -240,18 +244,18 @@ fn write_run<'a, W: Write>(
     lattice: &Lattice,
     source: &[u8],
     output: &mut Counted<W>,
-) -> Result<(), Stop<'a>>
+) -> Result<(), Failure<'a>>
     requires { faults_of output.old < u64.MAX }
     ensures output_fault { TellsFault (faults_of output.old) (faults_of output.new) result }
-    ensures silent { IfErr result (λ stop. status_of stop ≢ 4
+    ensures silent { IfErr result (λ failure. status_of failure ≢ 4
         → Keeps (W.contents (device_of output.old)) (W.contents (device_of output.new))) }
     ensures partly { IfErr result (λ _. Partly
         (BytesOf (λ text. RunsSourceTo lattice.now source.now 1000000 (Ok text)))
         (W.contents (device_of output.old)) (W.contents (device_of output.new))) }
     ensures ran { OnOk result (WritesRunOf lattice.now source.now
         (W.contents (device_of output.old)) (W.contents (device_of output.new))) }
-    ensures stopped { IfErr result
-        (StopsFor (λ reason. RunsSourceTo lattice.now source.now 1000000 (Err reason))
+    ensures failed { IfErr result
+        (FailsFor (λ reason. RunsSourceTo lattice.now source.now 1000000 (Err reason))
         (IsStreamFault (faults_of output.old < faults_of output.new))) }
 {
     let text = ran(alloc, lattice, source)?;
@@ -259,11 +263,11 @@ fn write_run<'a, W: Write>(
 }
 
 /// The text of the final store of the run of a source text.
-fn ran<'a>(alloc: Global, lattice: &Lattice, source: &[u8]) -> Result<Vec<u8>, Stop<'a>>
+fn ran<'a>(alloc: Global, lattice: &Lattice, source: &[u8]) -> Result<Vec<u8>, Failure<'a>>
     ensures ran { IfOk result
         (λ text. RunsSourceTo lattice.now source.now 1000000 (Ok text)) }
-    ensures stopped { IfErr result
-        (StopsFor (λ reason. RunsSourceTo lattice.now source.now 1000000 (Err reason))
+    ensures failed { IfErr result
+        (FailsFor (λ reason. RunsSourceTo lattice.now source.now 1000000 (Err reason))
         (λ path. ⊥)) }
 {
     let answer = vsi_answers::run_source(alloc, lattice, source, DEFAULT_BUDGET);

@@ -3,17 +3,17 @@
 ghost use Rattle.std.specs.Prelude.{◌≡◌, ◌<◌, IfErr, IfOk, OnOk};
 ghost use Rattle.vsi.specs.Performed.{ComparesFiles, PerformsCompare};
 ghost use Rattle.vsi.specs.Partly.{AnswersCompare, Leaves};
-ghost use Rattle.vsi.specs.Stops.{TellsFault};
+ghost use Rattle.vsi.specs.Failures.{TellsFault};
 ghost use Rattle.vsi_devices.specs.Counted.{device_of, faults_of};
-ghost use Rattle.vsi.specs.Refusals.{StopsBy};
+ghost use Rattle.vsi.specs.Refusals.{FailsBy};
 ghost use Rattle.vsi.specs.Reasons.{LacksCompare, OtherCompare, WhyCompare};
 
 use crate::budgets::budget_of;
-use crate::desk::Desk;
+use crate::cache::InputCache;
 use crate::driving::stored_words;
+use crate::failure::{Failure, write_answer};
 use crate::files::Files;
 use crate::reading::policy_and_image;
-use crate::stop::{Stop, write_answer};
 use std::alloc::Global;
 use std::io::Write;
 use vsi_arguments::Comparison;
@@ -22,38 +22,44 @@ use vsi_devices::Counted;
 /// Runs an image file from two store files, and returns the comparison that a class makes of both
 /// runs.
 fn compared<'a, F: Files>(
-    desk: &mut Desk,
+    cache: &mut InputCache,
     asked: Comparison<'a>,
     files: &mut F,
-) -> Result<vsi_store::Comparison, Stop<'a>>
+) -> Result<vsi_store::Comparison, Failure<'a>>
     ensures kept { F.holds files.new ≡ F.holds files.old }
     ensures told { IfOk result (ComparesFiles (F.holds files.old) asked.entry) }
-    ensures stopped { IfErr result (StopsBy (WhyCompare (F.holds files.old) asked.entry)
+    ensures failed { IfErr result (FailsBy (WhyCompare (F.holds files.old) asked.entry)
         (LacksCompare (F.holds files.old) asked.entry)) }
 {
     let (classes, class, verified) = policy_and_image(
-        desk,
+        cache,
         asked.lattice,
         asked.class,
         asked.image,
         files,
     )?;
-    let first = stored_words(desk, &verified, Some(asked.stores.0), files)?;
-    let second = stored_words(desk, &verified, Some(asked.stores.1), files)?;
-    let budget = budget_of(desk.alloc, asked.budget, &verified)?;
+    let first = stored_words(cache, &verified, Some(asked.stores.0), files)?;
+    let second = stored_words(cache, &verified, Some(asked.stores.1), files)?;
+    let budget = budget_of(cache.alloc, asked.budget, &verified)?;
     let found = vsi_answers::compare(
-        desk.alloc, &classes, &verified, class, &first, &second, budget,
+        cache.alloc,
+        &classes,
+        &verified,
+        class,
+        &first,
+        &second,
+        budget,
     )?;
     Ok(found)
 }
 
 /// Writes the comparison that a class makes of the runs of an image file from two store files.
 pub(crate) fn compare<'a, F: Files, W: Write>(
-    desk: &mut Desk,
+    cache: &mut InputCache,
     asked: Comparison<'a>,
     files: &mut F,
     output: &mut Counted<W>,
-) -> Result<(), Stop<'a>>
+) -> Result<(), Failure<'a>>
     requires { faults_of output.old < u64.MAX }
     ensures kept { F.holds files.new ≡ F.holds files.old }
     ensures fault { TellsFault (faults_of output.old) (faults_of output.new) result }
@@ -61,10 +67,10 @@ pub(crate) fn compare<'a, F: Files, W: Write>(
         (W.contents (device_of output.old)) (W.contents (device_of output.new))) }
     ensures performed { OnOk result (PerformsCompare (F.holds files.old) asked.entry
         (W.contents (device_of output.old)) (W.contents (device_of output.new))) }
-    ensures stopped { IfErr result (StopsBy (WhyCompare (F.holds files.old) asked.entry)
+    ensures failed { IfErr result (FailsBy (WhyCompare (F.holds files.old) asked.entry)
         (OtherCompare (F.holds files.old) asked.entry
         (W.contents (device_of output.old)) (W.contents (device_of output.new)))) }
 {
-    let found = compared(desk, asked, files)?;
+    let found = compared(cache, asked, files)?;
     write_answer(&found.text, found.is_same, output)
 }

@@ -6,21 +6,21 @@ ghost use Rattle.vsi.specs.Holding.{IsReadAt};
 ghost use Rattle.vsi.specs.Files.{Writes};
 ghost use Rattle.vsi.specs.Performed.{ConformsFiles, IsAskedAt, IsPolicyAt, IsWrittenAs, TellsBytes, TellsConforming};
 ghost use Rattle.vsi.specs.Partly.{BytesOf, Leaves};
-ghost use Rattle.vsi.specs.Stops.{TellsFault};
+ghost use Rattle.vsi.specs.Failures.{TellsFault};
 ghost use Rattle.vsi_conform.specs.Beside.{beside};
 ghost use Rattle.vsi_conform.specs.Totals.{total_of};
 ghost use Rattle.vsi_devices.specs.Counted.{device_of, faults_of};
-ghost use Rattle.vsi.specs.Refusals.{NoOther, StopsBy};
+ghost use Rattle.vsi.specs.Refusals.{NoOther, FailsBy};
 ghost use Rattle.vsi.specs.Reasons.{DiffersConform, IsUnusable, RefusesBytes, RefusesConform, RefusesPolicy};
-ghost use Rattle.vsi.specs.Stops.{status_of};
+ghost use Rattle.vsi.specs.Failures.{status_of};
 ghost use Rattle.vsi.specs.Supplied.{IsSuppliedAs, TellsSupplied};
 ghost use Rattle.vsi.specs.Supplied as supplied;
 ghost use Rattle.vsi_answers.specs.Requests.{ReadsImage};
 
-use crate::desk::{Desk, Kind};
+use crate::cache::{InputCache, InputKind};
+use crate::failure::{Failure, write_answer};
 use crate::files::Files;
 use crate::reading::{bytes_in, declared_lattice, whole_in};
-use crate::stop::{Stop, write_answer};
 use std::alloc::{AllocError, Global};
 use std::io::Write;
 use vsi_answers::judged_image;
@@ -34,84 +34,88 @@ use vsi_devices::Counted;
 use vsi_image::Image;
 use vsi_lattice::Lattice;
 
-/// The stop for a refused interface file.
-fn unusable<'a>(alloc: Global, error: InterfaceError) -> Stop<'a>
-    ensures { StopsBy (λ reason. ⊥) IsUnusable result }
+/// The failure for a refused interface file.
+fn unusable<'a>(alloc: Global, error: InterfaceError) -> Failure<'a>
+    ensures { FailsBy (λ reason. ⊥) IsUnusable result }
 {
     if let InterfaceError::Memory = &error {
-        return Stop::Memory;
+        return Failure::Memory;
     }
     match interface_text(alloc, &error) {
-        Ok(text) => Stop::Interface(text, error),
-        Err(_) => Stop::Memory,
+        Ok(text) => Failure::Interface(text, error),
+        Err(_) => Failure::Memory,
     }
 }
 
 /// The bytes of a lattice file that an interface or a source text names. It must be a regular file.
 pub(crate) fn named_bytes<'a, F: Files>(
-    desk: &mut Desk,
+    cache: &mut InputCache,
     interface: &str,
     path: &[u8],
     files: &mut F,
-) -> Result<Vec<u8>, Stop<'a>>
+) -> Result<Vec<u8>, Failure<'a>>
     ensures kept { F.holds files.new ≡ F.holds files.old }
     ensures read { IfOk result (λ bytes. IsReadAt (F.holds files.old)
         (utf8_lossy (beside interface.now path.now)) bytes.items) }
-    ensures stopped { IfErr result (λ stop. 3 < status_of stop) }
+    ensures failed { IfErr result (λ failure. 3 < status_of failure) }
 {
-    let beside = path_beside(desk.alloc, interface, path)?;
+    let beside = path_beside(cache.alloc, interface, path)?;
     if files.may_wait(beside.as_str()) {
-        return Err(Stop::LostFile(beside));
+        return Err(Failure::LostFile(beside));
     }
-    match bytes_in(desk, Kind::Lattice, beside.as_str(), files) {
+    match bytes_in(cache, InputKind::Lattice, beside.as_str(), files) {
         Ok(bytes) => return Ok(bytes),
-        Err(Stop::FileFault(_)) => {}
-        Err(_) => return Err(Stop::Memory),
+        Err(Failure::FileFault(_)) => {}
+        Err(_) => return Err(Failure::Memory),
     }
-    Err(Stop::LostFile(beside))
+    Err(Failure::LostFile(beside))
 }
 
 /// The lattice of an interface.
 fn lattice_of<'a, F: Files>(
-    desk: &mut Desk,
+    cache: &mut InputCache,
     interface: &str,
     policy: &Policy,
     files: &mut F,
-) -> Result<Lattice, Stop<'a>>
+) -> Result<Lattice, Failure<'a>>
     ensures kept { F.holds files.new ≡ F.holds files.old }
     ensures declared { IfOk result (IsPolicyAt (F.holds files.old) interface.now policy.now) }
-    ensures stopped { IfErr result
-        (StopsBy (RefusesPolicy (F.holds files.old) interface.now policy.now) NoOther) }
+    ensures failed { IfErr result
+        (FailsBy (RefusesPolicy (F.holds files.old) interface.now policy.now) NoOther) }
 {
     match policy {
         Policy::File(path) => {
-            let bytes = named_bytes(desk, interface, path, files)?;
-            declared_lattice(desk.alloc, &bytes)
+            let bytes = named_bytes(cache, interface, path, files)?;
+            declared_lattice(cache.alloc, &bytes)
         }
-        Policy::Tables(text) => declared_lattice(desk.alloc, text),
+        Policy::Tables(text) => declared_lattice(cache.alloc, text),
     }
 }
 
 /// The interface of a file.
 fn interface_in<'a, F: Files>(
-    desk: &mut Desk,
+    cache: &mut InputCache,
     path: &'a str,
     files: &mut F,
-) -> Result<Asked, Stop<'a>>
+) -> Result<Asked, Failure<'a>>
     ensures kept { F.holds files.new ≡ F.holds files.old }
     ensures asked { IfOk result (IsAskedAt (F.holds files.old) path.now) }
-    ensures stopped { IfErr result (StopsBy (λ reason. ⊥) IsUnusable) }
+    ensures failed { IfErr result (FailsBy (λ reason. ⊥) IsUnusable) }
 {
-    let bytes = bytes_in(desk, Kind::Interface, path, files)?;
-    match read_interface(desk.alloc, &bytes) {
+    let bytes = bytes_in(cache, InputKind::Interface, path, files)?;
+    match read_interface(cache.alloc, &bytes) {
         Ok(asked) => Ok(asked),
-        Err(error) => Err(unusable(desk.alloc, error)),
+        Err(error) => Err(unusable(cache.alloc, error)),
     }
 }
 
 /// Judges the classes of an interface.
-fn know_classes<'a>(alloc: Global, lattice: &Lattice, interface: &Interface) -> Result<(), Stop<'a>>
-    ensures { IfErr result (StopsBy (λ reason. ⊥) IsUnusable) }
+fn know_classes<'a>(
+    alloc: Global,
+    lattice: &Lattice,
+    interface: &Interface,
+) -> Result<(), Failure<'a>>
+    ensures { IfErr result (FailsBy (λ reason. ⊥) IsUnusable) }
 {
     let Some(number) = unknown_class(lattice, interface) else {
         return Ok(());
@@ -124,9 +128,9 @@ fn know_classes<'a>(alloc: Global, lattice: &Lattice, interface: &Interface) -> 
 }
 
 /// Judges the budgets of an interface's runs.
-fn know_budgets<'a>(alloc: Global, interface: &Interface, budget: u64) -> Result<(), Stop<'a>>
+fn know_budgets<'a>(alloc: Global, interface: &Interface, budget: u64) -> Result<(), Failure<'a>>
     ensures within { OnOk result (total_of interface.now ≤ budget) }
-    ensures stopped { IfErr result (StopsBy (λ reason. ⊥) IsUnusable) }
+    ensures failed { IfErr result (FailsBy (λ reason. ⊥) IsUnusable) }
 {
     if is_within(interface, budget) {
         return Ok(());
@@ -160,10 +164,10 @@ fn answer_of<'a>(
     lattice: &Lattice,
     text: &[u8],
     interface: &Interface,
-) -> Result<(bool, Vec<u8>), Stop<'a>>
+) -> Result<(bool, Vec<u8>), Failure<'a>>
     ensures told { IfOk result (λ pair.
         TellsConforming is_json pair.0 lattice.now text.now interface.now pair.1.items) }
-    ensures stopped { IfErr result (λ stop. 3 < status_of stop) }
+    ensures failed { IfErr result (λ failure. 3 < status_of failure) }
 {
     let answer = vsi_conform::conform(alloc, lattice, text, interface)?;
     let written = answer_text(alloc, is_json, lattice, text, interface, &answer)?;
@@ -180,22 +184,22 @@ fn begins_image(bytes: &[u8]) -> bool
 
 /// The bytes of a file that is an image, by its first bytes, or else a source text.
 fn operand_in<'a, F: Files>(
-    desk: &mut Desk,
+    cache: &mut InputCache,
     path: &'a str,
     files: &mut F,
-) -> Result<Vec<u8>, Stop<'a>>
+) -> Result<Vec<u8>, Failure<'a>>
     ensures kept { F.holds files.new ≡ F.holds files.old }
     ensures read { IfOk result
         (λ bytes. IsReadAt (F.holds files.old) path.now bytes.items) }
-    ensures stopped { IfErr result (λ stop. 3 < status_of stop) }
+    ensures failed { IfErr result (λ failure. 3 < status_of failure) }
 {
-    let bytes = whole_in(desk.alloc, path, files)?;
+    let bytes = whole_in(cache.alloc, path, files)?;
     let kind = if begins_image(bytes.as_slice()) {
-        Kind::Image
+        InputKind::Image
     } else {
-        Kind::Source
+        InputKind::Source
     };
-    desk.keep(kind, path, bytes.as_slice())?;
+    cache.keep(kind, path, bytes.as_slice())?;
     Ok(bytes)
 }
 
@@ -224,11 +228,11 @@ fn image_answer<'a>(
     lattice: &Lattice,
     bytes: &[u8],
     interface: &Interface,
-) -> Result<(bool, Vec<u8>), Stop<'a>>
+) -> Result<(bool, Vec<u8>), Failure<'a>>
     ensures told { IfOk result (λ pair.
         TellsSupplied is_json pair.0 lattice.now bytes.now interface.now pair.1.items) }
-    ensures stopped { IfErr result
-        (StopsBy (λ reason. ReadsImage bytes.now (Err reason)) NoOther) }
+    ensures failed { IfErr result
+        (FailsBy (λ reason. ReadsImage bytes.now (Err reason)) NoOther) }
 {
     let verified = judged_image(alloc, bytes)?;
     let answer = conform_image(alloc, lattice, &verified, interface)?;
@@ -252,10 +256,10 @@ fn bytes_answer<'a>(
     lattice: &Lattice,
     bytes: &[u8],
     interface: &Interface,
-) -> Result<(bool, Vec<u8>), Stop<'a>>
+) -> Result<(bool, Vec<u8>), Failure<'a>>
     ensures told { IfOk result (λ pair. TellsBytes (supplied.begins_image bytes.now) is_json
         pair.0 lattice.now bytes.now interface.now pair.1.items) }
-    ensures stopped { IfErr result (StopsBy (RefusesBytes bytes.now) NoOther) }
+    ensures failed { IfErr result (FailsBy (RefusesBytes bytes.now) NoOther) }
 {
     let is_image = begins_image(bytes);
     if is_image {
@@ -267,23 +271,23 @@ fn bytes_answer<'a>(
 
 /// Judges the source text or the image by the interface.
 fn judged<'a, F: Files>(
-    desk: &mut Desk,
+    cache: &mut InputCache,
     asked: Conformance<'a>,
     files: &mut F,
-) -> Result<(bool, Vec<u8>), Stop<'a>>
+) -> Result<(bool, Vec<u8>), Failure<'a>>
     ensures kept { F.holds files.new ≡ F.holds files.old }
     ensures told { IfOk result
         (λ pair. ConformsFiles (F.holds files.old) asked.entry pair.0 pair.1) }
-    ensures stopped { IfErr result
-        (StopsBy (RefusesConform (F.holds files.old) asked.entry) IsUnusable) }
+    ensures failed { IfErr result
+        (FailsBy (RefusesConform (F.holds files.old) asked.entry) IsUnusable) }
 {
-    let found = interface_in(desk, asked.interface, files)?;
-    let lattice = lattice_of(desk, asked.interface, &found.policy, files)?;
-    know_classes(desk.alloc, &lattice, &found.interface)?;
-    know_budgets(desk.alloc, &found.interface, asked.budget)?;
-    let bytes = operand_in(desk, asked.source, files)?;
+    let found = interface_in(cache, asked.interface, files)?;
+    let lattice = lattice_of(cache, asked.interface, &found.policy, files)?;
+    know_classes(cache.alloc, &lattice, &found.interface)?;
+    know_budgets(cache.alloc, &found.interface, asked.budget)?;
+    let bytes = operand_in(cache, asked.source, files)?;
     bytes_answer(
-        desk.alloc,
+        cache.alloc,
         asked.is_json,
         &lattice,
         &bytes,
@@ -293,11 +297,11 @@ fn judged<'a, F: Files>(
 
 /// Writes whether the source text or the image conforms to the interface, and where it differs.
 pub(crate) fn conform<'a, F: Files, W: Write>(
-    desk: &mut Desk,
+    cache: &mut InputCache,
     asked: Conformance<'a>,
     files: &mut F,
     output: &mut Counted<W>,
-) -> Result<(), Stop<'a>>
+) -> Result<(), Failure<'a>>
     requires { faults_of output.old < u64.MAX }
     ensures kept { F.holds files.new ≡ F.holds files.old }
     ensures fault { TellsFault (faults_of output.old) (faults_of output.new) result }
@@ -306,11 +310,11 @@ pub(crate) fn conform<'a, F: Files, W: Write>(
         (W.contents (device_of output.old)) (W.contents (device_of output.new))) }
     ensures performed { OnOk result (Writes (ConformsFiles (F.holds files.old) asked.entry true)
         (W.contents (device_of output.old)) (W.contents (device_of output.new))) }
-    ensures stopped { IfErr result
-        (StopsBy (RefusesConform (F.holds files.old) asked.entry)
+    ensures failed { IfErr result
+        (FailsBy (RefusesConform (F.holds files.old) asked.entry)
         (DiffersConform (F.holds files.old) asked.entry
         (W.contents (device_of output.old)) (W.contents (device_of output.new)))) }
 {
-    let (conforms, text) = judged(desk, asked, files)?;
+    let (conforms, text) = judged(cache, asked, files)?;
     write_answer(&text, conforms, output)
 }

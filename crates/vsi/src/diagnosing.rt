@@ -1,10 +1,10 @@
-//! The refusal of a stop as a value.
+//! The refusal of a failure as a value.
 
 ghost use Rattle.std.specs.Prelude.{◌≡◌, option_map};
 ghost use Rattle.vsi.specs.Diagnosing as spec;
 ghost use Rattle.vsi_diagnostics.specs.View.{diagnostic_of};
 
-use crate::stop::Stop;
+use crate::failure::Failure;
 use vsi_answers::Cause;
 use vsi_audit::AuditError;
 use vsi_conform::{steady_diagnostic, unsteady_diagnostic};
@@ -84,13 +84,16 @@ fn cause_diagnostic<'s>(source: &[u8], cause: &'s Cause) -> Option<Diagnostic<'s
     }
 }
 
-/// The refusal that a stop is, if the source text that was read is this one; none if the stop has
+/// The refusal that a failure is, if the source text that was read is this one; none if the failure has
 /// no number.
-pub(crate) fn stop_diagnostic<'s>(source: &[u8], stop: &'s Stop<'_>) -> Option<Diagnostic<'s>> {
-    match stop {
-        Stop::Refused(_, Some(cause)) => cause_diagnostic(source, cause),
-        Stop::Audit(_, error) => audit_diagnostic(error),
-        Stop::Unsteady(_, error) => steady_diagnostic(error),
+pub(crate) fn failure_diagnostic<'s>(
+    source: &[u8],
+    failure: &'s Failure<'_>,
+) -> Option<Diagnostic<'s>> {
+    match failure {
+        Failure::Refused(_, Some(cause)) => cause_diagnostic(source, cause),
+        Failure::Audit(_, error) => audit_diagnostic(error),
+        Failure::Unsteady(_, error) => steady_diagnostic(error),
         _ => None,
     }
 }

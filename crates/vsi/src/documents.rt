@@ -7,14 +7,14 @@ ghost use Rattle.vsi.specs.Holding.{IsImageAt};
 ghost use Rattle.vsi.specs.Partly.{BytesOf, Leaves};
 ghost use Rattle.vsi.specs.Performed.{DocumentOf, IsBuiltAt, IsEmittedFrom, compilation_of, judgement_of, profile_of};
 ghost use Rattle.vsi.specs.Reasons.{WhyDocument, WhyEmit};
-ghost use Rattle.vsi.specs.Refusals.{AsksImage, IsDifference, NoOther, RefusesFiles, RefusesImage, RefusesLattice, StopsBy};
-ghost use Rattle.vsi.specs.Stops.{TellsFault};
+ghost use Rattle.vsi.specs.Refusals.{AsksImage, IsDifference, NoOther, RefusesFiles, RefusesImage, RefusesLattice, FailsBy};
+ghost use Rattle.vsi.specs.Failures.{TellsFault};
 ghost use Rattle.vsi_devices.specs.Counted.{device_of, faults_of};
 
-use crate::desk::Desk;
+use crate::cache::InputCache;
+use crate::failure::{Failure, write_answer};
 use crate::files::Files;
 use crate::reading::{image_in, lattice_in};
-use crate::stop::{Stop, write_answer};
 use crate::subcommands::{judgement, policy_and_text, profile};
 use crate::trying::made_image;
 use std::alloc::{AllocError, Global};
@@ -30,20 +30,20 @@ use vsi_sarif::check_sarif;
 
 /// Whether the source text is accepted, and the document of SARIF that says so.
 fn checked_sarif<'a, F: Files>(
-    desk: &mut Desk,
+    cache: &mut InputCache,
     asked: Judging<'a>,
     files: &mut F,
-) -> Result<(bool, Vec<u8>), Stop<'a>>
+) -> Result<(bool, Vec<u8>), Failure<'a>>
     ensures kept { F.holds files.new ≡ F.holds files.old }
     ensures told { IfOk result (λ pair. OfFiles (F.holds files.old) asked.entry.compilation
         (ToldSarif (judgement_of asked.entry) asked.entry.compilation.source.now pair.0) pair.1) }
-    ensures stopped { IfErr result (StopsBy
+    ensures failed { IfErr result (FailsBy
         (RefusesLattice (F.holds files.old) asked.entry.compilation.lattice.now) NoOther) }
 {
-    let (classes, text) = policy_and_text(desk, asked.compilation, files)?;
+    let (classes, text) = policy_and_text(cache, asked.compilation, files)?;
     let path = asked.compilation.source;
     let told = check_sarif(
-        desk.alloc,
+        cache.alloc,
         judgement(asked),
         &classes,
         path,
@@ -54,37 +54,37 @@ fn checked_sarif<'a, F: Files>(
 
 /// The line of JSON for a source text with its classes, and whether it is accepted.
 fn classes_line<'a, F: Files>(
-    desk: &mut Desk,
+    cache: &mut InputCache,
     compilation: Compilation<'a>,
     files: &mut F,
-) -> Result<(bool, Vec<u8>), Stop<'a>>
+) -> Result<(bool, Vec<u8>), Failure<'a>>
     ensures kept { F.holds files.new ≡ F.holds files.old }
     ensures told { IfOk result (λ pair. OfFiles (F.holds files.old) compilation.entry
         (ToldClassesJson (profile_of compilation.entry.is_strict) pair.0) pair.1) }
-    ensures stopped { IfErr result (StopsBy
+    ensures failed { IfErr result (FailsBy
         (RefusesLattice (F.holds files.old) compilation.entry.lattice.now) NoOther) }
 {
-    let (classes, text) = policy_and_text(desk, compilation, files)?;
+    let (classes, text) = policy_and_text(cache, compilation, files)?;
     let profile = profile(compilation.is_strict);
-    let told = classes_json(desk.alloc, profile, &classes, text.as_slice())?;
+    let told = classes_json(cache.alloc, profile, &classes, text.as_slice())?;
     Ok((told.is_good, told.line))
 }
 
 /// The line of JSON for a source text with its flows, and whether it has a program.
 fn flows_line<'a, F: Files>(
-    desk: &mut Desk,
+    cache: &mut InputCache,
     compilation: Compilation<'a>,
     files: &mut F,
-) -> Result<(bool, Vec<u8>), Stop<'a>>
+) -> Result<(bool, Vec<u8>), Failure<'a>>
     ensures kept { F.holds files.new ≡ F.holds files.old }
     ensures told { IfOk result (λ pair. OfFiles (F.holds files.old) compilation.entry
         (ToldFlowsJson (profile_of compilation.entry.is_strict) pair.0) pair.1) }
-    ensures stopped { IfErr result (StopsBy
+    ensures failed { IfErr result (FailsBy
         (RefusesLattice (F.holds files.old) compilation.entry.lattice.now) NoOther) }
 {
-    let (classes, text) = policy_and_text(desk, compilation, files)?;
+    let (classes, text) = policy_and_text(cache, compilation, files)?;
     let profile = profile(compilation.is_strict);
-    let told = flows_json(desk.alloc, profile, &classes, text.as_slice())?;
+    let told = flows_json(cache.alloc, profile, &classes, text.as_slice())?;
     Ok((told.is_good, told.line))
 }
 
@@ -106,51 +106,51 @@ fn judged_line(
 
 /// The line of JSON for an image, and whether it is accepted.
 fn audit_line<'a, F: Files>(
-    desk: &mut Desk,
+    cache: &mut InputCache,
     asked: Audit<'a>,
     files: &mut F,
-) -> Result<(bool, Vec<u8>), Stop<'a>>
+) -> Result<(bool, Vec<u8>), Failure<'a>>
     ensures kept { F.holds files.new ≡ F.holds files.old }
     ensures told { IfOk result (λ pair. AuditsJson (F.holds files.old) asked.entry
         (profile_of asked.entry.is_strict) pair.0 pair.1) }
-    ensures stopped { IfErr result (StopsBy (λ reason.
+    ensures failed { IfErr result (FailsBy (λ reason.
         RefusesLattice (F.holds files.old) asked.entry.lattice.now reason
         ⊎ RefusesImage (F.holds files.old) asked.entry.image.now reason) NoOther) }
 {
-    let classes = lattice_in(desk, asked.lattice, files)?;
-    let verified = image_in(desk, asked.image, files)?;
-    let told = judged_line(desk.alloc, asked, &classes, &verified)?;
+    let classes = lattice_in(cache, asked.lattice, files)?;
+    let verified = image_in(cache, asked.image, files)?;
+    let told = judged_line(cache.alloc, asked, &classes, &verified)?;
     Ok((told.is_good, told.line))
 }
 
 /// The line of JSON about the bound of an image file, and whether there is one.
 fn image_bound_line<'a, F: Files>(
-    desk: &mut Desk,
+    cache: &mut InputCache,
     image: &'a str,
     files: &mut F,
-) -> Result<(bool, Vec<u8>), Stop<'a>>
+) -> Result<(bool, Vec<u8>), Failure<'a>>
     ensures kept { F.holds files.new ≡ F.holds files.old }
     ensures told { IfOk result
         (λ pair. BoundsJson (IsImageAt (F.holds files.old) image.now) pair.0 pair.1) }
-    ensures stopped { IfErr result
-        (StopsBy (RefusesImage (F.holds files.old) image.now) NoOther) }
+    ensures failed { IfErr result
+        (FailsBy (RefusesImage (F.holds files.old) image.now) NoOther) }
 {
-    let verified = image_in(desk, image, files)?;
-    let told = bound_json(desk.alloc, &verified)?;
+    let verified = image_in(cache, image, files)?;
+    let told = bound_json(cache.alloc, &verified)?;
     Ok((told.is_good, told.line))
 }
 
 /// The line of JSON about the bound of the image of a source text, and whether there is one.
 fn text_bound_line<'a, F: Files>(
-    desk: &mut Desk,
+    cache: &mut InputCache,
     lattice: &'a str,
     source: &'a str,
     files: &mut F,
-) -> Result<(bool, Vec<u8>), Stop<'a>>
+) -> Result<(bool, Vec<u8>), Failure<'a>>
     ensures kept { F.holds files.new ≡ F.holds files.old }
     ensures told { IfOk result (λ pair. BoundsJson (IsBuiltAt (F.holds files.old)
         (compilation_of lattice.entry source.entry)) pair.0 pair.1) }
-    ensures stopped { IfErr result (StopsBy (RefusesFiles (F.holds files.old)
+    ensures failed { IfErr result (FailsBy (RefusesFiles (F.holds files.old)
         (compilation_of lattice.entry source.entry) (AsksImage false)) NoOther) }
 {
     let compilation = Compilation {
@@ -158,58 +158,58 @@ fn text_bound_line<'a, F: Files>(
         source,
         is_strict: false,
     };
-    let (classes, text) = policy_and_text(desk, compilation, files)?;
-    let verified = made_image(desk, &classes, source, text.as_slice())?;
-    let told = bound_json_in(desk.alloc, &classes, text.as_slice(), &verified)?;
+    let (classes, text) = policy_and_text(cache, compilation, files)?;
+    let verified = made_image(cache, &classes, source, text.as_slice())?;
+    let told = bound_json_in(cache.alloc, &classes, text.as_slice(), &verified)?;
     Ok((told.is_good, told.line))
 }
 
 /// The line of JSON about the bound of the requested image, and whether there is one.
 fn bound_line<'a, F: Files>(
-    desk: &mut Desk,
+    cache: &mut InputCache,
     asked: Bounding<'a>,
     files: &mut F,
-) -> Result<(bool, Vec<u8>), Stop<'a>>
+) -> Result<(bool, Vec<u8>), Failure<'a>>
     ensures kept { F.holds files.new ≡ F.holds files.old }
     ensures told { IfOk result (λ pair. BoundsJson (IsEmittedFrom (F.holds files.old)
         asked.entry.lattice asked.entry.file) pair.0 pair.1) }
-    ensures stopped { IfErr result (StopsBy
+    ensures failed { IfErr result (FailsBy
         (WhyEmit (F.holds files.old) asked.entry.lattice asked.entry.file) NoOther) }
 {
     match asked.lattice {
-        Some(lattice) => text_bound_line(desk, lattice, asked.file, files),
-        None => image_bound_line(desk, asked.file, files),
+        Some(lattice) => text_bound_line(cache, lattice, asked.file, files),
+        None => image_bound_line(cache, asked.file, files),
     }
 }
 
 /// The document that answers a request, and whether it says that all is well.
 fn document<'a, F: Files>(
-    desk: &mut Desk,
+    cache: &mut InputCache,
     asked: Document<'a>,
     files: &mut F,
-) -> Result<(bool, Vec<u8>), Stop<'a>>
+) -> Result<(bool, Vec<u8>), Failure<'a>>
     ensures kept { F.holds files.new ≡ F.holds files.old }
     ensures told { IfOk result
         (λ pair. DocumentOf (F.holds files.old) asked.entry pair.0 pair.1) }
-    ensures stopped { IfErr result
-        (StopsBy (WhyDocument (F.holds files.old) asked.entry) NoOther) }
+    ensures failed { IfErr result
+        (FailsBy (WhyDocument (F.holds files.old) asked.entry) NoOther) }
 {
     match asked {
-        Document::Sarif(judging) => checked_sarif(desk, judging, files),
-        Document::Classes(compilation) => classes_line(desk, compilation, files),
-        Document::Flows(compilation) => flows_line(desk, compilation, files),
-        Document::Audit(audit) => audit_line(desk, audit, files),
-        Document::Bound(bounding) => bound_line(desk, bounding, files),
+        Document::Sarif(judging) => checked_sarif(cache, judging, files),
+        Document::Classes(compilation) => classes_line(cache, compilation, files),
+        Document::Flows(compilation) => flows_line(cache, compilation, files),
+        Document::Audit(audit) => audit_line(cache, audit, files),
+        Document::Bound(bounding) => bound_line(cache, bounding, files),
     }
 }
 
 /// Writes the document that answers a request.
 pub(crate) fn put_document<'a, F: Files, W: Write>(
-    desk: &mut Desk,
+    cache: &mut InputCache,
     asked: Document<'a>,
     files: &mut F,
     output: &mut Counted<W>,
-) -> Result<(), Stop<'a>>
+) -> Result<(), Failure<'a>>
     requires { faults_of output.old < u64.MAX }
     ensures kept { F.holds files.new ≡ F.holds files.old }
     ensures fault { TellsFault (faults_of output.old) (faults_of output.new) result }
@@ -218,10 +218,10 @@ pub(crate) fn put_document<'a, F: Files, W: Write>(
         (W.contents (device_of output.old)) (W.contents (device_of output.new))) }
     ensures performed { OnOk result (Writes (DocumentOf (F.holds files.old) asked.entry true)
         (W.contents (device_of output.old)) (W.contents (device_of output.new))) }
-    ensures stopped { IfErr result (StopsBy (WhyDocument (F.holds files.old) asked.entry)
+    ensures failed { IfErr result (FailsBy (WhyDocument (F.holds files.old) asked.entry)
         (IsDifference (Writes (DocumentOf (F.holds files.old) asked.entry false)
         (W.contents (device_of output.old)) (W.contents (device_of output.new))))) }
 {
-    let (good, text) = document(desk, asked, files)?;
+    let (good, text) = document(cache, asked, files)?;
     write_answer(&text, good, output)
 }

@@ -12,13 +12,13 @@ ghost use Rattle.vsi.specs.Holding.{IsLatticeAt};
 ghost use Rattle.vsi.specs.Files.{OfFiles};
 ghost use Rattle.vsi.specs.Performed.{DrawsFiles, DrawsGraph, GraphOf, ToldPage, profile_of};
 ghost use Rattle.vsi_report.specs.Page.{HasPanel};
-ghost use Rattle.vsi.specs.Refusals.{NoOther, RefusesLattice, RefusesProgramAt, StopsBy};
+ghost use Rattle.vsi.specs.Refusals.{NoOther, RefusesLattice, RefusesProgramAt, FailsBy};
 ghost use Rattle.vsi.specs.Reasons.{WhyDraw};
 
-use crate::desk::{Desk, Kind};
+use crate::cache::{InputCache, InputKind};
+use crate::failure::Failure;
 use crate::files::Files;
 use crate::reading::{bytes_in, declared_lattice, lattice_in, refused};
-use crate::stop::Stop;
 use crate::subcommands::profile;
 use std::alloc::Global;
 use vsi_arguments::{Compilation, Drawing};
@@ -28,17 +28,17 @@ use vsi_report::{Filing, ReportError, filed_page, flows_dot, lattice_dot, policy
 
 /// The bytes of a lattice file, and its lattice.
 fn policy_in<'a, F: Files>(
-    desk: &mut Desk,
+    cache: &mut InputCache,
     path: &'a str,
     files: &mut F,
-) -> Result<(Vec<u8>, Lattice), Stop<'a>>
+) -> Result<(Vec<u8>, Lattice), Failure<'a>>
     ensures kept { F.holds files.new ≡ F.holds files.old }
     ensures read { IfOk result (λ policy. IsLatticeAt (F.holds files.old) path.now policy.1) }
-    ensures stopped { IfErr result
-        (StopsBy (RefusesLattice (F.holds files.old) path.now) NoOther) }
+    ensures failed { IfErr result
+        (FailsBy (RefusesLattice (F.holds files.old) path.now) NoOther) }
 {
-    let bytes = bytes_in(desk, Kind::Lattice, path, files)?;
-    let lattice = declared_lattice(desk.alloc, bytes.as_slice())?;
+    let bytes = bytes_in(cache, InputKind::Lattice, path, files)?;
+    let lattice = declared_lattice(cache.alloc, bytes.as_slice())?;
     Ok((bytes, lattice))
 }
 
@@ -68,18 +68,18 @@ fn page_of(
 
 /// The page of a source text.
 pub(crate) fn report<'a, F: Files>(
-    desk: &mut Desk,
+    cache: &mut InputCache,
     compilation: Compilation<'a>,
     files: &mut F,
-) -> Result<Vec<u8>, Stop<'a>>
+) -> Result<Vec<u8>, Failure<'a>>
     ensures kept { F.holds files.new ≡ F.holds files.old }
     ensures told { IfOk result (OfFiles (F.holds files.old) compilation.entry ToldPage) }
-    ensures stopped { IfErr result
-        (StopsBy (RefusesLattice (F.holds files.old) compilation.entry.lattice.now) NoOther) }
+    ensures failed { IfErr result
+        (FailsBy (RefusesLattice (F.holds files.old) compilation.entry.lattice.now) NoOther) }
 {
-    let read = policy_in(desk, compilation.lattice, files)?;
-    let text = bytes_in(desk, Kind::Source, compilation.source, files)?;
-    Ok(page_of(desk.alloc, compilation, &read.0, &read.1, text.as_slice())?)
+    let read = policy_in(cache, compilation.lattice, files)?;
+    let text = bytes_in(cache, InputKind::Source, compilation.source, files)?;
+    Ok(page_of(cache.alloc, compilation, &read.0, &read.1, text.as_slice())?)
 }
 
 /// The graph of a text's flows, alone or beside that of its lattice.
@@ -107,61 +107,61 @@ fn graph_of(
 
 /// The graph of the flows of the source text, alone or beside that of the lattice.
 fn flows_graph<'a, F: Files>(
-    desk: &mut Desk,
+    cache: &mut InputCache,
     classes: &Lattice,
     source: &'a str,
     is_strict: bool,
     is_alone: bool,
     files: &mut F,
-) -> Result<Vec<u8>, Stop<'a>>
+) -> Result<Vec<u8>, Failure<'a>>
     ensures kept { F.holds files.new ≡ F.holds files.old }
     ensures told { IfOk result (λ graph. DrawsGraph (F.holds files.old)
         (Some source.entry) is_strict is_alone classes.now graph.items) }
-    ensures stopped { IfErr result
-        (StopsBy (RefusesProgramAt (F.holds files.old) classes.now source.now) NoOther) }
+    ensures failed { IfErr result
+        (FailsBy (RefusesProgramAt (F.holds files.old) classes.now source.now) NoOther) }
 {
-    let text = bytes_in(desk, Kind::Source, source, files)?;
-    match graph_of(desk.alloc, is_strict, is_alone, classes, text.as_slice()) {
+    let text = bytes_in(cache, InputKind::Source, source, files)?;
+    match graph_of(cache.alloc, is_strict, is_alone, classes, text.as_slice()) {
         Ok(graph) => Ok(graph),
-        Err(error) => Err(refused(desk.alloc, classes, text.as_slice(), error)),
+        Err(error) => Err(refused(cache.alloc, classes, text.as_slice(), error)),
     }
 }
 
 /// The graph of the lattice, or with a source text that of its flows, alone or beside the lattice.
 fn graph_for<'a, F: Files>(
-    desk: &mut Desk,
+    cache: &mut InputCache,
     classes: &Lattice,
     source: Option<&'a str>,
     is_strict: bool,
     is_alone: bool,
     files: &mut F,
-) -> Result<Vec<u8>, Stop<'a>>
+) -> Result<Vec<u8>, Failure<'a>>
     ensures kept { F.holds files.new ≡ F.holds files.old }
     ensures told { IfOk result (λ graph. DrawsGraph (F.holds files.old) source.entry is_strict
         is_alone classes.now graph.items) }
-    ensures stopped { IfErr result (StopsBy (λ reason. IsSomeAnd source.entry
+    ensures failed { IfErr result (FailsBy (λ reason. IsSomeAnd source.entry
         (λ path. RefusesProgramAt (F.holds files.old) classes.now path.now reason)) NoOther) }
 {
     match source {
-        Some(source) => flows_graph(desk, classes, source, is_strict, is_alone, files),
-        None => Ok(lattice_dot(desk.alloc, classes)?),
+        Some(source) => flows_graph(cache, classes, source, is_strict, is_alone, files),
+        None => Ok(lattice_dot(cache.alloc, classes)?),
     }
 }
 
 /// The graph that a drawing requests.
 pub(crate) fn draw<'a, F: Files>(
-    desk: &mut Desk,
+    cache: &mut InputCache,
     drawing: Drawing<'a>,
     files: &mut F,
-) -> Result<Vec<u8>, Stop<'a>>
+) -> Result<Vec<u8>, Failure<'a>>
     ensures kept { F.holds files.new ≡ F.holds files.old }
     ensures told { IfOk result (DrawsFiles (F.holds files.old) drawing.entry) }
-    ensures stopped { IfErr result (StopsBy
+    ensures failed { IfErr result (FailsBy
         (WhyDraw (F.holds files.old) drawing.entry.lattice.now drawing.entry.source) NoOther) }
 {
-    let classes = lattice_in(desk, drawing.lattice, files)?;
+    let classes = lattice_in(cache, drawing.lattice, files)?;
     let graph = graph_for(
-        desk,
+        cache,
         &classes,
         drawing.source,
         drawing.is_strict,

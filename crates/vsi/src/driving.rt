@@ -8,12 +8,12 @@ ghost use Rattle.vsi.specs.Performed.{PerformsDrive};
 ghost use Rattle.vsi.specs.Partly.{AnswersDrive, Leaves};
 ghost use Rattle.vsi.specs.Saved.{Advances, CutsInput, CutsLines, LeavesState};
 ghost use Rattle.vsi.specs.State.{Touches};
-ghost use Rattle.vsi.specs.Stops.{TellsFault, status_of};
+ghost use Rattle.vsi.specs.Failures.{TellsFault, status_of};
 ghost use Rattle.vsi_devices.specs.Counted.{device_of, faults_of};
 ghost use Rattle.vsi_drive.specs.Control.{control};
 ghost use Rattle.vsi_drive.specs.Cycles.{cycle};
 ghost use Rattle.vsi.specs.Holding.{IsStoreAt};
-ghost use Rattle.vsi.specs.Refusals.{NoOther, StopsBy};
+ghost use Rattle.vsi.specs.Refusals.{NoOther, FailsBy};
 ghost use Rattle.vsi.specs.Reasons.{LacksDrive, WhyDrive};
 ghost use Rattle.vsi_answers.specs.Answers.{Because};
 ghost use Rattle.vsi_answers.specs.Judged.{IsStoreFault};
@@ -22,12 +22,12 @@ ghost use Rattle.vsi_answers.specs.Judged as judged;
 use crate::admitting::admit;
 use crate::boundaries::{controller_of, names_in};
 use crate::budgets::budget_of;
-use crate::desk::Desk;
+use crate::cache::InputCache;
+use crate::failure::{Failure, STREAM, write};
 use crate::files::Files;
 use crate::ordering::policy_before_image;
 use crate::reading::{faulty, store_in};
 use crate::saving::{Drive, first_store, save, save_line};
-use crate::stop::{STREAM, Stop, write};
 use std::io::{Read, Write};
 use vsi_arguments::Driving;
 use vsi_devices::Counted;
@@ -44,16 +44,16 @@ const CHUNK: usize = 4096;
 /// after lines before their answers are written, and at the end. The note gets a line if the budget
 /// isn't enough and is taken all the same.
 pub(crate) fn drive<'a, F: Files, R: Read, W: Write>(
-    desk: &mut Desk,
+    cache: &mut InputCache,
     driving: Driving<'a>,
     files: &mut F,
     input: &mut Counted<R>,
     output: &mut Counted<W>,
     note: &mut Vec<u8>,
-) -> Result<(), Stop<'a>>
+) -> Result<(), Failure<'a>>
     requires input { faults_of input.old < u64.MAX }
     requires output { faults_of output.old < u64.MAX }
-    ensures unfilled { IfErr result (λ stop. status_of stop < 4
+    ensures unfilled { IfErr result (λ failure. status_of failure < 4
         → F.holds files.new ≡ F.holds files.old) }
     ensures input_fault { TellsFault (faults_of input.old) (faults_of input.new) result }
     ensures output_fault { TellsFault (faults_of output.old) (faults_of output.new) result }
@@ -66,27 +66,27 @@ pub(crate) fn drive<'a, F: Files, R: Read, W: Write>(
     ensures state { IfErr result (λ _. LeavesState (F.holds files.old) driving.entry
         (R.remaining (device_of input.old)) (F.holds files.new)
         (W.contents (device_of output.old)) (W.contents (device_of output.new))) }
-    ensures stopped { IfErr result (StopsBy (WhyDrive (F.holds files.old) driving.entry)
+    ensures failed { IfErr result (FailsBy (WhyDrive (F.holds files.old) driving.entry)
         (LacksDrive (F.holds files.old) driving.entry)) }
 {
     let (classes, driver, verified) = policy_before_image(
-        desk,
+        cache,
         driving.lattice,
         driving.class,
         driving.execution.image,
         files,
     )?;
     let mut words = first_store(
-        desk,
+        cache,
         &verified,
         driving.execution.store,
         driving.is_full,
         files,
     )?;
-    let budget = budget_of(desk.alloc, driving.execution.budget, &verified)?;
-    let names = names_in(desk.alloc, driving.lists)?;
+    let budget = budget_of(cache.alloc, driving.execution.budget, &verified)?;
+    let names = names_in(cache.alloc, driving.lists)?;
     let controller = controller_of(
-        desk,
+        cache,
         driving.lists,
         &names,
         &classes,
@@ -95,44 +95,50 @@ pub(crate) fn drive<'a, F: Files, R: Read, W: Write>(
         budget,
     )?;
     admit(
-        desk.alloc,
+        cache.alloc,
         driving.is_unbounded,
         &classes,
         &verified,
         budget,
         note,
     )?;
-    save(desk.alloc, &verified, words.as_slice(), driving.save, files)?;
+    save(
+        cache.alloc,
+        &verified,
+        words.as_slice(),
+        driving.save,
+        files,
+    )?;
     let drive = Drive {
-        alloc: desk.alloc,
+        alloc: cache.alloc,
         controller: &controller,
         verified: &verified,
         save: driving.save,
         most: driving.every.saturating_sub(1),
     };
     drive_input(&drive, &mut words, files, input, output)?;
-    save(desk.alloc, &verified, &words, driving.save, files)
+    save(cache.alloc, &verified, &words, driving.save, files)
 }
 
 /// The words that a store file gives to the globals of an image, or zeros without one.
 pub(crate) fn stored_words<'a, F: Files>(
-    desk: &mut Desk,
+    cache: &mut InputCache,
     verified: &Verified,
     path: Option<&'a str>,
     files: &mut F,
-) -> Result<Vec<i64>, Stop<'a>>
+) -> Result<Vec<i64>, Failure<'a>>
     ensures kept { F.holds files.new ≡ F.holds files.old }
     ensures len { IfOk result (λ words. length words.items ≡ length verified.now.globals.items) }
     ensures stored { IfOk result (λ words.
         IsStoredAt (F.holds files.old) path.entry verified.now words.items) }
-    ensures stopped { IfErr result (StopsBy (λ reason.
+    ensures failed { IfErr result (FailsBy (λ reason.
         (file : List ℕ) × IsStoreAt (F.holds files.old) path.entry file
         × Because (judged.TellsFault (IsStoreFault verified.now file)) ⊥ reason) NoOther) }
 {
-    let bytes = store_in(desk, path, files)?;
-    match read_store(desk.alloc, verified.image(), bytes.as_slice()) {
+    let bytes = store_in(cache, path, files)?;
+    match read_store(cache.alloc, verified.image(), bytes.as_slice()) {
         Ok(words) => Ok(words),
-        Err(error) => Err(faulty(desk.alloc, Fault::Store(error))),
+        Err(error) => Err(faulty(cache.alloc, Fault::Store(error))),
     }
 }
 
@@ -143,14 +149,14 @@ fn drive_input<'a, F: Files, R: Read, W: Write>(
     files: &mut F,
     input: &mut Counted<R>,
     output: &mut Counted<W>,
-) -> Result<(), Stop<'a>>
+) -> Result<(), Failure<'a>>
     requires words { length store.old ≡ length (control drive.now.controller.now).image.globals.items }
     requires input { faults_of input.old < u64.MAX }
     requires output { faults_of output.old < u64.MAX }
     requires same { drive.now.verified.now ≡ (control drive.now.controller.now).image }
     ensures input_fault { TellsFault (faults_of input.old) (faults_of input.new) result }
     ensures output_fault { TellsFault (faults_of output.old) (faults_of output.new) result }
-    ensures stop { IfErr result (λ stop. 3 < status_of stop) }
+    ensures failure { IfErr result (λ failure. 3 < status_of failure) }
     ensures driven { OnOk result (DrivesInput (control drive.now.controller.now) store.old store.new
         (R.remaining (device_of input.old)) (W.contents (device_of output.old))
         (W.contents (device_of output.new))) }
@@ -164,7 +170,7 @@ fn drive_input<'a, F: Files, R: Read, W: Write>(
     let mut unsaved = 0;
     for _call in 0..u64::MAX {
         let Ok(count) = input.read(&mut chunk) else {
-            return Err(Stop::FileFault(STREAM));
+            return Err(Failure::FileFault(STREAM));
         };
         if count == 0 {
             return drive_rest(drive, &line, store, &mut unsaved, files, output);
@@ -172,7 +178,7 @@ fn drive_input<'a, F: Files, R: Read, W: Write>(
         let bytes = &chunk[..count];
         drive_bytes(drive, bytes, &mut line, store, &mut unsaved, files, output)?;
     }
-    Err(Stop::FileFault(STREAM))
+    Err(Failure::FileFault(STREAM))
 }
 
 /// Does a cycle for the bytes after the last line feed, if there are any.
@@ -183,13 +189,13 @@ fn drive_rest<'a, F: Files, W: Write>(
     unsaved: &mut u64,
     files: &mut F,
     output: &mut Counted<W>,
-) -> Result<(), Stop<'a>>
+) -> Result<(), Failure<'a>>
     requires words { length store.old ≡ length (control drive.now.controller.now).image.globals.items }
     requires output { faults_of output.old < u64.MAX }
     requires same { drive.now.verified.now ≡ (control drive.now.controller.now).image }
     requires few { unsaved.old ≤ drive.now.most }
     ensures fault { TellsFault (faults_of output.old) (faults_of output.new) result }
-    ensures stop { IfErr result (λ stop. 3 < status_of stop) }
+    ensures failure { IfErr result (λ failure. 3 < status_of failure) }
     ensures driven { OnOk result (Drives (control drive.now.controller.now) store.old store.new
         (last_line line.now) (W.contents (device_of output.old))
         (W.contents (device_of output.new))) }
@@ -214,13 +220,13 @@ fn drive_bytes<'a, F: Files, W: Write>(
     unsaved: &mut u64,
     files: &mut F,
     output: &mut Counted<W>,
-) -> Result<(), Stop<'a>>
+) -> Result<(), Failure<'a>>
     requires words { length store.old ≡ length (control drive.now.controller.now).image.globals.items }
     requires output { faults_of output.old < u64.MAX }
     requires same { drive.now.verified.now ≡ (control drive.now.controller.now).image }
     requires few { unsaved.old ≤ drive.now.most }
     ensures fault { TellsFault (faults_of output.old) (faults_of output.new) result }
-    ensures stop { IfErr result (λ stop. 3 < status_of stop) }
+    ensures failure { IfErr result (λ failure. 3 < status_of failure) }
     ensures line { OnOk result (line.new.items ≡ begun line.old.items bytes.now) }
     ensures driven { OnOk result (Drives (control drive.now.controller.now) store.old store.new
         (whole_lines line.old.items bytes.now) (W.contents (device_of output.old))
@@ -254,13 +260,13 @@ fn drive_line<'a, F: Files, W: Write>(
     unsaved: &mut u64,
     files: &mut F,
     output: &mut Counted<W>,
-) -> Result<(), Stop<'a>>
+) -> Result<(), Failure<'a>>
     requires words { length store.old ≡ length (control drive.now.controller.now).image.globals.items }
     requires output { faults_of output.old < u64.MAX }
     requires same { drive.now.verified.now ≡ (control drive.now.controller.now).image }
     requires few { unsaved.old ≤ drive.now.most }
     ensures fault { TellsFault (faults_of output.old) (faults_of output.new) result }
-    ensures stop { IfErr result (λ stop. 3 < status_of stop) }
+    ensures failure { IfErr result (λ failure. 3 < status_of failure) }
     ensures few { unsaved.new ≤ drive.now.most }
     ensures touched { Touches drive.now.save (F.holds files.old) (F.holds files.new) }
     ensures saved { OnOk result (Advances drive.now.save drive.now.verified.now
@@ -280,6 +286,6 @@ fn drive_line<'a, F: Files, W: Write>(
             save_line(drive, store, unsaved, files)?;
             write(text.as_slice(), output)
         }
-        Err(_) => Err(Stop::Memory),
+        Err(_) => Err(Failure::Memory),
     }
 }

@@ -3,16 +3,16 @@
 ghost use Rattle.std.specs.Prelude.{◌≡◌, ◌≤◌, true, IfErr, IfOk, length};
 ghost use Rattle.vsi.specs.Naming as naming;
 ghost use Rattle.vsi.specs.Performed.{EmitsFile, IsBuiltAt, IsEmittedFrom, IsRequestedC, IsWrittenInC};
-ghost use Rattle.vsi.specs.Refusals.{AsksImage, IsUnbounded, NoOther, RefusesFiles, StopsBy};
+ghost use Rattle.vsi.specs.Refusals.{AsksImage, IsUnbounded, NoOther, RefusesFiles, FailsBy};
 ghost use Rattle.vsi.specs.Reasons.{LacksEmitBound, WhyEmit};
-ghost use Rattle.vsi.specs.declared.stop.Stop.TheVariants as stops;
+ghost use Rattle.vsi.specs.declared.failure.Failure.TheVariants as fails;
 
 use crate::bounded::bounded_in_c;
 use crate::bounding::bounded;
-use crate::desk::Desk;
+use crate::cache::InputCache;
+use crate::failure::Failure;
 use crate::files::Files;
 use crate::reading::image_in;
-use crate::stop::Stop;
 use crate::subcommands::built;
 use std::alloc::Global;
 use vsi_answers::judged_image;
@@ -88,34 +88,34 @@ fn function_name<'a>(name: Option<&'a str>, path: &'a str) -> &'a [u8]
 
 /// The image of the files of a compilation, read from its bytes as if they were in a file.
 fn built_image<'a, F: Files>(
-    desk: &mut Desk,
+    cache: &mut InputCache,
     compilation: Compilation<'a>,
     files: &mut F,
-) -> Result<Verified, Stop<'a>>
+) -> Result<Verified, Failure<'a>>
     ensures kept { F.holds files.new ≡ F.holds files.old }
     ensures told { IfOk result (IsBuiltAt (F.holds files.old) compilation.entry) }
-    ensures stopped { IfErr result (StopsBy (RefusesFiles (F.holds files.old) compilation.entry
+    ensures failed { IfErr result (FailsBy (RefusesFiles (F.holds files.old) compilation.entry
         (AsksImage compilation.entry.is_strict)) NoOther) }
 {
-    let bytes = built(desk, compilation, files)?;
-    match judged_image(desk.alloc, bytes.as_slice()) {
+    let bytes = built(cache, compilation, files)?;
+    match judged_image(cache.alloc, bytes.as_slice()) {
         Ok(verified) => Ok(verified),
         // The bytes just built are an image's, so only memory can run out.
-        Err(_) => Err(Stop::Memory),
+        Err(_) => Err(Failure::Memory),
     }
 }
 
 /// The image of the file, or with a lattice that of the source text.
 fn emitted_image<'a, F: Files>(
-    desk: &mut Desk,
+    cache: &mut InputCache,
     lattice: Option<&'a str>,
     file: &'a str,
     files: &mut F,
-) -> Result<Verified, Stop<'a>>
+) -> Result<Verified, Failure<'a>>
     ensures kept { F.holds files.new ≡ F.holds files.old }
     ensures told { IfOk result (IsEmittedFrom (F.holds files.old) lattice.entry file.entry) }
-    ensures stopped { IfErr result
-        (StopsBy (WhyEmit (F.holds files.old) lattice.entry file.entry) NoOther) }
+    ensures failed { IfErr result
+        (FailsBy (WhyEmit (F.holds files.old) lattice.entry file.entry) NoOther) }
 {
     match lattice {
         Some(lattice) => {
@@ -124,9 +124,9 @@ fn emitted_image<'a, F: Files>(
                 source: file,
                 is_strict: false,
             };
-            built_image(desk, compilation, files)
+            built_image(cache, compilation, files)
         }
-        None => image_in(desk, file, files),
+        None => image_in(cache, file, files),
     }
 }
 
@@ -136,10 +136,10 @@ fn written_in_c<'a>(
     verified: &Verified,
     name: &[u8],
     is_header: bool,
-) -> Result<Vec<u8>, Stop<'a>>
+) -> Result<Vec<u8>, Failure<'a>>
     ensures told { IfOk result
         (λ text. IsWrittenInC is_header verified.now name.now text.items) }
-    ensures memory { IfErr result (λ stop. stop ≡ stops.Memory) }
+    ensures memory { IfErr result (λ failure. failure ≡ fails.Memory) }
 {
     let answer = if is_header {
         emit_header(alloc, verified, name)
@@ -149,7 +149,7 @@ fn written_in_c<'a>(
     match answer {
         Ok(text) => Ok(text),
         // Functions may have this name.
-        Err(_) => Err(Stop::Memory),
+        Err(_) => Err(Failure::Memory),
     }
 }
 
@@ -160,11 +160,11 @@ fn in_c<'a>(
     name: &[u8],
     is_header: bool,
     is_bounded: bool,
-) -> Result<Vec<u8>, Stop<'a>>
+) -> Result<Vec<u8>, Failure<'a>>
     ensures told { IfOk result
         (λ text. IsRequestedC is_bounded is_header verified.now name.now text.items) }
-    ensures stopped { IfErr result
-        (StopsBy (λ reason. ⊥) (λ stop. (is_bounded ≡ true) × IsUnbounded verified.now stop)) }
+    ensures failed { IfErr result
+        (FailsBy (λ reason. ⊥) (λ failure. (is_bounded ≡ true) × IsUnbounded verified.now failure)) }
 {
     if is_bounded {
         return bounded_in_c(alloc, verified, name, is_header);
@@ -174,20 +174,20 @@ fn in_c<'a>(
 
 /// The C of the requested image, or its header, once its bound has been looked for.
 fn emitted<'a, F: Files>(
-    desk: &mut Desk,
+    cache: &mut InputCache,
     asked: Emission<'a>,
     files: &mut F,
-) -> Result<Vec<u8>, Stop<'a>>
+) -> Result<Vec<u8>, Failure<'a>>
     ensures kept { F.holds files.new ≡ F.holds files.old }
     ensures told { IfOk result (EmitsFile (F.holds files.old) asked.entry) }
-    ensures stopped { IfErr result (StopsBy
+    ensures failed { IfErr result (FailsBy
         (WhyEmit (F.holds files.old) asked.entry.lattice asked.entry.file)
         (LacksEmitBound (F.holds files.old) asked.entry)) }
 {
-    let verified = emitted_image(desk, asked.lattice, asked.file, files)?;
+    let verified = emitted_image(cache, asked.lattice, asked.file, files)?;
     let name = function_name(asked.name, asked.file);
     in_c(
-        desk.alloc,
+        cache.alloc,
         &verified,
         name,
         asked.is_header,
@@ -198,12 +198,12 @@ fn emitted<'a, F: Files>(
 /// Stops with the line of `bound` if a function without a budget is requested and no bound was
 /// found for the image.
 fn check_bound<'a, F: Files>(
-    desk: &mut Desk,
+    cache: &mut InputCache,
     asked: Emission<'a>,
     files: &mut F,
-) -> Result<(), Stop<'a>>
+) -> Result<(), Failure<'a>>
     ensures kept { F.holds files.new ≡ F.holds files.old }
-    ensures stopped { IfErr result (StopsBy
+    ensures failed { IfErr result (FailsBy
         (WhyEmit (F.holds files.old) asked.entry.lattice asked.entry.file)
         (LacksEmitBound (F.holds files.old) asked.entry)) }
 {
@@ -214,26 +214,26 @@ fn check_bound<'a, F: Files>(
         lattice: asked.lattice,
         file: asked.file,
     };
-    let found = bounded(desk, sought, files)?;
+    let found = bounded(cache, sought, files)?;
     if found.is_bounded {
         Ok(())
     } else {
-        Err(Stop::Refused(found.text, None))
+        Err(Failure::Refused(found.text, None))
     }
 }
 
 /// The C of the requested image, or its header.
 pub(crate) fn emit<'a, F: Files>(
-    desk: &mut Desk,
+    cache: &mut InputCache,
     asked: Emission<'a>,
     files: &mut F,
-) -> Result<Vec<u8>, Stop<'a>>
+) -> Result<Vec<u8>, Failure<'a>>
     ensures kept { F.holds files.new ≡ F.holds files.old }
     ensures told { IfOk result (EmitsFile (F.holds files.old) asked.entry) }
-    ensures stopped { IfErr result (StopsBy
+    ensures failed { IfErr result (FailsBy
         (WhyEmit (F.holds files.old) asked.entry.lattice asked.entry.file)
         (LacksEmitBound (F.holds files.old) asked.entry)) }
 {
-    check_bound(desk, asked, files)?;
-    emitted(desk, asked, files)
+    check_bound(cache, asked, files)?;
+    emitted(cache, asked, files)
 }

@@ -2,12 +2,12 @@
 
 ghost use Rattle.std.specs.Prelude.{◌≡◌};
 
-use crate::desk::{Desk, Kept, Kind};
-use crate::diagnosing::stop_diagnostic;
+use crate::cache::{InputCache, InputKind, Kept};
+use crate::diagnosing::failure_diagnostic;
+use crate::failure::{Failure, STREAM};
 use crate::files::Files;
 use crate::raising::put_least_raise;
 use crate::reading::TWO_CLASSES;
-use crate::stop::{STREAM, Stop};
 use crate::subcommands::profile;
 use std::alloc::{AllocError, Global};
 use vsi_advice::advice;
@@ -97,82 +97,82 @@ fn is_strict(request: &Request<'_>) -> bool {
     }
 }
 
-/// The explanation of a stop, with the page that says more about a refusal that has a number.
+/// The explanation of a failure, with the page that says more about a refusal that has a number.
 pub(crate) fn explained<F: Files>(
-    desk: &Desk,
+    cache: &InputCache,
     explaining: Explaining,
     files: &mut F,
-    stop: &Stop<'_>,
+    failure: &Failure<'_>,
 ) -> Result<Vec<u8>, AllocError>
     ensures { F.holds files.new ≡ F.holds files.old }
 {
-    let mut lines = explaining.of_stop(desk, files, stop)?;
-    if let Some(diagnostic) = stop_diagnostic(source_of(desk), stop) {
+    let mut lines = explaining.of_failure(cache, files, failure)?;
+    if let Some(diagnostic) = failure_diagnostic(source_of(cache), failure) {
         push_page(&mut lines, &diagnostic)?;
     }
     Ok(lines)
 }
 
 /// The source text that was read, or an empty one if none was.
-fn source_of(desk: &Desk) -> &[u8] {
-    match desk.last(Kind::Source) {
+fn source_of(cache: &InputCache) -> &[u8] {
+    match cache.last(InputKind::Source) {
         Some(kept) => kept.bytes.as_slice(),
         None => b"",
     }
 }
 
 impl Explaining {
-    /// The explanation of a stop.
-    fn of_stop<F: Files>(
+    /// The explanation of a failure.
+    fn of_failure<F: Files>(
         self,
-        desk: &Desk,
+        cache: &InputCache,
         files: &mut F,
-        stop: &Stop<'_>,
+        failure: &Failure<'_>,
     ) -> Result<Vec<u8>, AllocError>
         ensures { F.holds files.new ≡ F.holds files.old }
     {
-        match stop {
-            Stop::Refused(_, Some(cause)) => self.of_cause(desk, cause),
-            Stop::Interface(_, error) => self.of_interface(desk, error),
-            Stop::Audit(_, error) => self.of_audit(desk, error),
-            Stop::Unsteady(text, error) => self.of_unsteady(desk, text, error),
-            Stop::FileFault(path) => of_fault(desk, files, path),
-            Stop::LostFile(path) => of_fault(desk, files, path.as_str()),
-            Stop::OutOfBudget => Vec::from_slice(desk.alloc, SPENT),
-            Stop::NoClass(_) => of_class(desk),
-            Stop::Refused(_, None) | Stop::Differs | Stop::Usage(_) | Stop::Memory => {
-                Ok(Vec::new(desk.alloc))
+        match failure {
+            Failure::Refused(_, Some(cause)) => self.of_cause(cache, cause),
+            Failure::Interface(_, error) => self.of_interface(cache, error),
+            Failure::Audit(_, error) => self.of_audit(cache, error),
+            Failure::Unsteady(text, error) => self.of_unsteady(cache, text, error),
+            Failure::FileFault(path) => of_fault(cache, files, path),
+            Failure::LostFile(path) => of_fault(cache, files, path.as_str()),
+            Failure::OutOfBudget => Vec::from_slice(cache.alloc, SPENT),
+            Failure::NoClass(_) => of_class(cache),
+            Failure::Refused(_, None) | Failure::Differs | Failure::Usage(_) | Failure::Memory => {
+                Ok(Vec::new(cache.alloc))
             }
         }
     }
 
     /// The explanation of a refusal with this cause.
-    fn of_cause(self, desk: &Desk, cause: &Cause) -> Result<Vec<u8>, AllocError> {
+    fn of_cause(self, cache: &InputCache, cause: &Cause) -> Result<Vec<u8>, AllocError> {
         match cause {
-            Cause::Source(error) => self.of_source(desk, error),
+            Cause::Source(error) => self.of_source(cache, error),
             Cause::Steady(
                 UnsteadyError::Compile(CompileError::Flow(_)) | UnsteadyError::Image(_),
-            ) => { Vec::from_slice(desk.alloc, UNSTEADY) }
-            Cause::Steady(UnsteadyError::Compile(error)) => self.of_source(desk, error),
-            Cause::File(Fault::Store(error)) => self.of_store(desk, error),
-            Cause::File(fault) => self.of_file(desk, fault),
-            Cause::Start(fault) => self.of_start(desk, *fault),
-            Cause::Raised(_) => Vec::from_slice(desk.alloc, TOO_LONG),
-            Cause::Steady(UnsteadyError::Memory) => Ok(Vec::new(desk.alloc)),
+            ) => { Vec::from_slice(cache.alloc, UNSTEADY) }
+            Cause::Steady(UnsteadyError::Compile(error)) => self.of_source(cache, error),
+            Cause::File(Fault::Store(error)) => self.of_store(cache, error),
+            Cause::File(fault) => self.of_file(cache, fault),
+            Cause::Start(fault) => self.of_start(cache, *fault),
+            Cause::Raised(_) => Vec::from_slice(cache.alloc, TOO_LONG),
+            Cause::Steady(UnsteadyError::Memory) => Ok(Vec::new(cache.alloc)),
         }
     }
 
     /// The explanation of a refused source text.
-    fn of_source(self, desk: &Desk, error: &CompileError) -> Result<Vec<u8>, AllocError> {
-        let Some(kept) = desk.last(Kind::Source) else {
-            return Ok(Vec::new(desk.alloc));
+    fn of_source(self, cache: &InputCache, error: &CompileError) -> Result<Vec<u8>, AllocError> {
+        let Some(kept) = cache.last(InputKind::Source) else {
+            return Ok(Vec::new(cache.alloc));
         };
-        let Some(lattice) = policy(desk) else {
+        let Some(lattice) = policy(cache) else {
             return Err(AllocError);
         };
         if let CompileError::Flow(_) = error {
             let path = str::from_utf8(&kept.path).unwrap_or("");
-            return flow_lines(desk.alloc, self.profile, &lattice, path, &kept.bytes);
+            return flow_lines(cache.alloc, self.profile, &lattice, path, &kept.bytes);
         }
         let refused = Refused::Source {
             path: &kept.path,
@@ -180,15 +180,15 @@ impl Explaining {
             lattice: &lattice,
             error,
         };
-        explanation(desk.alloc, self.manner, &refused)
+        explanation(cache.alloc, self.manner, &refused)
     }
 
     /// The explanation of a refused store file.
-    fn of_store(self, desk: &Desk, error: &StoreError) -> Result<Vec<u8>, AllocError> {
-        let Some(kept) = desk.last(Kind::Store) else {
-            return Ok(Vec::new(desk.alloc));
+    fn of_store(self, cache: &InputCache, error: &StoreError) -> Result<Vec<u8>, AllocError> {
+        let Some(kept) = cache.last(InputKind::Store) else {
+            return Ok(Vec::new(cache.alloc));
         };
-        let Some(image) = read_image(desk) else {
+        let Some(image) = read_image(cache) else {
             return Err(AllocError);
         };
         let refused = Refused::Store {
@@ -197,39 +197,43 @@ impl Explaining {
             image: &image,
             error,
         };
-        explanation(desk.alloc, self.manner, &refused)
+        explanation(cache.alloc, self.manner, &refused)
     }
 
     /// The explanation of a refused lattice file or image.
-    fn of_file(self, desk: &Desk, fault: &Fault) -> Result<Vec<u8>, AllocError> {
+    fn of_file(self, cache: &InputCache, fault: &Fault) -> Result<Vec<u8>, AllocError> {
         let kind = match fault {
-            Fault::Lattice(_) => Kind::Lattice,
-            Fault::Store(_) => Kind::Store,
-            Fault::Decode(_) | Fault::Verify(_) | Fault::View(_) => Kind::Image,
+            Fault::Lattice(_) => InputKind::Lattice,
+            Fault::Store(_) => InputKind::Store,
+            Fault::Decode(_) | Fault::Verify(_) | Fault::View(_) => InputKind::Image,
         };
-        let Some(kept) = of_kind(desk, kind) else {
-            return Ok(Vec::new(desk.alloc));
+        let Some(kept) = of_kind(cache, kind) else {
+            return Ok(Vec::new(cache.alloc));
         };
         let refused = Refused::File {
             path: &kept.path,
             bytes: &kept.bytes,
             fault,
         };
-        explanation(desk.alloc, self.manner, &refused)
+        explanation(cache.alloc, self.manner, &refused)
     }
 
     /// The explanation of a refused interface.
-    fn of_interface(self, desk: &Desk, error: &InterfaceError) -> Result<Vec<u8>, AllocError> {
-        let Some(kept) = desk.last(Kind::Interface) else {
-            return Ok(Vec::new(desk.alloc));
+    fn of_interface(
+        self,
+        cache: &InputCache,
+        error: &InterfaceError,
+    ) -> Result<Vec<u8>, AllocError> {
+        let Some(kept) = cache.last(InputKind::Interface) else {
+            return Ok(Vec::new(cache.alloc));
         };
-        if desk.last(Kind::Lattice).is_none() {
-            return self.interface_advice(desk.alloc, kept, None, error);
+        if cache.last(InputKind::Lattice).is_none() {
+            return self.interface_advice(cache.alloc, kept, None, error);
         }
-        let Some(lattice) = read_policy(desk) else {
+        let Some(lattice) = read_policy(cache) else {
             return Err(AllocError);
         };
-        self.interface_advice(desk.alloc, kept, Some(&lattice), error)
+        self.interface_advice(cache.alloc, kept, Some(&lattice), error)
     }
 
     /// The explanation of this refused interface, with its lattice if that was read.
@@ -249,11 +253,11 @@ impl Explaining {
     }
 
     /// The explanation of a run that doesn't begin.
-    fn of_start(self, desk: &Desk, fault: StartFault) -> Result<Vec<u8>, AllocError> {
-        let Some(kept) = faulty_start(desk, fault) else {
-            return Ok(Vec::new(desk.alloc));
+    fn of_start(self, cache: &InputCache, fault: StartFault) -> Result<Vec<u8>, AllocError> {
+        let Some(kept) = faulty_start(cache, fault) else {
+            return Ok(Vec::new(cache.alloc));
         };
-        let Some(image) = read_image(desk) else {
+        let Some(image) = read_image(cache) else {
             return Err(AllocError);
         };
         let refused = vsi_advice::Refused::Start {
@@ -261,15 +265,15 @@ impl Explaining {
             image: &image,
             fault,
         };
-        advice(desk.alloc, self.manner, &kept.path, refused)
+        advice(cache.alloc, self.manner, &kept.path, refused)
     }
 
     /// The explanation of an image whose commands are refused.
-    fn of_audit(self, desk: &Desk, error: &AuditError) -> Result<Vec<u8>, AllocError> {
+    fn of_audit(self, cache: &InputCache, error: &AuditError) -> Result<Vec<u8>, AllocError> {
         let (Some(kept), Some(image), Some(lattice)) = (
-            desk.last(Kind::Image),
-            read_image(desk),
-            policy(desk),
+            cache.last(InputKind::Image),
+            read_image(cache),
+            policy(cache),
         ) else {
             return Err(AllocError);
         };
@@ -278,20 +282,20 @@ impl Explaining {
             image: &image,
             error,
         };
-        advice(desk.alloc, self.manner, &kept.path, refused)
+        advice(cache.alloc, self.manner, &kept.path, refused)
     }
 
     /// The explanation of a refused image that isn't steady.
     fn of_unsteady(
         self,
-        desk: &Desk,
+        cache: &InputCache,
         refusal: &[u8],
         error: &SteadyError,
     ) -> Result<Vec<u8>, AllocError> {
         let (Some(kept), Some(image), Some(lattice)) = (
-            desk.last(Kind::Image),
-            read_image(desk),
-            policy(desk),
+            cache.last(InputKind::Image),
+            read_image(cache),
+            policy(cache),
         ) else {
             return Err(AllocError);
         };
@@ -301,7 +305,7 @@ impl Explaining {
             refusal,
             error,
         };
-        advice(desk.alloc, self.manner, &kept.path, refused)
+        advice(cache.alloc, self.manner, &kept.path, refused)
     }
 }
 
@@ -328,15 +332,15 @@ fn push_page(lines: &mut Vec<u8>, diagnostic: &Diagnostic) -> Result<(), AllocEr
 }
 
 /// The reason why a file can't be used.
-fn of_fault<F: Files>(desk: &Desk, files: &mut F, path: &str) -> Result<Vec<u8>, AllocError>
+fn of_fault<F: Files>(cache: &InputCache, files: &mut F, path: &str) -> Result<Vec<u8>, AllocError>
     ensures { F.holds files.new ≡ F.holds files.old }
 {
-    let mut lines = Vec::new(desk.alloc);
+    let mut lines = Vec::new(cache.alloc);
     if path == STREAM {
         lines.extend_from_slice(b"A standard stream can't be read or written.\n")?;
         return Ok(lines);
     }
-    let found = match objection_to(desk, files) {
+    let found = match objection_to(cache, files) {
         Some(sentence) => Some(sentence),
         None => files.trouble(path),
     };
@@ -360,26 +364,26 @@ fn put_sentence(lines: &mut Vec<u8>, path: &str, sentence: &str) -> Result<(), A
 
 /// Why a file isn't used, where each user has to know: its checksum is wrong, or it would be replaced
 /// and is of another kind.
-fn objection_to<F: Files>(desk: &Desk, files: &mut F) -> Option<&'static str>
+fn objection_to<F: Files>(cache: &InputCache, files: &mut F) -> Option<&'static str>
     ensures { F.holds files.new ≡ F.holds files.old }
 {
-    if desk.is_broken {
+    if cache.is_broken {
         return Some(BROKEN);
     }
     files.objection()
 }
 
-/// The line about such a file, if it is the reason for the stop.
+/// The line about such a file, if it is the reason for the failure.
 pub(crate) fn objection<F: Files>(
-    desk: &Desk,
+    cache: &InputCache,
     files: &mut F,
-    stop: &Stop<'_>,
+    failure: &Failure<'_>,
 ) -> Result<Vec<u8>, AllocError>
     ensures { F.holds files.new ≡ F.holds files.old }
 {
-    let mut line = Vec::new(desk.alloc);
-    if let Stop::FileFault(path) = stop
-        && let Some(sentence) = objection_to(desk, files)
+    let mut line = Vec::new(cache.alloc);
+    if let Failure::FileFault(path) = failure
+        && let Some(sentence) = objection_to(cache, files)
     {
         put_sentence(&mut line, path, sentence)?;
     }
@@ -387,44 +391,48 @@ pub(crate) fn objection<F: Files>(
 }
 
 /// The lattice that was read, or `L` below `H` if none was.
-fn policy(desk: &Desk) -> Option<Lattice> {
-    let text = match desk.last(Kind::Lattice) {
+fn policy(cache: &InputCache) -> Option<Lattice> {
+    let text = match cache.last(InputKind::Lattice) {
         Some(kept) => kept.bytes.as_slice(),
         None => TWO_CLASSES,
     };
-    read_lattice(desk.alloc, text).ok()
+    read_lattice(cache.alloc, text).ok()
 }
 
 /// The explanation of a class name that the lattice lacks.
-fn of_class(desk: &Desk) -> Result<Vec<u8>, AllocError> {
-    match policy(desk) {
-        Some(lattice) => class_list(desk.alloc, &lattice),
+fn of_class(cache: &InputCache) -> Result<Vec<u8>, AllocError> {
+    match policy(cache) {
+        Some(lattice) => class_list(cache.alloc, &lattice),
         None => Err(AllocError),
     }
 }
 
 /// The image that was read.
-fn read_image(desk: &Desk) -> Option<Image> {
-    decode(desk.alloc, desk.last(Kind::Image)?.bytes.as_slice()).ok()
+fn read_image(cache: &InputCache) -> Option<Image> {
+    decode(cache.alloc, cache.last(InputKind::Image)?.bytes.as_slice()).ok()
 }
 
 /// The last file of a kind; an interface that has its own classes counts as a lattice file.
-fn of_kind<'d>(desk: &'d Desk, kind: Kind) -> Option<&'d Kept> {
-    match desk.last(kind) {
+fn of_kind<'d>(cache: &'d InputCache, kind: InputKind) -> Option<&'d Kept> {
+    match cache.last(kind) {
         Some(kept) => Some(kept),
-        None if kind == Kind::Lattice => desk.last(Kind::Interface),
+        None if kind == InputKind::Lattice => cache.last(InputKind::Interface),
         None => None,
     }
 }
 
 /// The lattice of a file that was read.
-fn read_policy(desk: &Desk) -> Option<Lattice> {
-    read_lattice(desk.alloc, desk.last(Kind::Lattice)?.bytes.as_slice()).ok()
+fn read_policy(cache: &InputCache) -> Option<Lattice> {
+    read_lattice(
+        cache.alloc,
+        cache.last(InputKind::Lattice)?.bytes.as_slice(),
+    )
+    .ok()
 }
 
 /// The text that keeps a run from beginning: a setting, a list of names, the store file, or else the
 /// image.
-fn faulty_start<'d>(desk: &'d Desk, fault: StartFault) -> Option<&'d Kept> {
+fn faulty_start<'d>(cache: &'d InputCache, fault: StartFault) -> Option<&'d Kept> {
     match fault {
         StartFault::Setting(
             LineFault::BadSetting(number)
@@ -432,12 +440,12 @@ fn faulty_start<'d>(desk: &'d Desk, fault: StartFault) -> Option<&'d Kept> {
             | LineFault::AboveClass(number)
             | LineFault::NotAnInput(number)
             | LineFault::NotANumber(number),
-        ) => desk.behind(Kind::Setting, number),
+        ) => cache.behind(InputKind::Setting, number),
         StartFault::Setting(LineFault::TooLong) => None,
-        StartFault::Boundary(_) => desk.last(Kind::Names),
-        StartFault::Unnamed(_) => match desk.last(Kind::Store) {
+        StartFault::Boundary(_) => cache.last(InputKind::Names),
+        StartFault::Unnamed(_) => match cache.last(InputKind::Store) {
             Some(kept) => Some(kept),
-            None => desk.last(Kind::Image),
+            None => cache.last(InputKind::Image),
         },
     }
 }

@@ -5,24 +5,28 @@ ghost use Rattle.std.specs.Io.KnownBytes.{Appends};
 ghost use Rattle.vsi.specs.Holding.{Delivers, Fills, Replaces};
 ghost use Rattle.vsi.specs.Partly.{WritesPart};
 ghost use Rattle.vsi.specs.Files.{shown};
-ghost use Rattle.vsi.specs.Stops.{TellsFault, status_of};
+ghost use Rattle.vsi.specs.Failures.{TellsFault, status_of};
 ghost use Rattle.vsi_devices.specs.Counted.{device_of, faults_of};
 
+use crate::failure::{Failure, write};
 use crate::files::Files;
-use crate::stop::{Stop, write};
 use std::alloc::Global;
 use std::io::Write;
 use vsi_devices::Counted;
 
 /// Makes or empties a file, and fills it with these bytes.
-pub(crate) fn fill<'a, F: Files>(bytes: &[u8], path: &'a str, files: &mut F) -> Result<(), Stop<'a>>
-    ensures stop { IfErr result (λ stop. 3 < status_of stop) }
+pub(crate) fn fill<'a, F: Files>(
+    bytes: &[u8],
+    path: &'a str,
+    files: &mut F,
+) -> Result<(), Failure<'a>>
+    ensures failure { IfErr result (λ failure. 3 < status_of failure) }
     ensures filled { OnOk result
         (Fills path.now bytes.now (F.holds files.old) (F.holds files.new)) }
 {
     match files.fill_file(path, bytes) {
         Some(()) => Ok(()),
-        None => Err(Stop::FileFault(path)),
+        None => Err(Failure::FileFault(path)),
     }
 }
 
@@ -32,8 +36,8 @@ pub(crate) fn replace<'a, F: Files>(
     text: &[u8],
     path: &'a str,
     files: &mut F,
-) -> Result<(), Stop<'a>>
-    ensures stop { IfErr result (λ stop. 3 < status_of stop) }
+) -> Result<(), Failure<'a>>
+    ensures failure { IfErr result (λ failure. 3 < status_of failure) }
     ensures replaced { OnOk result
         (Replaces path.now text.now (F.holds files.old) (F.holds files.new)) }
     ensures stays { IfErr result (λ _. F.holds files.new path.now ≡ F.holds files.old path.now) }
@@ -43,7 +47,7 @@ pub(crate) fn replace<'a, F: Files>(
     let fresh = format!(in alloc; "{path}.new")?;
     match files.replace_file(path, fresh.as_str(), text) {
         Some(()) => Ok(()),
-        None => Err(Stop::FileFault(path)),
+        None => Err(Failure::FileFault(path)),
     }
 }
 
@@ -54,10 +58,10 @@ pub(crate) fn deliver<'a, F: Files, W: Write>(
     out: Option<&'a str>,
     files: &mut F,
     output: &mut Counted<W>,
-) -> Result<(), Stop<'a>>
+) -> Result<(), Failure<'a>>
     requires { faults_of output.old < u64.MAX }
     ensures fault { TellsFault (faults_of output.old) (faults_of output.new) result }
-    ensures stop { IfErr result (λ stop. 3 < status_of stop) }
+    ensures failure { IfErr result (λ failure. 3 < status_of failure) }
     ensures whole { OnOk result (Appends (W.contents (device_of output.old))
         (W.contents (device_of output.new)) (shown out.entry text.now)) }
     ensures part { WritesPart (shown out.entry text.now)

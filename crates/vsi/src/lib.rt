@@ -4,12 +4,12 @@
 //! text; `run_source` runs it. `audit_in` judges an image, whoever made it, and `source_text`
 //! writes it as a text. `read_lattice` gives the lattice that they need. `read_all`, `write_out`
 //! and `Counted` move texts through devices, and `refusal_text` and `fault_text` say why a text or
-//! a file is refused. `command` obeys the arguments of a command line. The types inside errors,
+//! a file is refused. `command` carries out the arguments of a command line. The types inside errors,
 //! such as `LexError` or a `Walk` of `Step`s, are exported here too.
 //!
 //! To be believed: of `specs/` `Words`, `Holding`, `Loading`, `Driven`, `State`, `Tried`, `Shaping`,
 //! `Seeing`, `Laying`, `Raises`, `Documents`, `Admitted`, `Served`, `Files`, `Performed`, `Refusals`,
-//! `Reasons`, `Partly`, `Done`, `Screen`, `Input` and `Laws`, of `Stops` all but `StopsFor`, of `Noted`
+//! `Reasons`, `Partly`, `Done`, `Screen`, `Input` and `Laws`, of `Failures` all but `FailsFor`, of `Noted`
 //! all but `Notes`, and of `Saved` its second part; its first part and `Diagnosing` are stepping stones
 //! of proofs.
 #![tactic(auto)]
@@ -20,23 +20,24 @@ mod boundaries;
 mod bounded;
 mod bounding;
 mod budgets;
+mod cache;
+mod carrying_out;
 mod command_line;
 mod comparing;
 mod conformance;
-mod desk;
 mod diagnosing;
 mod documents;
 mod drawing;
 mod driving;
 mod emitting;
 mod explaining;
+mod failure;
 mod files;
 mod filling;
 pub mod laws;
 mod laying;
 mod leaking;
 mod loaded;
-mod obeying;
 mod ordering;
 mod paths;
 mod performing;
@@ -48,7 +49,6 @@ mod saving;
 mod screen;
 mod serving;
 mod shaping;
-mod stop;
 mod subcommands;
 mod telling;
 mod trying;

@@ -6,10 +6,10 @@ ghost use Rattle.std.specs.Io.KnownBytes.{ReadConsumes};
 ghost use Rattle.std.specs.Rc.{rc_slice_items};
 ghost use Rattle.vsi.specs.Loading.{AreRead, held, left_of};
 
+use crate::failure::Failure;
 use crate::files::{Files, Writing};
 use crate::paths::{is_state, paths_of, writing_of};
 use crate::reading::whole_in;
-use crate::stop::Stop;
 use std::alloc::{AllocError, Global};
 use std::io;
 use std::io::{AsBytes, Cursor, Read};
@@ -117,7 +117,7 @@ impl<F: Files> Loaded<F> {
     {
         let bytes = match whole_in(self.alloc, path, &mut self.system) {
             Ok(bytes) => bytes,
-            Err(Stop::Memory) => return Err(AllocError),
+            Err(Failure::Memory) => return Err(AllocError),
             Err(_) => return Ok(false),
         };
         let path = Vec::from_slice(self.alloc, path.as_bytes())?;

@@ -3,12 +3,12 @@
 ghost use Rattle.std.specs.Prelude.{◌≡◌, ◌⊎◌, IfErr, IfOk};
 ghost use Rattle.vsi.specs.Holding.{IsImageAt, IsLatticeAt};
 ghost use Rattle.vsi.specs.Files.{LooksAt};
-ghost use Rattle.vsi.specs.Refusals.{LacksClassAt, NoOther, RefusesImage, RefusesLattice, StopsBy};
+ghost use Rattle.vsi.specs.Refusals.{LacksClassAt, NoOther, RefusesImage, RefusesLattice, FailsBy};
 
-use crate::desk::{Desk, Kind};
+use crate::cache::{InputCache, InputKind};
+use crate::failure::Failure;
 use crate::files::Files;
 use crate::reading::{bytes_in, class_in, declared_lattice, image_in};
-use crate::stop::Stop;
 use std::alloc::Global;
 use vsi_image::Verified;
 use vsi_lattice::{Class, Lattice};
@@ -28,54 +28,54 @@ fn begins_image(bytes: &[u8]) -> bool {
     matches!(bytes, [b'V', b'S', b'I', version, ..] if *version < b' ')
 }
 
-/// The stop for an image in place of the lattice file.
-fn exchanged<'a>(alloc: Global) -> Stop<'a>
-    ensures { StopsBy (λ reason. ⊥) NoOther result }
+/// The failure for an image in place of the lattice file.
+fn exchanged<'a>(alloc: Global) -> Failure<'a>
+    ensures { FailsBy (λ reason. ⊥) NoOther result }
 {
     match String::from_str(alloc, EXCHANGED) {
-        Ok(text) => Stop::Usage(text),
-        Err(_) => Stop::Memory,
+        Ok(text) => Failure::Usage(text),
+        Err(_) => Failure::Memory,
     }
 }
 
 /// The lattice of a file that comes before an image.
 fn first_lattice<'a, F: Files>(
-    desk: &mut Desk,
+    cache: &mut InputCache,
     path: &'a str,
     files: &mut F,
-) -> Result<Lattice, Stop<'a>>
+) -> Result<Lattice, Failure<'a>>
     ensures kept { F.holds files.new ≡ F.holds files.old }
     ensures read { IfOk result (IsLatticeAt (F.holds files.old) path.now) }
-    ensures stopped { IfErr result
-        (StopsBy (RefusesLattice (F.holds files.old) path.now) NoOther) }
+    ensures failed { IfErr result
+        (FailsBy (RefusesLattice (F.holds files.old) path.now) NoOther) }
 {
-    let bytes = bytes_in(desk, Kind::Lattice, path, files)?;
+    let bytes = bytes_in(cache, InputKind::Lattice, path, files)?;
     if begins_image(bytes.as_slice()) {
-        return Err(exchanged(desk.alloc));
+        return Err(exchanged(cache.alloc));
     }
-    declared_lattice(desk.alloc, bytes.as_slice())
+    declared_lattice(cache.alloc, bytes.as_slice())
 }
 
 /// The lattice of a file, the class of the driver, and the image that it drives. The image is read
 /// only if the lattice has the class.
 pub(crate) fn policy_before_image<'a, F: Files>(
-    desk: &mut Desk,
+    cache: &mut InputCache,
     lattice: &'a str,
     class: &'a str,
     image: &'a str,
     files: &mut F,
-) -> Result<(Lattice, Class, Verified), Stop<'a>>
+) -> Result<(Lattice, Class, Verified), Failure<'a>>
     ensures kept { F.holds files.new ≡ F.holds files.old }
     ensures looks { IfOk result
         (λ seen. LooksAt (F.holds files.old) lattice.now class.now seen.0 seen.1) }
     ensures held { IfOk result (λ seen. IsImageAt (F.holds files.old) image.now seen.2) }
-    ensures stopped { IfErr result (StopsBy (λ reason.
+    ensures failed { IfErr result (FailsBy (λ reason.
         RefusesLattice (F.holds files.old) lattice.now reason
         ⊎ RefusesImage (F.holds files.old) image.now reason)
         (LacksClassAt (F.holds files.old) lattice.now class.now)) }
 {
-    let classes = first_lattice(desk, lattice, files)?;
+    let classes = first_lattice(cache, lattice, files)?;
     let driver = class_in(&classes, class)?;
-    let verified = image_in(desk, image, files)?;
+    let verified = image_in(cache, image, files)?;
     Ok((classes, driver, verified))
 }

@@ -63,14 +63,14 @@ pub(crate) fn is_state(request: &Request<'_>, path: &str) -> bool {
     match request {
         Request::Run {
             execution,
-            outset,
+            initial_store,
             ..
         }
         | Request::View {
             execution,
-            outset,
+            initial_store,
             ..
-        } => execution.store == Some(path) && outset.out == Some(path),
+        } => execution.store == Some(path) && initial_store.out == Some(path),
         Request::Drive(asked) => asked.execution.store == Some(path) && asked.save == Some(path),
         Request::Layout(asked) => asked.is_written && asked.source == path,
         _ => false,

@@ -6,19 +6,20 @@ ghost use Rattle.vsi.specs.Noted.{Notes, noting};
 ghost use Rattle.vsi.specs.Performed.{Performs, PerformsCheck, PerformsMend};
 ghost use Rattle.vsi.specs.Partly.{Answers, AnswersCheck, AnswersMend, BytesOf, Leaves, WritesPart, cut_from};
 ghost use Rattle.vsi.specs.Saved.{KeepsState};
-ghost use Rattle.vsi.specs.Stops.{TellsFault, status_of};
+ghost use Rattle.vsi.specs.Failures.{TellsFault, status_of};
 ghost use Rattle.vsi_devices.specs.Counted.{device_of, faults_of};
 ghost use Rattle.vsi.specs.Reasons.{Why, WhyCheck, WhyMend};
 
 use crate::auditing::{audit, source};
 use crate::bounding::bound;
+use crate::cache::InputCache;
 use crate::comparing::compare;
 use crate::conformance::conform;
-use crate::desk::Desk;
 use crate::documents::put_document;
 use crate::drawing::{draw, report};
 use crate::driving::drive;
 use crate::emitting::emit;
+use crate::failure::{Failure, write};
 use crate::files::Files;
 use crate::laying::lay_out;
 use crate::leaking::leak;
@@ -26,11 +27,10 @@ use crate::policies::policy;
 use crate::running::{Running, run, view};
 use crate::serving::serve;
 use crate::shaping::lattice;
-use crate::stop::{Stop, write};
 use crate::subcommands::{
     build, check, check_as_json, classes, flows, format, list, mend, mend_as_json,
 };
-use crate::telling::Told;
+use crate::telling::ErrorText;
 use crate::trying::try_source;
 use std::alloc::Global;
 use std::io::{Read, Write};
@@ -39,19 +39,19 @@ use vsi_devices::Counted;
 
 /// Writes the text of an answer.
 fn put<'a, W: Write>(
-    answer: Result<Vec<u8>, Stop<'a>>,
+    answer: Result<Vec<u8>, Failure<'a>>,
     output: &mut Counted<W>,
-) -> Result<(), Stop<'a>>
+) -> Result<(), Failure<'a>>
     requires { faults_of output.old < u64.MAX }
     ensures fault { TellsFault (faults_of output.old) (faults_of output.new) result }
-    ensures left { IfErr result (λ stop.
+    ensures left { IfErr result (λ failure.
         Keeps (W.contents (device_of output.old)) (W.contents (device_of output.new))
-        ⊎ ((status_of stop ≡ 4) × IsOkAnd answer.entry (λ text. WritesPart text.items
+        ⊎ ((status_of failure ≡ 4) × IsOkAnd answer.entry (λ text. WritesPart text.items
         (W.contents (device_of output.old)) (W.contents (device_of output.new))))) }
     ensures done { OnOk result (IsOkAnd answer.entry (λ text.
         Appends (W.contents (device_of output.old)) (W.contents (device_of output.new))
         text.items)) }
-    ensures stopped { IfErr result (λ stop. (answer.entry ≡ Err stop) ⊎ (3 < status_of stop)) }
+    ensures failed { IfErr result (λ failure. (answer.entry ≡ Err failure) ⊎ (3 < status_of failure)) }
 {
     let text = answer?;
     write(text.as_slice(), output)
@@ -59,12 +59,12 @@ fn put<'a, W: Write>(
 
 /// Writes that the source text is accepted, in the requested manner.
 fn put_check<'a, F: Files, W: Write>(
-    desk: &mut Desk,
+    cache: &mut InputCache,
     asked: Judging<'a>,
     files: &mut F,
     output: &mut Counted<W>,
     note: &mut Vec<u8>,
-) -> Result<(), Stop<'a>>
+) -> Result<(), Failure<'a>>
     requires { faults_of output.old < u64.MAX }
     ensures kept { F.holds files.new ≡ F.holds files.old }
     ensures fault { TellsFault (faults_of output.old) (faults_of output.new) result }
@@ -73,24 +73,24 @@ fn put_check<'a, F: Files, W: Write>(
     ensures performed { OnOk result
         (PerformsCheck asked.entry.is_json (F.holds files.old) asked.entry
         (W.contents (device_of output.old)) (W.contents (device_of output.new))) }
-    ensures stopped { IfErr result
+    ensures failed { IfErr result
         (WhyCheck asked.entry.is_json (F.holds files.old) asked.entry
         (W.contents (device_of output.old)) (W.contents (device_of output.new))) }
 {
     if asked.is_json {
-        check_as_json(desk, asked, files, output, note)
+        check_as_json(cache, asked, files, output, note)
     } else {
-        put(check(desk, asked, files, note), output)
+        put(check(cache, asked, files, note), output)
     }
 }
 
 /// Writes the raises of the source text, in the requested manner.
 fn put_mend<'a, F: Files, W: Write>(
-    desk: &mut Desk,
+    cache: &mut InputCache,
     asked: Mending<'a>,
     files: &mut F,
     output: &mut Counted<W>,
-) -> Result<(), Stop<'a>>
+) -> Result<(), Failure<'a>>
     requires { faults_of output.old < u64.MAX }
     ensures kept { F.holds files.new ≡ F.holds files.old }
     ensures fault { TellsFault (faults_of output.old) (faults_of output.new) result }
@@ -99,32 +99,32 @@ fn put_mend<'a, F: Files, W: Write>(
     ensures performed { OnOk result
         (PerformsMend asked.entry.is_json (F.holds files.old) asked.entry
         (W.contents (device_of output.old)) (W.contents (device_of output.new))) }
-    ensures stopped { IfErr result
+    ensures failed { IfErr result
         (WhyMend asked.entry.is_json (F.holds files.old) asked.entry
         (W.contents (device_of output.old)) (W.contents (device_of output.new))) }
 {
     if asked.is_json {
-        return mend_as_json(desk, asked, files, output);
+        return mend_as_json(cache, asked, files, output);
     }
     let (compilation, is_applied) = (asked.compilation, asked.is_applied);
-    put(mend(desk, compilation, is_applied, files), output)
+    put(mend(cache, compilation, is_applied, files), output)
 }
 
 /// Does one subcommand.
 pub(crate) fn perform<'a, F: Files, R: Read, W: Write>(
-    desk: &mut Desk,
+    cache: &mut InputCache,
     request: Request<'a>,
     files: &mut F,
     input: &mut Counted<R>,
     output: &mut Counted<W>,
-    told: &mut Told,
-) -> Result<(), Stop<'a>>
+    error_text: &mut ErrorText,
+) -> Result<(), Failure<'a>>
     requires input { faults_of input.old < u64.MAX }
     requires output { faults_of output.old < u64.MAX }
-    requires unnoted { told.old.note.items ≡ [] }
+    requires unnoted { error_text.old.lines.items ≡ [] }
     ensures noted { Notes (F.holds files.old) (noting request.entry) result
-        told.new.note.items }
-    ensures unfilled { IfErr result (λ stop. status_of stop < 4
+        error_text.new.lines.items }
+    ensures unfilled { IfErr result (λ failure. status_of failure < 4
         → F.holds files.new ≡ F.holds files.old) }
     ensures input_fault { TellsFault (faults_of input.old) (faults_of input.new) result }
     ensures output_fault { TellsFault (faults_of output.old) (faults_of output.new) result }
@@ -138,57 +138,81 @@ pub(crate) fn perform<'a, F: Files, R: Read, W: Write>(
     ensures state { IfErr result (λ _. KeepsState (F.holds files.old)
         (R.remaining (device_of input.old)) request.entry (F.holds files.new)
         (W.contents (device_of output.old)) (W.contents (device_of output.new))) }
-    ensures stopped { IfErr result (Why (F.holds files.old) request.entry
+    ensures failed { IfErr result (Why (F.holds files.old) request.entry
         (W.contents (device_of output.old)) (W.contents (device_of output.new))) }
 {
     match request {
-        Request::Check(asked) => put_check(desk, asked, files, output, &mut told.note),
-        Request::Document(asked) => put_document(desk, asked, files, output),
-        Request::Conform(asked) => conform(desk, asked, files, output),
-        Request::Classes(compilation) => put(classes(desk, compilation, files), output),
+        Request::Check(asked) => put_check(cache, asked, files, output, &mut error_text.lines),
+        Request::Document(asked) => put_document(cache, asked, files, output),
+        Request::Conform(asked) => conform(cache, asked, files, output),
+        Request::Classes(compilation) => put(classes(cache, compilation, files), output),
         Request::Flows {
             compilation,
             has_walks,
-        } => put(flows(desk, compilation, has_walks, files), output),
-        Request::Mend(asked) => put_mend(desk, asked, files, output),
-        Request::Build(compilation, image) => build(desk, compilation, image, files),
-        Request::List(image) => put(list(desk, image, files), output),
-        Request::Audit(asked) => put(audit(desk, asked, files), output),
-        Request::Source(image) => put(source(desk, image, files), output),
-        Request::EmitC(asked) => put(emit(desk, asked, files), output),
-        Request::Bound(asked) => bound(desk, asked, files, output),
+        } => put(flows(cache, compilation, has_walks, files), output),
+        Request::Mend(asked) => put_mend(cache, asked, files, output),
+        Request::Build(compilation, image) => build(cache, compilation, image, files),
+        Request::List(image) => put(list(cache, image, files), output),
+        Request::Audit(asked) => put(audit(cache, asked, files), output),
+        Request::Source(image) => put(source(cache, image, files), output),
+        Request::EmitC(asked) => put(emit(cache, asked, files), output),
+        Request::Bound(asked) => bound(cache, asked, files, output),
         Request::Run {
             execution,
-            outset,
+            initial_store,
             has_trace,
             has_count,
         } => {
             let asked = Running {
                 execution,
-                outset,
+                initial_store,
                 has_trace,
                 has_count,
             };
-            run(desk, &asked, files, output, &mut told.note)
+            run(cache, &asked, files, output, &mut error_text.lines)
         }
         Request::View {
             lattice,
             class,
             execution,
-            outset,
-        } => view(desk, lattice, class, execution, &outset, files, output),
-        Request::Drive(driving) => drive(desk, driving, files, input, output, &mut told.note),
-        Request::Compare(comparison) => compare(desk, comparison, files, output),
-        Request::Leak(search) => put(leak(desk, search, files), output),
-        Request::Report(compilation) => put(report(desk, compilation, files), output),
-        Request::Draw(drawing) => put(draw(desk, drawing, files), output),
-        Request::Policy(looking) => { put(policy(desk, looking, files, &mut told.note), output) }
-        Request::Format(source) => put(format(desk, source, files), output),
-        Request::Layout(asked) => lay_out(desk, asked, files, output),
-        Request::Try(attempt) => put(try_source(desk, &attempt, files), output),
-        Request::Lattice(arguments) => put(lattice(desk.alloc, arguments.as_slice()), output),
+            initial_store,
+        } => view(
+            cache,
+            lattice,
+            class,
+            execution,
+            &initial_store,
+            files,
+            output,
+        ),
+        Request::Drive(driving) => drive(
+            cache,
+            driving,
+            files,
+            input,
+            output,
+            &mut error_text.lines,
+        ),
+        Request::Compare(comparison) => compare(cache, comparison, files, output),
+        Request::Leak(search) => put(leak(cache, search, files), output),
+        Request::Report(compilation) => put(report(cache, compilation, files), output),
+        Request::Draw(drawing) => put(draw(cache, drawing, files), output),
+        Request::Policy(looking) => {
+            put(policy(cache, looking, files, &mut error_text.lines), output)
+        }
+        Request::Format(source) => put(format(cache, source, files), output),
+        Request::Layout(asked) => lay_out(cache, asked, files, output),
+        Request::Try(attempt) => put(try_source(cache, &attempt, files), output),
+        Request::Lattice(arguments) => put(lattice(cache.alloc, arguments.as_slice()), output),
         Request::Lsp(serving) => {
-            serve(desk.alloc, serving, files, input, output, &mut told.note)
+            serve(
+                cache.alloc,
+                serving,
+                files,
+                input,
+                output,
+                &mut error_text.lines,
+            )
         }
         Request::Explain(page) => write(page.as_bytes(), output),
     }

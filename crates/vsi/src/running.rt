@@ -5,26 +5,26 @@ ghost use Rattle.vsi.specs.Files.{BeginsAt};
 ghost use Rattle.vsi.specs.Noted.{Counts, CountsRun};
 ghost use Rattle.vsi.specs.Performed.{PerformsRun, PerformsView, ViewsFiles};
 ghost use Rattle.vsi.specs.Partly.{AnswersRun, AnswersView, Leaves};
-ghost use Rattle.vsi.specs.Stops.{TellsFault, status_of};
-ghost use Rattle.vsi.specs.declared.stop.Stop.TheVariants.{Memory};
+ghost use Rattle.vsi.specs.Failures.{TellsFault, status_of};
+ghost use Rattle.vsi.specs.declared.failure.Failure.TheVariants.{Memory};
 ghost use Rattle.vsi_answers.specs.Requests.{BeginsWith};
 ghost use Rattle.vsi_devices.specs.Counted.{device_of, faults_of};
 ghost use Rattle.vsi_lattice.specs.NamePlaces.{texts};
 ghost use Rattle.vsi_machine.specs.Counting.{Halts};
 ghost use Rattle.vsi_machine.specs.Runs.{run_of};
-ghost use Rattle.vsi.specs.Refusals.{LacksBoundAt, LacksEither, NoOther, RefusesImage, RefusesStart, StopsBy};
+ghost use Rattle.vsi.specs.Refusals.{LacksBoundAt, LacksEither, NoOther, RefusesImage, RefusesStart, FailsBy};
 ghost use Rattle.vsi.specs.Reasons.{WhyRun, WhyView};
 
 use crate::budgets::budget_of;
-use crate::desk::{Desk, Kind};
+use crate::cache::{InputCache, InputKind};
+use crate::failure::Failure;
 use crate::files::Files;
 use crate::filling::deliver;
-use crate::reading::{device_stop, image_in, policy_and_image, store_in};
-use crate::stop::Stop;
+use crate::reading::{device_failure, image_in, policy_and_image, store_in};
 use std::alloc::Global;
 use std::io::Write;
 use vsi_answers::start_words;
-use vsi_arguments::{Execution, Outset};
+use vsi_arguments::{Execution, InitialStore};
 use vsi_devices::{Counted, run_words};
 use vsi_image::Verified;
 use vsi_machine::{Outcome, count_text, counted, stop_text};
@@ -33,11 +33,14 @@ use vsi_machine::{Outcome, count_text, counted, stop_text};
 const SETTING: &str = "--set";
 
 /// Keeps each setting for an explanation.
-pub(crate) fn keep_settings<'a>(desk: &mut Desk, settings: &[&[u8]]) -> Result<(), Stop<'a>>
-    ensures { IfErr result (λ stop. stop ≡ Memory) }
+pub(crate) fn keep_settings<'a>(
+    cache: &mut InputCache,
+    settings: &[&[u8]],
+) -> Result<(), Failure<'a>>
+    ensures { IfErr result (λ failure. failure ≡ Memory) }
 {
     for setting in settings {
-        desk.keep(Kind::Setting, SETTING, setting)?;
+        cache.keep(InputKind::Setting, SETTING, setting)?;
     }
     Ok(())
 }
@@ -45,41 +48,41 @@ pub(crate) fn keep_settings<'a>(desk: &mut Desk, settings: &[&[u8]]) -> Result<(
 /// The words that a run begins with, from a store file's bytes and then the settings, which are
 /// kept for an explanation.
 fn words_in<'a>(
-    desk: &mut Desk,
+    cache: &mut InputCache,
     verified: &Verified,
     file: &[u8],
-    outset: &Outset<'a>,
-) -> Result<Vec<i64>, Stop<'a>>
+    initial_store: &InitialStore<'a>,
+) -> Result<Vec<i64>, Failure<'a>>
     ensures len { IfOk result (λ words. length words.items ≡ length verified.now.globals.items) }
     ensures begins { IfOk result (λ words. BeginsWith verified.now file.now
-        (texts outset.now.settings.items) outset.now.is_full (Ok words)) }
-    ensures stopped { IfErr result (StopsBy (λ reason. BeginsWith verified.now file.now
-        (texts outset.now.settings.items) outset.now.is_full (Err reason)) NoOther) }
+        (texts initial_store.now.settings.items) initial_store.now.is_full (Ok words)) }
+    ensures failed { IfErr result (FailsBy (λ reason. BeginsWith verified.now file.now
+        (texts initial_store.now.settings.items) initial_store.now.is_full (Err reason)) NoOther) }
 {
-    let settings = outset.settings.as_slice();
-    keep_settings(desk, settings)?;
-    Ok(start_words(desk.alloc, verified, file, settings, outset.is_full)?)
+    let settings = initial_store.settings.as_slice();
+    keep_settings(cache, settings)?;
+    Ok(start_words(cache.alloc, verified, file, settings, initial_store.is_full)?)
 }
 
 /// The image to run and the words that it begins with. The store file is read before the image and
 /// judged after it.
 fn image_and_words<'a, F: Files>(
-    desk: &mut Desk,
+    cache: &mut InputCache,
     execution: Execution<'a>,
-    outset: &Outset<'a>,
+    initial_store: &InitialStore<'a>,
     files: &mut F,
-) -> Result<(Verified, Vec<i64>), Stop<'a>>
+) -> Result<(Verified, Vec<i64>), Failure<'a>>
     ensures kept { F.holds files.new ≡ F.holds files.old }
     ensures len { IfOk result (λ pair. length pair.1.items ≡ length pair.0.globals.items) }
     ensures begins { IfOk result (λ pair.
-        BeginsAt (F.holds files.old) execution.entry outset.now pair.0 pair.1.items) }
-    ensures stopped { IfErr result (StopsBy (λ reason.
+        BeginsAt (F.holds files.old) execution.entry initial_store.now pair.0 pair.1.items) }
+    ensures failed { IfErr result (FailsBy (λ reason.
         RefusesImage (F.holds files.old) execution.entry.image.now reason
-        ⊎ RefusesStart (F.holds files.old) execution.entry outset.now reason) NoOther) }
+        ⊎ RefusesStart (F.holds files.old) execution.entry initial_store.now reason) NoOther) }
 {
-    let file = store_in(desk, execution.store, files)?;
-    let verified = image_in(desk, execution.image, files)?;
-    let words = words_in(desk, &verified, &file, outset)?;
+    let file = store_in(cache, execution.store, files)?;
+    let verified = image_in(cache, execution.image, files)?;
+    let words = words_in(cache, &verified, &file, initial_store)?;
     Ok((verified, words))
 }
 
@@ -87,7 +90,7 @@ fn image_and_words<'a, F: Files>(
 #[derive(Drop)]
 pub(crate) struct Running<'a> {
     pub(crate) execution: Execution<'a>,
-    pub(crate) outset: Outset<'a>,
+    pub(crate) initial_store: InitialStore<'a>,
     pub(crate) has_trace: bool,
     pub(crate) has_count: bool,
 }
@@ -99,13 +102,13 @@ fn count_lines<'a>(
     verified: &Verified,
     words: &[i64],
     budget: u64,
-) -> Result<Vec<u8>, Stop<'a>>
-    ensures memory { IfErr result (λ stop. stop ≡ Memory) }
+) -> Result<Vec<u8>, Failure<'a>>
+    ensures memory { IfErr result (λ failure. failure ≡ Memory) }
     ensures counted { Halts (run_of verified.now words.now budget)
         → IfOk result (λ text. Counts true verified.now words.now text.items) }
 {
     let Ok(count) = counted(alloc, verified, words, budget) else {
-        return Err(Stop::Memory);
+        return Err(Failure::Memory);
     };
     match count.outcome {
         Outcome::Halted => Ok(count_text(alloc, count.instructions)?),
@@ -121,8 +124,8 @@ fn put_count<'a>(
     words: &[i64],
     budget: u64,
     note: &mut Vec<u8>,
-) -> Result<(), Stop<'a>>
-    ensures memory { IfErr result (λ stop. stop ≡ Memory) }
+) -> Result<(), Failure<'a>>
+    ensures memory { IfErr result (λ failure. failure ≡ Memory) }
     ensures counted { note.old.items ≡ [] → Halts (run_of verified.now words.now budget)
         → OnOk result (Counts is_asked verified.now words.now note.new.items) }
 {
@@ -135,34 +138,34 @@ fn put_count<'a>(
 
 /// Runs an image file and writes its output; the note gets the text for standard error.
 pub(crate) fn run<'a, F: Files, W: Write>(
-    desk: &mut Desk,
+    cache: &mut InputCache,
     asked: &Running<'a>,
     files: &mut F,
     output: &mut Counted<W>,
     note: &mut Vec<u8>,
-) -> Result<(), Stop<'a>>
+) -> Result<(), Failure<'a>>
     requires { faults_of output.old < u64.MAX }
-    ensures unfilled { IfErr result (λ stop. status_of stop < 4
+    ensures unfilled { IfErr result (λ failure. status_of failure < 4
         → F.holds files.new ≡ F.holds files.old) }
     ensures fault { TellsFault (faults_of output.old) (faults_of output.new) result }
     ensures left { IfErr result (Leaves (AnswersRun (F.holds files.old) asked.now.execution
-        asked.now.outset asked.now.has_trace) 3
+        asked.now.initial_store asked.now.has_trace) 3
         (W.contents (device_of output.old)) (W.contents (device_of output.new))) }
     ensures performed { OnOk result (PerformsRun (F.holds files.old) asked.now.execution
-        asked.now.outset asked.now.has_trace (F.holds files.new)
+        asked.now.initial_store asked.now.has_trace (F.holds files.new)
         (W.contents (device_of output.old)) (W.contents (device_of output.new))) }
-    ensures stopped { IfErr result (StopsBy (WhyRun (F.holds files.old) asked.now.execution
-        asked.now.outset asked.now.has_trace
+    ensures failed { IfErr result (FailsBy (WhyRun (F.holds files.old) asked.now.execution
+        asked.now.initial_store asked.now.has_trace
         (W.contents (device_of output.old)) (W.contents (device_of output.new)))
         (LacksBoundAt (F.holds files.old) asked.now.execution.image.now
         asked.now.execution.budget)) }
     ensures counted { note.old.items ≡ [] → OnOk result (CountsRun (F.holds files.old)
-        asked.now.execution asked.now.outset asked.now.has_count note.new.items) }
+        asked.now.execution asked.now.initial_store asked.now.has_count note.new.items) }
 {
-    let (verified, words) = image_and_words(desk, asked.execution, &asked.outset, files)?;
-    let budget = budget_of(desk.alloc, asked.execution.budget, &verified)?;
+    let (verified, words) = image_and_words(cache, asked.execution, &asked.initial_store, files)?;
+    let budget = budget_of(cache.alloc, asked.execution.budget, &verified)?;
     match run_words(
-        desk.alloc,
+        cache.alloc,
         &verified,
         &words,
         budget,
@@ -170,77 +173,84 @@ pub(crate) fn run<'a, F: Files, W: Write>(
         output,
     ) {
         Ok(Some(text)) => {
-            put_count(desk.alloc, asked.has_count, &verified, &words, budget, note)?;
-            deliver(desk.alloc, &text, asked.outset.out, files, output)
-        }
-        Ok(None) => {
             put_count(
-                desk.alloc,
-                desk.is_explained,
+                cache.alloc,
+                asked.has_count,
                 &verified,
                 &words,
                 budget,
                 note,
             )?;
-            Err(Stop::OutOfBudget)
+            deliver(cache.alloc, &text, asked.initial_store.out, files, output)
         }
-        Err(error) => Err(device_stop(desk.alloc, error, asked.execution.image)),
+        Ok(None) => {
+            put_count(
+                cache.alloc,
+                cache.is_explained,
+                &verified,
+                &words,
+                budget,
+                note,
+            )?;
+            Err(Failure::OutOfBudget)
+        }
+        Err(error) => Err(device_failure(cache.alloc, error, asked.execution.image)),
     }
 }
 
 /// The lines of the final store of a run of an image file that a class may see.
 fn seen<'a, F: Files>(
-    desk: &mut Desk,
+    cache: &mut InputCache,
     lattice: &'a str,
     class: &'a str,
     execution: Execution<'a>,
-    outset: &Outset<'a>,
+    initial_store: &InitialStore<'a>,
     files: &mut F,
-) -> Result<Vec<u8>, Stop<'a>>
+) -> Result<Vec<u8>, Failure<'a>>
     ensures kept { F.holds files.new ≡ F.holds files.old }
     ensures told { IfOk result (ViewsFiles (F.holds files.old) lattice.now class.now execution.entry
-        outset.now) }
-    ensures stopped { IfErr result (StopsBy (WhyView (F.holds files.old) lattice.now class.now
-        execution.entry outset.now) (LacksEither (F.holds files.old) lattice.now class.now
+        initial_store.now) }
+    ensures failed { IfErr result (FailsBy (WhyView (F.holds files.old) lattice.now class.now
+        execution.entry initial_store.now) (LacksEither (F.holds files.old) lattice.now class.now
         execution.entry.image.now execution.entry.budget)) }
 {
     let (classes, viewer, verified) = policy_and_image(
-        desk,
+        cache,
         lattice,
         class,
         execution.image,
         files,
     )?;
-    let file = store_in(desk, execution.store, files)?;
-    let words = words_in(desk, &verified, &file, outset)?;
-    let budget = budget_of(desk.alloc, execution.budget, &verified)?;
-    Ok(vsi_answers::view(desk.alloc, &classes, &verified, viewer, &words, budget)?)
+    let file = store_in(cache, execution.store, files)?;
+    let words = words_in(cache, &verified, &file, initial_store)?;
+    let budget = budget_of(cache.alloc, execution.budget, &verified)?;
+    Ok(vsi_answers::view(cache.alloc, &classes, &verified, viewer, &words, budget)?)
 }
 
 /// Runs an image file and writes the lines of the store that a class may see.
 pub(crate) fn view<'a, F: Files, W: Write>(
-    desk: &mut Desk,
+    cache: &mut InputCache,
     lattice: &'a str,
     class: &'a str,
     execution: Execution<'a>,
-    outset: &Outset<'a>,
+    initial_store: &InitialStore<'a>,
     files: &mut F,
     output: &mut Counted<W>,
-) -> Result<(), Stop<'a>>
+) -> Result<(), Failure<'a>>
     requires { faults_of output.old < u64.MAX }
-    ensures unfilled { IfErr result (λ stop. status_of stop < 4
+    ensures unfilled { IfErr result (λ failure. status_of failure < 4
         → F.holds files.new ≡ F.holds files.old) }
     ensures fault { TellsFault (faults_of output.old) (faults_of output.new) result }
     ensures left { IfErr result (Leaves (AnswersView (F.holds files.old) lattice.now class.now
-        execution.entry outset.now) 4
+        execution.entry initial_store.now) 4
         (W.contents (device_of output.old)) (W.contents (device_of output.new))) }
     ensures performed { OnOk result (PerformsView (F.holds files.old) lattice.now class.now
-        execution.entry outset.now (F.holds files.new)
+        execution.entry initial_store.now (F.holds files.new)
         (W.contents (device_of output.old)) (W.contents (device_of output.new))) }
-    ensures stopped { IfErr result (StopsBy (WhyView (F.holds files.old) lattice.now class.now
-        execution.entry outset.now) (LacksEither (F.holds files.old) lattice.now class.now
+    ensures failed { IfErr result (FailsBy (WhyView (F.holds files.old) lattice.now class.now
+        execution.entry initial_store.now) (LacksEither (F.holds files.old) lattice.now class.now
         execution.entry.image.now execution.entry.budget)) }
 {
-    let text = seen(desk, lattice, class, execution, outset, files)?;
-    deliver(desk.alloc, &text, outset.out, files, output)
+    let text = seen(cache, lattice, class, execution, initial_store, files)?;
+    deliver(cache.alloc, &text, initial_store.out, files, output)
 }

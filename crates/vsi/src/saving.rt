@@ -3,17 +3,17 @@
 ghost use Rattle.std.specs.Prelude.{◌≡◌, ◌<◌, ◌≤◌, ℕ, List, [], length, IfOk, IfErr, OnOk, Err};
 ghost use Rattle.vsi.specs.Files.{IsFullAt, IsStoredAt};
 ghost use Rattle.vsi.specs.Holding.{Delivers, IsStoreAt};
-ghost use Rattle.vsi.specs.Refusals.{NoOther, StopsBy};
+ghost use Rattle.vsi.specs.Refusals.{NoOther, FailsBy};
 ghost use Rattle.vsi.specs.Saved.{SavesLine};
 ghost use Rattle.vsi.specs.State.{StaysAt, Touches, state_text};
-ghost use Rattle.vsi.specs.Stops.{status_of};
+ghost use Rattle.vsi.specs.Failures.{status_of};
 ghost use Rattle.vsi_answers.specs.Requests.{BeginsWith};
 
-use crate::desk::Desk;
+use crate::cache::InputCache;
+use crate::failure::Failure;
 use crate::files::Files;
 use crate::filling::replace;
 use crate::reading::store_in;
-use crate::stop::Stop;
 use std::alloc::Global;
 use vsi_answers::start_words;
 use vsi_drive::Controller;
@@ -36,24 +36,24 @@ pub(crate) struct Drive<'a, 'c> {
 /// The words that a store file gives to the globals of an image, or zeros without one. With
 /// `is_full` each global must have a key in the file.
 pub(crate) fn first_store<'a, F: Files>(
-    desk: &mut Desk,
+    cache: &mut InputCache,
     verified: &Verified,
     path: Option<&'a str>,
     is_full: bool,
     files: &mut F,
-) -> Result<Vec<i64>, Stop<'a>>
+) -> Result<Vec<i64>, Failure<'a>>
     ensures kept { F.holds files.new ≡ F.holds files.old }
     ensures len { IfOk result (λ words. length words.items ≡ length verified.now.globals.items) }
     ensures stored { IfOk result (λ words.
         IsStoredAt (F.holds files.old) path.entry verified.now words.items) }
     ensures full { IfOk result (λ words.
         IsFullAt (F.holds files.old) path.entry verified.now is_full) }
-    ensures stopped { IfErr result (StopsBy (λ reason.
+    ensures failed { IfErr result (FailsBy (λ reason.
         (file : List ℕ) × IsStoreAt (F.holds files.old) path.entry file
         × BeginsWith verified.now file [] is_full (Err reason)) NoOther) }
 {
-    let bytes = store_in(desk, path, files)?;
-    Ok(start_words(desk.alloc, verified, &bytes, &[], is_full)?)
+    let bytes = store_in(cache, path, files)?;
+    Ok(start_words(cache.alloc, verified, &bytes, &[], is_full)?)
 }
 
 /// Writes a store to the requested file, if there is one, after the line with its checksum.
@@ -63,9 +63,9 @@ pub(crate) fn save<'a, F: Files>(
     words: &[i64],
     path: Option<&'a str>,
     files: &mut F,
-) -> Result<(), Stop<'a>>
+) -> Result<(), Failure<'a>>
     requires { length words.now ≡ length verified.now.globals.items }
-    ensures stop { IfErr result (λ stop. 3 < status_of stop) }
+    ensures failure { IfErr result (λ failure. 3 < status_of failure) }
     ensures saved { OnOk result (Delivers path.entry (state_text verified.now words.now)
         (F.holds files.old) (F.holds files.new)) }
     ensures touched { Touches path.entry (F.holds files.old) (F.holds files.new) }
@@ -87,11 +87,11 @@ pub(crate) fn save_line<'a, F: Files>(
     words: &[i64],
     unsaved: &mut u64,
     files: &mut F,
-) -> Result<(), Stop<'a>>
+) -> Result<(), Failure<'a>>
     requires len { length words.now ≡ length drive.now.verified.now.globals.items }
     requires few { unsaved.old ≤ drive.now.most }
     ensures few { unsaved.new ≤ drive.now.most }
-    ensures stop { IfErr result (λ stop. 3 < status_of stop) }
+    ensures failure { IfErr result (λ failure. 3 < status_of failure) }
     ensures saved { OnOk result (SavesLine drive.now.save
         (state_text drive.now.verified.now words.now) unsaved.old unsaved.new
         (F.holds files.old) (F.holds files.new)) }

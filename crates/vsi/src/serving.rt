@@ -2,16 +2,16 @@
 
 ghost use Rattle.std.specs.Prelude.{◌≡◌, ◌<◌, IfErr, IfOk, OnOk};
 ghost use Rattle.vsi.specs.Partly.{Partly};
-ghost use Rattle.vsi.specs.Refusals.{StopsBy};
+ghost use Rattle.vsi.specs.Refusals.{FailsBy};
 ghost use Rattle.vsi.specs.Reasons.{SaysLine};
 ghost use Rattle.vsi.specs.Served.{Serves, unended_line};
-ghost use Rattle.vsi.specs.Stops.{TellsFault, status_of};
+ghost use Rattle.vsi.specs.Failures.{TellsFault, status_of};
 ghost use Rattle.vsi_devices.specs.Counted.{device_of, faults_of};
 ghost use Rattle.vsi_lsp.specs.Frames.{AreFrames};
 
+use crate::failure::{Failure, STREAM, write};
 use crate::files::Files;
 use crate::reading::whole_in;
-use crate::stop::{STREAM, Stop, write};
 use std::alloc::{AllocError, Global};
 use std::io::{Read, Write};
 use vsi_arguments::Serving;
@@ -34,7 +34,7 @@ pub(crate) fn serve<'a, F: Files, R: Read, W: Write>(
     input: &mut Counted<R>,
     output: &mut Counted<W>,
     note: &mut Vec<u8>,
-) -> Result<(), Stop<'a>>
+) -> Result<(), Failure<'a>>
     requires input { faults_of input.old < u64.MAX }
     requires output { faults_of output.old < u64.MAX }
     ensures kept { F.holds files.new ≡ F.holds files.old }
@@ -42,7 +42,7 @@ pub(crate) fn serve<'a, F: Files, R: Read, W: Write>(
     ensures output_fault { TellsFault (faults_of output.old) (faults_of output.new) result }
     ensures served { OnOk result
         (Serves (W.contents (device_of output.old)) (W.contents (device_of output.new))) }
-    ensures stopped { IfErr result (StopsBy (λ reason. ⊥) (λ stop. SaysLine unended_line stop
+    ensures failed { IfErr result (FailsBy (λ reason. ⊥) (λ failure. SaysLine unended_line failure
         × Serves (W.contents (device_of output.old)) (W.contents (device_of output.new)))) }
     ensures cut { IfErr result (λ _. Partly AreFrames
         (W.contents (device_of output.old)) (W.contents (device_of output.new))) }
@@ -77,30 +77,30 @@ fn put_two(server: &Server, note: &mut Vec<u8>) -> Result<(), AllocError> {
 }
 
 /// Stops if the client hasn't ended the conversation.
-fn ended<'a>(alloc: Global, server: &Server) -> Result<(), Stop<'a>>
-    ensures stopped { IfErr result (StopsBy (λ reason. ⊥) (SaysLine unended_line)) }
+fn ended<'a>(alloc: Global, server: &Server) -> Result<(), Failure<'a>>
+    ensures failed { IfErr result (FailsBy (λ reason. ⊥) (SaysLine unended_line)) }
 {
     if server.has_exited() && !server.has_failed() {
         return Ok(());
     }
     let text = Vec::from_slice(alloc, UNENDED)?;
-    Err(Stop::Refused(text, None))
+    Err(Failure::Refused(text, None))
 }
 
-/// Obeys the messages of the input, until the client says `exit` or the input ends.
+/// Carries out the messages of the input, until the client says `exit` or the input ends.
 fn serve_input<'a, F: Files, R: Read, W: Write>(
     alloc: Global,
     server: &mut Server,
     files: &mut F,
     input: &mut Counted<R>,
     output: &mut Counted<W>,
-) -> Result<(), Stop<'a>>
+) -> Result<(), Failure<'a>>
     requires input { faults_of input.old < u64.MAX }
     requires output { faults_of output.old < u64.MAX }
     ensures kept { F.holds files.new ≡ F.holds files.old }
     ensures input_fault { TellsFault (faults_of input.old) (faults_of input.new) result }
     ensures output_fault { TellsFault (faults_of output.old) (faults_of output.new) result }
-    ensures stop { IfErr result (λ stop. 3 < status_of stop) }
+    ensures failure { IfErr result (λ failure. 3 < status_of failure) }
     ensures served { OnOk result
         (Serves (W.contents (device_of output.old)) (W.contents (device_of output.new))) }
     ensures cut { IfErr result (λ _. Partly AreFrames
@@ -109,7 +109,7 @@ fn serve_input<'a, F: Files, R: Read, W: Write>(
     let mut chunk = [0; CHUNK];
     for _call in 0..u64::MAX {
         let Ok(count) = input.read(&mut chunk) else {
-            return Err(Stop::FileFault(STREAM));
+            return Err(Failure::FileFault(STREAM));
         };
         if count == 0 {
             return Ok(());
@@ -119,21 +119,21 @@ fn serve_input<'a, F: Files, R: Read, W: Write>(
             return Ok(());
         }
     }
-    Err(Stop::FileFault(STREAM))
+    Err(Failure::FileFault(STREAM))
 }
 
-/// Obeys the messages that end in these bytes.
+/// Carries out the messages that end in these bytes.
 fn serve_bytes<'a, F: Files, W: Write>(
     alloc: Global,
     server: &mut Server,
     bytes: &[u8],
     files: &mut F,
     output: &mut Counted<W>,
-) -> Result<(), Stop<'a>>
+) -> Result<(), Failure<'a>>
     requires output { faults_of output.old < u64.MAX }
     ensures kept { F.holds files.new ≡ F.holds files.old }
     ensures fault { TellsFault (faults_of output.old) (faults_of output.new) result }
-    ensures stop { IfErr result (λ stop. 3 < status_of stop) }
+    ensures failure { IfErr result (λ failure. 3 < status_of failure) }
     ensures served { OnOk result
         (Serves (W.contents (device_of output.old)) (W.contents (device_of output.new))) }
     ensures cut { IfErr result (λ _. Partly AreFrames
@@ -152,18 +152,18 @@ fn serve_bytes<'a, F: Files, W: Write>(
     Ok(())
 }
 
-/// Obeys a message, and writes the messages that it causes.
+/// Carries out a message, and writes the messages that it causes.
 fn serve_message<'a, F: Files, W: Write>(
     alloc: Global,
     server: &mut Server,
     message: &[u8],
     files: &mut F,
     output: &mut Counted<W>,
-) -> Result<(), Stop<'a>>
+) -> Result<(), Failure<'a>>
     requires output { faults_of output.old < u64.MAX }
     ensures kept { F.holds files.new ≡ F.holds files.old }
     ensures fault { TellsFault (faults_of output.old) (faults_of output.new) result }
-    ensures stop { IfErr result (λ stop. 3 < status_of stop) }
+    ensures failure { IfErr result (λ failure. 3 < status_of failure) }
     ensures served { OnOk result
         (Serves (W.contents (device_of output.old)) (W.contents (device_of output.new))) }
     ensures cut { IfErr result (λ _. Partly AreFrames
@@ -173,7 +173,7 @@ fn serve_message<'a, F: Files, W: Write>(
     write(&bytes, output)
 }
 
-/// Obeys a message, and returns the messages that it causes.
+/// Carries out a message, and returns the messages that it causes.
 fn replies<F: Files>(
     alloc: Global,
     server: &mut Server,
@@ -200,7 +200,7 @@ fn policy_bytes<F: Files>(
 {
     match whole_in(alloc, path, files) {
         Ok(bytes) => Ok(Some(bytes)),
-        Err(Stop::Memory) => Err(AllocError),
+        Err(Failure::Memory) => Err(AllocError),
         Err(_) => Ok(None),
     }
 }

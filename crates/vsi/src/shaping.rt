@@ -2,9 +2,9 @@
 
 ghost use Rattle.std.specs.Prelude.{◌<◌, IfErr, IfOk};
 ghost use Rattle.vsi.specs.Shaping.{ShapedText};
-ghost use Rattle.vsi.specs.Refusals.{NoOther, StopsBy};
+ghost use Rattle.vsi.specs.Refusals.{NoOther, FailsBy};
 
-use crate::stop::Stop;
+use crate::failure::Failure;
 use std::alloc::{AllocError, Global};
 use vsi_caret::put_safe;
 use vsi_policy::{Shape, ShapeError, lattice_text};
@@ -13,9 +13,9 @@ use vsi_policy::{Shape, ShapeError, lattice_text};
 const MORE: &[u8] = b"\n\nFor more information, try 'vsi help lattice'.\n";
 
 /// The text of the lattice file that arguments describe.
-pub(crate) fn lattice<'a>(alloc: Global, arguments: &[&[u8]]) -> Result<Vec<u8>, Stop<'a>>
+pub(crate) fn lattice<'a>(alloc: Global, arguments: &[&[u8]]) -> Result<Vec<u8>, Failure<'a>>
     ensures told { IfOk result (ShapedText arguments.now) }
-    ensures stopped { IfErr result (StopsBy (λ reason. ⊥) NoOther) }
+    ensures failed { IfErr result (FailsBy (λ reason. ⊥) NoOther) }
 {
     match lattice_text(alloc, arguments) {
         Ok(text) => Ok(text),
@@ -23,16 +23,16 @@ pub(crate) fn lattice<'a>(alloc: Global, arguments: &[&[u8]]) -> Result<Vec<u8>,
     }
 }
 
-/// The stop for arguments that make no lattice.
-fn mistaken<'a>(alloc: Global, error: &ShapeError) -> Stop<'a>
-    ensures { StopsBy (λ reason. ⊥) NoOther result }
+/// The failure for arguments that make no lattice.
+fn mistaken<'a>(alloc: Global, error: &ShapeError) -> Failure<'a>
+    ensures { FailsBy (λ reason. ⊥) NoOther result }
 {
     if let ShapeError::Memory = error {
-        return Stop::Memory;
+        return Failure::Memory;
     }
     match mistake_text(alloc, error) {
-        Ok(text) => Stop::Usage(text),
-        Err(_) => Stop::Memory,
+        Ok(text) => Failure::Usage(text),
+        Err(_) => Failure::Memory,
     }
 }
 

@@ -5,19 +5,19 @@ ghost use Rattle.vsi.specs.Laying.{ToldCanonical};
 ghost use Rattle.vsi.specs.Files.{AreFiles, OfFile, OfFiles, Writes};
 ghost use Rattle.vsi.specs.Performed.{BuildsFile, PerformsMend, ToldAccepted, ToldClasses, ToldFlows, ToldImage, ToldJson, ToldListing, ToldRaises};
 ghost use Rattle.vsi.specs.Performed.{judgement_of, profile_of};
-ghost use Rattle.vsi.specs.Refusals.{AsksCanonical, AsksCheck, AsksClasses, AsksFlows, AsksImage, AsksMend, NoOther, RefusesFile, RefusesFiles, RefusesLattice, StopsBy};
+ghost use Rattle.vsi.specs.Refusals.{AsksCanonical, AsksCheck, AsksClasses, AsksFlows, AsksImage, AsksMend, NoOther, RefusesFile, RefusesFiles, RefusesLattice, FailsBy};
 ghost use Rattle.vsi.specs.Reasons.{ToldRefusal, WhyCheck, WhyMend};
 ghost use Rattle.vsi.specs.Raises.{ToldUnserved};
 ghost use Rattle.vsi.specs.Partly.{AnswersCheck, AnswersMend, BytesOf, Leaves};
-ghost use Rattle.vsi.specs.Stops.{TellsFault, status_of};
+ghost use Rattle.vsi.specs.Failures.{TellsFault, status_of};
 ghost use Rattle.vsi_answers.specs.Requests.{ListsTo};
 ghost use Rattle.vsi_devices.specs.Counted.{device_of, faults_of};
 
-use crate::desk::{Desk, Kind};
+use crate::cache::{InputCache, InputKind};
+use crate::failure::{Failure, write_answer};
 use crate::files::Files;
 use crate::filling::fill;
 use crate::reading::{answered, bytes_in, lattice_in, two_classes};
-use crate::stop::{Stop, write_answer};
 use crate::warning::put_warnings;
 use std::alloc::Global;
 use std::io::Write;
@@ -42,18 +42,18 @@ pub(crate) fn profile(is_strict: bool) -> Profile
 
 /// The lattice, which is judged, and the bytes of the source text, which are read after it.
 pub(crate) fn policy_and_text<'a, F: Files>(
-    desk: &mut Desk,
+    cache: &mut InputCache,
     compilation: Compilation<'a>,
     files: &mut F,
-) -> Result<(Lattice, Vec<u8>), Stop<'a>>
+) -> Result<(Lattice, Vec<u8>), Failure<'a>>
     ensures kept { F.holds files.new ≡ F.holds files.old }
     ensures told { IfOk result
         (λ pair. AreFiles (F.holds files.old) compilation.entry pair.0 pair.1.items) }
-    ensures stopped { IfErr result
-        (StopsBy (RefusesLattice (F.holds files.old) compilation.entry.lattice.now) NoOther) }
+    ensures failed { IfErr result
+        (FailsBy (RefusesLattice (F.holds files.old) compilation.entry.lattice.now) NoOther) }
 {
-    let classes = lattice_in(desk, compilation.lattice, files)?;
-    let text = bytes_in(desk, Kind::Source, compilation.source, files)?;
+    let classes = lattice_in(cache, compilation.lattice, files)?;
+    let text = bytes_in(cache, InputKind::Source, compilation.source, files)?;
     Ok((classes, text))
 }
 
@@ -77,21 +77,21 @@ fn checked(
 /// `accepted`, if the source text is accepted as requested. The note gets the warnings about the
 /// text.
 pub(crate) fn check<'a, F: Files>(
-    desk: &mut Desk,
+    cache: &mut InputCache,
     asked: Judging<'a>,
     files: &mut F,
     note: &mut Vec<u8>,
-) -> Result<Vec<u8>, Stop<'a>>
+) -> Result<Vec<u8>, Failure<'a>>
     ensures kept { F.holds files.new ≡ F.holds files.old }
     ensures told { IfOk result (OfFiles (F.holds files.old) asked.entry.compilation
         (ToldAccepted asked.entry.is_steady asked.entry.compilation.is_strict)) }
-    ensures stopped { IfErr result
-        (StopsBy (RefusesFiles (F.holds files.old) asked.entry.compilation
+    ensures failed { IfErr result
+        (FailsBy (RefusesFiles (F.holds files.old) asked.entry.compilation
         (AsksCheck asked.entry.is_steady asked.entry.compilation.is_strict)) NoOther) }
 {
-    let (classes, text) = policy_and_text(desk, asked.compilation, files)?;
-    put_warnings(desk.alloc, asked, &classes, &text, note)?;
-    answered(checked(desk.alloc, asked, &classes, text.as_slice()))
+    let (classes, text) = policy_and_text(cache, asked.compilation, files)?;
+    put_warnings(cache.alloc, asked, &classes, &text, note)?;
+    answered(checked(cache.alloc, asked, &classes, text.as_slice()))
 }
 
 /// The judgement that the source text must pass.
@@ -110,34 +110,34 @@ pub(crate) fn judgement(asked: Judging<'_>) -> Judgement
 /// The same answer as a line of JSON, and whether the text is accepted. The note gets the warnings
 /// about the text.
 fn checked_line<'a, F: Files>(
-    desk: &mut Desk,
+    cache: &mut InputCache,
     asked: Judging<'a>,
     files: &mut F,
     note: &mut Vec<u8>,
-) -> Result<Checked, Stop<'a>>
+) -> Result<Checked, Failure<'a>>
     ensures kept { F.holds files.new ≡ F.holds files.old }
     ensures told { IfOk result (λ checked. checked.is_accepted ≡ true → OfFiles (F.holds files.old)
         asked.entry.compilation (ToldJson (judgement_of asked.entry)) checked.line) }
     ensures refused { IfOk result (λ checked. checked.is_accepted ≡ false
         → OfFiles (F.holds files.old) asked.entry.compilation
         (ToldRefusal (judgement_of asked.entry)) checked.line) }
-    ensures stopped { IfErr result (StopsBy
+    ensures failed { IfErr result (FailsBy
         (RefusesLattice (F.holds files.old) asked.entry.compilation.lattice.now) NoOther) }
 {
-    let (classes, text) = policy_and_text(desk, asked.compilation, files)?;
-    put_warnings(desk.alloc, asked, &classes, &text, note)?;
-    let checked = check_json(desk.alloc, judgement(asked), &classes, text.as_slice())?;
+    let (classes, text) = policy_and_text(cache, asked.compilation, files)?;
+    put_warnings(cache.alloc, asked, &classes, &text, note)?;
+    let checked = check_json(cache.alloc, judgement(asked), &classes, text.as_slice())?;
     Ok(checked)
 }
 
 /// Writes whether the source text is accepted as a line of JSON.
 pub(crate) fn check_as_json<'a, F: Files, W: Write>(
-    desk: &mut Desk,
+    cache: &mut InputCache,
     asked: Judging<'a>,
     files: &mut F,
     output: &mut Counted<W>,
     note: &mut Vec<u8>,
-) -> Result<(), Stop<'a>>
+) -> Result<(), Failure<'a>>
     requires { faults_of output.old < u64.MAX }
     ensures kept { F.holds files.new ≡ F.holds files.old }
     ensures fault { TellsFault (faults_of output.old) (faults_of output.new) result }
@@ -146,28 +146,28 @@ pub(crate) fn check_as_json<'a, F: Files, W: Write>(
     ensures performed { OnOk result (Writes (OfFiles (F.holds files.old) asked.entry.compilation
         (ToldJson (judgement_of asked.entry)))
         (W.contents (device_of output.old)) (W.contents (device_of output.new))) }
-    ensures stopped { IfErr result (WhyCheck true (F.holds files.old) asked.entry
+    ensures failed { IfErr result (WhyCheck true (F.holds files.old) asked.entry
         (W.contents (device_of output.old)) (W.contents (device_of output.new))) }
 {
-    let checked = checked_line(desk, asked, files, note)?;
+    let checked = checked_line(cache, asked, files, note)?;
     write_answer(&checked.line, checked.is_accepted, output)
 }
 
 /// The class of each declaration of the source text.
 pub(crate) fn classes<'a, F: Files>(
-    desk: &mut Desk,
+    cache: &mut InputCache,
     compilation: Compilation<'a>,
     files: &mut F,
-) -> Result<Vec<u8>, Stop<'a>>
+) -> Result<Vec<u8>, Failure<'a>>
     ensures kept { F.holds files.new ≡ F.holds files.old }
     ensures told { IfOk result (OfFiles (F.holds files.old) compilation.entry
         (ToldClasses compilation.entry.is_strict)) }
-    ensures stopped { IfErr result (StopsBy (RefusesFiles (F.holds files.old) compilation.entry
+    ensures failed { IfErr result (FailsBy (RefusesFiles (F.holds files.old) compilation.entry
         (AsksClasses compilation.entry.is_strict)) NoOther) }
 {
-    let (classes, text) = policy_and_text(desk, compilation, files)?;
+    let (classes, text) = policy_and_text(cache, compilation, files)?;
     let profile = profile(compilation.is_strict);
-    answered(vsi_answers::classes(desk.alloc, profile, &classes, text.as_slice()))
+    answered(vsi_answers::classes(cache.alloc, profile, &classes, text.as_slice()))
 }
 
 /// The flows between the declared variables of a text, each with a walk if requested.
@@ -189,21 +189,21 @@ fn listed_flows(
 
 /// The flows between the declared variables of the source text, each with a walk if requested.
 pub(crate) fn flows<'a, F: Files>(
-    desk: &mut Desk,
+    cache: &mut InputCache,
     compilation: Compilation<'a>,
     has_walks: bool,
     files: &mut F,
-) -> Result<Vec<u8>, Stop<'a>>
+) -> Result<Vec<u8>, Failure<'a>>
     ensures kept { F.holds files.new ≡ F.holds files.old }
     ensures told { IfOk result (OfFiles (F.holds files.old) compilation.entry
         (ToldFlows has_walks compilation.entry.is_strict)) }
-    ensures stopped { IfErr result (StopsBy (RefusesFiles (F.holds files.old) compilation.entry
+    ensures failed { IfErr result (FailsBy (RefusesFiles (F.holds files.old) compilation.entry
         (AsksFlows has_walks compilation.entry.is_strict)) NoOther) }
 {
-    let (classes, text) = policy_and_text(desk, compilation, files)?;
+    let (classes, text) = policy_and_text(cache, compilation, files)?;
     let source = text.as_slice();
     answered(listed_flows(
-        desk.alloc,
+        cache.alloc,
         has_walks,
         compilation.is_strict,
         &classes,
@@ -231,21 +231,21 @@ fn raised(
 /// A line for each class of the source text that has to rise, or the text with these classes if
 /// requested.
 pub(crate) fn mend<'a, F: Files>(
-    desk: &mut Desk,
+    cache: &mut InputCache,
     compilation: Compilation<'a>,
     is_applied: bool,
     files: &mut F,
-) -> Result<Vec<u8>, Stop<'a>>
+) -> Result<Vec<u8>, Failure<'a>>
     ensures kept { F.holds files.new ≡ F.holds files.old }
     ensures told { IfOk result (OfFiles (F.holds files.old) compilation.entry
         (ToldRaises false is_applied compilation.entry.is_strict)) }
-    ensures stopped { IfErr result (StopsBy (RefusesFiles (F.holds files.old) compilation.entry
+    ensures failed { IfErr result (FailsBy (RefusesFiles (F.holds files.old) compilation.entry
         (AsksMend is_applied compilation.entry.is_strict)) NoOther) }
 {
-    let (classes, text) = policy_and_text(desk, compilation, files)?;
+    let (classes, text) = policy_and_text(cache, compilation, files)?;
     let source = text.as_slice();
     answered(raised(
-        desk.alloc,
+        cache.alloc,
         is_applied,
         compilation.is_strict,
         &classes,
@@ -255,10 +255,10 @@ pub(crate) fn mend<'a, F: Files>(
 
 /// The raises as a line of JSON, and whether they serve.
 fn mended_line<'a, F: Files>(
-    desk: &mut Desk,
+    cache: &mut InputCache,
     asked: Mending<'a>,
     files: &mut F,
-) -> Result<Mended, Stop<'a>>
+) -> Result<Mended, Failure<'a>>
     ensures kept { F.holds files.new ≡ F.holds files.old }
     ensures told { IfOk result (λ mended. mended.is_served ≡ true → OfFiles (F.holds files.old)
         asked.entry.compilation (ToldRaises true asked.entry.is_applied
@@ -266,22 +266,22 @@ fn mended_line<'a, F: Files>(
     ensures unserved { IfOk result (λ mended. mended.is_served ≡ false
         → OfFiles (F.holds files.old) asked.entry.compilation
         (ToldUnserved (profile_of asked.entry.compilation.is_strict)) mended.line) }
-    ensures stopped { IfErr result (StopsBy
+    ensures failed { IfErr result (FailsBy
         (RefusesLattice (F.holds files.old) asked.entry.compilation.lattice.now) NoOther) }
 {
-    let (classes, text) = policy_and_text(desk, asked.compilation, files)?;
+    let (classes, text) = policy_and_text(cache, asked.compilation, files)?;
     let profile = profile(asked.compilation.is_strict);
-    let mended = mend_json(desk.alloc, profile, &classes, text.as_slice())?;
+    let mended = mend_json(cache.alloc, profile, &classes, text.as_slice())?;
     Ok(mended)
 }
 
 /// Writes the raises as a line of JSON.
 pub(crate) fn mend_as_json<'a, F: Files, W: Write>(
-    desk: &mut Desk,
+    cache: &mut InputCache,
     asked: Mending<'a>,
     files: &mut F,
     output: &mut Counted<W>,
-) -> Result<(), Stop<'a>>
+) -> Result<(), Failure<'a>>
     requires { faults_of output.old < u64.MAX }
     ensures kept { F.holds files.new ≡ F.holds files.old }
     ensures fault { TellsFault (faults_of output.old) (faults_of output.new) result }
@@ -289,75 +289,75 @@ pub(crate) fn mend_as_json<'a, F: Files, W: Write>(
         (W.contents (device_of output.old)) (W.contents (device_of output.new))) }
     ensures performed { OnOk result (PerformsMend true (F.holds files.old) asked.entry
         (W.contents (device_of output.old)) (W.contents (device_of output.new))) }
-    ensures stopped { IfErr result (WhyMend true (F.holds files.old) asked.entry
+    ensures failed { IfErr result (WhyMend true (F.holds files.old) asked.entry
         (W.contents (device_of output.old)) (W.contents (device_of output.new))) }
 {
-    let mended = mended_line(desk, asked, files)?;
+    let mended = mended_line(cache, asked, files)?;
     write_answer(&mended.line, mended.is_served, output)
 }
 
 /// The bytes of the image of the source text.
 pub(crate) fn built<'a, F: Files>(
-    desk: &mut Desk,
+    cache: &mut InputCache,
     compilation: Compilation<'a>,
     files: &mut F,
-) -> Result<Vec<u8>, Stop<'a>>
+) -> Result<Vec<u8>, Failure<'a>>
     ensures kept { F.holds files.new ≡ F.holds files.old }
     ensures told { IfOk result (OfFiles (F.holds files.old) compilation.entry
         (ToldImage compilation.entry.is_strict)) }
-    ensures stopped { IfErr result (StopsBy (RefusesFiles (F.holds files.old) compilation.entry
+    ensures failed { IfErr result (FailsBy (RefusesFiles (F.holds files.old) compilation.entry
         (AsksImage compilation.entry.is_strict)) NoOther) }
 {
-    let (classes, text) = policy_and_text(desk, compilation, files)?;
+    let (classes, text) = policy_and_text(cache, compilation, files)?;
     let profile = profile(compilation.is_strict);
-    answered(vsi_answers::build(desk.alloc, profile, &classes, text.as_slice()))
+    answered(vsi_answers::build(cache.alloc, profile, &classes, text.as_slice()))
 }
 
 /// Compiles the source text, and then fills the image file with the image's bytes.
 pub(crate) fn build<'a, F: Files>(
-    desk: &mut Desk,
+    cache: &mut InputCache,
     compilation: Compilation<'a>,
     image: &'a str,
     files: &mut F,
-) -> Result<(), Stop<'a>>
-    ensures unfilled { IfErr result (λ stop. status_of stop < 4
+) -> Result<(), Failure<'a>>
+    ensures unfilled { IfErr result (λ failure. status_of failure < 4
         → F.holds files.new ≡ F.holds files.old) }
     ensures filled { OnOk result
         (BuildsFile (F.holds files.old) compilation.entry image.now (F.holds files.new)) }
-    ensures stopped { IfErr result (StopsBy (RefusesFiles (F.holds files.old) compilation.entry
+    ensures failed { IfErr result (FailsBy (RefusesFiles (F.holds files.old) compilation.entry
         (AsksImage compilation.entry.is_strict)) NoOther) }
 {
-    let bytes = built(desk, compilation, files)?;
+    let bytes = built(cache, compilation, files)?;
     fill(bytes.as_slice(), image, files)
 }
 
 /// The listing of the image.
 pub(crate) fn list<'a, F: Files>(
-    desk: &mut Desk,
+    cache: &mut InputCache,
     image: &'a str,
     files: &mut F,
-) -> Result<Vec<u8>, Stop<'a>>
+) -> Result<Vec<u8>, Failure<'a>>
     ensures kept { F.holds files.new ≡ F.holds files.old }
     ensures told { IfOk result (OfFile (F.holds files.old) image.now ToldListing) }
-    ensures stopped { IfErr result
-        (StopsBy (RefusesFile (F.holds files.old) image.now ListsTo) NoOther) }
+    ensures failed { IfErr result
+        (FailsBy (RefusesFile (F.holds files.old) image.now ListsTo) NoOther) }
 {
-    let bytes = bytes_in(desk, Kind::Image, image, files)?;
-    Ok(vsi_answers::list(desk.alloc, bytes.as_slice())?)
+    let bytes = bytes_in(cache, InputKind::Image, image, files)?;
+    Ok(vsi_answers::list(cache.alloc, bytes.as_slice())?)
 }
 
 /// The canonical text of the source text.
 pub(crate) fn format<'a, F: Files>(
-    desk: &mut Desk,
+    cache: &mut InputCache,
     source: &'a str,
     files: &mut F,
-) -> Result<Vec<u8>, Stop<'a>>
+) -> Result<Vec<u8>, Failure<'a>>
     ensures kept { F.holds files.new ≡ F.holds files.old }
     ensures told { IfOk result (OfFile (F.holds files.old) source.now ToldCanonical) }
-    ensures stopped { IfErr result
-        (StopsBy (RefusesFile (F.holds files.old) source.now AsksCanonical) NoOther) }
+    ensures failed { IfErr result
+        (FailsBy (RefusesFile (F.holds files.old) source.now AsksCanonical) NoOther) }
 {
-    let bytes = bytes_in(desk, Kind::Source, source, files)?;
-    let classes = two_classes(desk.alloc)?;
-    answered(vsi_answers::format(desk.alloc, &classes, bytes.as_slice()))
+    let bytes = bytes_in(cache, InputKind::Source, source, files)?;
+    let classes = two_classes(cache.alloc)?;
+    answered(vsi_answers::format(cache.alloc, &classes, bytes.as_slice()))
 }

@@ -1,7 +1,7 @@
 //! The answer of `try`: the output of the run of a source text, or why there is none.
 
 ghost use Rattle.std.specs.Prelude.{◌≡◌, IfErr, IfOk, IfSome, Ok, Err, length};
-ghost use Rattle.vsi.specs.Refusals.{NoOther, RefusesLattice, StopsBy};
+ghost use Rattle.vsi.specs.Refusals.{NoOther, RefusesLattice, FailsBy};
 ghost use Rattle.vsi.specs.Reasons.{LacksGiven, LacksTried, RefusesNamed, RefusesRun, RefusesUnder, WhyTry};
 ghost use Rattle.vsi.specs.Tried.{BeginsSet, IsMade, IsNamedLattice, IsTriedUnder, Looks, RunsMade, ShowsTo, TriesFile, policy_path};
 ghost use Rattle.vsi.specs.Holding.{IsLatticeAt};
@@ -11,12 +11,12 @@ ghost use Rattle.vsi_lattice.specs.Order.{IsClass};
 ghost use Rattle.vsi_policy.specs.Named as named;
 ghost use Rattle.vsi_types.specs.declared.rules.Profile.TheVariants.{Base};
 
+use crate::cache::{InputCache, InputKind};
 use crate::conformance::named_bytes;
-use crate::desk::{Desk, Kind};
+use crate::failure::Failure;
 use crate::files::Files;
 use crate::reading::{answered, bytes_in, class_in, declared_lattice, lattice_in, two_classes};
 use crate::running::keep_settings;
-use crate::stop::Stop;
 use std::alloc::Global;
 use vsi_answers::{judged_image, start_words};
 use vsi_arguments::Attempt;
@@ -27,65 +27,65 @@ use vsi_types::Profile;
 
 /// The lattice of a file that is named beside a source text.
 fn lattice_beside<'a, F: Files>(
-    desk: &mut Desk,
+    cache: &mut InputCache,
     source: &str,
     path: &[u8],
     files: &mut F,
-) -> Result<Lattice, Stop<'a>>
+) -> Result<Lattice, Failure<'a>>
     ensures kept { F.holds files.new ≡ F.holds files.old }
     ensures read { IfOk result
         (IsLatticeAt (F.holds files.old) (policy_path source.now path.now)) }
-    ensures stopped { IfErr result (StopsBy
+    ensures failed { IfErr result (FailsBy
         (RefusesLattice (F.holds files.old) (policy_path source.now path.now)) NoOther) }
 {
-    let bytes = named_bytes(desk, source, path, files)?;
-    declared_lattice(desk.alloc, bytes.as_slice())
+    let bytes = named_bytes(cache, source, path, files)?;
+    declared_lattice(cache.alloc, bytes.as_slice())
 }
 
 /// The lattice of the file that a text names, or `L` below `H` if it names none.
 fn own_lattice<'a, F: Files>(
-    desk: &mut Desk,
+    cache: &mut InputCache,
     source: &str,
     text: &[u8],
     files: &mut F,
-) -> Result<Lattice, Stop<'a>>
+) -> Result<Lattice, Failure<'a>>
     ensures kept { F.holds files.new ≡ F.holds files.old }
     ensures declared { IfOk result
         (IsNamedLattice (F.holds files.old) source.now (named.named_policy text.now)) }
-    ensures stopped { IfErr result (StopsBy
+    ensures failed { IfErr result (FailsBy
         (RefusesNamed (F.holds files.old) source.now (named.named_policy text.now)) NoOther) }
 {
     match named_policy(text) {
-        Some(path) => lattice_beside(desk, source, path, files),
-        None => two_classes(desk.alloc),
+        Some(path) => lattice_beside(cache, source, path, files),
+        None => two_classes(cache.alloc),
     }
 }
 
 /// The lattice that a text is tried under: that of the given file, or else the text's own.
 fn lattice_for<'a, F: Files>(
-    desk: &mut Desk,
+    cache: &mut InputCache,
     lattice: Option<&'a str>,
     source: &str,
     text: &[u8],
     files: &mut F,
-) -> Result<Lattice, Stop<'a>>
+) -> Result<Lattice, Failure<'a>>
     ensures kept { F.holds files.new ≡ F.holds files.old }
     ensures declared { IfOk result
         (IsTriedUnder (F.holds files.old) lattice.entry source.now text.now) }
-    ensures stopped { IfErr result (StopsBy
+    ensures failed { IfErr result (FailsBy
         (RefusesUnder (F.holds files.old) lattice.entry source.now text.now) NoOther) }
 {
     match lattice {
-        Some(path) => lattice_in(desk, path, files),
-        None => own_lattice(desk, source, text, files),
+        Some(path) => lattice_in(cache, path, files),
+        None => own_lattice(cache, source, text, files),
     }
 }
 
 /// The class of the viewer, if one is given.
-fn viewer_of<'a>(lattice: &Lattice, name: Option<&'a str>) -> Result<Option<Class>, Stop<'a>>
+fn viewer_of<'a>(lattice: &Lattice, name: Option<&'a str>) -> Result<Option<Class>, Failure<'a>>
     ensures within { IfOk result (λ viewer. IfSome viewer (IsClass (order lattice.now))) }
     ensures looks { IfOk result (Looks lattice.now name.entry) }
-    ensures stopped { IfErr result (StopsBy (λ reason. ⊥) (LacksGiven lattice.now name.entry)) }
+    ensures failed { IfErr result (FailsBy (λ reason. ⊥) (LacksGiven lattice.now name.entry)) }
 {
     match name {
         Some(name) => {
@@ -98,38 +98,38 @@ fn viewer_of<'a>(lattice: &Lattice, name: Option<&'a str>) -> Result<Option<Clas
 
 /// The image made from a text, whose bytes are kept for an explanation.
 pub(crate) fn made_image<'a>(
-    desk: &mut Desk,
+    cache: &mut InputCache,
     lattice: &Lattice,
     source: &str,
     text: &[u8],
-) -> Result<Verified, Stop<'a>>
+) -> Result<Verified, Failure<'a>>
     ensures made { IfOk result (IsMade lattice.now text.now) }
-    ensures stopped { IfErr result
-        (StopsBy (λ reason. BuildsTo lattice.now Base text.now (Err reason)) NoOther) }
+    ensures failed { IfErr result
+        (FailsBy (λ reason. BuildsTo lattice.now Base text.now (Err reason)) NoOther) }
 {
-    let bytes = answered(vsi_answers::build(desk.alloc, Profile::Base, lattice, text))?;
+    let bytes = answered(vsi_answers::build(cache.alloc, Profile::Base, lattice, text))?;
     let image = bytes.as_slice();
-    desk.keep(Kind::Image, source, image)?;
-    match judged_image(desk.alloc, image) {
+    cache.keep(InputKind::Image, source, image)?;
+    match judged_image(cache.alloc, image) {
         Ok(verified) => Ok(verified),
         // The bytes just built are an image's, so only memory can run out.
-        Err(_) => Err(Stop::Memory),
+        Err(_) => Err(Failure::Memory),
     }
 }
 
 /// The words that an image begins with, from the settings.
 fn words_set<'a>(
-    desk: &mut Desk,
+    cache: &mut InputCache,
     verified: &Verified,
     settings: &[&[u8]],
-) -> Result<Vec<i64>, Stop<'a>>
+) -> Result<Vec<i64>, Failure<'a>>
     ensures len { IfOk result (λ words. length words.items ≡ length verified.now.globals.items) }
     ensures begins { IfOk result (λ words. BeginsSet verified.now settings.now (Ok words)) }
-    ensures stopped { IfErr result
-        (StopsBy (λ reason. BeginsSet verified.now settings.now (Err reason)) NoOther) }
+    ensures failed { IfErr result
+        (FailsBy (λ reason. BeginsSet verified.now settings.now (Err reason)) NoOther) }
 {
-    keep_settings(desk, settings)?;
-    Ok(start_words(desk.alloc, verified, b"", settings, false)?)
+    keep_settings(cache, settings)?;
+    Ok(start_words(cache.alloc, verified, b"", settings, false)?)
 }
 
 /// The output of the run of an image: each global, or those that a class may see.
@@ -140,12 +140,12 @@ fn shown<'a>(
     verified: &Verified,
     words: &[i64],
     budget: u64,
-) -> Result<Vec<u8>, Stop<'a>>
+) -> Result<Vec<u8>, Failure<'a>>
     requires viewer { IfSome viewer (IsClass (order lattice.now)) }
     requires words { length words.now ≡ length verified.now.globals.items }
     ensures shows { IfOk result
         (λ lines. ShowsTo lattice.now viewer verified.now words.now budget (Ok lines)) }
-    ensures stopped { IfErr result (StopsBy
+    ensures failed { IfErr result (FailsBy
         (λ reason. ShowsTo lattice.now viewer verified.now words.now budget (Err reason)) NoOther) }
 {
     match viewer {
@@ -159,23 +159,23 @@ fn shown<'a>(
 
 /// The output of the run of the image made from a text.
 fn ran<'a>(
-    desk: &mut Desk,
+    cache: &mut InputCache,
     attempt: &Attempt<'a>,
     lattice: &Lattice,
     viewer: Option<Class>,
     text: &[u8],
-) -> Result<Vec<u8>, Stop<'a>>
+) -> Result<Vec<u8>, Failure<'a>>
     requires viewer { IfSome viewer (IsClass (order lattice.now)) }
     ensures runs { IfOk result
         (λ lines. RunsMade lattice.now viewer attempt.now text.now (Ok lines)) }
-    ensures stopped { IfErr result
-        (StopsBy (RefusesRun lattice.now viewer attempt.now text.now) NoOther) }
+    ensures failed { IfErr result
+        (FailsBy (RefusesRun lattice.now viewer attempt.now text.now) NoOther) }
 {
-    let verified = made_image(desk, lattice, attempt.source, text)?;
-    let words = words_set(desk, &verified, attempt.settings.as_slice())?;
+    let verified = made_image(cache, lattice, attempt.source, text)?;
+    let words = words_set(cache, &verified, attempt.settings.as_slice())?;
     let budget = attempt.budget;
     shown(
-        desk.alloc,
+        cache.alloc,
         lattice,
         viewer,
         &verified,
@@ -186,18 +186,18 @@ fn ran<'a>(
 
 /// The output of the run of the source text.
 pub(crate) fn try_source<'a, F: Files>(
-    desk: &mut Desk,
+    cache: &mut InputCache,
     attempt: &Attempt<'a>,
     files: &mut F,
-) -> Result<Vec<u8>, Stop<'a>>
+) -> Result<Vec<u8>, Failure<'a>>
     ensures kept { F.holds files.new ≡ F.holds files.old }
     ensures told { IfOk result (TriesFile (F.holds files.old) attempt.now) }
-    ensures stopped { IfErr result (StopsBy (WhyTry (F.holds files.old) attempt.now)
+    ensures failed { IfErr result (FailsBy (WhyTry (F.holds files.old) attempt.now)
         (LacksTried (F.holds files.old) attempt.now)) }
 {
-    let bytes = bytes_in(desk, Kind::Source, attempt.source, files)?;
+    let bytes = bytes_in(cache, InputKind::Source, attempt.source, files)?;
     let text = bytes.as_slice();
-    let lattice = lattice_for(desk, attempt.lattice, attempt.source, text, files)?;
+    let lattice = lattice_for(cache, attempt.lattice, attempt.source, text, files)?;
     let viewer = viewer_of(&lattice, attempt.class)?;
-    ran(desk, attempt, &lattice, viewer, text)
+    ran(cache, attempt, &lattice, viewer, text)
 }

@@ -21,6 +21,6 @@ pub use error::ArgumentsError;
 pub use reader::request_of;
 pub use request::{
     Asked, Attempt, Audit, Bounding, Budget, Colour, Comparison, Compilation, Conformance,
-    Document, Drawing, Driving, EVERY, Emission, Execution, Judging, Layout, Looking, Manner,
-    Mending, NameLists, Outset, RUNS_BUDGET, Request, SEARCH, Search, Serving, TRY_BUDGET,
+    Document, Drawing, Driving, EVERY, Emission, Execution, InitialStore, Judging, Layout, Looking,
+    Mending, NameLists, RUNS_BUDGET, Reporting, Request, SEARCH, Search, Serving, TRY_BUDGET,
 };

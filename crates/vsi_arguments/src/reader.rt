@@ -88,11 +88,11 @@ fn judged<'a>(
     if let Some(limit) = wrong_number(name, inner) {
         return Ok(Err(Mistake::NoNumber(limit)));
     }
-    let manner = manner_in(inner);
+    let reporting = reporting_in(inner);
     match named(alloc, name, inner)? {
         Ok(request) => Ok(Ok(Asked {
             request,
-            manner,
+            reporting,
             is_forced: inner.get_flag("force"),
         })),
         Err(mistake) => Ok(Err(mistake)),
@@ -100,14 +100,14 @@ fn judged<'a>(
 }
 
 /// How a refusal is reported.
-fn manner_in<'a>(matches: &ArgMatches<'a>) -> Manner {
+fn reporting_in<'a>(matches: &ArgMatches<'a>) -> Reporting {
     if !matches.get_flag("explain") {
-        return Manner::Fixed;
+        return Reporting::Fixed;
     }
     match text(matches, "color") {
-        "always" => Manner::Explained(Colour::Always),
-        "never" => Manner::Explained(Colour::Never),
-        _ => Manner::Explained(Colour::Auto),
+        "always" => Reporting::Explained(Colour::Always),
+        "never" => Reporting::Explained(Colour::Never),
+        _ => Reporting::Explained(Colour::Auto),
     }
 }
 
@@ -226,7 +226,7 @@ fn try_request<'a>(alloc: Global, matches: &ArgMatches<'a>) -> Result<Request<'a
 fn run_request<'a>(alloc: Global, matches: &ArgMatches<'a>) -> Result<Request<'a>, AllocError> {
     Ok(Request::Run {
         execution: execution_in(matches),
-        outset: outset_in(alloc, matches)?,
+        initial_store: initial_store_in(alloc, matches)?,
         has_trace: matches.get_flag("trace"),
         has_count: matches.get_flag("count"),
     })
@@ -237,7 +237,7 @@ fn view_request<'a>(alloc: Global, matches: &ArgMatches<'a>) -> Result<Request<'
         lattice: text(matches, "LATTICE"),
         class: text(matches, "class"),
         execution: execution_in(matches),
-        outset: outset_in(alloc, matches)?,
+        initial_store: initial_store_in(alloc, matches)?,
     })
 }
 
@@ -287,8 +287,11 @@ fn format_request<'a>(matches: &ArgMatches<'a>) -> Result<Request<'a>, Mistake> 
     }))
 }
 
-fn outset_in<'a>(alloc: Global, matches: &ArgMatches<'a>) -> Result<Outset<'a>, AllocError> {
-    Ok(Outset {
+fn initial_store_in<'a>(
+    alloc: Global,
+    matches: &ArgMatches<'a>,
+) -> Result<InitialStore<'a>, AllocError> {
+    Ok(InitialStore {
         settings: texts(alloc, matches, "set")?,
         is_full: matches.get_flag("full-store"),
         out: matches.get_str("out"),

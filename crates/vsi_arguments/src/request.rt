@@ -30,7 +30,7 @@ pub struct Execution<'a> {
 /// `NAME=NUMBER`; whether each global must be in the file or set; and the path of a file that
 /// receives the store's text in place of standard output.
 #[derive(Drop)]
-pub struct Outset<'a> {
+pub struct InitialStore<'a> {
     pub settings: Vec<&'a [u8]>,
     pub is_full: bool,
     pub out: Option<&'a str>,
@@ -219,7 +219,7 @@ pub enum Colour {
 
 /// How a refusal is reported.
 #[derive(Clone, Copy, Debug, PartialEq, Eq)]
-pub enum Manner {
+pub enum Reporting {
     /// By its fixed text alone.
     Fixed,
     /// By its fixed text and an explanation after it.
@@ -231,7 +231,7 @@ pub enum Manner {
 #[derive(Drop)]
 pub struct Asked<'a> {
     pub request: Request<'a>,
-    pub manner: Manner,
+    pub reporting: Reporting,
     pub is_forced: bool,
 }
 
@@ -256,7 +256,7 @@ pub enum Request<'a> {
     Bound(Bounding<'a>),
     Run {
         execution: Execution<'a>,
-        outset: Outset<'a>,
+        initial_store: InitialStore<'a>,
         has_trace: bool,
         has_count: bool,
     },
@@ -264,7 +264,7 @@ pub enum Request<'a> {
         lattice: &'a str,
         class: &'a str,
         execution: Execution<'a>,
-        outset: Outset<'a>,
+        initial_store: InitialStore<'a>,
     },
     Drive(Driving<'a>),
     Compare(Comparison<'a>),

@@ -17,7 +17,7 @@ use Rattle.vsi_arguments.specs.declared.request.Judging.{Judging}
 use Rattle.vsi_arguments.specs.declared.request.Layout.{Layout as Laid}
 use Rattle.vsi_arguments.specs.declared.request.Mending.{Mending}
 use Rattle.vsi_arguments.specs.declared.request.NameLists.{NameLists}
-use Rattle.vsi_arguments.specs.declared.request.Outset.{Outset}
+use Rattle.vsi_arguments.specs.declared.request.InitialStore.{InitialStore}
 use Rattle.vsi_arguments.specs.declared.request.Request.{Request}
 use Rattle.vsi_arguments.specs.declared.request.Request.TheVariants.{Try, Lsp, Check, Document as Documented, Conform, Classes, Flows, Mend, Build, List as Listing, Audit, Source, EmitC, Bound, Run, View, Drive, Compare, Leak, Report, Draw, Policy, Format, Layout, Lattice as Shaped, Explain}
 use Rattle.vsi_arguments.specs.declared.request.TheConstants.{EVERY, RUNS_BUDGET, SEARCH, TRY_BUDGET}
@@ -49,8 +49,8 @@ name_of (Audit audit) = codes "audit"
 name_of (Source image) = codes "source"
 name_of (EmitC emission) = codes "emit-c"
 name_of (Bound bounding) = codes "bound"
-name_of (Run execution outset has_trace has_count) = codes "run"
-name_of (View lattice class execution outset) = codes "view"
+name_of (Run execution initial_store has_trace has_count) = codes "run"
+name_of (View lattice class execution initial_store) = codes "view"
 name_of (Drive driving) = codes "drive"
 name_of (Compare comparison) = codes "compare"
 name_of (Leak search) = codes "leak"
@@ -103,8 +103,8 @@ operands_of (Audit audit) = audited audit
 operands_of (Source image) = image.now ∷ []
 operands_of (EmitC emission) = emission.file.now ∷ []
 operands_of (Bound bounding) = searched bounding
-operands_of (Run execution outset has_trace has_count) = execution.image.now ∷ []
-operands_of (View lattice class execution outset) = lattice.now ∷ execution.image.now ∷ []
+operands_of (Run execution initial_store has_trace has_count) = execution.image.now ∷ []
+operands_of (View lattice class execution initial_store) = lattice.now ∷ execution.image.now ∷ []
 operands_of (Drive driving) = driving.lattice.now ∷ driving.execution.image.now ∷ []
 operands_of (Compare comparison) = comparison.lattice.now ∷ comparison.image.now ∷ []
 operands_of (Leak search) = search.lattice.now ∷ search.source.now ∷ []
@@ -169,9 +169,9 @@ flags_of (Source image) = []
 flags_of (EmitC emission) =
     (codes "--header", emission.is_header) ∷ (codes "--bounded", emission.is_bounded) ∷ []
 flags_of (Bound bounding) = bound_flags false
-flags_of (Run execution outset has_trace has_count) =
-    (codes "--full-store", outset.is_full) ∷ (codes "--trace", has_trace) ∷ (codes "--count", has_count) ∷ []
-flags_of (View lattice class execution outset) = (codes "--full-store", outset.is_full) ∷ []
+flags_of (Run execution initial_store has_trace has_count) =
+    (codes "--full-store", initial_store.is_full) ∷ (codes "--trace", has_trace) ∷ (codes "--count", has_count) ∷ []
+flags_of (View lattice class execution initial_store) = (codes "--full-store", initial_store.is_full) ∷ []
 flags_of (Drive driving) =
     (codes "--full-store", driving.is_full) ∷ (codes "--unbounded", driving.is_unbounded) ∷ []
 flags_of (Compare comparison) = []
@@ -188,10 +188,10 @@ flags_of (Lsp serving) = (codes "--strict", serving.is_strict) ∷ []
 flags_of (Explain page) = []
 
 -- The options for a run's beginning and end, each with its values.
-abbrev pub starting : Execution → Outset → List (List ℕ × List (List ℕ))
-starting execution outset =
-    (codes "--store", given execution.store) ∷ (codes "--out", given outset.out)
-    ∷ (codes "--set", shown outset.settings.items) ∷ []
+abbrev pub starting : Execution → InitialStore → List (List ℕ × List (List ℕ))
+starting execution initial_store =
+    (codes "--store", given execution.store) ∷ (codes "--out", given initial_store.out)
+    ∷ (codes "--set", shown initial_store.settings.items) ∷ []
 
 -- The options that bound a controller, each with its values.
 abbrev pub bounding : NameLists → List (List ℕ × List (List ℕ))
@@ -206,8 +206,8 @@ options_of (Try attempt) =
     ∷ (codes "--set", shown attempt.settings.items) ∷ []
 options_of (EmitC emission) =
     (codes "--lattice", given emission.lattice) ∷ (codes "--name", given emission.name) ∷ []
-options_of (Run execution outset has_trace has_count) = starting execution outset
-options_of (View lattice class execution outset) = (codes "--class", class.now ∷ []) ∷ starting execution outset
+options_of (Run execution initial_store has_trace has_count) = starting execution initial_store
+options_of (View lattice class execution initial_store) = (codes "--class", class.now ∷ []) ∷ starting execution initial_store
 options_of (Drive driving) =
     (codes "--class", driving.class.now ∷ []) ∷ (codes "--store", given driving.execution.store)
     ∷ (codes "--save", given driving.save) ∷ bounding driving.lists
@@ -227,8 +227,8 @@ budgeted budget = (codes "--budget", None, budget) ∷ []
 abbrev pub numbers_of : Request → List (List ℕ × Option Budget × Budget)
 numbers_of (Try attempt) = (codes "--budget", Some (Number TRY_BUDGET), Number attempt.budget) ∷ []
 numbers_of (Conform conformance) = (codes "--budget", Some (Number RUNS_BUDGET), Number conformance.budget) ∷ []
-numbers_of (Run execution outset has_trace has_count) = budgeted execution.budget
-numbers_of (View lattice class execution outset) = budgeted execution.budget
+numbers_of (Run execution initial_store has_trace has_count) = budgeted execution.budget
+numbers_of (View lattice class execution initial_store) = budgeted execution.budget
 numbers_of (Drive driving) =
     (codes "--budget", Some Auto, driving.execution.budget)
     ∷ (codes "--save-every", Some (Number EVERY), Number driving.every) ∷ []
@@ -303,8 +303,8 @@ Spells words request =
 -- file is written, the one that lets it replace a file of another kind.
 abbrev pub free_flags : Request → List (List ℕ)
 free_flags (Build compilation image) = codes "--explain" ∷ codes "--force" ∷ []
-free_flags (Run execution outset has_trace has_count) = codes "--explain" ∷ codes "--force" ∷ []
-free_flags (View lattice class execution outset) = codes "--explain" ∷ codes "--force" ∷ []
+free_flags (Run execution initial_store has_trace has_count) = codes "--explain" ∷ codes "--force" ∷ []
+free_flags (View lattice class execution initial_store) = codes "--explain" ∷ codes "--force" ∷ []
 free_flags (Drive driving) = codes "--explain" ∷ codes "--force" ∷ []
 free_flags request = codes "--explain" ∷ []
 

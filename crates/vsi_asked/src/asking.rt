@@ -11,8 +11,8 @@ use crate::own::has_own_alone;
 use crate::reading::{has_flag, has_operands, has_values};
 use vsi_arguments::{
     Attempt, Audit, Bounding, Comparison, Compilation, Conformance, Document, Drawing, Driving,
-    EVERY, Emission, Execution, Judging, Layout, Looking, Mending, NameLists, Outset, RUNS_BUDGET,
-    Request, SEARCH, Search, Serving, TRY_BUDGET,
+    EVERY, Emission, Execution, InitialStore, Judging, Layout, Looking, Mending, NameLists,
+    RUNS_BUDGET, Request, SEARCH, Search, Serving, TRY_BUDGET,
 };
 use vsi_explain::{page, subject_page};
 
@@ -101,13 +101,17 @@ pub(crate) fn asks_compilation(
 }
 
 /// Whether the arguments say how a run begins and where its text goes.
-fn has_outset(words: &[String], execution: &Execution<'_>, outset: &Outset<'_>) -> bool
+fn has_initial_store(
+    words: &[String],
+    execution: &Execution<'_>,
+    initial_store: &InitialStore<'_>,
+) -> bool
     ensures { result ≡ true
-        → spec.HasOptions (texts words.now) (spec.starting execution.now outset.now) }
+        → spec.HasOptions (texts words.now) (spec.starting execution.now initial_store.now) }
 {
     has_value(words, "--store", execution.store)
-        && has_value(words, "--out", outset.out)
-        && has_values(words, b"--set", outset.settings.as_slice())
+        && has_value(words, "--out", initial_store.out)
+        && has_values(words, b"--set", initial_store.settings.as_slice())
 }
 
 /// Whether the arguments give these lists of names.
@@ -137,23 +141,23 @@ fn asks_try(words: &[String], attempt: &Attempt<'_>) -> bool
 fn asks_run(
     words: &[String],
     execution: &Execution<'_>,
-    outset: &Outset<'_>,
+    initial_store: &InitialStore<'_>,
     has_trace: bool,
     has_count: bool,
 ) -> bool
     ensures { result ≡ true
-        → spec.Spells words.now (request.Run execution.now outset.now has_trace has_count) }
+        → spec.Spells words.now (request.Run execution.now initial_store.now has_trace has_count) }
 {
     let operands = [execution.image.as_bytes()];
     let flags = [
-        ("--full-store", outset.is_full),
+        ("--full-store", initial_store.is_full),
         ("--trace", has_trace),
         ("--count", has_count),
     ];
     let Some(rest) = behind(words, "run", operands.as_slice(), flags.as_slice()) else {
         return false;
     };
-    has_outset(rest, execution, outset) && has_budget(rest, execution.budget)
+    has_initial_store(rest, execution, initial_store) && has_budget(rest, execution.budget)
 }
 
 /// Whether the arguments request a view.
@@ -162,18 +166,18 @@ fn asks_view(
     lattice: &str,
     class: &str,
     execution: &Execution<'_>,
-    outset: &Outset<'_>,
+    initial_store: &InitialStore<'_>,
 ) -> bool
     ensures { result ≡ true → spec.Spells words.now
-        (request.View lattice.entry class.entry execution.now outset.now) }
+        (request.View lattice.entry class.entry execution.now initial_store.now) }
 {
     let operands = [lattice.as_bytes(), execution.image.as_bytes()];
-    let flags = [("--full-store", outset.is_full)];
+    let flags = [("--full-store", initial_store.is_full)];
     let Some(rest) = behind(words, "view", operands.as_slice(), flags.as_slice()) else {
         return false;
     };
     has_value(rest, "--class", Some(class))
-        && has_outset(rest, execution, outset)
+        && has_initial_store(rest, execution, initial_store)
         && has_budget(rest, execution.budget)
 }
 
@@ -449,16 +453,16 @@ fn spells(words: &[String], request: &Request<'_>) -> bool
         Request::Bound(bounding) => asks_bound(words, bounding, false),
         Request::Run {
             execution,
-            outset,
+            initial_store,
             has_trace,
             has_count,
-        } => asks_run(words, execution, outset, *has_trace, *has_count),
+        } => asks_run(words, execution, initial_store, *has_trace, *has_count),
         Request::View {
             lattice,
             class,
             execution,
-            outset,
-        } => asks_view(words, lattice, class, execution, outset),
+            initial_store,
+        } => asks_view(words, lattice, class, execution, initial_store),
         Request::Drive(driving) => asks_drive(words, driving),
         Request::Compare(comparison) => asks_compare(words, comparison),
         Request::Leak(search) => asks_leak(words, search),

@@ -59,7 +59,13 @@ const MEND: [&[u8]; 4] = [b"--strict", b"--apply", b"--json", b"--explain"];
 const LAYOUT: [&[u8]; 4] = [b"--keep-comments", b"--check", b"--write", b"--explain"];
 
 /// The flags of `audit`.
-const AUDIT: [&[u8]; 5] = [b"--strict", b"--steady", b"--evidence", b"--json", b"--explain"];
+const AUDIT: [&[u8]; 5] = [
+    b"--strict",
+    b"--steady",
+    b"--evidence",
+    b"--json",
+    b"--explain",
+];
 
 /// The flags of `emit-c`.
 const EMIT_C: [&[u8]; 3] = [b"--header", b"--bounded", b"--explain"];

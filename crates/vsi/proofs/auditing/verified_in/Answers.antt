@@ -9,8 +9,8 @@ pub returns-clause-are : goal.returns-clause-are
 returns-clause-are g c =
     subst (λ b. AreImage b c.in_ok-verified.verified) c.as_slice.ensures.value c.in_ok-verified.ensures.image
 
-pub returns-in_err-verified-clause-stopped : goal.returns-in_err-verified-clause-stopped
-returns-in_err-verified-clause-stopped g c =
+pub returns-in_err-verified-clause-failed : goal.returns-in_err-verified-clause-failed
+returns-in_err-verified-clause-failed g c =
     handed_reason (RefusesImage (g.F.Files.holds c.args.files.now) c.args.path.now) NoOther
     c.in_err-verified.field-0.0 c.from_residual-in_err-verified.result c.from_residual-in_err-verified.ensures.1
     (record {

@@ -2,7 +2,7 @@ use Rattle.std.proofs.Common.{◌≡◌, ◌∙◌, Some, ap, sym}
 use Rattle.vsi_drive.specs.Boundary.{boundary_of}
 use Rattle.vsi_drive.specs.BoundaryFaults.{boundary_fault}
 use Rattle.vsi_drive.specs.Control.{control, controlled}
-use Rattle.vsi.proofs.Undriven.{boundary_stops, controller_stops}
+use Rattle.vsi.proofs.Undriven.{boundary_fails, controller_fails}
 use Rattle.vsi.proofs.boundaries.controller_of.Goals as goal
 
 pub returns-in-Ok-Ok-clause-control : goal.returns-in-Ok-Ok-clause-control
@@ -16,17 +16,17 @@ pub returns-in-Ok-Ok-clause-sound : goal.returns-in-Ok-Ok-clause-sound
 returns-in-Ok-Ok-clause-sound c =
     rw c.in-Ok-Ok.field-0-is at c.in-Ok-Ok.ensures.sound
 
-pub returns-in-Ok-Err-clause-stopped : goal.returns-in-Ok-Err-clause-stopped
-returns-in-Ok-Err-clause-stopped c =
+pub returns-in-Ok-Err-clause-failed : goal.returns-in-Ok-Err-clause-failed
+returns-in-Ok-Err-clause-failed c =
     let made = controlled c.args.classes.now c.args.driver c.args.verified.now c.args.budget in
     let got : boundary_fault (made (boundary_of c.boundary.result)) ≡ Some c.in-Ok-Err.fault =
     rw c.in-Ok-Err.field-0-is at c.in-Ok-Err.ensures.fault in
-    boundary_stops c.args.lists c.args.classes.now c.args.driver c.args.verified.now c.args.budget c.in-Ok-Err.fault
-    c.boundary_stop.result
+    boundary_fails c.args.lists c.args.classes.now c.args.driver c.args.verified.now c.args.budget c.in-Ok-Err.fault
+    c.boundary_failure.result
     (sym (ap (λ b. boundary_fault (made b)) (c.boundary.ensures ∙ c.requires.names)) ∙ got)
-    c.boundary_stop.ensures
+    c.boundary_failure.ensures
 
-pub returns-in-Err-clause-stopped : goal.returns-in-Err-clause-stopped
-returns-in-Err-clause-stopped c =
-    controller_stops c.args.lists c.args.classes.now c.args.driver c.args.verified.now c.args.budget c.in-Err.error
+pub returns-in-Err-clause-failed : goal.returns-in-Err-clause-failed
+returns-in-Err-clause-failed c =
+    controller_fails c.args.lists c.args.classes.now c.args.driver c.args.verified.now c.args.budget c.in-Err.error
     c.faulty.result c.in-Err.ensures.unknown c.faulty.ensures

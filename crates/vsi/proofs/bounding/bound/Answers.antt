@@ -6,8 +6,8 @@ use Rattle.vsi.specs.Partly.{AnswersBound}
 use Rattle.vsi.specs.Refusals.{IsDifference}
 use Rattle.vsi.specs.Reasons.{DiffersBound, WhyEmit}
 use Rattle.vsi.proofs.Partly.{answer_leaves, kept_leaves}
-use Rattle.vsi.proofs.Reasons.{stopped_by}
-use Rattle.vsi.proofs.Unrun.{answer_stopped}
+use Rattle.vsi.proofs.Reasons.{failed_by}
+use Rattle.vsi.proofs.Unrun.{answer_failed}
 use Rattle.vsi.proofs.bounding.bound.Goals as goal
 
 pub returns-clause-performed : goal.returns-clause-performed
@@ -23,24 +23,24 @@ returns-clause-performed g c =
     })
     c.write_answer.ensures.whole
 
-pub returns-in_err-found-clause-stopped : goal.returns-in_err-found-clause-stopped
-returns-in_err-found-clause-stopped g c =
+pub returns-in_err-found-clause-failed : goal.returns-in_err-found-clause-failed
+returns-in_err-found-clause-failed g c =
     let holds = g.F.Files.holds c.args.files.now in
     let why = WhyEmit holds c.args.asked.lattice c.args.asked.file in
     let other = IsDifference (DiffersBound holds c.args.asked (g.W.Write.contents (device_of c.args.output.now))
     (g.W.Write.contents (device_of c.args.output.now))) in
-    stopped_by why why other (λ reason is. is) c.from_residual.result c.in_err-found.field-0.0
-    c.from_residual.ensures.1 c.in_err-found.ensures.stopped
+    failed_by why why other (λ reason is. is) c.from_residual.result c.in_err-found.field-0.0
+    c.from_residual.ensures.1 c.in_err-found.ensures.failed
 
-pub returns-clause-stopped : goal.returns-clause-stopped
-returns-clause-stopped g c =
+pub returns-clause-failed : goal.returns-clause-failed
+returns-clause-failed g c =
     let holds = g.F.Files.holds c.args.files.now in
     let old = g.W.Write.contents (device_of c.args.output.now) in
     let new = g.W.Write.contents (device_of c.write_answer.new.output) in
-    answer_stopped (WhyEmit holds c.args.asked.lattice c.args.asked.file)
+    answer_failed (WhyEmit holds c.args.asked.lattice c.args.asked.file)
     (IsDifference (DiffersBound holds c.args.asked old new))
     ((c.in_ok-found.found.is_bounded ≡ false) × Appends old new c.deref.result.now) c.write_answer.result
-    c.write_answer.ensures.stopped
+    c.write_answer.ensures.failed
     (λ told. (
       refl,
       record {
@@ -62,4 +62,4 @@ returns-clause-left g c =
     answer_leaves (AnswersBound holds c.args.asked)
     ((c.in_ok-found.found.is_bounded ≡ false) × Appends old new c.deref.result.now) old new c.deref.result.now
     c.write_answer.result (c.in_ok-found.found, c.in_ok-found.ensures.told, c.deref.ensures.value)
-    c.write_answer.ensures.stopped c.write_answer.ensures.part
+    c.write_answer.ensures.failed c.write_answer.ensures.part

@@ -7,5 +7,5 @@ returns-in-Number-clause-budget c = rw c.in-Number.is refl
 pub returns-in-Auto-clause-budget : goal.returns-in-Auto-clause-budget
 returns-in-Auto-clause-budget c = rw c.in-Auto.is c.bound_number.ensures.budget
 
-pub returns-in-Auto-clause-stopped : goal.returns-in-Auto-clause-stopped
-returns-in-Auto-clause-stopped c = rw c.in-Auto.is c.bound_number.ensures.stopped
+pub returns-in-Auto-clause-failed : goal.returns-in-Auto-clause-failed
+returns-in-Auto-clause-failed c = rw c.in-Auto.is c.bound_number.ensures.failed

@@ -3,9 +3,9 @@ use Rattle.std.proofs.lemmas.Result.{IfErr-weaker, on_ok_weaker}
 use Rattle.vsi_answers.specs.Requests.{RunsSourceTo}
 use Rattle.vsi_devices.specs.Counted.{device_of}
 use Rattle.vsi_devices.specs.Engine.{IsReadFrom}
-use Rattle.vsi.specs.Input.{StopsRun}
-use Rattle.vsi.proofs.Partly.{Partly-weaker, any_stop, kept_partly}
-use Rattle.vsi.proofs.Stopped.{StopsFor-weaker}
+use Rattle.vsi.specs.Input.{FailsRun}
+use Rattle.vsi.proofs.Partly.{Partly-weaker, any_failure, kept_partly}
+use Rattle.vsi.proofs.Failed.{FailsFor-weaker}
 use Rattle.vsi.proofs.command_line.run_input.Goals as goal
 
 pub returns-in-Ok-clause-ran : goal.returns-in-Ok-clause-ran
@@ -21,25 +21,25 @@ returns-in-Ok-clause-ran g c =
     })
     c.write_run.ensures.ran
 
-pub returns-in-Ok-clause-stopped : goal.returns-in-Ok-clause-stopped
-returns-in-Ok-clause-stopped g c =
+pub returns-in-Ok-clause-failed : goal.returns-in-Ok-clause-failed
+returns-in-Ok-clause-failed g c =
     IfErr-weaker c.write_run.result _ _
-    (StopsFor-weaker
+    (FailsFor-weaker
     (λ reason. RunsSourceTo c.in_ok-lattice.lattice c.as_slice.result.now 1000000 (Err reason))
-    (StopsRun (g.R.Read.remaining (device_of c.args.input.now))) _ _
+    (FailsRun (g.R.Read.remaining (device_of c.args.input.now))) _ _
     (λ reason why. record {
       source = c.as_slice.result.now;
       given = subst (IsReadFrom (g.R.Read.remaining (device_of c.args.input.now))) (sym c.as_slice.ensures.value)
           c.in-Ok.ensures.bytes;
       lattice = c.in_ok-lattice.lattice;
       declared = c.in_ok-lattice.ensures.declared;
-      stopped = why;
+      failed = why;
     })
     (λ path fault. (fault.0, inr fault.1)))
-    c.write_run.ensures.stopped
+    c.write_run.ensures.failed
 
 pub returns-in_err-lattice-clause-partly : goal.returns-in_err-lattice-clause-partly
-returns-in_err-lattice-clause-partly g c = any_stop _ c.from_residual.result (kept_partly _ _)
+returns-in_err-lattice-clause-partly g c = any_failure _ c.from_residual.result (kept_partly _ _)
 
 pub returns-clause-partly : goal.returns-clause-partly
 returns-clause-partly g c = kept_partly _ _
@@ -47,7 +47,7 @@ returns-clause-partly g c = kept_partly _ _
 pub returns-in-Ok-clause-partly : goal.returns-in-Ok-clause-partly
 returns-in-Ok-clause-partly g c =
     IfErr-weaker c.write_run.result _ _
-    (λ stop. Partly-weaker _ _ _ _
+    (λ failure. Partly-weaker _ _ _ _
     (λ bytes is. record {
       source = c.as_slice.result.now;
       given = subst (IsReadFrom (g.R.Read.remaining (device_of c.args.input.now))) (sym c.as_slice.ensures.value)

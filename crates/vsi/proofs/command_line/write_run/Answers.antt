@@ -2,7 +2,7 @@ use Rattle.std.proofs.Common.{inr, subst}
 use Rattle.std.proofs.lemmas.Result.{on_ok_weaker}
 use Rattle.std.specs.Io.KnownBytes.{Appends}
 use Rattle.vsi_devices.specs.Counted.{device_of}
-use Rattle.vsi.proofs.Partly.{any_stop, kept_partly}
+use Rattle.vsi.proofs.Partly.{any_failure, kept_partly}
 use Rattle.vsi.proofs.command_line.write_run.Goals as goal
 
 pub returns-clause-ran : goal.returns-clause-ran
@@ -17,11 +17,11 @@ returns-clause-ran g c =
     c.write.ensures.whole
 
 pub returns-in_err-text-clause-partly : goal.returns-in_err-text-clause-partly
-returns-in_err-text-clause-partly g c = any_stop _ c.from_residual.result (kept_partly _ _)
+returns-in_err-text-clause-partly g c = any_failure _ c.from_residual.result (kept_partly _ _)
 
 pub returns-clause-partly : goal.returns-clause-partly
 returns-clause-partly g c =
-    any_stop _ c.write.result
+    any_failure _ c.write.result
     (inr (
       c.as_slice.result.now,
       (c.in_ok-text.text, c.in_ok-text.ensures.ran, c.as_slice.ensures.value),

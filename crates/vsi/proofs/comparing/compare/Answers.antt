@@ -3,11 +3,11 @@ use Rattle.std.proofs.lemmas.Result.{on_ok_weaker}
 use Rattle.std.specs.Io.KnownBytes.{Appends}
 use Rattle.vsi_devices.specs.Counted.{device_of}
 use Rattle.vsi.specs.Partly.{AnswersCompare}
-use Rattle.vsi.specs.Refusals.{StopsBy}
+use Rattle.vsi.specs.Refusals.{FailsBy}
 use Rattle.vsi.specs.Reasons.{LacksCompare, OtherCompare, WhyCompare}
 use Rattle.vsi.proofs.Partly.{answer_leaves, kept_leaves}
-use Rattle.vsi.proofs.Reasons.{StopsBy-weaker, handed}
-use Rattle.vsi.proofs.Unrun.{answer_stopped}
+use Rattle.vsi.proofs.Reasons.{FailsBy-weaker, handed}
+use Rattle.vsi.proofs.Unrun.{answer_failed}
 use Rattle.vsi.proofs.comparing.compare.Goals as goal
 
 pub returns-clause-performed : goal.returns-clause-performed
@@ -23,25 +23,25 @@ returns-clause-performed g c =
     })
     c.write_answer.ensures.whole
 
-pub returns-in_err-found-clause-stopped : goal.returns-in_err-found-clause-stopped
-returns-in_err-found-clause-stopped g c =
+pub returns-in_err-found-clause-failed : goal.returns-in_err-found-clause-failed
+returns-in_err-found-clause-failed g c =
     let holds = g.F.Files.holds c.args.files.now in
     let why = WhyCompare holds c.args.asked in
     let other = OtherCompare holds c.args.asked (g.W.Write.contents (device_of c.args.output.now))
     (g.W.Write.contents (device_of c.args.output.now)) in
-    handed (StopsBy why other) c.in_err-found.field-0.0 c.from_residual.result
+    handed (FailsBy why other) c.in_err-found.field-0.0 c.from_residual.result
     c.from_residual.ensures.1
-    (StopsBy-weaker why why (LacksCompare holds c.args.asked) other (λ reason is. is)
-    (λ stop lacks. inl lacks) c.in_err-found.field-0.0 c.in_err-found.ensures.stopped)
+    (FailsBy-weaker why why (LacksCompare holds c.args.asked) other (λ reason is. is)
+    (λ failure lacks. inl lacks) c.in_err-found.field-0.0 c.in_err-found.ensures.failed)
 
-pub returns-clause-stopped : goal.returns-clause-stopped
-returns-clause-stopped g c =
+pub returns-clause-failed : goal.returns-clause-failed
+returns-clause-failed g c =
     let holds = g.F.Files.holds c.args.files.now in
     let old = g.W.Write.contents (device_of c.args.output.now) in
     let new = g.W.Write.contents (device_of c.write_answer.new.output) in
-    answer_stopped (WhyCompare holds c.args.asked) (OtherCompare holds c.args.asked old new)
+    answer_failed (WhyCompare holds c.args.asked) (OtherCompare holds c.args.asked old new)
     ((c.in_ok-found.found.is_same ≡ false) × Appends old new c.deref.result.now) c.write_answer.result
-    c.write_answer.ensures.stopped
+    c.write_answer.ensures.failed
     (λ told. inr (
       refl,
       record {
@@ -63,4 +63,4 @@ returns-clause-left g c =
     answer_leaves (AnswersCompare holds c.args.asked)
     ((c.in_ok-found.found.is_same ≡ false) × Appends old new c.deref.result.now) old new c.deref.result.now
     c.write_answer.result (c.in_ok-found.found, c.in_ok-found.ensures.told, c.deref.ensures.value)
-    c.write_answer.ensures.stopped c.write_answer.ensures.part
+    c.write_answer.ensures.failed c.write_answer.ensures.part

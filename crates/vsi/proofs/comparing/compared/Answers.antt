@@ -5,7 +5,7 @@ use Rattle.vsi.specs.Files.{IsStoredAt}
 use Rattle.vsi.specs.Refusals.{LacksClassAt}
 use Rattle.vsi.specs.Reasons.{LacksCompare, WhyCompare}
 use Rattle.vsi.proofs.Reasons.{handed_reason}
-use Rattle.vsi.proofs.Unrun.{more_stopped, store_stopped, unbounded_stopped, unseen_stopped}
+use Rattle.vsi.proofs.Unrun.{more_failed, store_failed, unbounded_failed, unseen_failed}
 use Rattle.vsi.proofs.comparing.compared.Goals as goal
 
 pub returns-clause-told : goal.returns-clause-told
@@ -36,47 +36,47 @@ returns-clause-told g c =
           c.deref.ensures.value c.in_ok-found.ensures.compares);
     }
 
-pub returns-in_err-classes-clause-stopped : goal.returns-in_err-classes-clause-stopped
-returns-in_err-classes-clause-stopped g c =
+pub returns-in_err-classes-clause-failed : goal.returns-in_err-classes-clause-failed
+returns-in_err-classes-clause-failed g c =
     let holds = g.F.Files.holds c.args.files.now in
     let why = WhyCompare holds c.args.asked in
-    more_stopped why (LacksClassAt holds c.args.asked.lattice.now c.args.asked.class.now)
-    (LacksCompare holds c.args.asked) c.from_residual.result (λ stop lacks. inl lacks)
-    (unseen_stopped holds c.args.asked.lattice.now c.args.asked.image.now why
+    more_failed why (LacksClassAt holds c.args.asked.lattice.now c.args.asked.class.now)
+    (LacksCompare holds c.args.asked) c.from_residual.result (λ failure lacks. inl lacks)
+    (unseen_failed holds c.args.asked.lattice.now c.args.asked.image.now why
     (LacksClassAt holds c.args.asked.lattice.now c.args.asked.class.now) c.from_residual.result
     c.in_err-classes.field-0.0 (λ reason is. inl is) (λ reason is. inr (inl is)) c.from_residual.ensures.1
-    c.in_err-classes.ensures.stopped)
+    c.in_err-classes.ensures.failed)
 
-pub returns-in_err-first-clause-stopped : goal.returns-in_err-first-clause-stopped
-returns-in_err-first-clause-stopped g c =
+pub returns-in_err-first-clause-failed : goal.returns-in_err-first-clause-failed
+returns-in_err-first-clause-failed g c =
     let holds = g.F.Files.holds c.args.files.now in
     let why = WhyCompare holds c.args.asked in
-    store_stopped holds _ c.args.asked.image.now (Some c.args.asked.stores.0) why
+    store_failed holds _ c.args.asked.image.now (Some c.args.asked.stores.0) why
     (LacksCompare holds c.args.asked) c.in_ok-classes.verified
     c.from_residual-in_err-first.result c.in_err-first.field-0.0 c.in_ok-classes.ensures.held
     c.in_ok-classes.ensures.kept (λ reason is. inr (inr (inl is))) c.from_residual-in_err-first.ensures.1
-    c.in_err-first.ensures.stopped
+    c.in_err-first.ensures.failed
 
-pub returns-in_err-second-clause-stopped : goal.returns-in_err-second-clause-stopped
-returns-in_err-second-clause-stopped g c =
+pub returns-in_err-second-clause-failed : goal.returns-in_err-second-clause-failed
+returns-in_err-second-clause-failed g c =
     let holds = g.F.Files.holds c.args.files.now in
     let why = WhyCompare holds c.args.asked in
-    store_stopped holds _ c.args.asked.image.now (Some c.args.asked.stores.1) why
+    store_failed holds _ c.args.asked.image.now (Some c.args.asked.stores.1) why
     (LacksCompare holds c.args.asked) c.in_ok-classes.verified
     c.from_residual-in_err-second.result c.in_err-second.field-0.0 c.in_ok-classes.ensures.held
     (c.in_ok-first.ensures.kept ∙ c.in_ok-classes.ensures.kept) (λ reason is. inr (inr (inr (inl is))))
-    c.from_residual-in_err-second.ensures.1 c.in_err-second.ensures.stopped
+    c.from_residual-in_err-second.ensures.1 c.in_err-second.ensures.failed
 
-pub returns-in_err-budget-clause-stopped : goal.returns-in_err-budget-clause-stopped
-returns-in_err-budget-clause-stopped g c =
+pub returns-in_err-budget-clause-failed : goal.returns-in_err-budget-clause-failed
+returns-in_err-budget-clause-failed g c =
     let holds = g.F.Files.holds c.args.files.now in
-    unbounded_stopped holds c.args.asked.image.now c.args.asked.budget c.in_ok-classes.verified
+    unbounded_failed holds c.args.asked.image.now c.args.asked.budget c.in_ok-classes.verified
     (WhyCompare holds c.args.asked) (LacksCompare holds c.args.asked)
     c.from_residual-in_err-budget.result c.in_err-budget.field-0.0 c.in_ok-classes.ensures.held
-    (λ s lacks. inr lacks) c.from_residual-in_err-budget.ensures.1 c.in_err-budget.ensures.stopped
+    (λ s lacks. inr lacks) c.from_residual-in_err-budget.ensures.1 c.in_err-budget.ensures.failed
 
-pub returns-in_err-found-clause-stopped : goal.returns-in_err-found-clause-stopped
-returns-in_err-found-clause-stopped g c =
+pub returns-in_err-found-clause-failed : goal.returns-in_err-found-clause-failed
+returns-in_err-found-clause-failed g c =
     let holds = g.F.Files.holds c.args.files.now in
     handed_reason (WhyCompare holds c.args.asked) (LacksCompare holds c.args.asked)
     c.in_err-found.field-0.0 c.from_residual-in_err-found.result

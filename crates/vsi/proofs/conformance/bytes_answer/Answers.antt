@@ -5,8 +5,8 @@ use Rattle.vsi_answers.specs.Requests.{ReadsImage}
 use Rattle.std.proofs.Common.{Err}
 use Rattle.vsi.specs.Performed.{TellsBytes}
 use Rattle.vsi.specs.Reasons.{RefusesBytes}
-use Rattle.vsi.specs.Refusals.{NoOther, StopsBy}
-use Rattle.vsi.proofs.Reasons.{stops_by}
+use Rattle.vsi.specs.Refusals.{NoOther, FailsBy}
+use Rattle.vsi.proofs.Reasons.{fails_by}
 use Rattle.vsi.proofs.Unrun.{handed_late}
 use Rattle.vsi.proofs.conformance.bytes_answer.Goals as goal
 
@@ -17,13 +17,13 @@ returns-then-is_image-clause-told c =
     c.args.interface.now pair.1.items))
     (sym c.if-is_image.true ∙ c.begins_image-is_image.ensures) c.image_answer.ensures.told
 
-pub returns-then-is_image-clause-stopped : goal.returns-then-is_image-clause-stopped
-returns-then-is_image-clause-stopped c =
-    IfErr-weaker c.image_answer.result (StopsBy (λ reason. ReadsImage c.args.bytes.now (Err reason)) NoOther)
-    (StopsBy (RefusesBytes c.args.bytes.now) NoOther)
-    (stops_by (λ reason. ReadsImage c.args.bytes.now (Err reason)) (RefusesBytes c.args.bytes.now) NoOther
+pub returns-then-is_image-clause-failed : goal.returns-then-is_image-clause-failed
+returns-then-is_image-clause-failed c =
+    IfErr-weaker c.image_answer.result (FailsBy (λ reason. ReadsImage c.args.bytes.now (Err reason)) NoOther)
+    (FailsBy (RefusesBytes c.args.bytes.now) NoOther)
+    (fails_by (λ reason. ReadsImage c.args.bytes.now (Err reason)) (RefusesBytes c.args.bytes.now) NoOther
     (λ reason is. (sym c.begins_image-is_image.ensures ∙ c.if-is_image.true, is)))
-    c.image_answer.ensures.stopped
+    c.image_answer.ensures.failed
 
 pub returns-else-is_image-clause-told : goal.returns-else-is_image-clause-told
 returns-else-is_image-clause-told c =
@@ -32,6 +32,6 @@ returns-else-is_image-clause-told c =
     c.args.interface.now pair.1.items))
     (sym c.if-is_image.false ∙ c.begins_image-is_image.ensures) c.answer_of.ensures.told
 
-pub returns-else-is_image-clause-stopped : goal.returns-else-is_image-clause-stopped
-returns-else-is_image-clause-stopped c =
-    handed_late (RefusesBytes c.args.bytes.now) NoOther c.answer_of.result c.answer_of.ensures.stopped
+pub returns-else-is_image-clause-failed : goal.returns-else-is_image-clause-failed
+returns-else-is_image-clause-failed c =
+    handed_late (RefusesBytes c.args.bytes.now) NoOther c.answer_of.result c.answer_of.ensures.failed

@@ -4,11 +4,11 @@ use Rattle.std.specs.Io.KnownBytes.{Appends}
 use Rattle.vsi_devices.specs.Counted.{device_of}
 use Rattle.vsi.specs.Partly.{BytesOf}
 use Rattle.vsi.specs.Performed.{ConformsFiles}
-use Rattle.vsi.specs.Refusals.{StopsBy}
+use Rattle.vsi.specs.Refusals.{FailsBy}
 use Rattle.vsi.specs.Reasons.{DiffersConform, IsUnusable, RefusesConform}
 use Rattle.vsi.proofs.Partly.{answer_leaves, kept_leaves}
-use Rattle.vsi.proofs.Reasons.{StopsBy-weaker, handed}
-use Rattle.vsi.proofs.Unrun.{answer_stopped}
+use Rattle.vsi.proofs.Reasons.{FailsBy-weaker, handed}
+use Rattle.vsi.proofs.Unrun.{answer_failed}
 use Rattle.vsi.proofs.conformance.conform.Goals as goal
 
 pub returns-clause-performed : goal.returns-clause-performed
@@ -24,14 +24,14 @@ returns-clause-performed g c =
     })
     c.write_answer.ensures.whole
 
-pub returns-clause-stopped : goal.returns-clause-stopped
-returns-clause-stopped g c =
+pub returns-clause-failed : goal.returns-clause-failed
+returns-clause-failed g c =
     let holds = g.F.Files.holds c.args.files.now in
     let old = g.W.Write.contents (device_of c.args.output.now) in
     let new = g.W.Write.contents (device_of c.write_answer.new.output) in
-    answer_stopped (RefusesConform holds c.args.asked) (DiffersConform holds c.args.asked old new)
+    answer_failed (RefusesConform holds c.args.asked) (DiffersConform holds c.args.asked old new)
     ((c.in_ok-conforms.conforms ≡ false) × Appends old new c.deref.result.now) c.write_answer.result
-    c.write_answer.ensures.stopped
+    c.write_answer.ensures.failed
     (λ told. inr (
       refl,
       record {
@@ -42,14 +42,14 @@ returns-clause-stopped g c =
       },
     ))
 
-pub returns-in_err-conforms-clause-stopped : goal.returns-in_err-conforms-clause-stopped
-returns-in_err-conforms-clause-stopped g c =
+pub returns-in_err-conforms-clause-failed : goal.returns-in_err-conforms-clause-failed
+returns-in_err-conforms-clause-failed g c =
     let why = RefusesConform (g.F.Files.holds c.args.files.now) c.args.asked in
     let other = DiffersConform (g.F.Files.holds c.args.files.now) c.args.asked
     (g.W.Write.contents (device_of c.args.output.now)) (g.W.Write.contents (device_of c.args.output.now)) in
-    handed (StopsBy why other) c.in_err-conforms.field-0.0 c.from_residual.result c.from_residual.ensures.1
-    (StopsBy-weaker why why IsUnusable other (λ reason is. is) (λ stop is. inl is) c.in_err-conforms.field-0.0
-    c.in_err-conforms.ensures.stopped)
+    handed (FailsBy why other) c.in_err-conforms.field-0.0 c.from_residual.result c.from_residual.ensures.1
+    (FailsBy-weaker why why IsUnusable other (λ reason is. is) (λ failure is. inl is) c.in_err-conforms.field-0.0
+    c.in_err-conforms.ensures.failed)
 
 pub returns-in_err-conforms-clause-left : goal.returns-in_err-conforms-clause-left
 returns-in_err-conforms-clause-left g c = kept_leaves _ 4 _ c.from_residual.result
@@ -66,4 +66,4 @@ returns-clause-left g c =
       (c.in_ok-conforms.conforms, c.in_ok-conforms.ensures.told),
       c.deref.ensures.value,
     )
-    c.write_answer.ensures.stopped c.write_answer.ensures.part
+    c.write_answer.ensures.failed c.write_answer.ensures.part

@@ -19,7 +19,7 @@ returns-clause-told c = (
   },
 )
 
-pub returns-in_err-verified-clause-stopped : goal.returns-in_err-verified-clause-stopped
-returns-in_err-verified-clause-stopped c =
+pub returns-in_err-verified-clause-failed : goal.returns-in_err-verified-clause-failed
+returns-in_err-verified-clause-failed c =
     handed_reason (λ reason. ReadsImage c.args.bytes.now (Err reason)) NoOther
     c.in_err-verified.field-0.0 c.from_residual.result c.from_residual.ensures.1 c.in_err-verified.ensures.image

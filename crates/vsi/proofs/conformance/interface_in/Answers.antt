@@ -1,8 +1,8 @@
 use Rattle.std.proofs.Common.{subst}
 use Rattle.vsi_conform.specs.Reading.{IsReadAs}
-use Rattle.vsi.specs.Refusals.{StopsBy}
+use Rattle.vsi.specs.Refusals.{FailsBy}
 use Rattle.vsi.specs.Reasons.{IsUnusable}
-use Rattle.vsi.proofs.Reasons.{handed, late_stops}
+use Rattle.vsi.proofs.Reasons.{handed, late_fails}
 use Rattle.vsi.proofs.conformance.interface_in.Goals as goal
 
 pub returns-in-Ok-clause-asked : goal.returns-in-Ok-clause-asked
@@ -14,8 +14,8 @@ returns-in-Ok-clause-asked g c =
       inside = c.in-Ok.ensures.inside;
     }
 
-pub returns-in_err-bytes-clause-stopped : goal.returns-in_err-bytes-clause-stopped
-returns-in_err-bytes-clause-stopped g c =
-    handed (StopsBy (λ reason. ⊥) IsUnusable) c.in_err-bytes.field-0.0 c.from_residual.result
+pub returns-in_err-bytes-clause-failed : goal.returns-in_err-bytes-clause-failed
+returns-in_err-bytes-clause-failed g c =
+    handed (FailsBy (λ reason. ⊥) IsUnusable) c.in_err-bytes.field-0.0 c.from_residual.result
     c.from_residual.ensures.1
-    (late_stops (λ reason. ⊥) IsUnusable c.in_err-bytes.field-0.0 c.in_err-bytes.ensures.stopped)
+    (late_fails (λ reason. ⊥) IsUnusable c.in_err-bytes.field-0.0 c.in_err-bytes.ensures.failed)

@@ -3,11 +3,11 @@ use Rattle.vsi.proofs.documents.bound_line.Goals as goal
 pub returns-in-Some-clause-told : goal.returns-in-Some-clause-told
 returns-in-Some-clause-told g c = rw c.in-Some.is c.text_bound_line.ensures.told
 
-pub returns-in-Some-clause-stopped : goal.returns-in-Some-clause-stopped
-returns-in-Some-clause-stopped g c = rw c.in-Some.is c.text_bound_line.ensures.stopped
+pub returns-in-Some-clause-failed : goal.returns-in-Some-clause-failed
+returns-in-Some-clause-failed g c = rw c.in-Some.is c.text_bound_line.ensures.failed
 
 pub returns-in-None-clause-told : goal.returns-in-None-clause-told
 returns-in-None-clause-told g c = rw c.in-None.is c.image_bound_line.ensures.told
 
-pub returns-in-None-clause-stopped : goal.returns-in-None-clause-stopped
-returns-in-None-clause-stopped g c = rw c.in-None.is c.image_bound_line.ensures.stopped
+pub returns-in-None-clause-failed : goal.returns-in-None-clause-failed
+returns-in-None-clause-failed g c = rw c.in-None.is c.image_bound_line.ensures.failed

@@ -8,8 +8,8 @@ use Rattle.vsi.specs.Performed.{DocumentOf}
 use Rattle.vsi.specs.Reasons.{WhyDocument}
 use Rattle.vsi.specs.Refusals.{IsDifference}
 use Rattle.vsi.proofs.Partly.{answer_leaves, kept_leaves}
-use Rattle.vsi.proofs.Reasons.{stopped_by}
-use Rattle.vsi.proofs.Unrun.{answer_stopped}
+use Rattle.vsi.proofs.Reasons.{failed_by}
+use Rattle.vsi.proofs.Unrun.{answer_failed}
 use Rattle.vsi.proofs.documents.put_document.Goals as goal
 
 pub returns-clause-performed : goal.returns-clause-performed
@@ -25,14 +25,14 @@ returns-clause-performed g c =
     })
     c.write_answer.ensures.whole
 
-pub returns-clause-stopped : goal.returns-clause-stopped
-returns-clause-stopped g c =
+pub returns-clause-failed : goal.returns-clause-failed
+returns-clause-failed g c =
     let holds = g.F.Files.holds c.args.files.now in
     let old = g.W.Write.contents (device_of c.args.output.now) in
     let new = g.W.Write.contents (device_of c.write_answer.new.output) in
-    answer_stopped (WhyDocument holds c.args.asked) (IsDifference (Writes (DocumentOf holds c.args.asked false) old new))
+    answer_failed (WhyDocument holds c.args.asked) (IsDifference (Writes (DocumentOf holds c.args.asked false) old new))
     ((c.in_ok-good.good ≡ false) × Appends old new c.deref.result.now) c.write_answer.result
-    c.write_answer.ensures.stopped
+    c.write_answer.ensures.failed
     (λ told. (
       refl,
       record {
@@ -42,13 +42,13 @@ returns-clause-stopped g c =
       },
     ))
 
-pub returns-in_err-good-clause-stopped : goal.returns-in_err-good-clause-stopped
-returns-in_err-good-clause-stopped g c =
+pub returns-in_err-good-clause-failed : goal.returns-in_err-good-clause-failed
+returns-in_err-good-clause-failed g c =
     let holds = g.F.Files.holds c.args.files.now in
     let old = g.W.Write.contents (device_of c.args.output.now) in
-    stopped_by (WhyDocument holds c.args.asked) (WhyDocument holds c.args.asked)
+    failed_by (WhyDocument holds c.args.asked) (WhyDocument holds c.args.asked)
     (IsDifference (Writes (DocumentOf holds c.args.asked false) old old)) (λ reason is. is) c.from_residual.result
-    c.in_err-good.field-0.0 c.from_residual.ensures.1 c.in_err-good.ensures.stopped
+    c.in_err-good.field-0.0 c.from_residual.ensures.1 c.in_err-good.ensures.failed
 
 pub returns-in_err-good-clause-left : goal.returns-in_err-good-clause-left
 returns-in_err-good-clause-left g c = kept_leaves _ 4 _ c.from_residual.result
@@ -61,4 +61,4 @@ returns-clause-left g c =
     answer_leaves (BytesOf (λ text. (b : Bool) × DocumentOf holds c.args.asked b text))
     ((c.in_ok-good.good ≡ false) × Appends old new c.deref.result.now) old new c.deref.result.now
     c.write_answer.result (c.in_ok-good.text, (c.in_ok-good.good, c.in_ok-good.ensures.told), c.deref.ensures.value)
-    c.write_answer.ensures.stopped c.write_answer.ensures.part
+    c.write_answer.ensures.failed c.write_answer.ensures.part

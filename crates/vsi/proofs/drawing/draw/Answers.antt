@@ -3,7 +3,7 @@ use Rattle.std.specs.Prelude.{IsSomeAnd}
 use Rattle.vsi.specs.Performed.{DrawsGraph}
 use Rattle.vsi.specs.Refusals.{NoOther, RefusesLattice, RefusesProgramAt}
 use Rattle.vsi.specs.Reasons.{WhyDraw}
-use Rattle.vsi.proofs.Reasons.{stopped_by}
+use Rattle.vsi.proofs.Reasons.{failed_by}
 use Rattle.vsi.proofs.Refused.{draw_lattice, draw_source}
 use Rattle.vsi.proofs.drawing.draw.Goals as goal
 
@@ -18,18 +18,18 @@ returns-clause-told g c =
           c.in_ok-classes.ensures.kept c.in_ok-graph.ensures.told;
     }
 
-pub returns-in_err-classes-clause-stopped : goal.returns-in_err-classes-clause-stopped
-returns-in_err-classes-clause-stopped g c =
+pub returns-in_err-classes-clause-failed : goal.returns-in_err-classes-clause-failed
+returns-in_err-classes-clause-failed g c =
     let holds = g.F.Files.holds c.args.files.now in
-    stopped_by (RefusesLattice holds c.args.drawing.lattice.now)
+    failed_by (RefusesLattice holds c.args.drawing.lattice.now)
     (WhyDraw holds c.args.drawing.lattice.now c.args.drawing.source) NoOther
     (draw_lattice holds c.args.drawing.lattice.now c.args.drawing.source) c.from_residual.result
-    c.in_err-classes.field-0.0 c.from_residual.ensures.1 c.in_err-classes.ensures.stopped
+    c.in_err-classes.field-0.0 c.from_residual.ensures.1 c.in_err-classes.ensures.failed
 
-pub returns-in_err-graph-clause-stopped : goal.returns-in_err-graph-clause-stopped
-returns-in_err-graph-clause-stopped g c =
+pub returns-in_err-graph-clause-failed : goal.returns-in_err-graph-clause-failed
+returns-in_err-graph-clause-failed g c =
     let holds = g.F.Files.holds c.args.files.now in
-    stopped_by
+    failed_by
     (λ reason. IsSomeAnd c.args.drawing.source
     (λ path. RefusesProgramAt (g.F.Files.holds c.lattice_in.new.files) c.in_ok-classes.classes path.now reason))
     (WhyDraw holds c.args.drawing.lattice.now c.args.drawing.source) NoOther
@@ -39,4 +39,4 @@ returns-in_err-graph-clause-stopped g c =
     (λ h. IsSomeAnd c.args.drawing.source (λ path. RefusesProgramAt h c.in_ok-classes.classes path.now reason))
     c.in_ok-classes.ensures.kept why))
     c.from_residual-in_err-graph.result c.in_err-graph.field-0.0 c.from_residual-in_err-graph.ensures.1
-    c.in_err-graph.ensures.stopped
+    c.in_err-graph.ensures.failed

@@ -11,8 +11,8 @@ returns-in-Ok-clause-told g c = (
   c.in-Ok.ensures.graph,
 )
 
-pub returns-clause-stopped : goal.returns-clause-stopped
-returns-clause-stopped g c =
+pub returns-clause-failed : goal.returns-clause-failed
+returns-clause-failed g c =
     refuses_program (g.F.Files.holds c.args.files.now) c.args.classes.now c.args.source.now c.in_ok-text.text.items
     c.as_slice.result.now c.as_slice-in-Err.result.now c.in-Err.error c.refused.result c.in_ok-text.ensures.read
     c.as_slice.ensures.value c.as_slice-in-Err.ensures.value c.in-Err.ensures.refused

@@ -3,7 +3,7 @@ use Rattle.std.proofs.lemmas.Result.{IfErr-weaker, on_ok_weaker}
 use Rattle.vsi_devices.specs.Counted.{device_of}
 use Rattle.vsi_drive.specs.BoundaryFaults.{boundary_fault}
 use Rattle.vsi_drive.specs.Control.{control}
-use Rattle.vsi.specs.declared.stop.Stop.TheVariants.{Memory}
+use Rattle.vsi.specs.declared.failure.Failure.TheVariants.{Memory}
 use Rattle.vsi.specs.Driven.{DrivesInput}
 use Rattle.vsi.specs.Holding.{Delivers}
 use Rattle.vsi.specs.State.{Touches, state_text}
@@ -16,10 +16,10 @@ use Rattle.vsi.proofs.Driven.{written_back}
 use Rattle.vsi.proofs.Cut.{Touches-trans, cut_on, cut_partly}
 use Rattle.vsi.proofs.Kept.{delivered_after, driven_state, early_state, first_state}
 use Rattle.vsi.proofs.Leaving.{driven_answers}
-use Rattle.vsi.proofs.Partly.{any_stop, kept_leaves, late_handed, late_leaves}
-use Rattle.vsi.proofs.Reasons.{late_stopped}
-use Rattle.vsi.proofs.Undriven.{control_stopped, first_stopped, short_stopped}
-use Rattle.vsi.proofs.Unrun.{handed_late, memory_stopped, more_stopped, unbounded_stopped, unseen_stopped}
+use Rattle.vsi.proofs.Partly.{any_failure, kept_leaves, late_handed, late_leaves}
+use Rattle.vsi.proofs.Reasons.{late_failed}
+use Rattle.vsi.proofs.Undriven.{control_failed, first_failed, short_failed}
+use Rattle.vsi.proofs.Unrun.{handed_late, memory_failed, more_failed, unbounded_failed, unseen_failed}
 use Rattle.vsi.proofs.driving.drive.Goals as goal
 
 pub returns-clause-performed : goal.returns-clause-performed
@@ -67,71 +67,71 @@ returns-clause-performed g c =
     })
     c.save-2.ensures.saved
 
-pub returns-in_err-classes-clause-stopped : goal.returns-in_err-classes-clause-stopped
-returns-in_err-classes-clause-stopped g c =
+pub returns-in_err-classes-clause-failed : goal.returns-in_err-classes-clause-failed
+returns-in_err-classes-clause-failed g c =
     let holds = g.F.Files.holds c.args.files.now in
-    more_stopped (WhyDrive holds c.args.driving)
+    more_failed (WhyDrive holds c.args.driving)
     (LacksClassAt holds c.args.driving.lattice.now c.args.driving.class.now)
-    (LacksDrive holds c.args.driving) c.from_residual.result (λ stop lacks. inl (inl lacks))
-    (unseen_stopped holds c.args.driving.lattice.now c.args.driving.execution.image.now (WhyDrive holds c.args.driving)
+    (LacksDrive holds c.args.driving) c.from_residual.result (λ failure lacks. inl (inl lacks))
+    (unseen_failed holds c.args.driving.lattice.now c.args.driving.execution.image.now (WhyDrive holds c.args.driving)
     (LacksClassAt holds c.args.driving.lattice.now c.args.driving.class.now) c.from_residual.result
     c.in_err-classes.field-0.0 (λ reason is. inl is) (λ reason is. inr (inl is)) c.from_residual.ensures.1
-    c.in_err-classes.ensures.stopped)
+    c.in_err-classes.ensures.failed)
 
-pub returns-in_err-words-clause-stopped : goal.returns-in_err-words-clause-stopped
-returns-in_err-words-clause-stopped g c =
+pub returns-in_err-words-clause-failed : goal.returns-in_err-words-clause-failed
+returns-in_err-words-clause-failed g c =
     let holds = g.F.Files.holds c.args.files.now in
-    first_stopped holds _ c.args.driving.execution.image.now c.args.driving.execution.store c.args.driving.is_full
+    first_failed holds _ c.args.driving.execution.image.now c.args.driving.execution.store c.args.driving.is_full
     (WhyDrive holds c.args.driving) (LacksDrive holds c.args.driving)
     c.in_ok-classes.verified c.from_residual-in_err-words.result
     c.in_err-words.field-0.0 c.in_ok-classes.ensures.held c.in_ok-classes.ensures.kept
-    (λ reason is. inr (inr (inl is))) c.from_residual-in_err-words.ensures.1 c.in_err-words.ensures.stopped
+    (λ reason is. inr (inr (inl is))) c.from_residual-in_err-words.ensures.1 c.in_err-words.ensures.failed
 
-pub returns-in_err-budget-clause-stopped : goal.returns-in_err-budget-clause-stopped
-returns-in_err-budget-clause-stopped g c =
+pub returns-in_err-budget-clause-failed : goal.returns-in_err-budget-clause-failed
+returns-in_err-budget-clause-failed g c =
     let holds = g.F.Files.holds c.args.files.now in
-    unbounded_stopped holds c.args.driving.execution.image.now c.args.driving.execution.budget c.in_ok-classes.verified
+    unbounded_failed holds c.args.driving.execution.image.now c.args.driving.execution.budget c.in_ok-classes.verified
     (WhyDrive holds c.args.driving) (LacksDrive holds c.args.driving)
     c.from_residual-in_err-budget.result c.in_err-budget.field-0.0 c.in_ok-classes.ensures.held
-    (λ s lacks. inl (inr lacks)) c.from_residual-in_err-budget.ensures.1 c.in_err-budget.ensures.stopped
+    (λ s lacks. inl (inr lacks)) c.from_residual-in_err-budget.ensures.1 c.in_err-budget.ensures.failed
 
-pub returns-in_err-admit-clause-stopped : goal.returns-in_err-admit-clause-stopped
-returns-in_err-admit-clause-stopped g c =
+pub returns-in_err-admit-clause-failed : goal.returns-in_err-admit-clause-failed
+returns-in_err-admit-clause-failed g c =
     let holds = g.F.Files.holds c.args.files.now in
-    short_stopped holds c.args.driving (WhyDrive holds c.args.driving) c.in_ok-classes.classes
+    short_failed holds c.args.driving (WhyDrive holds c.args.driving) c.in_ok-classes.classes
     c.in_ok-classes.driver c.in_ok-classes.verified c.in_ok-budget.budget
     c.from_residual-in_err-admit.result c.in_err-admit.field-0.0 c.in_ok-classes.ensures.looks
     c.in_ok-classes.ensures.held c.in_ok-budget.ensures.budget
-    c.from_residual-in_err-admit.ensures.1 c.in_err-admit.ensures.stopped
+    c.from_residual-in_err-admit.ensures.1 c.in_err-admit.ensures.failed
 
 pub returns-in_err-admit-clause-left : goal.returns-in_err-admit-clause-left
 returns-in_err-admit-clause-left g c = kept_leaves _ 4 _ c.from_residual-in_err-admit.result
 
-pub returns-in_err-drive_input-clause-stopped : goal.returns-in_err-drive_input-clause-stopped
-returns-in_err-drive_input-clause-stopped g c =
+pub returns-in_err-drive_input-clause-failed : goal.returns-in_err-drive_input-clause-failed
+returns-in_err-drive_input-clause-failed g c =
     let holds = g.F.Files.holds c.args.files.now in
-    late_stopped (WhyDrive holds c.args.driving) (LacksDrive holds c.args.driving)
+    late_failed (WhyDrive holds c.args.driving) (LacksDrive holds c.args.driving)
     c.from_residual-in_err-drive_input.result c.in_err-drive_input.field-0.0
-    c.from_residual-in_err-drive_input.ensures.1 c.in_err-drive_input.ensures.stop
+    c.from_residual-in_err-drive_input.ensures.1 c.in_err-drive_input.ensures.failure
 
-pub returns-in_err-names-clause-stopped : goal.returns-in_err-names-clause-stopped
-returns-in_err-names-clause-stopped g c =
+pub returns-in_err-names-clause-failed : goal.returns-in_err-names-clause-failed
+returns-in_err-names-clause-failed g c =
     let holds = g.F.Files.holds c.args.files.now in
-    memory_stopped (WhyDrive holds c.args.driving) (LacksDrive holds c.args.driving)
+    memory_failed (WhyDrive holds c.args.driving) (LacksDrive holds c.args.driving)
     c.from_residual-in_err-names.result Memory c.from_residual-in_err-names.ensures.1 refl
 
-pub returns-in_err-controller-clause-stopped : goal.returns-in_err-controller-clause-stopped
-returns-in_err-controller-clause-stopped g c =
-    control_stopped (g.F.Files.holds c.args.files.now) c.args.driving c.in_ok-classes.classes
+pub returns-in_err-controller-clause-failed : goal.returns-in_err-controller-clause-failed
+returns-in_err-controller-clause-failed g c =
+    control_failed (g.F.Files.holds c.args.files.now) c.args.driving c.in_ok-classes.classes
     c.in_ok-classes.driver c.in_ok-classes.verified c.in_ok-budget.budget c.from_residual-in_err-controller.result
     c.in_err-controller.field-0.0 c.in_ok-classes.ensures.looks c.in_ok-classes.ensures.held
-    c.in_ok-budget.ensures.budget c.from_residual-in_err-controller.ensures.1 c.in_err-controller.ensures.stopped
+    c.in_ok-budget.ensures.budget c.from_residual-in_err-controller.ensures.1 c.in_err-controller.ensures.failed
 
-pub returns-clause-stopped : goal.returns-clause-stopped
-returns-clause-stopped g c =
+pub returns-clause-failed : goal.returns-clause-failed
+returns-clause-failed g c =
     let holds = g.F.Files.holds c.args.files.now in
     handed_late (WhyDrive holds c.args.driving) (LacksDrive holds c.args.driving)
-    c.save-2.result c.save-2.ensures.stop
+    c.save-2.result c.save-2.ensures.failure
 
 pub returns-in_err-classes-clause-left : goal.returns-in_err-classes-clause-left
 returns-in_err-classes-clause-left g c = kept_leaves _ 4 _ c.from_residual.result
@@ -160,7 +160,7 @@ returns-in_err-drive_input-clause-left g c =
     let image = c.in_ok-classes.verified in
     late_handed (AnswersDrive holds c.args.driving given) old new c.from_residual-in_err-drive_input.result
     c.in_err-drive_input.field-0.0 c.from_residual-in_err-drive_input.ensures.1
-    c.in_err-drive_input.ensures.stop
+    c.in_err-drive_input.ensures.failure
     (driven_answers holds c.args.driving given old new c.in_ok-classes.classes c.in_ok-classes.driver image words
     c.in_ok-budget.budget drives c.in_ok-budget.ensures.budget c.in_ok-classes.ensures.looks c.in_ok-classes.ensures.held
     (subst (λ h. IsStoredAt h asked.store image words) c.in_ok-classes.ensures.kept c.in_ok-words.ensures.stored)
@@ -179,7 +179,7 @@ returns-clause-left g c =
     let asked = c.args.driving.execution in
     let words = c.in_ok-words.words.items in
     let image = c.in_ok-classes.verified in
-    late_leaves (AnswersDrive holds c.args.driving given) old new c.save-2.result c.save-2.ensures.stop
+    late_leaves (AnswersDrive holds c.args.driving given) old new c.save-2.result c.save-2.ensures.failure
     (driven_answers holds c.args.driving given old new c.in_ok-classes.classes c.in_ok-classes.driver image words
     c.in_ok-budget.budget drives c.in_ok-budget.ensures.budget c.in_ok-classes.ensures.looks c.in_ok-classes.ensures.held
     (subst (λ h. IsStoredAt h asked.store image words) c.in_ok-classes.ensures.kept c.in_ok-words.ensures.stored)
@@ -188,42 +188,42 @@ returns-clause-left g c =
     (subst (λ m. Partly (DrivenText drives m given) old new) c.deref_mut.ensures.value
     (cut_partly _ _ drives _ _ given old new _ _ c.in_ok-drive_input.ensures.cut)))
 
-pub returns-in_err-save-clause-stopped : goal.returns-in_err-save-clause-stopped
-returns-in_err-save-clause-stopped g c =
+pub returns-in_err-save-clause-failed : goal.returns-in_err-save-clause-failed
+returns-in_err-save-clause-failed g c =
     let holds = g.F.Files.holds c.args.files.now in
-    late_stopped (WhyDrive holds c.args.driving) (LacksDrive holds c.args.driving)
+    late_failed (WhyDrive holds c.args.driving) (LacksDrive holds c.args.driving)
     c.from_residual-in_err-save.result c.in_err-save.field-0.0
-    c.from_residual-in_err-save.ensures.1 c.in_err-save.ensures.stop
+    c.from_residual-in_err-save.ensures.1 c.in_err-save.ensures.failure
 
 pub returns-in_err-save-clause-left : goal.returns-in_err-save-clause-left
 returns-in_err-save-clause-left g c = kept_leaves _ 4 _ c.from_residual-in_err-save.result
 
 pub returns-in_err-classes-clause-state : goal.returns-in_err-classes-clause-state
-returns-in_err-classes-clause-state g c = any_stop _ c.from_residual.result
+returns-in_err-classes-clause-state g c = any_failure _ c.from_residual.result
     (early_state _ c.args.driving _ _ _ c.in_err-classes.ensures.kept)
 
 pub returns-in_err-words-clause-state : goal.returns-in_err-words-clause-state
-returns-in_err-words-clause-state g c = any_stop _ c.from_residual-in_err-words.result
+returns-in_err-words-clause-state g c = any_failure _ c.from_residual-in_err-words.result
     (early_state _ c.args.driving _ _ _ (c.in_err-words.ensures.kept ∙ c.in_ok-classes.ensures.kept))
 
 pub returns-in_err-budget-clause-state : goal.returns-in_err-budget-clause-state
-returns-in_err-budget-clause-state g c = any_stop _ c.from_residual-in_err-budget.result
+returns-in_err-budget-clause-state g c = any_failure _ c.from_residual-in_err-budget.result
     (early_state _ c.args.driving _ _ _ (c.in_ok-words.ensures.kept ∙ c.in_ok-classes.ensures.kept))
 
 pub returns-in_err-admit-clause-state : goal.returns-in_err-admit-clause-state
-returns-in_err-admit-clause-state g c = any_stop _ c.from_residual-in_err-admit.result
+returns-in_err-admit-clause-state g c = any_failure _ c.from_residual-in_err-admit.result
     (early_state _ c.args.driving _ _ _ (c.in_ok-words.ensures.kept ∙ c.in_ok-classes.ensures.kept))
 
 pub returns-in_err-names-clause-state : goal.returns-in_err-names-clause-state
-returns-in_err-names-clause-state g c = any_stop _ c.from_residual-in_err-names.result
+returns-in_err-names-clause-state g c = any_failure _ c.from_residual-in_err-names.result
     (early_state _ c.args.driving _ _ _ (c.in_ok-words.ensures.kept ∙ c.in_ok-classes.ensures.kept))
 
 pub returns-in_err-controller-clause-state : goal.returns-in_err-controller-clause-state
-returns-in_err-controller-clause-state g c = any_stop _ c.from_residual-in_err-controller.result
+returns-in_err-controller-clause-state g c = any_failure _ c.from_residual-in_err-controller.result
     (early_state _ c.args.driving _ _ _ (c.in_ok-words.ensures.kept ∙ c.in_ok-classes.ensures.kept))
 
 pub returns-in_err-save-clause-state : goal.returns-in_err-save-clause-state
-returns-in_err-save-clause-state g c = any_stop _ c.from_residual-in_err-save.result
+returns-in_err-save-clause-state g c = any_failure _ c.from_residual-in_err-save.result
     (first_state _ (g.F.Files.holds c.first_store.new.files) c.args.driving _ _ _
     (c.in_ok-words.ensures.kept ∙ c.in_ok-classes.ensures.kept)
     c.in_err-save.ensures.touched c.in_err-save.ensures.stays)
@@ -237,7 +237,7 @@ returns-in_err-drive_input-clause-state g c =
     let drives = control c.in_ok-controller.controller in
     let words = c.in_ok-words.words.items in
     let image = c.in_ok-classes.verified in
-    any_stop _ c.from_residual-in_err-drive_input.result
+    any_failure _ c.from_residual-in_err-drive_input.result
     (driven_state (holds c.args.files.now) (holds c.first_store.new.files) (holds c.save.new.files)
     (holds c.drive_input.new.files) c.args.driving given old new
     c.in_ok-classes.classes c.in_ok-classes.driver image words c.in_ok-budget.budget c.saturating_sub.result drives
@@ -263,7 +263,7 @@ returns-clause-state g c =
     let words = c.in_ok-words.words.items in
     let image = c.in_ok-classes.verified in
     IfErr-weaker c.save-2.result _ _
-    (λ stop stays.
+    (λ failure stays.
     driven_state (holds c.args.files.now) (holds c.first_store.new.files) (holds c.save.new.files)
     (holds c.save-2.new.files) c.args.driving given old new
     c.in_ok-classes.classes c.in_ok-classes.driver image words c.in_ok-budget.budget c.saturating_sub.result drives

@@ -7,7 +7,7 @@ use Rattle.vsi_drive.specs.Cycles.{cycle}
 use Rattle.vsi.specs.Saved.{Advances, CutsLines}
 use Rattle.vsi.proofs.Cut.{StaysAt-same, Touches-same, Touches-trans, at_byte, cut_line, cut_lines, drives_none, ended_advances, same_advances, stays_advances}
 use Rattle.vsi.proofs.Driven.{ended_begun, grown_begun, grown_long, grown_short, line_ended, line_goes_on}
-use Rattle.vsi.proofs.Partly.{any_stop}
+use Rattle.vsi.proofs.Partly.{any_failure}
 use Rattle.vsi.proofs.driving.drive_bytes.Goals as goal
 use Rattle.vsi.proofs.driving.drive_bytes.Goals.{then-byte-eq10+in_ok-drive_line, else-byte-eq10+then-len-le-LINE_LIMIT+in_ok-push, else-byte-eq10+else-len-le-LINE_LIMIT}
 
@@ -111,7 +111,7 @@ returns-in_err-drive_line-clause-cut g c =
     let i = c.loop-byte.byte-index in
     let between = contents (device_of c.loop-byte.output) in
     let new = contents (device_of c.drive_line.new.output) in
-    any_stop _ c.from_residual.result
+    any_failure _ c.from_residual.result
     (cut_line drive.save drive.verified.now drives c.args.store.now c.loop-byte.store drive.most
     c.args.line.now.items (take i bytes) (drop (i + 1) bytes) bytes
     c.loop-byte.line.items (get_or bytes i 0) c.args.unsaved.now c.loop-byte.unsaved
@@ -131,7 +131,7 @@ returns-in_err-push-clause-cut g c =
     let drive = c.args.drive.now in
     let bytes = c.args.bytes.now in
     let i = c.loop-byte.byte-index in
-    any_stop _ c.from_residual-in_err-push.result
+    any_failure _ c.from_residual-in_err-push.result
     (cut_lines drive.save drive.verified.now (control drive.controller.now) c.args.store.now c.loop-byte.store
     drive.most c.args.line.now.items (take i bytes)
     (drop i bytes) bytes c.args.unsaved.now c.loop-byte.unsaved

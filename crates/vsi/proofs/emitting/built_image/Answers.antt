@@ -1,15 +1,15 @@
 use Rattle.std.proofs.Common.{subst}
 use Rattle.vsi_answers.specs.Judged.{AreImage}
-use Rattle.vsi.specs.Refusals.{AsksImage, NoOther, RefusesFiles, StopsBy}
+use Rattle.vsi.specs.Refusals.{AsksImage, NoOther, RefusesFiles, FailsBy}
 use Rattle.vsi.proofs.Reasons.{handed}
 use Rattle.vsi.proofs.emitting.built_image.Goals as goal
 
-pub returns-in_err-bytes-clause-stopped : goal.returns-in_err-bytes-clause-stopped
-returns-in_err-bytes-clause-stopped g c =
+pub returns-in_err-bytes-clause-failed : goal.returns-in_err-bytes-clause-failed
+returns-in_err-bytes-clause-failed g c =
     handed
-    (StopsBy (RefusesFiles (g.F.Files.holds c.args.files.now) c.args.compilation
+    (FailsBy (RefusesFiles (g.F.Files.holds c.args.files.now) c.args.compilation
     (AsksImage c.args.compilation.is_strict)) NoOther)
-    c.in_err-bytes.field-0.0 c.from_residual.result c.from_residual.ensures.1 c.in_err-bytes.ensures.stopped
+    c.in_err-bytes.field-0.0 c.from_residual.result c.from_residual.ensures.1 c.in_err-bytes.ensures.failed
 
 pub returns-in-Ok-clause-told : goal.returns-in-Ok-clause-told
 returns-in-Ok-clause-told g c =

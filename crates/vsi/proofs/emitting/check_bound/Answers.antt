@@ -1,17 +1,17 @@
 use Rattle.std.proofs.Common.{refl}
 use Rattle.vsi.specs.Reasons.{LacksEmitBound, WhyEmit}
-use Rattle.vsi.proofs.Reasons.{stopped_by}
+use Rattle.vsi.proofs.Reasons.{failed_by}
 use Rattle.vsi.proofs.emitting.check_bound.Goals as goal
 
-pub returns-in_err-found-clause-stopped : goal.returns-in_err-found-clause-stopped
-returns-in_err-found-clause-stopped g c =
+pub returns-in_err-found-clause-failed : goal.returns-in_err-found-clause-failed
+returns-in_err-found-clause-failed g c =
     let holds = g.F.Files.holds c.args.files.now in
     let why = WhyEmit holds c.args.asked.lattice c.args.asked.file in
-    stopped_by why why (LacksEmitBound holds c.args.asked) (λ reason is. is) c.from_residual.result
-    c.in_err-found.field-0.0 c.from_residual.ensures.1 c.in_err-found.ensures.stopped
+    failed_by why why (LacksEmitBound holds c.args.asked) (λ reason is. is) c.from_residual.result
+    c.in_err-found.field-0.0 c.from_residual.ensures.1 c.in_err-found.ensures.failed
 
-pub returns-else-found-clause-stopped : goal.returns-else-found-clause-stopped
-returns-else-found-clause-stopped g c =
+pub returns-else-found-clause-failed : goal.returns-else-found-clause-failed
+returns-else-found-clause-failed g c =
     record {
       bounded = c.if-not-asked.false;
       told = c.in_ok-found.found;

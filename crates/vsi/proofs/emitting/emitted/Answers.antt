@@ -1,18 +1,18 @@
 use Rattle.std.proofs.Common.{◌≡◌, true, subst}
 use Rattle.std.proofs.lemmas.Result.{IfErr-weaker, IfOk-weaker}
 use Rattle.vsi.specs.Performed.{EmitsFile, IsRequestedC}
-use Rattle.vsi.specs.Refusals.{IsUnbounded, StopsBy}
+use Rattle.vsi.specs.Refusals.{IsUnbounded, FailsBy}
 use Rattle.vsi.specs.Reasons.{LacksEmitBound, WhyEmit}
-use Rattle.vsi.proofs.Reasons.{stopped_by}
+use Rattle.vsi.proofs.Reasons.{failed_by}
 use Rattle.vsi.proofs.Unbounded.{lacks_bound}
 use Rattle.vsi.proofs.emitting.emitted.Goals as goal
 
-pub returns-in_err-verified-clause-stopped : goal.returns-in_err-verified-clause-stopped
-returns-in_err-verified-clause-stopped g c =
+pub returns-in_err-verified-clause-failed : goal.returns-in_err-verified-clause-failed
+returns-in_err-verified-clause-failed g c =
     let holds = g.F.Files.holds c.args.files.now in
     let why = WhyEmit holds c.args.asked.lattice c.args.asked.file in
-    stopped_by why why (LacksEmitBound holds c.args.asked) (λ reason is. is) c.from_residual.result
-    c.in_err-verified.field-0.0 c.from_residual.ensures.1 c.in_err-verified.ensures.stopped
+    failed_by why why (LacksEmitBound holds c.args.asked) (λ reason is. is) c.from_residual.result
+    c.in_err-verified.field-0.0 c.from_residual.ensures.1 c.in_err-verified.ensures.failed
 
 pub returns-clause-told : goal.returns-clause-told
 returns-clause-told g c =
@@ -27,12 +27,12 @@ returns-clause-told g c =
     })
     c.in_c.ensures.told
 
-pub returns-clause-stopped : goal.returns-clause-stopped
-returns-clause-stopped g c =
+pub returns-clause-failed : goal.returns-clause-failed
+returns-clause-failed g c =
     let holds = g.F.Files.holds c.args.files.now in
     let why = WhyEmit holds c.args.asked.lattice c.args.asked.file in
     let image = c.in_ok-verified.verified in
     IfErr-weaker c.in_c.result
-    (StopsBy (λ reason. ⊥) (λ s. (c.args.asked.is_bounded ≡ true) × IsUnbounded image s))
-    (StopsBy why (LacksEmitBound holds c.args.asked))
-    (λ stop. lacks_bound why holds c.args.asked image stop c.in_ok-verified.ensures.told) c.in_c.ensures.stopped
+    (FailsBy (λ reason. ⊥) (λ s. (c.args.asked.is_bounded ≡ true) × IsUnbounded image s))
+    (FailsBy why (LacksEmitBound holds c.args.asked))
+    (λ failure. lacks_bound why holds c.args.asked image failure c.in_ok-verified.ensures.told) c.in_c.ensures.failed

@@ -23,20 +23,20 @@ returns-clause-told g c =
       line = rw c.into_bytes.ensures.value (search (rules, append_assoc));
     }
 
-pub returns-in_err-classes-clause-stopped : goal.returns-in_err-classes-clause-stopped
-returns-in_err-classes-clause-stopped g c =
+pub returns-in_err-classes-clause-failed : goal.returns-in_err-classes-clause-failed
+returns-in_err-classes-clause-failed g c =
     let holds = g.F.Files.holds c.args.files.now in
     leak_lattice holds c.args.search c.from_residual.result c.in_err-classes.field-0.0 c.from_residual.ensures.1
-    c.in_err-classes.ensures.stopped
+    c.in_err-classes.ensures.failed
 
-pub returns-in_err-class-clause-stopped : goal.returns-in_err-class-clause-stopped
-returns-in_err-class-clause-stopped g c =
+pub returns-in_err-class-clause-failed : goal.returns-in_err-class-clause-failed
+returns-in_err-class-clause-failed g c =
     leak_lacking (g.F.Files.holds c.args.files.now) c.args.search c.in_ok-classes.classes
     c.from_residual-in_err-class.result c.in_err-class.field-0.0 c.from_residual-in_err-class.ensures.1
-    c.in_ok-classes.ensures.read c.in_err-class.ensures.stopped
+    c.in_ok-classes.ensures.read c.in_err-class.ensures.failed
 
-pub returns-in-Err-clause-stopped : goal.returns-in-Err-clause-stopped
-returns-in-Err-clause-stopped g c =
+pub returns-in-Err-clause-failed : goal.returns-in-Err-clause-failed
+returns-in-Err-clause-failed g c =
     let holds = g.F.Files.holds c.args.files.now in
     leak_program holds c.args.search c.in_ok-classes.classes c.in_ok-text.text.items c.as_slice.result.now
     c.as_slice-in-Err.result.now c.in-Err.error c.refused.result c.in_ok-classes.ensures.read
@@ -45,8 +45,8 @@ returns-in-Err-clause-stopped g c =
     c.as_slice.ensures.value c.as_slice-in-Err.ensures.value c.in-Err.ensures.refused c.in-Err.ensures.exact
     c.refused.ensures
 
-pub returns-in-Leak-clause-stopped : goal.returns-in-Leak-clause-stopped
-returns-in-Leak-clause-stopped g c = inr (record {
+pub returns-in-Leak-clause-failed : goal.returns-in-Leak-clause-failed
+returns-in-Leak-clause-failed g c = inr (record {
   lattice = c.in_ok-classes.classes;
   declared = c.in_ok-classes.ensures.read;
   source = c.as_slice.result.now;

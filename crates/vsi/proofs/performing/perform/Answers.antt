@@ -7,9 +7,9 @@ use Rattle.vsi.specs.Shaping.{ShapedText}
 use Rattle.vsi.specs.Refusals.{AsksCanonical, AsksClasses, AsksFlows, NoOther, RefusesFile, RefusesFiles, RefusesImage, RefusesLattice, RefusesSource}
 use Rattle.vsi.specs.Reasons.{HasNoText, LacksEmitBound, LacksTried, OtherLeak, RefusesAudit, WhyDraw, WhyEmit, WhyPolicy, WhyTry}
 use Rattle.vsi.proofs.Filled.{alone}
-use Rattle.vsi.proofs.Obeyed.{put_stops}
-use Rattle.vsi.proofs.Unrun.{Unseen, fault_stopped}
-use Rattle.vsi.proofs.Partly.{any_stop, cut_leaves, fault_leaves, kept_leaves, put_leaves}
+use Rattle.vsi.proofs.CarriedOut.{put_fails}
+use Rattle.vsi.proofs.Unrun.{Unseen, fault_failed}
+use Rattle.vsi.proofs.Partly.{any_failure, cut_leaves, fault_leaves, kept_leaves, put_leaves}
 use Rattle.vsi.proofs.Written.{build_performs, put_alone}
 use Rattle.vsi.proofs.performing.perform.Goals as goal
 
@@ -198,7 +198,7 @@ returns-in-Build-clause-left g c = rw c.in-Build.is (kept_leaves _ 4 _ c.build.r
 
 pub returns-in-Explain-clause-left : goal.returns-in-Explain-clause-left
 returns-in-Explain-clause-left g c = rw c.in-Explain.is
-    (fault_leaves _ _ _ c.as_bytes.result.now c.write.result c.as_bytes.ensures.value c.write.ensures.stop
+    (fault_leaves _ _ _ c.as_bytes.result.now c.write.result c.as_bytes.ensures.value c.write.ensures.failure
     c.write.ensures.part)
 
 pub returns-in-Check-clause-left : goal.returns-in-Check-clause-left
@@ -235,199 +235,199 @@ returns-in-Layout-clause-left g c = rw c.in-Layout.is c.lay_out.ensures.left
 -- ---- what is left of the file that receives the store of a drive.
 
 pub returns-in-Classes-clause-state : goal.returns-in-Classes-clause-state
-returns-in-Classes-clause-state g c = rw c.in-Classes.is (any_stop _ _ tt)
+returns-in-Classes-clause-state g c = rw c.in-Classes.is (any_failure _ _ tt)
 
 pub returns-in-Flows-clause-state : goal.returns-in-Flows-clause-state
-returns-in-Flows-clause-state g c = rw c.in-Flows.is (any_stop _ _ tt)
+returns-in-Flows-clause-state g c = rw c.in-Flows.is (any_failure _ _ tt)
 
 pub returns-in-Mend-clause-state : goal.returns-in-Mend-clause-state
-returns-in-Mend-clause-state g c = rw c.in-Mend.is (any_stop _ _ tt)
+returns-in-Mend-clause-state g c = rw c.in-Mend.is (any_failure _ _ tt)
 
 pub returns-in-List-clause-state : goal.returns-in-List-clause-state
-returns-in-List-clause-state g c = rw c.in-List.is (any_stop _ _ tt)
+returns-in-List-clause-state g c = rw c.in-List.is (any_failure _ _ tt)
 
 pub returns-in-Source-clause-state : goal.returns-in-Source-clause-state
-returns-in-Source-clause-state g c = rw c.in-Source.is (any_stop _ _ tt)
+returns-in-Source-clause-state g c = rw c.in-Source.is (any_failure _ _ tt)
 
 pub returns-in-EmitC-clause-state : goal.returns-in-EmitC-clause-state
-returns-in-EmitC-clause-state g c = rw c.in-EmitC.is (any_stop _ _ tt)
+returns-in-EmitC-clause-state g c = rw c.in-EmitC.is (any_failure _ _ tt)
 
 pub returns-in-Leak-clause-state : goal.returns-in-Leak-clause-state
-returns-in-Leak-clause-state g c = rw c.in-Leak.is (any_stop _ _ tt)
+returns-in-Leak-clause-state g c = rw c.in-Leak.is (any_failure _ _ tt)
 
 pub returns-in-Report-clause-state : goal.returns-in-Report-clause-state
-returns-in-Report-clause-state g c = rw c.in-Report.is (any_stop _ _ tt)
+returns-in-Report-clause-state g c = rw c.in-Report.is (any_failure _ _ tt)
 
 pub returns-in-Draw-clause-state : goal.returns-in-Draw-clause-state
-returns-in-Draw-clause-state g c = rw c.in-Draw.is (any_stop _ _ tt)
+returns-in-Draw-clause-state g c = rw c.in-Draw.is (any_failure _ _ tt)
 
 pub returns-in-Policy-clause-state : goal.returns-in-Policy-clause-state
-returns-in-Policy-clause-state g c = rw c.in-Policy.is (any_stop _ _ tt)
+returns-in-Policy-clause-state g c = rw c.in-Policy.is (any_failure _ _ tt)
 
 pub returns-in-Format-clause-state : goal.returns-in-Format-clause-state
-returns-in-Format-clause-state g c = rw c.in-Format.is (any_stop _ _ tt)
+returns-in-Format-clause-state g c = rw c.in-Format.is (any_failure _ _ tt)
 
 pub returns-in-Try-clause-state : goal.returns-in-Try-clause-state
-returns-in-Try-clause-state g c = rw c.in-Try.is (any_stop _ _ tt)
+returns-in-Try-clause-state g c = rw c.in-Try.is (any_failure _ _ tt)
 
 pub returns-in-Lattice-clause-state : goal.returns-in-Lattice-clause-state
-returns-in-Lattice-clause-state g c = rw c.in-Lattice.is (any_stop _ _ tt)
+returns-in-Lattice-clause-state g c = rw c.in-Lattice.is (any_failure _ _ tt)
 
 pub returns-in-Audit-clause-state : goal.returns-in-Audit-clause-state
-returns-in-Audit-clause-state g c = rw c.in-Audit.is (any_stop _ _ tt)
+returns-in-Audit-clause-state g c = rw c.in-Audit.is (any_failure _ _ tt)
 
 pub returns-in-Build-clause-state : goal.returns-in-Build-clause-state
-returns-in-Build-clause-state g c = rw c.in-Build.is (any_stop _ _ tt)
+returns-in-Build-clause-state g c = rw c.in-Build.is (any_failure _ _ tt)
 
 pub returns-in-Explain-clause-state : goal.returns-in-Explain-clause-state
-returns-in-Explain-clause-state g c = rw c.in-Explain.is (any_stop _ _ tt)
+returns-in-Explain-clause-state g c = rw c.in-Explain.is (any_failure _ _ tt)
 
 pub returns-in-Check-clause-state : goal.returns-in-Check-clause-state
-returns-in-Check-clause-state g c = rw c.in-Check.is (any_stop _ _ tt)
+returns-in-Check-clause-state g c = rw c.in-Check.is (any_failure _ _ tt)
 
 pub returns-in-Conform-clause-state : goal.returns-in-Conform-clause-state
-returns-in-Conform-clause-state g c = rw c.in-Conform.is (any_stop _ _ tt)
+returns-in-Conform-clause-state g c = rw c.in-Conform.is (any_failure _ _ tt)
 
 pub returns-in-Bound-clause-state : goal.returns-in-Bound-clause-state
-returns-in-Bound-clause-state g c = rw c.in-Bound.is (any_stop _ _ tt)
+returns-in-Bound-clause-state g c = rw c.in-Bound.is (any_failure _ _ tt)
 
 pub returns-in-Compare-clause-state : goal.returns-in-Compare-clause-state
-returns-in-Compare-clause-state g c = rw c.in-Compare.is (any_stop _ _ tt)
+returns-in-Compare-clause-state g c = rw c.in-Compare.is (any_failure _ _ tt)
 
 pub returns-in-Run-clause-state : goal.returns-in-Run-clause-state
-returns-in-Run-clause-state g c = rw c.in-Run.is (any_stop _ _ tt)
+returns-in-Run-clause-state g c = rw c.in-Run.is (any_failure _ _ tt)
 
 pub returns-in-View-clause-state : goal.returns-in-View-clause-state
-returns-in-View-clause-state g c = rw c.in-View.is (any_stop _ _ tt)
+returns-in-View-clause-state g c = rw c.in-View.is (any_failure _ _ tt)
 
 pub returns-in-Drive-clause-state : goal.returns-in-Drive-clause-state
 returns-in-Drive-clause-state g c = rw c.in-Drive.is c.drive.ensures.state
 
 pub returns-in-Lsp-clause-state : goal.returns-in-Lsp-clause-state
-returns-in-Lsp-clause-state g c = rw c.in-Lsp.is (any_stop _ _ tt)
+returns-in-Lsp-clause-state g c = rw c.in-Lsp.is (any_failure _ _ tt)
 
 pub returns-in-Layout-clause-state : goal.returns-in-Layout-clause-state
-returns-in-Layout-clause-state g c = rw c.in-Layout.is (any_stop _ _ tt)
+returns-in-Layout-clause-state g c = rw c.in-Layout.is (any_failure _ _ tt)
 
 pub returns-in-Document-clause-state : goal.returns-in-Document-clause-state
-returns-in-Document-clause-state g c = rw c.in-Document.is (any_stop _ _ tt)
+returns-in-Document-clause-state g c = rw c.in-Document.is (any_failure _ _ tt)
 
--- ---- why it has stopped.
+-- ---- why it has failed.
 
-pub returns-in-Classes-clause-stopped : goal.returns-in-Classes-clause-stopped
-returns-in-Classes-clause-stopped g c = rw c.in-Classes.is
-    (put_stops (RefusesFiles (g.F.Files.holds c.args.files.now) c.in-Classes.compilation (AsksClasses c.in-Classes.compilation.is_strict))
+pub returns-in-Classes-clause-failed : goal.returns-in-Classes-clause-failed
+returns-in-Classes-clause-failed g c = rw c.in-Classes.is
+    (put_fails (RefusesFiles (g.F.Files.holds c.args.files.now) c.in-Classes.compilation (AsksClasses c.in-Classes.compilation.is_strict))
     NoOther
-    c.classes.result c.put.result c.classes.ensures.stopped c.put.ensures.stopped)
+    c.classes.result c.put.result c.classes.ensures.failed c.put.ensures.failed)
 
-pub returns-in-Flows-clause-stopped : goal.returns-in-Flows-clause-stopped
-returns-in-Flows-clause-stopped g c = rw c.in-Flows.is
-    (put_stops (RefusesFiles (g.F.Files.holds c.args.files.now) c.in-Flows.compilation
+pub returns-in-Flows-clause-failed : goal.returns-in-Flows-clause-failed
+returns-in-Flows-clause-failed g c = rw c.in-Flows.is
+    (put_fails (RefusesFiles (g.F.Files.holds c.args.files.now) c.in-Flows.compilation
     (AsksFlows c.in-Flows.has_walks c.in-Flows.compilation.is_strict))
     NoOther
-    c.flows.result c.put-in-Flows.result c.flows.ensures.stopped c.put-in-Flows.ensures.stopped)
+    c.flows.result c.put-in-Flows.result c.flows.ensures.failed c.put-in-Flows.ensures.failed)
 
-pub returns-in-Mend-clause-stopped : goal.returns-in-Mend-clause-stopped
-returns-in-Mend-clause-stopped g c = rw c.in-Mend.is c.put_mend.ensures.stopped
+pub returns-in-Mend-clause-failed : goal.returns-in-Mend-clause-failed
+returns-in-Mend-clause-failed g c = rw c.in-Mend.is c.put_mend.ensures.failed
 
-pub returns-in-List-clause-stopped : goal.returns-in-List-clause-stopped
-returns-in-List-clause-stopped g c = rw c.in-List.is
-    (put_stops (RefusesFile (g.F.Files.holds c.args.files.now) c.in-List.image.now ListsTo) NoOther
-    c.list.result c.put-in-List.result c.list.ensures.stopped c.put-in-List.ensures.stopped)
+pub returns-in-List-clause-failed : goal.returns-in-List-clause-failed
+returns-in-List-clause-failed g c = rw c.in-List.is
+    (put_fails (RefusesFile (g.F.Files.holds c.args.files.now) c.in-List.image.now ListsTo) NoOther
+    c.list.result c.put-in-List.result c.list.ensures.failed c.put-in-List.ensures.failed)
 
-pub returns-in-Source-clause-stopped : goal.returns-in-Source-clause-stopped
-returns-in-Source-clause-stopped g c = rw c.in-Source.is
-    (put_stops (RefusesImage (g.F.Files.holds c.args.files.now) c.in-Source.image.now)
+pub returns-in-Source-clause-failed : goal.returns-in-Source-clause-failed
+returns-in-Source-clause-failed g c = rw c.in-Source.is
+    (put_fails (RefusesImage (g.F.Files.holds c.args.files.now) c.in-Source.image.now)
     (HasNoText (g.F.Files.holds c.args.files.now) c.in-Source.image.now)
-    c.source.result c.put-in-Source.result c.source.ensures.stopped c.put-in-Source.ensures.stopped)
+    c.source.result c.put-in-Source.result c.source.ensures.failed c.put-in-Source.ensures.failed)
 
-pub returns-in-EmitC-clause-stopped : goal.returns-in-EmitC-clause-stopped
-returns-in-EmitC-clause-stopped g c = rw c.in-EmitC.is
-    (put_stops (WhyEmit (g.F.Files.holds c.args.files.now) c.in-EmitC.asked.lattice c.in-EmitC.asked.file)
+pub returns-in-EmitC-clause-failed : goal.returns-in-EmitC-clause-failed
+returns-in-EmitC-clause-failed g c = rw c.in-EmitC.is
+    (put_fails (WhyEmit (g.F.Files.holds c.args.files.now) c.in-EmitC.asked.lattice c.in-EmitC.asked.file)
     (LacksEmitBound (g.F.Files.holds c.args.files.now) c.in-EmitC.asked)
-    c.emit.result c.put-in-EmitC.result c.emit.ensures.stopped c.put-in-EmitC.ensures.stopped)
+    c.emit.result c.put-in-EmitC.result c.emit.ensures.failed c.put-in-EmitC.ensures.failed)
 
-pub returns-in-Leak-clause-stopped : goal.returns-in-Leak-clause-stopped
-returns-in-Leak-clause-stopped g c = rw c.in-Leak.is
-    (put_stops (λ reason. RefusesLattice (g.F.Files.holds c.args.files.now) c.in-Leak.search.lattice.now reason
+pub returns-in-Leak-clause-failed : goal.returns-in-Leak-clause-failed
+returns-in-Leak-clause-failed g c = rw c.in-Leak.is
+    (put_fails (λ reason. RefusesLattice (g.F.Files.holds c.args.files.now) c.in-Leak.search.lattice.now reason
     ⊎ RefusesSource (g.F.Files.holds c.args.files.now) c.in-Leak.search.lattice.now c.in-Leak.search.source.now reason)
     (OtherLeak (g.F.Files.holds c.args.files.now) c.in-Leak.search)
-    c.leak.result c.put-in-Leak.result c.leak.ensures.stopped c.put-in-Leak.ensures.stopped)
+    c.leak.result c.put-in-Leak.result c.leak.ensures.failed c.put-in-Leak.ensures.failed)
 
-pub returns-in-Report-clause-stopped : goal.returns-in-Report-clause-stopped
-returns-in-Report-clause-stopped g c = rw c.in-Report.is
-    (put_stops (RefusesLattice (g.F.Files.holds c.args.files.now) c.in-Report.compilation.lattice.now) NoOther
-    c.report.result c.put-in-Report.result c.report.ensures.stopped c.put-in-Report.ensures.stopped)
+pub returns-in-Report-clause-failed : goal.returns-in-Report-clause-failed
+returns-in-Report-clause-failed g c = rw c.in-Report.is
+    (put_fails (RefusesLattice (g.F.Files.holds c.args.files.now) c.in-Report.compilation.lattice.now) NoOther
+    c.report.result c.put-in-Report.result c.report.ensures.failed c.put-in-Report.ensures.failed)
 
-pub returns-in-Draw-clause-stopped : goal.returns-in-Draw-clause-stopped
-returns-in-Draw-clause-stopped g c = rw c.in-Draw.is
-    (put_stops (WhyDraw (g.F.Files.holds c.args.files.now) c.in-Draw.drawing.lattice.now c.in-Draw.drawing.source) NoOther
-    c.draw.result c.put-in-Draw.result c.draw.ensures.stopped c.put-in-Draw.ensures.stopped)
+pub returns-in-Draw-clause-failed : goal.returns-in-Draw-clause-failed
+returns-in-Draw-clause-failed g c = rw c.in-Draw.is
+    (put_fails (WhyDraw (g.F.Files.holds c.args.files.now) c.in-Draw.drawing.lattice.now c.in-Draw.drawing.source) NoOther
+    c.draw.result c.put-in-Draw.result c.draw.ensures.failed c.put-in-Draw.ensures.failed)
 
-pub returns-in-Policy-clause-stopped : goal.returns-in-Policy-clause-stopped
-returns-in-Policy-clause-stopped g c = rw c.in-Policy.is
-    (put_stops (WhyPolicy (g.F.Files.holds c.args.files.now) c.in-Policy.looking.lattice.now c.in-Policy.looking.old)
+pub returns-in-Policy-clause-failed : goal.returns-in-Policy-clause-failed
+returns-in-Policy-clause-failed g c = rw c.in-Policy.is
+    (put_fails (WhyPolicy (g.F.Files.holds c.args.files.now) c.in-Policy.looking.lattice.now c.in-Policy.looking.old)
     NoOther
-    c.policy.result c.put-in-Policy.result c.policy.ensures.stopped c.put-in-Policy.ensures.stopped)
+    c.policy.result c.put-in-Policy.result c.policy.ensures.failed c.put-in-Policy.ensures.failed)
 
-pub returns-in-Format-clause-stopped : goal.returns-in-Format-clause-stopped
-returns-in-Format-clause-stopped g c = rw c.in-Format.is
-    (put_stops (RefusesFile (g.F.Files.holds c.args.files.now) c.in-Format.source.now AsksCanonical) NoOther
-    c.format.result c.put-in-Format.result c.format.ensures.stopped c.put-in-Format.ensures.stopped)
+pub returns-in-Format-clause-failed : goal.returns-in-Format-clause-failed
+returns-in-Format-clause-failed g c = rw c.in-Format.is
+    (put_fails (RefusesFile (g.F.Files.holds c.args.files.now) c.in-Format.source.now AsksCanonical) NoOther
+    c.format.result c.put-in-Format.result c.format.ensures.failed c.put-in-Format.ensures.failed)
 
-pub returns-in-Audit-clause-stopped : goal.returns-in-Audit-clause-stopped
-returns-in-Audit-clause-stopped g c = rw c.in-Audit.is
-    (put_stops (Unseen (g.F.Files.holds c.args.files.now) c.in-Audit.asked.lattice.now c.in-Audit.asked.image.now)
+pub returns-in-Audit-clause-failed : goal.returns-in-Audit-clause-failed
+returns-in-Audit-clause-failed g c = rw c.in-Audit.is
+    (put_fails (Unseen (g.F.Files.holds c.args.files.now) c.in-Audit.asked.lattice.now c.in-Audit.asked.image.now)
     (RefusesAudit (g.F.Files.holds c.args.files.now) c.in-Audit.asked)
-    c.audit.result c.put-in-Audit.result c.audit.ensures.stopped c.put-in-Audit.ensures.stopped)
+    c.audit.result c.put-in-Audit.result c.audit.ensures.failed c.put-in-Audit.ensures.failed)
 
-pub returns-in-Try-clause-stopped : goal.returns-in-Try-clause-stopped
-returns-in-Try-clause-stopped g c = rw c.in-Try.is
-    (put_stops (WhyTry (g.F.Files.holds c.args.files.now) c.in-Try.attempt)
+pub returns-in-Try-clause-failed : goal.returns-in-Try-clause-failed
+returns-in-Try-clause-failed g c = rw c.in-Try.is
+    (put_fails (WhyTry (g.F.Files.holds c.args.files.now) c.in-Try.attempt)
     (LacksTried (g.F.Files.holds c.args.files.now) c.in-Try.attempt)
-    c.try_source.result c.put-in-Try.result c.try_source.ensures.stopped c.put-in-Try.ensures.stopped)
+    c.try_source.result c.put-in-Try.result c.try_source.ensures.failed c.put-in-Try.ensures.failed)
 
-pub returns-in-Lattice-clause-stopped : goal.returns-in-Lattice-clause-stopped
-returns-in-Lattice-clause-stopped g c = rw c.in-Lattice.is
-    (put_stops (λ reason. ⊥) NoOther c.lattice.result c.put-in-Lattice.result c.lattice.ensures.stopped
-    c.put-in-Lattice.ensures.stopped)
+pub returns-in-Lattice-clause-failed : goal.returns-in-Lattice-clause-failed
+returns-in-Lattice-clause-failed g c = rw c.in-Lattice.is
+    (put_fails (λ reason. ⊥) NoOther c.lattice.result c.put-in-Lattice.result c.lattice.ensures.failed
+    c.put-in-Lattice.ensures.failed)
 
-pub returns-in-Check-clause-stopped : goal.returns-in-Check-clause-stopped
-returns-in-Check-clause-stopped g c = rw c.in-Check.is c.put_check.ensures.stopped
+pub returns-in-Check-clause-failed : goal.returns-in-Check-clause-failed
+returns-in-Check-clause-failed g c = rw c.in-Check.is c.put_check.ensures.failed
 
-pub returns-in-Document-clause-stopped : goal.returns-in-Document-clause-stopped
-returns-in-Document-clause-stopped g c = rw c.in-Document.is c.put_document.ensures.stopped
+pub returns-in-Document-clause-failed : goal.returns-in-Document-clause-failed
+returns-in-Document-clause-failed g c = rw c.in-Document.is c.put_document.ensures.failed
 
-pub returns-in-Conform-clause-stopped : goal.returns-in-Conform-clause-stopped
-returns-in-Conform-clause-stopped g c = rw c.in-Conform.is c.conform.ensures.stopped
+pub returns-in-Conform-clause-failed : goal.returns-in-Conform-clause-failed
+returns-in-Conform-clause-failed g c = rw c.in-Conform.is c.conform.ensures.failed
 
-pub returns-in-Build-clause-stopped : goal.returns-in-Build-clause-stopped
-returns-in-Build-clause-stopped g c = rw c.in-Build.is c.build.ensures.stopped
+pub returns-in-Build-clause-failed : goal.returns-in-Build-clause-failed
+returns-in-Build-clause-failed g c = rw c.in-Build.is c.build.ensures.failed
 
-pub returns-in-Run-clause-stopped : goal.returns-in-Run-clause-stopped
-returns-in-Run-clause-stopped g c = rw c.in-Run.is c.run.ensures.stopped
+pub returns-in-Run-clause-failed : goal.returns-in-Run-clause-failed
+returns-in-Run-clause-failed g c = rw c.in-Run.is c.run.ensures.failed
 
-pub returns-in-View-clause-stopped : goal.returns-in-View-clause-stopped
-returns-in-View-clause-stopped g c = rw c.in-View.is c.view.ensures.stopped
+pub returns-in-View-clause-failed : goal.returns-in-View-clause-failed
+returns-in-View-clause-failed g c = rw c.in-View.is c.view.ensures.failed
 
-pub returns-in-Drive-clause-stopped : goal.returns-in-Drive-clause-stopped
-returns-in-Drive-clause-stopped g c = rw c.in-Drive.is c.drive.ensures.stopped
+pub returns-in-Drive-clause-failed : goal.returns-in-Drive-clause-failed
+returns-in-Drive-clause-failed g c = rw c.in-Drive.is c.drive.ensures.failed
 
-pub returns-in-Layout-clause-stopped : goal.returns-in-Layout-clause-stopped
-returns-in-Layout-clause-stopped g c = rw c.in-Layout.is c.lay_out.ensures.stopped
+pub returns-in-Layout-clause-failed : goal.returns-in-Layout-clause-failed
+returns-in-Layout-clause-failed g c = rw c.in-Layout.is c.lay_out.ensures.failed
 
-pub returns-in-Bound-clause-stopped : goal.returns-in-Bound-clause-stopped
-returns-in-Bound-clause-stopped g c = rw c.in-Bound.is c.bound.ensures.stopped
+pub returns-in-Bound-clause-failed : goal.returns-in-Bound-clause-failed
+returns-in-Bound-clause-failed g c = rw c.in-Bound.is c.bound.ensures.failed
 
-pub returns-in-Compare-clause-stopped : goal.returns-in-Compare-clause-stopped
-returns-in-Compare-clause-stopped g c = rw c.in-Compare.is c.compare.ensures.stopped
+pub returns-in-Compare-clause-failed : goal.returns-in-Compare-clause-failed
+returns-in-Compare-clause-failed g c = rw c.in-Compare.is c.compare.ensures.failed
 
-pub returns-in-Explain-clause-stopped : goal.returns-in-Explain-clause-stopped
-returns-in-Explain-clause-stopped g c = rw c.in-Explain.is
-    (fault_stopped (λ reason. ⊥) NoOther c.write.result c.write.ensures.stop)
+pub returns-in-Explain-clause-failed : goal.returns-in-Explain-clause-failed
+returns-in-Explain-clause-failed g c = rw c.in-Explain.is
+    (fault_failed (λ reason. ⊥) NoOther c.write.result c.write.ensures.failure)
 
-pub returns-in-Lsp-clause-stopped : goal.returns-in-Lsp-clause-stopped
-returns-in-Lsp-clause-stopped g c = rw c.in-Lsp.is c.serve.ensures.stopped
+pub returns-in-Lsp-clause-failed : goal.returns-in-Lsp-clause-failed
+returns-in-Lsp-clause-failed g c = rw c.in-Lsp.is c.serve.ensures.failed
 
 -- ---- what is noted.
 

@@ -1,5 +1,5 @@
-use Rattle.vsi.proofs.Obeyed.{fault_late}
+use Rattle.vsi.proofs.CarriedOut.{fault_late}
 use Rattle.vsi.proofs.performing.put.Goals as goal
 
-pub returns-clause-stopped : goal.returns-clause-stopped
-returns-clause-stopped g c = fault_late _ c.write.result c.write.ensures.stop
+pub returns-clause-failed : goal.returns-clause-failed
+returns-clause-failed g c = fault_late _ c.write.result c.write.ensures.failure

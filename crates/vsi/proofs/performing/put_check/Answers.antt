@@ -1,6 +1,6 @@
 use Rattle.vsi.specs.Refusals.{AsksCheck, NoOther, RefusesFiles}
 use Rattle.vsi.proofs.Written.{put_writes}
-use Rattle.vsi.proofs.Obeyed.{put_stops}
+use Rattle.vsi.proofs.CarriedOut.{put_fails}
 use Rattle.vsi.proofs.Partly.{put_leaves}
 use Rattle.vsi.proofs.performing.put_check.Goals as goal
 
@@ -12,16 +12,16 @@ pub returns-else-asked-clause-performed : goal.returns-else-asked-clause-perform
 returns-else-asked-clause-performed g c =
     rw c.if-asked.false (put_writes _ _ _ c.check.result c.put.result c.check.ensures.told c.put.ensures.done)
 
-pub returns-then-asked-clause-stopped : goal.returns-then-asked-clause-stopped
-returns-then-asked-clause-stopped g c = rw c.if-asked.true c.check_as_json.ensures.stopped
+pub returns-then-asked-clause-failed : goal.returns-then-asked-clause-failed
+returns-then-asked-clause-failed g c = rw c.if-asked.true c.check_as_json.ensures.failed
 
-pub returns-else-asked-clause-stopped : goal.returns-else-asked-clause-stopped
-returns-else-asked-clause-stopped g c =
+pub returns-else-asked-clause-failed : goal.returns-else-asked-clause-failed
+returns-else-asked-clause-failed g c =
     rw c.if-asked.false
-    (put_stops
+    (put_fails
     (RefusesFiles (g.F.Files.holds c.args.files.now) c.args.asked.compilation
     (AsksCheck c.args.asked.is_steady c.args.asked.compilation.is_strict))
-    NoOther c.check.result c.put.result c.check.ensures.stopped c.put.ensures.stopped)
+    NoOther c.check.result c.put.result c.check.ensures.failed c.put.ensures.failed)
 
 pub returns-then-asked-clause-left : goal.returns-then-asked-clause-left
 returns-then-asked-clause-left g c = rw c.if-asked.true c.check_as_json.ensures.left

@@ -1,6 +1,6 @@
 use Rattle.vsi.specs.Refusals.{AsksMend, NoOther, RefusesFiles}
 use Rattle.vsi.proofs.Written.{put_writes}
-use Rattle.vsi.proofs.Obeyed.{put_stops}
+use Rattle.vsi.proofs.CarriedOut.{put_fails}
 use Rattle.vsi.proofs.Partly.{put_leaves}
 use Rattle.vsi.proofs.performing.put_mend.Goals as goal
 
@@ -11,16 +11,16 @@ pub returns-clause-performed : goal.returns-clause-performed
 returns-clause-performed g c =
     rw c.if-asked.false (put_writes _ _ _ c.mend.result c.put.result c.mend.ensures.told c.put.ensures.done)
 
-pub returns-then-asked-clause-stopped : goal.returns-then-asked-clause-stopped
-returns-then-asked-clause-stopped g c = rw c.if-asked.true c.mend_as_json.ensures.stopped
+pub returns-then-asked-clause-failed : goal.returns-then-asked-clause-failed
+returns-then-asked-clause-failed g c = rw c.if-asked.true c.mend_as_json.ensures.failed
 
-pub returns-clause-stopped : goal.returns-clause-stopped
-returns-clause-stopped g c =
+pub returns-clause-failed : goal.returns-clause-failed
+returns-clause-failed g c =
     rw c.if-asked.false
-    (put_stops
+    (put_fails
     (RefusesFiles (g.F.Files.holds c.args.files.now) c.args.asked.compilation
     (AsksMend c.args.asked.is_applied c.args.asked.compilation.is_strict))
-    NoOther c.mend.result c.put.result c.mend.ensures.stopped c.put.ensures.stopped)
+    NoOther c.mend.result c.put.result c.mend.ensures.failed c.put.ensures.failed)
 
 pub returns-then-asked-clause-left : goal.returns-then-asked-clause-left
 returns-then-asked-clause-left g c = rw c.if-asked.true c.mend_as_json.ensures.left

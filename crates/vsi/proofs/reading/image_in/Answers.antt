@@ -14,8 +14,8 @@ returns-clause-read g c =
       are = c.in_ok-verified.ensures.image;
     }
 
-pub returns-in_err-verified-clause-stopped : goal.returns-in_err-verified-clause-stopped
-returns-in_err-verified-clause-stopped g c =
+pub returns-in_err-verified-clause-failed : goal.returns-in_err-verified-clause-failed
+returns-in_err-verified-clause-failed g c =
     handed_reason (RefusesImage (g.F.Files.holds c.args.files.now) c.args.path.now) NoOther
     c.in_err-verified.field-0.0 c.from_residual-in_err-verified.result c.from_residual-in_err-verified.ensures.1
     (record {

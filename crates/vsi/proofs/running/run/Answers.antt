@@ -13,8 +13,8 @@ use Rattle.vsi.proofs.Filled.{both_done, delivered_of}
 use Rattle.vsi.proofs.Leaving.{cut_part, device_leaf, shown_part, traced_part}
 use Rattle.vsi.proofs.NoteLemmas.{each_done, left_halts}
 use Rattle.vsi.proofs.Partly.{kept_leaves, memory_handed, spent_leaf, spent_leaves}
-use Rattle.vsi.proofs.Reasons.{stopped_by}
-use Rattle.vsi.proofs.Unrun.{Unstarted, ended_stops, handed_late, memory_stopped, unbounded_stopped}
+use Rattle.vsi.proofs.Reasons.{failed_by}
+use Rattle.vsi.proofs.Unrun.{Unstarted, ended_fails, handed_late, memory_failed, unbounded_failed}
 use Rattle.vsi.proofs.running.run.Goals as goal
 
 pub returns-in-Ok-Some-clause-performed : goal.returns-in-Ok-Some-clause-performed
@@ -28,7 +28,7 @@ returns-in-Ok-Some-clause-performed g c =
         image = c.in_ok-verified.verified;
         words = c.deref.result.now;
         begins = subst
-            (BeginsAt (g.F.Files.holds c.args.files.now) c.args.asked.now.execution c.args.asked.now.outset
+            (BeginsAt (g.F.Files.holds c.args.files.now) c.args.asked.now.execution c.args.asked.now.initial_store
             c.in_ok-verified.verified)
             (sym c.deref.ensures.value) c.in_ok-verified.ensures.begins;
         budget = c.in_ok-budget.budget;
@@ -37,12 +37,12 @@ returns-in-Ok-Some-clause-performed g c =
       };
       written = Appends-trans (g.W.Write.contents (device_of c.args.output.now))
           (g.W.Write.contents (device_of c.run_words.new.writer)) (g.W.Write.contents (device_of c.deliver.new.output))
-          ran.0 (shown c.args.asked.now.outset.out c.in-Ok-Some.text.items) ran.2
+          ran.0 (shown c.args.asked.now.initial_store.out c.in-Ok-Some.text.items) ran.2
           (subst
           (λ t. Appends (g.W.Write.contents (device_of c.run_words.new.writer))
-          (g.W.Write.contents (device_of c.deliver.new.output)) (shown c.args.asked.now.outset.out t))
+          (g.W.Write.contents (device_of c.deliver.new.output)) (shown c.args.asked.now.initial_store.out t))
           c.deref-in-Ok-Some-2.ensures.value done.0);
-      delivered = delivered_of c.args.asked.now.outset.out c.deref-in-Ok-Some-2.result.now c.in-Ok-Some.text.items
+      delivered = delivered_of c.args.asked.now.initial_store.out c.deref-in-Ok-Some-2.result.now c.in-Ok-Some.text.items
           (g.F.Files.holds c.image_and_words.new.files) (g.F.Files.holds c.args.files.now)
           (g.F.Files.holds c.deliver.new.files) c.deref-in-Ok-Some-2.ensures.value c.in_ok-verified.ensures.kept done.1;
     })
@@ -57,7 +57,7 @@ returns-in-Ok-Some-clause-counted g c = λ unnoted.
       image = c.in_ok-verified.verified;
       words = words;
       begins = subst
-          (BeginsAt (g.F.Files.holds c.args.files.now) c.args.asked.now.execution c.args.asked.now.outset
+          (BeginsAt (g.F.Files.holds c.args.files.now) c.args.asked.now.execution c.args.asked.now.initial_store
           c.in_ok-verified.verified)
           (sym c.deref-in-Ok-Some.ensures.value) c.in_ok-verified.ensures.begins;
       counts = c.in_ok-put_count-in-Ok-Some.ensures.counted unnoted
@@ -67,61 +67,61 @@ returns-in-Ok-Some-clause-counted g c = λ unnoted.
           ran.1));
     })
 
-pub returns-in_err-verified-clause-stopped : goal.returns-in_err-verified-clause-stopped
-returns-in_err-verified-clause-stopped g c =
+pub returns-in_err-verified-clause-failed : goal.returns-in_err-verified-clause-failed
+returns-in_err-verified-clause-failed g c =
     let holds = g.F.Files.holds c.args.files.now in
     let old = g.W.Write.contents (device_of c.args.output.now) in
-    stopped_by (Unstarted holds c.args.asked.now.execution c.args.asked.now.outset)
-    (WhyRun holds c.args.asked.now.execution c.args.asked.now.outset c.args.asked.now.has_trace old old)
+    failed_by (Unstarted holds c.args.asked.now.execution c.args.asked.now.initial_store)
+    (WhyRun holds c.args.asked.now.execution c.args.asked.now.initial_store c.args.asked.now.has_trace old old)
     (LacksBoundAt holds c.args.asked.now.execution.image.now c.args.asked.now.execution.budget)
     (λ reason is. elim is [
       | inl refused ↦ inl refused
       | inr refused ↦ inr (inl refused)
     ])
-    c.from_residual.result c.in_err-verified.field-0.0 c.from_residual.ensures.1 c.in_err-verified.ensures.stopped
+    c.from_residual.result c.in_err-verified.field-0.0 c.from_residual.ensures.1 c.in_err-verified.ensures.failed
 
-pub returns-in_err-budget-clause-stopped : goal.returns-in_err-budget-clause-stopped
-returns-in_err-budget-clause-stopped g c =
+pub returns-in_err-budget-clause-failed : goal.returns-in_err-budget-clause-failed
+returns-in_err-budget-clause-failed g c =
     let holds = g.F.Files.holds c.args.files.now in
     let old = g.W.Write.contents (device_of c.args.output.now) in
     let asked = c.args.asked.now in
-    unbounded_stopped holds asked.execution.image.now asked.execution.budget c.in_ok-verified.verified
-    (WhyRun holds asked.execution asked.outset asked.has_trace old old)
+    unbounded_failed holds asked.execution.image.now asked.execution.budget c.in_ok-verified.verified
+    (WhyRun holds asked.execution asked.initial_store asked.has_trace old old)
     (LacksBoundAt holds asked.execution.image.now asked.execution.budget)
     c.from_residual-in_err-budget.result c.in_err-budget.field-0.0 c.in_ok-verified.ensures.begins.image
-    (λ s lacks. lacks) c.from_residual-in_err-budget.ensures.1 c.in_err-budget.ensures.stopped
+    (λ s lacks. lacks) c.from_residual-in_err-budget.ensures.1 c.in_err-budget.ensures.failed
 
-pub returns-in-Ok-Some-clause-stopped : goal.returns-in-Ok-Some-clause-stopped
-returns-in-Ok-Some-clause-stopped g c =
+pub returns-in-Ok-Some-clause-failed : goal.returns-in-Ok-Some-clause-failed
+returns-in-Ok-Some-clause-failed g c =
     let holds = g.F.Files.holds c.args.files.now in
-    let why = WhyRun holds c.args.asked.now.execution c.args.asked.now.outset c.args.asked.now.has_trace
+    let why = WhyRun holds c.args.asked.now.execution c.args.asked.now.initial_store c.args.asked.now.has_trace
     (g.W.Write.contents (device_of c.args.output.now)) (g.W.Write.contents (device_of c.deliver.new.output)) in
     handed_late why
     (LacksBoundAt holds c.args.asked.now.execution.image.now c.args.asked.now.execution.budget)
-    c.deliver.result c.deliver.ensures.stop
+    c.deliver.result c.deliver.ensures.failure
 
-pub returns-in_err-put_count-in-Ok-Some-clause-stopped : goal.returns-in_err-put_count-in-Ok-Some-clause-stopped
-returns-in_err-put_count-in-Ok-Some-clause-stopped g c =
+pub returns-in_err-put_count-in-Ok-Some-clause-failed : goal.returns-in_err-put_count-in-Ok-Some-clause-failed
+returns-in_err-put_count-in-Ok-Some-clause-failed g c =
     let holds = g.F.Files.holds c.args.files.now in
-    let why = WhyRun holds c.args.asked.now.execution c.args.asked.now.outset c.args.asked.now.has_trace
+    let why = WhyRun holds c.args.asked.now.execution c.args.asked.now.initial_store c.args.asked.now.has_trace
     (g.W.Write.contents (device_of c.args.output.now)) (g.W.Write.contents (device_of c.run_words.new.writer)) in
-    memory_stopped why
+    memory_failed why
     (LacksBoundAt holds c.args.asked.now.execution.image.now c.args.asked.now.execution.budget)
     c.from_residual-in_err-put_count-in-Ok-Some.result c.in_err-put_count-in-Ok-Some.field-0.0
     c.from_residual-in_err-put_count-in-Ok-Some.ensures.1 c.in_err-put_count-in-Ok-Some.ensures.memory
 
-pub returns-in_err-put_count-in-Ok-None-clause-stopped : goal.returns-in_err-put_count-in-Ok-None-clause-stopped
-returns-in_err-put_count-in-Ok-None-clause-stopped g c =
+pub returns-in_err-put_count-in-Ok-None-clause-failed : goal.returns-in_err-put_count-in-Ok-None-clause-failed
+returns-in_err-put_count-in-Ok-None-clause-failed g c =
     let holds = g.F.Files.holds c.args.files.now in
-    let why = WhyRun holds c.args.asked.now.execution c.args.asked.now.outset c.args.asked.now.has_trace
+    let why = WhyRun holds c.args.asked.now.execution c.args.asked.now.initial_store c.args.asked.now.has_trace
     (g.W.Write.contents (device_of c.args.output.now)) (g.W.Write.contents (device_of c.run_words.new.writer)) in
-    memory_stopped why
+    memory_failed why
     (LacksBoundAt holds c.args.asked.now.execution.image.now c.args.asked.now.execution.budget)
     c.from_residual-in_err-put_count-in-Ok-None.result c.in_err-put_count-in-Ok-None.field-0.0
     c.from_residual-in_err-put_count-in-Ok-None.ensures.1 c.in_err-put_count-in-Ok-None.ensures.memory
 
-pub returns-in-Ok-None-clause-stopped : goal.returns-in-Ok-None-clause-stopped
-returns-in-Ok-None-clause-stopped g c =
+pub returns-in-Ok-None-clause-failed : goal.returns-in-Ok-None-clause-failed
+returns-in-Ok-None-clause-failed g c =
     let ran = rw c.in-Ok-None.field-0-is at c.in-Ok-None.ensures.ran in
     inr (inr (
       refl,
@@ -130,7 +130,7 @@ returns-in-Ok-None-clause-stopped g c =
         image = c.in_ok-verified.verified;
         words = c.deref.result.now;
         begins = subst
-            (BeginsAt (g.F.Files.holds c.args.files.now) c.args.asked.now.execution c.args.asked.now.outset
+            (BeginsAt (g.F.Files.holds c.args.files.now) c.args.asked.now.execution c.args.asked.now.initial_store
             c.in_ok-verified.verified)
             (sym c.deref.ensures.value) c.in_ok-verified.ensures.begins;
         budget = c.in_ok-budget.budget;
@@ -140,15 +140,15 @@ returns-in-Ok-None-clause-stopped g c =
       },
     ))
 
-pub returns-clause-stopped : goal.returns-clause-stopped
-returns-clause-stopped g c =
+pub returns-clause-failed : goal.returns-clause-failed
+returns-clause-failed g c =
     let holds = g.F.Files.holds c.args.files.now in
-    let why = WhyRun holds c.args.asked.now.execution c.args.asked.now.outset c.args.asked.now.has_trace
+    let why = WhyRun holds c.args.asked.now.execution c.args.asked.now.initial_store c.args.asked.now.has_trace
     (g.W.Write.contents (device_of c.args.output.now)) (g.W.Write.contents (device_of c.run_words.new.writer)) in
-    ended_stops why
+    ended_fails why
     (LacksBoundAt holds c.args.asked.now.execution.image.now c.args.asked.now.execution.budget)
-    c.in-Err.error c.device_stop.result c.in-Err.ensures.only c.device_stop.ensures.write
-    c.device_stop.ensures.memory
+    c.in-Err.error c.device_failure.result c.in-Err.ensures.only c.device_failure.ensures.write
+    c.device_failure.ensures.memory
 
 pub returns-in_err-verified-clause-left : goal.returns-in_err-verified-clause-left
 returns-in_err-verified-clause-left g c = kept_leaves _ 3 _ c.from_residual.result
@@ -163,9 +163,9 @@ returns-in-Ok-Some-clause-left g c =
     let old = g.W.Write.contents (device_of c.args.output.now) in
     let mid = g.W.Write.contents (device_of c.run_words.new.writer) in
     let ran = rw c.in-Ok-Some.field-0-is at c.in-Ok-Some.ensures.ran in
-    spent_leaves (AnswersRun holds asked.execution asked.outset asked.has_trace) old
-    (g.W.Write.contents (device_of c.deliver.new.output)) c.deliver.result c.deliver.ensures.stop
-    (shown_part holds asked.execution asked.outset asked.has_trace c.in_ok-verified.verified c.deref.result.now _
+    spent_leaves (AnswersRun holds asked.execution asked.initial_store asked.has_trace) old
+    (g.W.Write.contents (device_of c.deliver.new.output)) c.deliver.result c.deliver.ensures.failure
+    (shown_part holds asked.execution asked.initial_store asked.has_trace c.in_ok-verified.verified c.deref.result.now _
     c.in_ok-budget.budget c.in-Ok-Some.text.items c.deref-in-Ok-Some-2.result.now ran.0 old mid
     (g.W.Write.contents (device_of c.deliver.new.output)) c.in_ok-budget.ensures.budget
     c.in_ok-verified.ensures.begins c.deref.ensures.value ran.1
@@ -178,10 +178,10 @@ returns-in_err-put_count-in-Ok-Some-clause-left g c =
     let old = g.W.Write.contents (device_of c.args.output.now) in
     let mid = g.W.Write.contents (device_of c.run_words.new.writer) in
     let ran = rw c.in-Ok-Some.field-0-is at c.in-Ok-Some.ensures.ran in
-    memory_handed (AnswersRun holds asked.execution asked.outset asked.has_trace) old mid
+    memory_handed (AnswersRun holds asked.execution asked.initial_store asked.has_trace) old mid
     c.from_residual-in_err-put_count-in-Ok-Some.result c.in_err-put_count-in-Ok-Some.field-0.0
     c.from_residual-in_err-put_count-in-Ok-Some.ensures.1 c.in_err-put_count-in-Ok-Some.ensures.memory
-    (traced_part holds asked.execution asked.outset asked.has_trace c.in_ok-verified.verified c.deref.result.now _
+    (traced_part holds asked.execution asked.initial_store asked.has_trace c.in_ok-verified.verified c.deref.result.now _
     c.in_ok-budget.budget _ ran.0 old mid c.in_ok-budget.ensures.budget
     c.in_ok-verified.ensures.begins c.deref.ensures.value ran.1 ran.2)
 
@@ -192,10 +192,10 @@ returns-in_err-put_count-in-Ok-None-clause-left g c =
     let old = g.W.Write.contents (device_of c.args.output.now) in
     let mid = g.W.Write.contents (device_of c.run_words.new.writer) in
     let ran = rw c.in-Ok-None.field-0-is at c.in-Ok-None.ensures.ran in
-    memory_handed (AnswersRun holds asked.execution asked.outset asked.has_trace) old mid
+    memory_handed (AnswersRun holds asked.execution asked.initial_store asked.has_trace) old mid
     c.from_residual-in_err-put_count-in-Ok-None.result c.in_err-put_count-in-Ok-None.field-0.0
     c.from_residual-in_err-put_count-in-Ok-None.ensures.1 c.in_err-put_count-in-Ok-None.ensures.memory
-    (traced_part holds asked.execution asked.outset asked.has_trace c.in_ok-verified.verified c.deref.result.now _
+    (traced_part holds asked.execution asked.initial_store asked.has_trace c.in_ok-verified.verified c.deref.result.now _
     c.in_ok-budget.budget _ ran.0 old mid c.in_ok-budget.ensures.budget
     c.in_ok-verified.ensures.begins c.deref.ensures.value ran.1 ran.2)
 
@@ -206,8 +206,8 @@ returns-in-Ok-None-clause-left g c =
     let old = g.W.Write.contents (device_of c.args.output.now) in
     let mid = g.W.Write.contents (device_of c.run_words.new.writer) in
     let ran = rw c.in-Ok-None.field-0-is at c.in-Ok-None.ensures.ran in
-    spent_leaf (AnswersRun holds asked.execution asked.outset asked.has_trace) old mid _ (omega arith)
-    (traced_part holds asked.execution asked.outset asked.has_trace c.in_ok-verified.verified c.deref.result.now _
+    spent_leaf (AnswersRun holds asked.execution asked.initial_store asked.has_trace) old mid _ (omega arith)
+    (traced_part holds asked.execution asked.initial_store asked.has_trace c.in_ok-verified.verified c.deref.result.now _
     c.in_ok-budget.budget _ ran.0 old mid c.in_ok-budget.ensures.budget
     c.in_ok-verified.ensures.begins c.deref.ensures.value ran.1 ran.2)
 
@@ -217,9 +217,9 @@ returns-clause-left g c =
     let holds = g.F.Files.holds c.args.files.now in
     let old = g.W.Write.contents (device_of c.args.output.now) in
     let mid = g.W.Write.contents (device_of c.run_words.new.writer) in
-    device_leaf (AnswersRun holds asked.execution asked.outset asked.has_trace) c.in-Err.error old mid
-    c.device_stop.result c.in-Err.ensures.only c.device_stop.ensures.write c.device_stop.ensures.memory
-    (cut_part holds asked.execution asked.outset asked.has_trace c.in_ok-verified.verified c.deref.result.now _
+    device_leaf (AnswersRun holds asked.execution asked.initial_store asked.has_trace) c.in-Err.error old mid
+    c.device_failure.result c.in-Err.ensures.only c.device_failure.ensures.write c.device_failure.ensures.memory
+    (cut_part holds asked.execution asked.initial_store asked.has_trace c.in_ok-verified.verified c.deref.result.now _
     c.in_ok-budget.budget c.in-Err.error old mid c.in_ok-budget.ensures.budget
     c.in_ok-verified.ensures.begins c.deref.ensures.value c.in-Err.ensures.only
     (λ e. c.in-Err.ensures.prefix (ap Err e)) (λ e. c.in-Err.ensures.memory (ap Err e)))

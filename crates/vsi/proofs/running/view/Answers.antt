@@ -4,7 +4,7 @@ use Rattle.std.specs.Io.KnownBytes.{Appends}
 use Rattle.vsi_devices.specs.Counted.{device_of}
 use Rattle.vsi.specs.Partly.{AnswersView}
 use Rattle.vsi.specs.Files.{shown}
-use Rattle.vsi.specs.Refusals.{LacksEither, StopsBy}
+use Rattle.vsi.specs.Refusals.{LacksEither, FailsBy}
 use Rattle.vsi.specs.Reasons.{WhyView}
 use Rattle.vsi.proofs.Filled.{both_done, delivered_of}
 use Rattle.vsi.proofs.Partly.{kept_leaves, late_leaves}
@@ -21,9 +21,9 @@ returns-clause-performed g c =
       written = subst
           (λ t. Appends (g.W.Write.contents (device_of c.args.output.now)) (g.W.Write.contents (device_of
           c.deliver.new.output))
-          (shown c.args.outset.now.out t))
+          (shown c.args.initial_store.now.out t))
           c.deref.ensures.value done.0;
-      delivered = delivered_of c.args.outset.now.out c.deref.result.now c.in_ok-text.text.items
+      delivered = delivered_of c.args.initial_store.now.out c.deref.result.now c.in_ok-text.text.items
           (g.F.Files.holds c.seen.new.files) (g.F.Files.holds c.args.files.now) (g.F.Files.holds c.deliver.new.files)
           c.deref.ensures.value c.in_ok-text.ensures.kept done.1;
     })
@@ -35,31 +35,31 @@ returns-in_err-text-clause-left g c = kept_leaves _ 4 _ c.from_residual.result
 pub returns-clause-left : goal.returns-clause-left
 returns-clause-left g c =
     let holds = g.F.Files.holds c.args.files.now in
-    let out = c.args.outset.now.out in
-    late_leaves (AnswersView holds c.args.lattice.now c.args.class.now c.args.execution c.args.outset.now)
+    let out = c.args.initial_store.now.out in
+    late_leaves (AnswersView holds c.args.lattice.now c.args.class.now c.args.execution c.args.initial_store.now)
     (g.W.Write.contents (device_of c.args.output.now)) (g.W.Write.contents (device_of c.deliver.new.output))
-    c.deliver.result c.deliver.ensures.stop
+    c.deliver.result c.deliver.ensures.failure
     (inr (
       shown out c.deref.result.now,
       (c.in_ok-text.text, c.in_ok-text.ensures.told, ap (shown out) c.deref.ensures.value),
       c.deliver.ensures.part,
     ))
 
-pub returns-in_err-text-clause-stopped : goal.returns-in_err-text-clause-stopped
-returns-in_err-text-clause-stopped g c =
+pub returns-in_err-text-clause-failed : goal.returns-in_err-text-clause-failed
+returns-in_err-text-clause-failed g c =
     handed
-    (StopsBy
+    (FailsBy
     (WhyView (g.F.Files.holds c.args.files.now) c.args.lattice.now c.args.class.now c.args.execution
-    c.args.outset.now)
+    c.args.initial_store.now)
     (LacksEither (g.F.Files.holds c.args.files.now) c.args.lattice.now c.args.class.now c.args.execution.image.now
     c.args.execution.budget))
-    c.in_err-text.field-0.0 c.from_residual.result c.from_residual.ensures.1 c.in_err-text.ensures.stopped
+    c.in_err-text.field-0.0 c.from_residual.result c.from_residual.ensures.1 c.in_err-text.ensures.failed
 
-pub returns-clause-stopped : goal.returns-clause-stopped
-returns-clause-stopped g c =
+pub returns-clause-failed : goal.returns-clause-failed
+returns-clause-failed g c =
     handed_late
     (WhyView (g.F.Files.holds c.args.files.now) c.args.lattice.now c.args.class.now c.args.execution
-    c.args.outset.now)
+    c.args.initial_store.now)
     (LacksEither (g.F.Files.holds c.args.files.now) c.args.lattice.now c.args.class.now c.args.execution.image.now
     c.args.execution.budget) c.deliver.result
-    c.deliver.ensures.stop
+    c.deliver.ensures.failure

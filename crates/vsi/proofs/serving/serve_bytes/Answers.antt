@@ -1,20 +1,20 @@
 use Rattle.std.proofs.Common.{◌∙◌, arith}
 use Rattle.vsi_devices.specs.Counted.{device_of}
-use Rattle.vsi.proofs.Partly.{any_stop}
+use Rattle.vsi.proofs.Partly.{any_failure}
 use Rattle.vsi.proofs.Served.{part_on, served_on, served_partly}
 use Rattle.vsi.proofs.serving.serve_bytes.Goals as goal
 
 pub returns-in_err-message-clause-cut : goal.returns-in_err-message-clause-cut
 returns-in_err-message-clause-cut g c =
     let contents = g.W.Write.contents in
-    any_stop _ c.from_residual-in_err-message.result
+    any_failure _ c.from_residual-in_err-message.result
     (served_partly (contents (device_of c.args.output.now)) (contents (device_of c.loop-message.output))
     c.loop-message.invariant.served)
 
 pub returns-in_err-serve_message-clause-cut : goal.returns-in_err-serve_message-clause-cut
 returns-in_err-serve_message-clause-cut g c =
     let contents = g.W.Write.contents in
-    any_stop _ c.from_residual-in_err-serve_message.result
+    any_failure _ c.from_residual-in_err-serve_message.result
     (part_on (contents (device_of c.args.output.now)) (contents (device_of c.loop-message.output))
     (contents (device_of c.serve_message.new.output)) c.loop-message.invariant.served
     c.in_err-serve_message.ensures.cut)

@@ -1,6 +1,6 @@
 use Rattle.std.proofs.Common.{◌∙◌, arith}
 use Rattle.vsi_devices.specs.Counted.{device_of}
-use Rattle.vsi.proofs.Partly.{any_stop}
+use Rattle.vsi.proofs.Partly.{any_failure}
 use Rattle.vsi.proofs.Served.{part_on, served_on, served_partly}
 use Rattle.vsi.proofs.serving.serve_input.Goals as goal
 
@@ -13,7 +13,7 @@ returns-in_default-clause-cut g c =
 pub returns-in_err-serve_bytes-clause-cut : goal.returns-in_err-serve_bytes-clause-cut
 returns-in_err-serve_bytes-clause-cut g c =
     let contents = g.W.Write.contents in
-    any_stop _ c.from_residual.result
+    any_failure _ c.from_residual.result
     (part_on (contents (device_of c.args.output.now)) (contents (device_of c.loop-call.output))
     (contents (device_of c.serve_bytes.new.output)) c.loop-call.invariant.served c.in_err-serve_bytes.ensures.cut)
 

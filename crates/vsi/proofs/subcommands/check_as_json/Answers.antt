@@ -9,7 +9,7 @@ use Rattle.vsi.specs.Refusals.{IsDifference, RefusesLattice}
 use Rattle.vsi.specs.Reasons.{ToldRefusal}
 use Rattle.vsi.proofs.Leaving.{check_answer}
 use Rattle.vsi.proofs.Partly.{answer_leaves, kept_leaves}
-use Rattle.vsi.proofs.Unrun.{answer_stopped}
+use Rattle.vsi.proofs.Unrun.{answer_failed}
 use Rattle.vsi.proofs.subcommands.check_as_json.Goals as goal
 
 pub returns-clause-performed : goal.returns-clause-performed
@@ -24,15 +24,15 @@ returns-clause-performed g c =
     })
     c.write_answer.ensures.whole
 
-pub returns-clause-stopped : goal.returns-clause-stopped
-returns-clause-stopped g c =
+pub returns-clause-failed : goal.returns-clause-failed
+returns-clause-failed g c =
     let holds = g.F.Files.holds c.args.files.now in
     let old = g.W.Write.contents (device_of c.args.output.now) in
     let new = g.W.Write.contents (device_of c.write_answer.new.output) in
-    answer_stopped (RefusesLattice holds c.args.asked.compilation.lattice.now)
+    answer_failed (RefusesLattice holds c.args.asked.compilation.lattice.now)
     (IsDifference (Writes (OfFiles holds c.args.asked.compilation (ToldRefusal (judgement_of c.args.asked))) old new))
     ((c.in_ok-checked.checked.is_accepted ≡ false) × Appends old new c.deref.result.now) c.write_answer.result
-    c.write_answer.ensures.stopped
+    c.write_answer.ensures.failed
     (λ told. (
       refl,
       record {
@@ -59,4 +59,4 @@ returns-clause-left g c =
           c.in_ok-checked.ensures.refused,
       c.deref.ensures.value,
     )
-    c.write_answer.ensures.stopped c.write_answer.ensures.part
+    c.write_answer.ensures.failed c.write_answer.ensures.part

@@ -13,8 +13,8 @@ returns-clause-told g c =
       is = subst (λ b. ToldListing b c.in_ok-list.field-0) c.as_slice.ensures.value c.in_ok-list.ensures.lists;
     }
 
-pub returns-in_err-list-clause-stopped : goal.returns-in_err-list-clause-stopped
-returns-in_err-list-clause-stopped g c =
+pub returns-in_err-list-clause-failed : goal.returns-in_err-list-clause-failed
+returns-in_err-list-clause-failed g c =
     handed_reason (RefusesFile (g.F.Files.holds c.args.files.now) c.args.image.now ListsTo) NoOther
     c.in_err-list.field-0.0 c.from_residual-in_err-list.result c.from_residual-in_err-list.ensures.1
     (record {

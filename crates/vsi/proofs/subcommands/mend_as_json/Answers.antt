@@ -9,7 +9,7 @@ use Rattle.vsi.specs.Raises.{ToldUnserved}
 use Rattle.vsi.specs.Refusals.{IsDifference, RefusesLattice}
 use Rattle.vsi.proofs.Mended.{mend_answer}
 use Rattle.vsi.proofs.Partly.{answer_leaves, kept_leaves}
-use Rattle.vsi.proofs.Unrun.{answer_stopped}
+use Rattle.vsi.proofs.Unrun.{answer_failed}
 use Rattle.vsi.proofs.subcommands.mend_as_json.Goals as goal
 
 pub returns-clause-performed : goal.returns-clause-performed
@@ -24,16 +24,16 @@ returns-clause-performed g c =
     })
     c.write_answer.ensures.whole
 
-pub returns-clause-stopped : goal.returns-clause-stopped
-returns-clause-stopped g c =
+pub returns-clause-failed : goal.returns-clause-failed
+returns-clause-failed g c =
     let holds = g.F.Files.holds c.args.files.now in
     let compilation = c.args.asked.compilation in
     let old = g.W.Write.contents (device_of c.args.output.now) in
     let new = g.W.Write.contents (device_of c.write_answer.new.output) in
-    answer_stopped (RefusesLattice holds compilation.lattice.now)
+    answer_failed (RefusesLattice holds compilation.lattice.now)
     (IsDifference (Writes (OfFiles holds compilation (ToldUnserved (profile_of compilation.is_strict))) old new))
     ((c.in_ok-mended.mended.is_served ≡ false) × Appends old new c.deref.result.now) c.write_answer.result
-    c.write_answer.ensures.stopped
+    c.write_answer.ensures.failed
     (λ told. (
       refl,
       record {
@@ -60,4 +60,4 @@ returns-clause-left g c =
           c.in_ok-mended.ensures.unserved,
       c.deref.ensures.value,
     )
-    c.write_answer.ensures.stopped c.write_answer.ensures.part
+    c.write_answer.ensures.failed c.write_answer.ensures.part

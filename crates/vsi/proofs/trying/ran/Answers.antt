@@ -2,10 +2,10 @@ use Rattle.std.proofs.Common.{Ok, Err, inl, inr, subst}
 use Rattle.std.proofs.lemmas.Result.{IfErr-weaker, IfOk-weaker}
 use Rattle.vsi_answers.specs.Requests.{BuildsTo}
 use Rattle.vsi_types.specs.declared.rules.Profile.TheVariants.{Base}
-use Rattle.vsi.specs.Refusals.{NoOther, StopsBy}
+use Rattle.vsi.specs.Refusals.{NoOther, FailsBy}
 use Rattle.vsi.specs.Reasons.{RefusesRun}
 use Rattle.vsi.specs.Tried.{BeginsSet, RunsMade, ShowsTo}
-use Rattle.vsi.proofs.Reasons.{stopped_by, stops_by}
+use Rattle.vsi.proofs.Reasons.{failed_by, fails_by}
 use Rattle.vsi.proofs.trying.ran.Goals as goal
 
 pub returns-clause-runs : goal.returns-clause-runs
@@ -27,13 +27,13 @@ returns-clause-runs c =
     })
     c.shown.ensures.shows
 
-pub returns-clause-stopped : goal.returns-clause-stopped
-returns-clause-stopped c =
+pub returns-clause-failed : goal.returns-clause-failed
+returns-clause-failed c =
     IfErr-weaker c.shown.result
-    (StopsBy (λ reason. ShowsTo c.args.lattice.now c.args.viewer c.in_ok-verified.verified
+    (FailsBy (λ reason. ShowsTo c.args.lattice.now c.args.viewer c.in_ok-verified.verified
     c.as_slice-2.result.now c.args.attempt.now.budget (Err reason)) NoOther)
-    (StopsBy (RefusesRun c.args.lattice.now c.args.viewer c.args.attempt.now c.args.text.now) NoOther)
-    (stops_by
+    (FailsBy (RefusesRun c.args.lattice.now c.args.viewer c.args.attempt.now c.args.text.now) NoOther)
+    (fails_by
     (λ reason. ShowsTo c.args.lattice.now c.args.viewer c.in_ok-verified.verified c.as_slice-2.result.now
     c.args.attempt.now.budget (Err reason))
     (RefusesRun c.args.lattice.now c.args.viewer c.args.attempt.now c.args.text.now) NoOther
@@ -48,17 +48,17 @@ returns-clause-stopped c =
           (Err reason))
           c.as_slice-2.ensures.value shows;
     }))))
-    c.shown.ensures.stopped
+    c.shown.ensures.failed
 
-pub returns-in_err-verified-clause-stopped : goal.returns-in_err-verified-clause-stopped
-returns-in_err-verified-clause-stopped c =
-    stopped_by (λ reason. BuildsTo c.args.lattice.now Base c.args.text.now (Err reason))
+pub returns-in_err-verified-clause-failed : goal.returns-in_err-verified-clause-failed
+returns-in_err-verified-clause-failed c =
+    failed_by (λ reason. BuildsTo c.args.lattice.now Base c.args.text.now (Err reason))
     (RefusesRun c.args.lattice.now c.args.viewer c.args.attempt.now c.args.text.now) NoOther (λ reason is. inl is)
-    c.from_residual.result c.in_err-verified.field-0.0 c.from_residual.ensures.1 c.in_err-verified.ensures.stopped
+    c.from_residual.result c.in_err-verified.field-0.0 c.from_residual.ensures.1 c.in_err-verified.ensures.failed
 
-pub returns-in_err-words-clause-stopped : goal.returns-in_err-words-clause-stopped
-returns-in_err-words-clause-stopped c =
-    stopped_by
+pub returns-in_err-words-clause-failed : goal.returns-in_err-words-clause-failed
+returns-in_err-words-clause-failed c =
+    failed_by
     (λ reason. BeginsSet c.in_ok-verified.verified c.as_slice.result.now (Err reason))
     (RefusesRun c.args.lattice.now c.args.viewer c.args.attempt.now c.args.text.now) NoOther
     (λ reason is. inr (inl (record {
@@ -67,4 +67,4 @@ returns-in_err-words-clause-stopped c =
       is = subst (λ s. BeginsSet c.in_ok-verified.verified s (Err reason)) c.as_slice.ensures.value is;
     })))
     c.from_residual-in_err-words.result c.in_err-words.field-0.0 c.from_residual-in_err-words.ensures.1
-    c.in_err-words.ensures.stopped
+    c.in_err-words.ensures.failed

@@ -1,11 +1,11 @@
 use Rattle.std.proofs.Common.{◌∙◌, Ok, inl, inr, sym, subst}
 use Rattle.std.proofs.lemmas.Result.{IfErr-weaker, IfOk-weaker}
 use Rattle.vsi.specs.Holding.{IsReadAt}
-use Rattle.vsi.specs.Refusals.{NoOther, StopsBy}
+use Rattle.vsi.specs.Refusals.{NoOther, FailsBy}
 use Rattle.vsi.specs.Reasons.{LacksGiven, LacksTried, RefusesRun, RefusesUnder, WhyTry}
 use Rattle.vsi.specs.Tried.{IsTriedUnder, RunsMade, TriesFile}
-use Rattle.vsi.proofs.Reasons.{StopsBy-weaker, handed, late_stopped, stops_by}
-use Rattle.vsi.proofs.Unrun.{held_stopped}
+use Rattle.vsi.proofs.Reasons.{FailsBy-weaker, handed, late_failed, fails_by}
+use Rattle.vsi.proofs.Unrun.{held_failed}
 use Rattle.vsi.proofs.trying.try_source.Goals as goal
 
 pub returns-clause-told : goal.returns-clause-told
@@ -32,14 +32,14 @@ returns-clause-told g c =
     })
     c.ran.ensures.runs
 
-pub returns-clause-stopped : goal.returns-clause-stopped
-returns-clause-stopped g c =
+pub returns-clause-failed : goal.returns-clause-failed
+returns-clause-failed g c =
     let holds = g.F.Files.holds c.args.files.now in
     let refuses = RefusesRun c.in_ok-lattice.lattice c.in_ok-viewer.viewer c.args.attempt.now
     c.as_slice-text.result.now in
-    IfErr-weaker c.ran.result (StopsBy refuses NoOther)
-    (StopsBy (WhyTry holds c.args.attempt.now) (LacksTried holds c.args.attempt.now))
-    (stops_by refuses (WhyTry holds c.args.attempt.now) (LacksTried holds c.args.attempt.now)
+    IfErr-weaker c.ran.result (FailsBy refuses NoOther)
+    (FailsBy (WhyTry holds c.args.attempt.now) (LacksTried holds c.args.attempt.now))
+    (fails_by refuses (WhyTry holds c.args.attempt.now) (LacksTried holds c.args.attempt.now)
     (λ reason is. inr (record {
       text = c.as_slice-text.result.now;
       lattice = c.in_ok-lattice.lattice;
@@ -55,19 +55,19 @@ returns-clause-stopped g c =
       };
       is = is;
     })))
-    c.ran.ensures.stopped
+    c.ran.ensures.failed
 
-pub returns-in_err-bytes-clause-stopped : goal.returns-in_err-bytes-clause-stopped
-returns-in_err-bytes-clause-stopped g c =
+pub returns-in_err-bytes-clause-failed : goal.returns-in_err-bytes-clause-failed
+returns-in_err-bytes-clause-failed g c =
     let holds = g.F.Files.holds c.args.files.now in
-    late_stopped (WhyTry holds c.args.attempt.now) (LacksTried holds c.args.attempt.now) c.from_residual.result
-    c.in_err-bytes.field-0.0 c.from_residual.ensures.1 c.in_err-bytes.ensures.stopped
+    late_failed (WhyTry holds c.args.attempt.now) (LacksTried holds c.args.attempt.now) c.from_residual.result
+    c.in_err-bytes.field-0.0 c.from_residual.ensures.1 c.in_err-bytes.ensures.failed
 
-pub returns-in_err-lattice-clause-stopped : goal.returns-in_err-lattice-clause-stopped
-returns-in_err-lattice-clause-stopped g c =
+pub returns-in_err-lattice-clause-failed : goal.returns-in_err-lattice-clause-failed
+returns-in_err-lattice-clause-failed g c =
     let holds = g.F.Files.holds c.args.files.now in
     let text = c.as_slice-text.result.now in
-    held_stopped
+    held_failed
     (λ h reason. RefusesUnder h c.args.attempt.now.lattice c.args.attempt.now.source.now text reason)
     holds (g.F.Files.holds c.bytes_in.new.files) (WhyTry holds c.args.attempt.now)
     (LacksTried holds c.args.attempt.now) c.from_residual-in_err-lattice.result c.in_err-lattice.field-0.0
@@ -78,18 +78,18 @@ returns-in_err-lattice-clause-stopped g c =
           c.in_ok-bytes.ensures.read;
       is = is;
     }))
-    c.from_residual-in_err-lattice.ensures.1 c.in_err-lattice.ensures.stopped
+    c.from_residual-in_err-lattice.ensures.1 c.in_err-lattice.ensures.failed
 
-pub returns-in_err-viewer-clause-stopped : goal.returns-in_err-viewer-clause-stopped
-returns-in_err-viewer-clause-stopped g c =
+pub returns-in_err-viewer-clause-failed : goal.returns-in_err-viewer-clause-failed
+returns-in_err-viewer-clause-failed g c =
     let holds = g.F.Files.holds c.args.files.now in
     let text = c.as_slice-text.result.now in
-    handed (StopsBy (WhyTry holds c.args.attempt.now) (LacksTried holds c.args.attempt.now))
+    handed (FailsBy (WhyTry holds c.args.attempt.now) (LacksTried holds c.args.attempt.now))
     c.in_err-viewer.field-0.0 c.from_residual-in_err-viewer.result c.from_residual-in_err-viewer.ensures.1
-    (StopsBy-weaker (λ reason. ⊥) (WhyTry holds c.args.attempt.now)
+    (FailsBy-weaker (λ reason. ⊥) (WhyTry holds c.args.attempt.now)
     (LacksGiven c.in_ok-lattice.lattice c.args.attempt.now.class) (LacksTried holds c.args.attempt.now)
     (λ reason none. absurd none)
-    (λ stop lacks. record {
+    (λ failure lacks. record {
       text = text;
       read = subst (IsReadAt holds c.args.attempt.now.source.now) (sym c.as_slice-text.ensures.value)
           c.in_ok-bytes.ensures.read;
@@ -99,4 +99,4 @@ returns-in_err-viewer-clause-stopped g c =
           c.in_ok-bytes.ensures.kept c.in_ok-lattice.ensures.declared;
       lacks = lacks;
     })
-    c.in_err-viewer.field-0.0 c.in_err-viewer.ensures.stopped)
+    c.in_err-viewer.field-0.0 c.in_err-viewer.ensures.failed)

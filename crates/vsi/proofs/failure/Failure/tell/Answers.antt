@@ -2,8 +2,8 @@ use Rattle.std.proofs.Common.{List, ℕ, ap, subst, sym, ◌∙◌}
 use Rattle.std.specs.Prelude.{OnOk, codes}
 use Rattle.std.specs.Io.KnownBytes.{Appends}
 use Rattle.vsi_devices.specs.Counted.{device_of}
-use Rattle.vsi.specs.Stops.{line_of, text_of_stop}
-use Rattle.vsi.proofs.stop.Stop.tell.Goals as goal
+use Rattle.vsi.specs.Failures.{line_of, text_of_failure}
+use Rattle.vsi.proofs.failure.Failure.tell.Goals as goal
 
 pub returns-in-LostFile-clause-whole : goal.returns-in-LostFile-clause-whole
 returns-in-LostFile-clause-whole g c =
@@ -11,5 +11,5 @@ returns-in-LostFile-clause-whole g c =
     (Appends (g.E.Write.contents (device_of c.args.error.now))
     (g.E.Write.contents (device_of c.tell_line-in-LostFile.new.error)) text) in
     subst Whole
-    (ap (line_of (codes "file fault: ")) c.as_str.ensures.value ∙ sym (ap text_of_stop c.in-LostFile.is))
+    (ap (line_of (codes "file fault: ")) c.as_str.ensures.value ∙ sym (ap text_of_failure c.in-LostFile.is))
     c.tell_line-in-LostFile.ensures.whole

@@ -6,8 +6,8 @@ use Rattle.vsi.specs.Performed.{Performs}
 use Rattle.vsi.specs.Reasons.{Why}
 use Rattle.vsi.specs.Saved.{KeepsState}
 use Rattle.vsi.proofs.NoteLemmas.{noted_ok}
-use Rattle.vsi.proofs.Obeyed.{early_told, explained_stops}
-use Rattle.vsi.proofs.obeying.obey_asked.Goals as goal
+use Rattle.vsi.proofs.CarriedOut.{early_told, explained_fails}
+use Rattle.vsi.proofs.carrying_out.carry_out_asked.Goals as goal
 
 pub returns-in-Ok-clause-performed : goal.returns-in-Ok-clause-performed
 returns-in-Ok-clause-performed g c =
@@ -19,30 +19,30 @@ returns-in-Ok-clause-performed g c =
 
 pub returns-in-Ok-clause-noted : goal.returns-in-Ok-clause-noted
 returns-in-Ok-clause-noted g c =
-    subst (λ holds. IsNote holds (noting c.args.asked.request) c.perform.new.told.note.items)
+    subst (λ holds. IsNote holds (noting c.args.asked.request) c.perform.new.error_text.lines.items)
     c.explaining_of-explaining.ensures
     (noted_ok (g.F.Files.holds c.explaining_of-explaining.new.files) (noting c.args.asked.request) _
-    c.perform.new.told.note.items c.in-Ok.ensures.noted)
+    c.perform.new.error_text.lines.items c.in-Ok.ensures.noted)
 
 pub returns-clause-unfilled : goal.returns-clause-unfilled
 returns-clause-unfilled g c =
-    early_told c.in-Err.stop c.explain_stop.result c.explain_stop.ensures.same
-    (λ early. c.explain_stop.ensures.kept ∙ (c.in-Err.ensures.unfilled early ∙ c.explaining_of-explaining.ensures))
+    early_told c.in-Err.failure c.explain_failure.result c.explain_failure.ensures.same
+    (λ early. c.explain_failure.ensures.kept ∙ (c.in-Err.ensures.unfilled early ∙ c.explaining_of-explaining.ensures))
 
-pub returns-clause-stopped : goal.returns-clause-stopped
-returns-clause-stopped g c =
+pub returns-clause-failed : goal.returns-clause-failed
+returns-clause-failed g c =
     let holds = g.F.Files.holds c.args.files.now in
     let given = g.R.Read.remaining (device_of c.args.input.now) in
     let asked = c.args.asked.request in
     let old = g.W.Write.contents (device_of c.args.output.now) in
     let new = g.W.Write.contents (device_of c.perform.new.output) in
-    explained_stops holds given asked old new c.in-Err.stop c.explain_stop.result
+    explained_fails holds given asked old new c.in-Err.failure c.explain_failure.result
     (record {
-      why = subst (λ h. Why h asked old new c.in-Err.stop) c.explaining_of-explaining.ensures c.in-Err.ensures.stopped;
-      leaves = subst (λ h. Leaves (Answers h given asked) (cut_from asked) old new c.in-Err.stop)
+      why = subst (λ h. Why h asked old new c.in-Err.failure) c.explaining_of-explaining.ensures c.in-Err.ensures.failed;
+      leaves = subst (λ h. Leaves (Answers h given asked) (cut_from asked) old new c.in-Err.failure)
           c.explaining_of-explaining.ensures c.in-Err.ensures.left;
     })
-    c.explain_stop.ensures.same
+    c.explain_failure.ensures.same
 
 pub returns-clause-state : goal.returns-clause-state
 returns-clause-state g c =
@@ -51,6 +51,6 @@ returns-clause-state g c =
     let old = g.W.Write.contents (device_of c.args.output.now) in
     let new = g.W.Write.contents (device_of c.perform.new.output) in
     let holds = g.F.Files.holds in
-    subst (λ left. KeepsState (holds c.args.files.now) given asked left old new) (sym c.explain_stop.ensures.kept)
+    subst (λ left. KeepsState (holds c.args.files.now) given asked left old new) (sym c.explain_failure.ensures.kept)
     (subst (λ h. KeepsState h given asked (holds c.perform.new.files) old new) c.explaining_of-explaining.ensures
     c.in-Err.ensures.state)

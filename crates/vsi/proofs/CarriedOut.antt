@@ -1,4 +1,4 @@
--- Why words that aren't obeyed to the end have stopped.
+-- Why words that aren't carried out to the end have failed.
 use Rattle.std.proofs.Common.{◌≡◌, ◌<◌, ◌⊎◌, ℕ, Bool, true, false, List, [], ◌∷◌, Option, Result, Ok, Err, inl, inr, sym, subst, arith}
 use Rattle.std.specs.Prelude.{IfErr, String}
 use Rattle.std.specs.declared.alloc.Global.{Global}
@@ -9,31 +9,31 @@ use Rattle.vsi_arguments.specs.declared.request.Request.{Request}
 use Rattle.vsi_arguments.specs.declared.request.Request.TheVariants as request
 use Rattle.vsi_answers.specs.declared.unanswered.Unanswered.{Unanswered}
 use Rattle.vsi_devices.specs.declared.counted.Counted.{Counted}
-use Rattle.vsi.specs.declared.stop.Stop.{Stop}
-use Rattle.vsi.specs.declared.stop.Stop.TheVariants.{Memory}
-use Rattle.vsi.specs.Done.{IsStopOf, Stopped, StopsAt}
+use Rattle.vsi.specs.declared.failure.Failure.{Failure}
+use Rattle.vsi.specs.declared.failure.Failure.TheVariants.{Memory}
+use Rattle.vsi.specs.Done.{IsFailureOf, Failed, FailsAt}
 use Rattle.vsi.specs.Holding.{Holding}
-use Rattle.vsi.specs.Input.{TellsStop}
+use Rattle.vsi.specs.Input.{TellsFailure}
 use Rattle.vsi.specs.Partly.{Answers}
-use Rattle.vsi.specs.Refusals.{StopsBy}
+use Rattle.vsi.specs.Refusals.{FailsBy}
 use Rattle.vsi.specs.Reasons.{Why, WhyCheck, WhyMend}
-use Rattle.vsi.specs.Stops.{status_of}
+use Rattle.vsi.specs.Failures.{status_of}
 use Rattle.vsi.proofs.Leaving.{leaves_memory}
-use Rattle.vsi.proofs.Reasons.{late_stops}
+use Rattle.vsi.proofs.Reasons.{late_fails}
 
--- A property of every stop holds for the stop that an answer is.
-pub each_stop : {T : Type 0} (So : Stop → Type 0) (result : Result T Stop) → ((stop : Stop) → So stop) →
+-- A property of every failure holds for the failure that an answer is.
+pub each_failure : {T : Type 0} (So : Failure → Type 0) (result : Result T Failure) → ((failure : Failure) → So failure) →
     IfErr result So
-each_stop So (Ok x) so = tt
-each_stop So (Err stop) so = so stop
+each_failure So (Ok x) so = tt
+each_failure So (Err failure) so = so failure
 
--- If an answer has stopped on its way to the output, its stop gives the reason, or is late.
-pub put_stops : {T U : Type 0} (why : Unanswered → Type 0) (other : Stop → Type 0) (answer : Result T Stop)
-    (result : Result U Stop) → IfErr answer (StopsBy why other) →
-    IfErr result (λ stop. (answer ≡ Err stop) ⊎ (3 < status_of stop)) → IfErr result (StopsBy why other)
-put_stops why other answer (Ok x) told stopped = tt
-put_stops why other answer (Err stop) told (inl is) = subst (λ r. IfErr r (StopsBy why other)) is told
-put_stops why other answer (Err stop) told (inr late) = late_stops why other stop late
+-- If an answer has failed on its way to the output, its failure gives the reason, or is late.
+pub put_fails : {T U : Type 0} (why : Unanswered → Type 0) (other : Failure → Type 0) (answer : Result T Failure)
+    (result : Result U Failure) → IfErr answer (FailsBy why other) →
+    IfErr result (λ failure. (answer ≡ Err failure) ⊎ (3 < status_of failure)) → IfErr result (FailsBy why other)
+put_fails why other answer (Ok x) told failed = tt
+put_fails why other answer (Err failure) told (inl is) = subst (λ r. IfErr r (FailsBy why other)) is told
+put_fails why other answer (Err failure) told (inr late) = late_fails why other failure late
 
 -- Lack of memory claims no reason for `check`.
 memory_check : (is_json : Bool) (holds : Holding) (asked : Judging) (old new : Option (List ℕ)) →
@@ -76,47 +76,47 @@ memory_why holds (request.Lattice arguments) old new = tt
 memory_why holds (request.Lsp serving) old new = tt
 memory_why holds (request.Explain page) old new = tt
 
--- A request has stopped so too where the explanation has found no memory.
-pub explained_stops : (holds : Holding) (given : Option (List ℕ)) (asked : Request) (old new : Option (List ℕ))
-    (stop told : Stop) → IsStopOf holds given asked old new stop → (told ≡ stop) ⊎ (told ≡ Memory) →
-    IsStopOf holds given asked old new told
-explained_stops holds given asked old new stop told so (inl same) =
-    subst (IsStopOf holds given asked old new) (sym same) so
-explained_stops holds given asked old new stop told so (inr wants) =
-    subst (IsStopOf holds given asked old new) (sym wants)
+-- A request has failed so too where the explanation has found no memory.
+pub explained_fails : (holds : Holding) (given : Option (List ℕ)) (asked : Request) (old new : Option (List ℕ))
+    (failure told : Failure) → IsFailureOf holds given asked old new failure → (told ≡ failure) ⊎ (told ≡ Memory) →
+    IsFailureOf holds given asked old new told
+explained_fails holds given asked old new failure told so (inl same) =
+    subst (IsFailureOf holds given asked old new) (sym same) so
+explained_fails holds given asked old new failure told so (inr wants) =
+    subst (IsFailureOf holds given asked old new) (sym wants)
     (record {
       why = memory_why holds asked old new;
       leaves = leaves_memory (Answers holds given asked) asked old new so.leaves.partly;
     })
 
--- A fact that holds if a stop is early holds if the reported stop is early.
-pub early_told : {A : Type 0} (stop told : Stop) → (told ≡ stop) ⊎ (told ≡ Memory) → (status_of stop < 4 → A) →
+-- A fact that holds if a failure is early holds if the reported failure is early.
+pub early_told : {A : Type 0} (failure told : Failure) → (told ≡ failure) ⊎ (told ≡ Memory) → (status_of failure < 4 → A) →
     status_of told < 4 → A
-early_told stop told (inl same) so early = so (subst (λ s. status_of s < 4) same early)
-early_told stop told (inr wants) so early =
+early_told failure told (inl same) so early = so (subst (λ s. status_of s < 4) same early)
+early_told failure told (inr wants) so early =
     let late : status_of Memory < 4 = subst (λ s. status_of s < 4) wants early in absurd (omega arith)
 
 -- A fault of a stream is late.
-pub fault_late : {T : Type 0} (before : Stop → Type 0) (result : Result T Stop) →
-    IfErr result (λ stop. status_of stop ≡ 4) → IfErr result (λ stop. before stop ⊎ (3 < status_of stop))
-fault_late before result fault = IfErr-weaker result _ _ (λ stop is. inr (omega arith)) fault
+pub fault_late : {T : Type 0} (before : Failure → Type 0) (result : Result T Failure) →
+    IfErr result (λ failure. status_of failure ≡ 4) → IfErr result (λ failure. before failure ⊎ (3 < status_of failure))
+fault_late before result fault = IfErr-weaker result _ _ (λ failure is. inr (omega arith)) fault
 
--- Words have stopped so where there are words.
-pub stops_at : (holds : Holding) (given : Option (List ℕ)) (words : List (String Global)) (old new : Option (List ℕ))
-    (stop : Stop) → Stopped holds given words old new stop → StopsAt holds given words old new stop
-stops_at holds given [] old new stop so = tt
-stops_at holds given (word ∷ words) old new stop so = so
+-- Words have failed so where there are words.
+pub fails_at : (holds : Holding) (given : Option (List ℕ)) (words : List (String Global)) (old new : Option (List ℕ))
+    (failure : Failure) → Failed holds given words old new failure → FailsAt holds given words old new failure
+fails_at holds given [] old new failure so = tt
+fails_at holds given (word ∷ words) old new failure so = so
 
--- Without arguments, nothing is claimed about the reported stop.
+-- Without arguments, nothing is claimed about the reported failure.
 pub tells_without_words : {E : Type 0} (holds : Holding) (given : Option (List ℕ)) (words : List (String Global))
     (old new : Option (List ℕ)) (status : ℕ) (contents : E → Option (List ℕ)) (before after : Counted E) →
-    words ≡ [] → TellsStop (λ stop. Unit {0}) status contents before after →
-    TellsStop (StopsAt holds given words old new) status contents before after
+    words ≡ [] → TellsFailure (λ failure. Unit {0}) status contents before after →
+    TellsFailure (FailsAt holds given words old new) status contents before after
 tells_without_words holds given words old new status contents before after none tells = record {
-  stop = tells.stop;
+  failure = tells.failure;
   note = tells.note;
-  so = subst (λ w. StopsAt holds given w old new tells.stop) (sym none) tt;
-  stopped = tells.stopped;
+  so = subst (λ w. FailsAt holds given w old new tells.failure) (sym none) tt;
+  failed = tells.failed;
   tame = tells.tame;
   told = tells.told;
 }

@@ -1,55 +1,55 @@
-//! Obeys arguments.
+//! Carries out arguments.
 
 ghost use Rattle.std.specs.Prelude.{◌≡◌, ◌<◌, ◌⊎◌, [], IfErr, OnOk};
 ghost use Rattle.std.specs.Io.KnownBytes.{Keeps};
-ghost use Rattle.vsi.specs.Done.{Done, IsMistake, IsStopOf, Stopped, Unread};
+ghost use Rattle.vsi.specs.Done.{Done, IsMistake, IsFailureOf, Failed, Unread};
 ghost use Rattle.vsi.specs.Noted.{IsNote, NotesOf, noting};
 ghost use Rattle.vsi.specs.Performed.{Performs};
 ghost use Rattle.vsi.specs.Saved.{KeepsState, KeepsStateOf};
-ghost use Rattle.vsi.specs.Stops.{TellsFault, status_of};
-ghost use Rattle.vsi.specs.declared.stop.Stop.TheVariants.{Memory};
+ghost use Rattle.vsi.specs.Failures.{TellsFault, status_of};
+ghost use Rattle.vsi.specs.declared.failure.Failure.TheVariants.{Memory};
 ghost use Rattle.vsi_asked.specs.Help.{AsksHelp};
 ghost use Rattle.vsi_devices.specs.Counted.{device_of, faults_of};
 
-use crate::desk::Desk;
+use crate::cache::InputCache;
 use crate::explaining::{Explaining, explained, objection};
+use crate::failure::{Failure, write};
 use crate::files::Files;
 use crate::performing::perform;
-use crate::stop::{Stop, write};
-use crate::telling::Told;
+use crate::telling::ErrorText;
 use std::alloc::Global;
 use std::io::{Read, Write};
-use vsi_arguments::{ArgumentsError, Asked, Manner, request_of};
+use vsi_arguments::{ArgumentsError, Asked, Reporting, request_of};
 use vsi_asked::{asks_for, asks_help};
 use vsi_devices::Counted;
 
 /// The message if the arguments don't spell the request that was read from them.
 const MISUNDERSTOOD: &str = "error: these words are not understood\n";
 
-/// Obeys the arguments, or says what is wrong with them.
-pub(crate) fn obey<'a, F: Files, R: Read, W: Write>(
+/// Carries out the arguments, or says what is wrong with them.
+pub(crate) fn carry_out<'a, F: Files, R: Read, W: Write>(
     alloc: Global,
     words: &'a [String],
     files: &mut F,
     input: &mut Counted<R>,
     output: &mut Counted<W>,
-    told: &mut Told,
-) -> Result<(), Stop<'a>>
+    error_text: &mut ErrorText,
+) -> Result<(), Failure<'a>>
     requires input { faults_of input.old < u64.MAX }
     requires output { faults_of output.old < u64.MAX }
-    requires unnoted { told.old.note.items ≡ [] }
+    requires unnoted { error_text.old.lines.items ≡ [] }
     ensures input_fault { TellsFault (faults_of input.old) (faults_of input.new) result }
     ensures output_fault { TellsFault (faults_of output.old) (faults_of output.new) result }
-    ensures unfilled { IfErr result (λ stop. status_of stop < 4
+    ensures unfilled { IfErr result (λ failure. status_of failure < 4
         → F.holds files.new ≡ F.holds files.old) }
-    ensures noted { OnOk result (NotesOf (F.holds files.old) words.now told.new.note.items) }
+    ensures noted { OnOk result (NotesOf (F.holds files.old) words.now error_text.new.lines.items) }
     ensures done { OnOk result (Done (F.holds files.old)
         (R.remaining (device_of input.old)) words.now (F.holds files.new)
         (W.contents (device_of output.old)) (W.contents (device_of output.new))) }
     ensures state { IfErr result (λ _. KeepsStateOf (F.holds files.old)
         (R.remaining (device_of input.old)) words.now (F.holds files.new)
         (W.contents (device_of output.old)) (W.contents (device_of output.new))) }
-    ensures stopped { IfErr result (Stopped (F.holds files.old)
+    ensures failed { IfErr result (Failed (F.holds files.old)
         (R.remaining (device_of input.old)) words.now
         (W.contents (device_of output.old)) (W.contents (device_of output.new))) }
 {
@@ -58,45 +58,45 @@ pub(crate) fn obey<'a, F: Files, R: Read, W: Write>(
             if !asks_for(words, &asked.request) {
                 return Err(misunderstood(alloc));
             }
-            obey_asked(alloc, asked, files, input, output, told)
+            carry_out_asked(alloc, asked, files, input, output, error_text)
         }
         Err(error) => answer_arguments(alloc, words, error, output),
     }
 }
 
-/// Performs the request in the requested manner.
-fn obey_asked<'a, F: Files, R: Read, W: Write>(
+/// Performs the request with the requested explanations.
+fn carry_out_asked<'a, F: Files, R: Read, W: Write>(
     alloc: Global,
     asked: Asked<'a>,
     files: &mut F,
     input: &mut Counted<R>,
     output: &mut Counted<W>,
-    told: &mut Told,
-) -> Result<(), Stop<'a>>
+    error_text: &mut ErrorText,
+) -> Result<(), Failure<'a>>
     requires input { faults_of input.old < u64.MAX }
     requires output { faults_of output.old < u64.MAX }
-    requires unnoted { told.old.note.items ≡ [] }
+    requires unnoted { error_text.old.lines.items ≡ [] }
     ensures input_fault { TellsFault (faults_of input.old) (faults_of input.new) result }
     ensures output_fault { TellsFault (faults_of output.old) (faults_of output.new) result }
-    ensures unfilled { IfErr result (λ stop. status_of stop < 4
+    ensures unfilled { IfErr result (λ failure. status_of failure < 4
         → F.holds files.new ≡ F.holds files.old) }
     ensures noted { OnOk result
-        (IsNote (F.holds files.old) (noting asked.entry.request) told.new.note.items) }
+        (IsNote (F.holds files.old) (noting asked.entry.request) error_text.new.lines.items) }
     ensures performed { OnOk result (Performs (F.holds files.old)
         (R.remaining (device_of input.old)) asked.entry.request (F.holds files.new)
         (W.contents (device_of output.old)) (W.contents (device_of output.new))) }
     ensures state { IfErr result (λ _. KeepsState (F.holds files.old)
         (R.remaining (device_of input.old)) asked.entry.request (F.holds files.new)
         (W.contents (device_of output.old)) (W.contents (device_of output.new))) }
-    ensures stopped { IfErr result (IsStopOf (F.holds files.old)
+    ensures failed { IfErr result (IsFailureOf (F.holds files.old)
         (R.remaining (device_of input.old)) asked.entry.request
         (W.contents (device_of output.old)) (W.contents (device_of output.new))) }
 {
     let explaining = explaining_of(&asked, files);
-    let mut desk = Desk::new(alloc, explaining.is_some());
-    match perform(&mut desk, asked.request, files, input, output, told) {
+    let mut cache = InputCache::new(alloc, explaining.is_some());
+    match perform(&mut cache, asked.request, files, input, output, error_text) {
         Ok(()) => Ok(()),
-        Err(stop) => Err(explain_stop(&desk, explaining, files, stop, told)),
+        Err(failure) => Err(explain_failure(&cache, explaining, files, failure, error_text)),
     }
 }
 
@@ -104,53 +104,53 @@ fn obey_asked<'a, F: Files, R: Read, W: Write>(
 fn explaining_of<F: Files>(asked: &Asked<'_>, files: &mut F) -> Option<Explaining>
     ensures { F.holds files.new ≡ F.holds files.old }
 {
-    match asked.manner {
-        Manner::Fixed => None,
-        Manner::Explained(colour) => Some(Explaining::new(&asked.request, colour, files)),
+    match asked.reporting {
+        Reporting::Fixed => None,
+        Reporting::Explained(colour) => Some(Explaining::new(&asked.request, colour, files)),
     }
 }
 
-/// The stop of a request, once its explanation has been added to the note, if one is requested, or
+/// The failure of a request, once its explanation has been added to the note, if one is requested, or
 /// else why its file isn't used, where each user has to know.
-fn explain_stop<'a, F: Files>(
-    desk: &Desk,
+fn explain_failure<'a, F: Files>(
+    cache: &InputCache,
     explaining: Option<Explaining>,
     files: &mut F,
-    stop: Stop<'a>,
-    told: &mut Told,
-) -> Stop<'a>
+    failure: Failure<'a>,
+    error_text: &mut ErrorText,
+) -> Failure<'a>
     ensures kept { F.holds files.new ≡ F.holds files.old }
-    ensures fault { status_of stop.entry ≡ 4 → status_of result ≡ 4 }
-    ensures same { (result ≡ stop.entry) ⊎ (result ≡ Memory) }
+    ensures fault { status_of failure.entry ≡ 4 → status_of result ≡ 4 }
+    ensures same { (result ≡ failure.entry) ⊎ (result ≡ Memory) }
 {
     let lines = match explaining {
-        Some(explaining) => explained(desk, explaining, files, &stop),
-        None => objection(desk, files, &stop),
+        Some(explaining) => explained(cache, explaining, files, &failure),
+        None => objection(cache, files, &failure),
     };
-    stop.after(told.put(lines))
+    failure.after(error_text.put(lines))
 }
 
-/// The stop for arguments that don't spell the request that was read from them.
-fn misunderstood<'a>(alloc: Global) -> Stop<'a>
+/// The failure for arguments that don't spell the request that was read from them.
+fn misunderstood<'a>(alloc: Global) -> Failure<'a>
     ensures { IsMistake result ⊎ (3 < status_of result) }
 {
     match String::from_str(alloc, MISUNDERSTOOD) {
-        Ok(text) => Stop::Usage(text),
-        Err(_) => Stop::Memory,
+        Ok(text) => Failure::Usage(text),
+        Err(_) => Failure::Memory,
     }
 }
 
-/// Writes help that the arguments request to the output; for a mistake the stop says what is wrong.
+/// Writes help that the arguments request to the output; for a mistake the failure says what is wrong.
 fn answer_arguments<'a, W: Write>(
     alloc: Global,
     words: &[String],
     error: ArgumentsError,
     output: &mut Counted<W>,
-) -> Result<(), Stop<'a>>
+) -> Result<(), Failure<'a>>
     requires { faults_of output.old < u64.MAX }
     ensures fault { TellsFault (faults_of output.old) (faults_of output.new) result }
     ensures help { OnOk result (AsksHelp words.now) }
-    ensures stopped { IfErr result (Unread words.now
+    ensures failed { IfErr result (Unread words.now
         (W.contents (device_of output.old)) (W.contents (device_of output.new))) }
 {
     match error {
@@ -160,7 +160,7 @@ fn answer_arguments<'a, W: Write>(
             }
             write(text.as_bytes(), output)
         }
-        ArgumentsError::Mistake(text) => Err(Stop::Usage(text)),
-        ArgumentsError::Memory => Err(Stop::Memory),
+        ArgumentsError::Mistake(text) => Err(Failure::Usage(text)),
+        ArgumentsError::Memory => Err(Failure::Memory),
     }
 }

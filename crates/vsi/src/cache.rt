@@ -4,7 +4,7 @@ use std::alloc::{AllocError, Global};
 
 /// The kind of a file that was read.
 #[derive(Clone, Copy, Debug, PartialEq, Eq)]
-pub(crate) enum Kind {
+pub(crate) enum InputKind {
     Lattice,
     Source,
     Image,
@@ -16,24 +16,27 @@ pub(crate) enum Kind {
     Names,
 }
 
-impl Kind {
+impl InputKind {
     /// Whether only a whole file of this kind is useful.
     pub(crate) fn must_be_whole(self) -> bool {
-        matches!(self, Kind::Lattice | Kind::Store | Kind::Interface)
+        matches!(
+            self,
+            InputKind::Lattice | InputKind::Store | InputKind::Interface
+        )
     }
 }
 
 /// A file that was read.
 #[derive(Drop)]
 pub(crate) struct Kept {
-    pub(crate) kind: Kind,
+    pub(crate) kind: InputKind,
     pub(crate) path: Vec<u8>,
     pub(crate) bytes: Vec<u8>,
 }
 
 /// The files that were read, if refusals are explained.
 #[derive(Drop)]
-pub(crate) struct Desk {
+pub(crate) struct InputCache {
     pub(crate) alloc: Global,
     /// Whether a refusal is explained.
     pub(crate) is_explained: bool,
@@ -42,10 +45,10 @@ pub(crate) struct Desk {
     kept: Vec<Kept>,
 }
 
-impl Desk {
-    /// An empty desk.
-    pub(crate) fn new(alloc: Global, is_explained: bool) -> Desk {
-        Desk {
+impl InputCache {
+    /// An empty cache.
+    pub(crate) fn new(alloc: Global, is_explained: bool) -> InputCache {
+        InputCache {
             alloc,
             is_explained,
             is_broken: false,
@@ -54,7 +57,12 @@ impl Desk {
     }
 
     /// Keeps the bytes of a file, before they are judged.
-    pub(crate) fn keep(&mut self, kind: Kind, path: &str, bytes: &[u8]) -> Result<(), AllocError> {
+    pub(crate) fn keep(
+        &mut self,
+        kind: InputKind,
+        path: &str,
+        bytes: &[u8],
+    ) -> Result<(), AllocError> {
         if !self.is_explained {
             return Ok(());
         }
@@ -68,7 +76,7 @@ impl Desk {
     }
 
     /// The last file of this kind that was read.
-    pub(crate) fn last(&self, kind: Kind) -> Option<&Kept> {
+    pub(crate) fn last(&self, kind: InputKind) -> Option<&Kept> {
         let mut found = None;
         for kept in &self.kept {
             if kept.kind == kind {
@@ -79,7 +87,7 @@ impl Desk {
     }
 
     /// The file of this kind that was read after this many others of the kind.
-    pub(crate) fn behind(&self, kind: Kind, others: usize) -> Option<&Kept> {
+    pub(crate) fn behind(&self, kind: InputKind, others: usize) -> Option<&Kept> {
         let mut left = others;
         for kept in &self.kept {
             if kept.kind != kind {

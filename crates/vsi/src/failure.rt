@@ -2,9 +2,9 @@
 
 ghost use Rattle.std.specs.Prelude.{◌≡◌, ◌<◌, ◌≤◌, ◌⊎◌, ◌==◌, true, false, IfErr, OnOk, OnErr};
 ghost use Rattle.std.specs.Io.KnownBytes.{Appends};
-ghost use Rattle.vsi.specs.Stops.{line_of, status_of, text_of_stop, IsStreamFault, StopsFor, TellsFault};
+ghost use Rattle.vsi.specs.Failures.{line_of, status_of, text_of_failure, IsStreamFault, FailsFor, TellsFault};
 ghost use Rattle.vsi.specs.Partly.{WritesPart};
-ghost use Rattle.vsi.specs.declared.stop.Stop.TheVariants.{Differs, Memory};
+ghost use Rattle.vsi.specs.declared.failure.Failure.TheVariants.{Differs, Memory};
 ghost use Rattle.vsi_devices.specs.Counted.{device_of, faults_of};
 
 use std::alloc::{AllocError, AllocFailed};
@@ -21,7 +21,7 @@ pub(crate) const STREAM: &str = "-";
 
 /// The reason why a command line ended early.
 #[derive(Debug, Drop)]
-pub(crate) enum Stop<'a> {
+pub(crate) enum Failure<'a> {
     /// With the fault text, and its cause if that can be explained. Without a cause it is a leak, or
     /// a budget that is to be the bound of an image for which none was found.
     Refused(Vec<u8>, Option<Cause>),
@@ -47,46 +47,46 @@ pub(crate) enum Stop<'a> {
     Memory,
 }
 
-impl From<AllocError> for Stop<'_> {
+impl From<AllocError> for Failure<'_> {
     ghost from_gives = { λ _ e. e ≡ Memory };
 
     fn from(_error: AllocError) -> Self {
-        Stop::Memory
+        Failure::Memory
     }
 }
 
-impl<T: Drop> From<AllocFailed<T>> for Stop<'_> {
+impl<T: Drop> From<AllocFailed<T>> for Failure<'_> {
     ghost from_gives = { λ _ e. e ≡ Memory };
 
     fn from(_error: AllocFailed<T>) -> Self {
-        Stop::Memory
+        Failure::Memory
     }
 }
 
-impl From<ReportError> for Stop<'_> {
+impl From<ReportError> for Failure<'_> {
     ghost from_gives = { λ _ e. e ≡ Memory };
 
     // A page that is too long has no text of its own.
     fn from(_error: ReportError) -> Self {
-        Stop::Memory
+        Failure::Memory
     }
 }
 
-impl From<Unanswered> for Stop<'_> {
-    ghost use Rattle.vsi.specs.Stops.{stop_of};
+impl From<Unanswered> for Failure<'_> {
+    ghost use Rattle.vsi.specs.Failures.{failure_of};
 
-    ghost from_gives = { λ inner e. e ≡ stop_of inner };
+    ghost from_gives = { λ inner e. e ≡ failure_of inner };
 
     fn from(unanswered: Unanswered) -> Self {
         match unanswered {
-            Unanswered::Refused(text, cause) => Stop::Refused(text, Some(cause)),
-            Unanswered::OutOfBudget => Stop::OutOfBudget,
-            Unanswered::Memory => Stop::Memory,
+            Unanswered::Refused(text, cause) => Failure::Refused(text, Some(cause)),
+            Unanswered::OutOfBudget => Failure::OutOfBudget,
+            Unanswered::Memory => Failure::Memory,
         }
     }
 }
 
-impl Stop<'_> {
+impl Failure<'_> {
     /// The exit status of the program.
     pub(crate) fn status(&self) -> u8
         ensures status { result ≡ status_of self.now }
@@ -94,23 +94,23 @@ impl Stop<'_> {
         ensures bound { result ≤ 5 }
     {
         match self {
-            Stop::Refused(_, _) | Stop::Differs => 1,
-            Stop::Interface(_, _) | Stop::Audit(_, _) | Stop::Unsteady(_, _) => 1,
-            Stop::Usage(_) | Stop::NoClass(_) => 2,
-            Stop::OutOfBudget => 3,
-            Stop::FileFault(_) | Stop::LostFile(_) => 4,
-            Stop::Memory => 5,
+            Failure::Refused(_, _) | Failure::Differs => 1,
+            Failure::Interface(_, _) | Failure::Audit(_, _) | Failure::Unsteady(_, _) => 1,
+            Failure::Usage(_) | Failure::NoClass(_) => 2,
+            Failure::OutOfBudget => 3,
+            Failure::FileFault(_) | Failure::LostFile(_) => 4,
+            Failure::Memory => 5,
         }
     }
 
-    /// Whether the stop is lack of memory, after which nothing else is written.
+    /// Whether the failure is lack of memory, after which nothing else is written.
     pub(crate) fn wants_memory(&self) -> bool
         ensures { result ≡ (status_of self.now == 5) }
     {
-        matches!(self, Stop::Memory)
+        matches!(self, Failure::Memory)
     }
 
-    /// This stop if an explanation could be added; otherwise lack of memory is the stop, unless
+    /// This failure if an explanation could be added; otherwise lack of memory is the failure, unless
     /// this is a fault of a file or a stream.
     pub(crate) fn after(self, added: Result<(), AllocError>) -> Self
         ensures fault { status_of self.entry ≡ 4 → status_of result ≡ 4 }
@@ -119,7 +119,7 @@ impl Stop<'_> {
         if added.is_ok() || self.status() == 4 {
             self
         } else {
-            Stop::Memory
+            Failure::Memory
         }
     }
 
@@ -129,57 +129,61 @@ impl Stop<'_> {
         ensures count { faults_of error.old ≤ faults_of error.new }
         ensures failed { OnErr result (faults_of error.old < faults_of error.new) }
         ensures whole { OnOk result (Appends (E.contents (device_of error.old))
-            (E.contents (device_of error.new)) (text_of_stop self.now)) }
+            (E.contents (device_of error.new)) (text_of_failure self.now)) }
     {
         match self {
-            Stop::Refused(text, _)
-            | Stop::Interface(text, _)
-            | Stop::Audit(text, _)
-            | Stop::Unsteady(text, _) => write_out(text.as_slice(), error),
-            Stop::Differs => Ok(()),
-            Stop::Usage(text) => write_out(text.as_bytes(), error),
-            Stop::NoClass(name) => tell_line(b"no class ", name, error),
-            Stop::OutOfBudget => write_out(b"out of budget\n", error),
-            Stop::FileFault(path) => tell_line(b"file fault: ", path, error),
-            Stop::LostFile(path) => tell_line(b"file fault: ", path.as_str(), error),
-            Stop::Memory => write_out(b"out of memory\n", error),
+            Failure::Refused(text, _)
+            | Failure::Interface(text, _)
+            | Failure::Audit(text, _)
+            | Failure::Unsteady(text, _) => write_out(text.as_slice(), error),
+            Failure::Differs => Ok(()),
+            Failure::Usage(text) => write_out(text.as_bytes(), error),
+            Failure::NoClass(name) => tell_line(b"no class ", name, error),
+            Failure::OutOfBudget => write_out(b"out of budget\n", error),
+            Failure::FileFault(path) => tell_line(b"file fault: ", path, error),
+            Failure::LostFile(path) => tell_line(b"file fault: ", path.as_str(), error),
+            Failure::Memory => write_out(b"out of memory\n", error),
         }
     }
 }
 
 /// Writes a text to standard output.
-pub(crate) fn write<'a, W: Write>(text: &[u8], output: &mut Counted<W>) -> Result<(), Stop<'a>>
+pub(crate) fn write<'a, W: Write>(text: &[u8], output: &mut Counted<W>) -> Result<(), Failure<'a>>
     requires { faults_of output.old < u64.MAX }
     ensures fault { TellsFault (faults_of output.old) (faults_of output.new) result }
-    ensures stop { IfErr result (λ stop. status_of stop ≡ 4) }
-    ensures stopped { IfErr result (StopsFor (λ reason. ⊥)
+    ensures failure { IfErr result (λ failure. status_of failure ≡ 4) }
+    ensures failed { IfErr result (FailsFor (λ reason. ⊥)
         (IsStreamFault (faults_of output.old < faults_of output.new))) }
     ensures whole { OnOk result
         (Appends (W.contents (device_of output.old)) (W.contents (device_of output.new)) text.now) }
     ensures part { WritesPart text.now
         (W.contents (device_of output.old)) (W.contents (device_of output.new)) }
 {
-    write_out(text, output).map_err(|_| Stop::FileFault(STREAM))
+    write_out(text, output).map_err(|_| Failure::FileFault(STREAM))
 }
 
-/// Writes an answer, and then stops if it is a difference.
+/// Writes an answer, and then fails if it is a difference.
 pub(crate) fn write_answer<'a, W: Write>(
     text: &[u8],
     agrees: bool,
     output: &mut Counted<W>,
-) -> Result<(), Stop<'a>>
+) -> Result<(), Failure<'a>>
     requires { faults_of output.old < u64.MAX }
     ensures fault { TellsFault (faults_of output.old) (faults_of output.new) result }
     ensures part { WritesPart text.now
         (W.contents (device_of output.old)) (W.contents (device_of output.new)) }
     ensures whole { OnOk result ((agrees ≡ true)
         × Appends (W.contents (device_of output.old)) (W.contents (device_of output.new)) text.now) }
-    ensures stopped { IfErr result (λ stop. ((stop ≡ Differs) × ((agrees ≡ false)
+    ensures failed { IfErr result (λ failure. ((failure ≡ Differs) × ((agrees ≡ false)
         × Appends (W.contents (device_of output.old)) (W.contents (device_of output.new)) text.now))
-        ⊎ (status_of stop ≡ 4)) }
+        ⊎ (status_of failure ≡ 4)) }
 {
     write(text, output)?;
-    if agrees { Ok(()) } else { Err(Stop::Differs) }
+    if agrees {
+        Ok(())
+    } else {
+        Err(Failure::Differs)
+    }
 }
 
 /// Writes the start and the name on a line.
