@@ -32,5 +32,5 @@ returns c =
     subst (λ (x : ℕ). IsReached L c.args.profile p x c.joined.result)
     (at_place L p res.entries res.limit c.args.variable c.requires.variable)
     (joined_reached L (lawful c.args.lattice.now) c.args.profile p res c.requires.declared fl c.requires.flows
-    c.args.floors.now c.requires.floors c.args.variable (omega (arith, c.requires.variable)) row d c.joined.result
-    (length c.args.floors.now) refl j)
+    c.args.floors.now c.requires.floors c.args.variable (omega (arith, c.requires.variable)) row d
+    (length c.args.floors.now) c.joined.result refl j)
