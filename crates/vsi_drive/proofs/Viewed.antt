@@ -45,7 +45,7 @@ ends_with : (c : Control) (m last : List ℤ) (budget : ℕ) (o : Option State) 
 ends_with c m last budget None reached is = absurd (cc)
 ends_with c m last budget (Some s) reached is =
     elim s.halted as (λ v. s.halted ≡ v → (if v then Some (globals_of c.image s) else None) ≡ Some last →
-        Ends c.image m budget last) [
+    Ends c.image m budget last) [
       | true ↦ λ on e. record { state = s; reached = reached; halted = on; words = cc }
       | false ↦ λ off e. absurd (cc)
     ] refl is
