@@ -27,7 +27,7 @@ use Rattle.vsi_store.proofs.Slots.{words_last}
 -- ---- one line.
 
 -- Two words of one global look the same where they are equal if the class sees the global and if it is released.
-same_word : (out rel seen : Bool) (text : ℤ → List ℕ) (w w' : ℤ) → (seen ≡ true → w ≡ w') →
+pub same_word : (out rel seen : Bool) (text : ℤ → List ℕ) (w w' : ℤ) → (seen ≡ true → w ≡ w') →
     (((out && (seen || rel)) && not seen) ≡ true → w ≡ w') →
     (if out && (seen || rel) then text w else []) ≡ (if out && (seen || rel) then text w' else [])
 same_word false rel seen text w w' h r = refl
@@ -36,13 +36,13 @@ same_word true true false text w w' h r = ap text (r refl)
 same_word true false false text w w' h r = refl
 
 -- A global whose class the class sees has a known class at or below it.
-seen_below : (L : Lattice) (a : ℕ) (o : Option ℕ) (w w' : ℤ) → ((k : ℕ) → o ≡ Some k → Below L k a → w ≡ w') →
+pub seen_below : (L : Lattice) (a : ℕ) (o : Option ℕ) (w w' : ℤ) → ((k : ℕ) → o ≡ Some k → Below L k a → w ≡ w') →
     option_map_or (λ k. L.leq k a) o false ≡ true → w ≡ w'
 seen_below L a None w w' h e = absurd (cc)
 seen_below L a (Some k) w w' h e = h k refl e
 
 -- The released words of two stores are equal, and the first global is released: so are its words.
-first_released : (b : Bool) (w w' : ℤ) (ws ws' : List ℤ) →
+pub first_released : (b : Bool) (w w' : ℤ) (ws ws' : List ℤ) →
     (if b then w ∷ ws else ws) ≡ (if b then w' ∷ ws' else ws') → b ≡ true → w ≡ w'
 first_released true w w' ws ws' same is = ap (first_word w) same
   where
@@ -52,7 +52,7 @@ first_released true w w' ws ws' same is = ap (first_word w) same
 first_released false w w' ws ws' same is = absurd (cc)
 
 -- The later released words are equal too.
-later_released : (b : Bool) (w w' : ℤ) (ws ws' : List ℤ) →
+pub later_released : (b : Bool) (w w' : ℤ) (ws ws' : List ℤ) →
     (if b then w ∷ ws else ws) ≡ (if b then w' ∷ ws' else ws') → ws ≡ ws'
 later_released true w w' ws ws' same = ap later_words same
   where
@@ -172,7 +172,7 @@ not_released true rel true h = refl
 not_released true rel false h = ap (λ r. (true && (false || r)) && not false) h
 
 -- Where no global is named as released, no store has released words.
-no_words : (c : Control) → ReleasesNothing c → (gs : List Global) (m : List ℤ) → released_words c gs m ≡ []
+pub no_words : (c : Control) → ReleasesNothing c → (gs : List Global) (m : List ℤ) → released_words c gs m ≡ []
 no_words c none [] m = refl
 no_words c none (g ∷ gs) [] = refl
 no_words c none (g ∷ gs) (w ∷ ws) =

@@ -3,5 +3,6 @@ pub mod NamesOf
 pub mod Written
 pub mod Each
 pub mod Alike
+pub mod Viewed
 pub mod Steady
 pub mod Behind

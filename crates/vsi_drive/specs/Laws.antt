@@ -1,5 +1,5 @@
--- The laws of two drives of one controller.
-use Rattle.std.specs.Prelude.{◌≡◌, ◌≢◌, ℕ, ℤ, List, [], ◌∷◌, map, if◌then◌else◌}
+-- The laws of two drives of one controller, and of two of its views.
+use Rattle.std.specs.Prelude.{◌≡◌, ◌≢◌, ℕ, ℤ, List, [], ◌∷◌, map, Option, Some, option_map, if◌then◌else◌}
 use Rattle.vsi_image.specs.Fields.{Global, globals}
 use Rattle.vsi_image.specs.Valid.{IsValid}
 use Rattle.vsi_lattice.specs.Order.{IsClass}
@@ -9,9 +9,12 @@ use Rattle.vsi_compiler.specs.Observation.{AgreeAt, IsNoninterfering, IsStoreOf}
 use Rattle.vsi_steady.specs.Laws.{RunsAlike}
 use Rattle.vsi_drive.specs.declared.controller.CycleEnding.{CycleEnding}
 use Rattle.vsi_drive.specs.declared.controller.CycleEnding.TheVariants.{Halted, OutOfBudget, Refused}
+use Rattle.vsi_store.specs.View.{view_text_of}
+use Rattle.vsi_drive.specs.Boundary.{no_boundary}
 use Rattle.vsi_drive.specs.Control.{Control, is_released}
 use Rattle.vsi_drive.specs.Settings.{settings_of}
 use Rattle.vsi_drive.specs.Cycles.{Cycle, cycle, store_behind, text_of}
+use Rattle.vsi_drive.specs.Views.{last_words, view_of, written_text}
 
 -- No cycle of these lines is out of budget.
 abbrev pub AllHalt : Control → List ℤ → List (List ℕ) → Type 0
@@ -126,3 +129,45 @@ abbrev pub SameReleasedSteadyDrives : Type 0
 SameReleasedSteadyDrives =
     (c : Control) → IsClass c.order c.class → IsValid c.image → RunsAlike c.known c.order c.image →
     ReleasedAlwaysAlike c
+
+-- ---- the laws of views.
+
+-- The words that the run from these words releases, if it halts within this budget.
+abbrev pub released_by : Control → ℕ → List ℤ → Option (List ℤ)
+released_by c budget m = option_map (released_words c (globals c.image.globals.items)) (last_words c budget m)
+
+-- From stores that agree at and below the class, two runs that halt and release the same words have one view.
+abbrev pub ReleasedViewsAlike : Control → Type 0
+ReleasedViewsAlike c =
+    (m m' : List ℤ) (budget budget' : ℕ) (text text' : List ℕ) → AgreeFor c m m' → view_of c budget m ≡ Some text →
+    view_of c budget' m' ≡ Some text' → released_by c budget m ≡ released_by c budget' m' → text ≡ text'
+
+-- From stores that agree at and below the class, two runs that halt have one view.
+abbrev pub ViewsAlike : Control → Type 0
+ViewsAlike c =
+    (m m' : List ℤ) (budget budget' : ℕ) (text text' : List ℕ) → AgreeFor c m m' → view_of c budget m ≡ Some text →
+    view_of c budget' m' ≡ Some text' → text ≡ text'
+
+-- Views that release the same are alike for a valid image that is noninterfering.
+abbrev pub SameReleasedViews : Type 0
+SameReleasedViews =
+    (c : Control) → IsClass c.order c.class → IsValid c.image → IsNoninterfering c.known c.order c.image →
+    ReleasedViewsAlike c
+
+-- Views that release the same are alike for an image that was compiled over the same classes.
+abbrev pub SameReleasedCompiledViews : Type 0
+SameReleasedCompiledViews =
+    (c : Control) (P : Profile) (text : List ℕ) → IsClass c.order c.class →
+    IsCompiled c.known c.order P text c.image → ReleasedViewsAlike c
+
+-- Where nothing is released, views are alike for an image that was compiled over the same classes.
+abbrev pub SameCompiledViews : Type 0
+SameCompiledViews =
+    (c : Control) (P : Profile) (text : List ℕ) → ReleasesNothing c → IsClass c.order c.class →
+    IsCompiled c.known c.order P text c.image → ViewsAlike c
+
+-- Without lists the text of a store is the view that a class has of it.
+abbrev pub ViewsPlainly : Type 0
+ViewsPlainly =
+    (c : Control) (words : List ℤ) → c.boundary ≡ no_boundary →
+    written_text c words ≡ view_text_of c.known c.order c.class (globals c.image.globals.items) words

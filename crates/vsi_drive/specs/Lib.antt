@@ -6,4 +6,5 @@ pub mod BoundaryFaults
 pub mod Reaches
 pub mod Starts
 pub mod Cycles
+pub mod Views
 pub mod Laws

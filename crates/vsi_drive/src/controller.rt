@@ -11,7 +11,7 @@ ghost use Rattle.vsi_store.specs.declared.views.ViewError.TheVariants.{Memory};
 use crate::boundary::{Boundary, BoundaryFault, Role, is_among, is_listed};
 use crate::fault::LineFault;
 use crate::settings::words_set;
-use crate::texts::{fault_line, line_seen, spent_line};
+use crate::texts::{fault_line, line_seen, spent_line, written_text};
 use std::alloc::Global;
 use vsi_image::Verified;
 use vsi_lattice::{Class, Classes, Lattice};
@@ -47,6 +47,7 @@ impl<'a> Controller<'a> {
     ghost use Rattle.vsi_drive.specs.declared.boundary.Role.TheVariants.{Input, Output, Released};
     ghost use Rattle.vsi_drive.specs.Control.{control, controlled, is_input, is_written};
     ghost use Rattle.vsi_drive.specs.Cycles as spec;
+    ghost use Rattle.vsi_drive.specs.Views.{view_of};
 
     /// A controller of this image.
     ///
@@ -316,6 +317,24 @@ impl<'a> Controller<'a> {
                 Ok((CycleEnding::Halted, text))
             }
             Outcome::OutOfBudget => Ok((CycleEnding::OutOfBudget, spent_line(alloc)?)),
+        }
+    }
+
+    /// Runs the image from these words, and returns the lines of the globals that the class sees of
+    /// its last words, or that are released; nothing if the run is out of budget.
+    pub fn view(&self, alloc: Global, words: &[i64]) -> Result<Option<Vec<u8>>, ViewError>
+        requires { length words.now ≡ length (control self.now).image.globals.items }
+        ensures view { IfOk result (λ view. option_map (λ text. text.items) view
+            ≡ view_of (control self.now) (control self.now).budget words.now) }
+        ensures only { IfErr result (λ e. e ≡ Memory) }
+    {
+        let mut machine = match Machine::new(alloc, self.verified, words) {
+            Ok(machine) => machine,
+            Err(_) => return Err(ViewError::Memory),
+        };
+        match machine.run(self.budget) {
+            Outcome::Halted => Ok(Some(written_text(alloc, self, machine.store())?)),
+            Outcome::OutOfBudget => Ok(None),
         }
     }
 

@@ -3,14 +3,15 @@
 //! A `Controller` does one cycle for a line (`cycle`), or one for each of several lines (`drive`).
 //! A line sets globals, the image runs within a budget, and the globals that the class sees are
 //! written as a line of the same form. The clauses cite `specs/Settings` for the settings of a
-//! line, and `specs/Cycles` for the output of a cycle and the store after it. `laws` shows that the
-//! output reveals nothing from above the class.
+//! line, and `specs/Cycles` for the output of a cycle and the store after it. `view` runs the image
+//! once and returns these globals a line each: see `specs/Views`. `laws` shows that the output
+//! reveals nothing from above the class, but for what is released.
 //!
 //! `first_words` returns the words with which a run begins, from a store file and from globals that
 //! are set after it: see `specs/Starts`.
 //!
 //! To be believed: `specs/Control`, `specs/Cycles`, `specs/Fields`, `specs/Laws`, `specs/Settings`,
-//! `specs/Starts`. The other files of `specs/` only support proofs.
+//! `specs/Starts`, `specs/Views`. The other files of `specs/` only support proofs.
 #![tactic(auto)]
 
 mod boundary;

@@ -7,6 +7,7 @@ ghost use Rattle.vsi_drive.specs.BoundaryFaults as faults;
 ghost use Rattle.vsi_drive.specs.Control.{control};
 ghost use Rattle.vsi_drive.specs.Cycles as spec;
 ghost use Rattle.vsi_drive.specs.Starts as starts;
+ghost use Rattle.vsi_drive.specs.Views as views;
 
 use crate::boundary::BoundaryFault;
 use crate::controller::Controller;
@@ -132,5 +133,42 @@ pub(crate) fn line_seen(
     let mut text = globals_seen(alloc, controller, words)?;
     text.pop();
     text.extend_from_slice(b"\n")?;
+    Ok(text)
+}
+
+/// Adds the line of one global, if it is written.
+fn push_written(
+    text: &mut Vec<u8>,
+    controller: &Controller,
+    variable: &(Vec<u8>, Vec<u8>),
+    word: i64,
+) -> Result<(), AllocError>
+    ensures { OnOk result (text.new.items ≡ text.old.items
+        ++ views.written_line (control controller.now) (global variable.now) word) }
+{
+    if controller.writes(variable) {
+        text.extend_from_slice(variable.0.as_slice())?;
+        text.extend_from_slice(b" = ")?;
+        put_word(text, word)?;
+        text.push(b'\n')?;
+    }
+    Ok(())
+}
+
+/// The globals of a store that are written, a line for each.
+pub(crate) fn written_text(
+    alloc: Global,
+    controller: &Controller,
+    words: &[i64],
+) -> Result<Vec<u8>, AllocError>
+    requires { length words.now ≡ length (control controller.now).image.globals.items }
+    ensures { IfOk result
+        (λ text. text.items ≡ views.written_text (control controller.now) words.now) }
+{
+    let variables = controller.globals();
+    let mut text = Vec::new(alloc);
+    for (i, variable) in variables.iter().enumerate() {
+        push_written(&mut text, controller, variable, words[i])?;
+    }
     Ok(text)
 }
