@@ -50,13 +50,13 @@ ends_with c m last budget (Some s) reached is =
       | false ↦ λ off e. absurd (cc)
     ] refl is
 
--- If a mapped option has a value, so has the option, and the one is made of the other.
+-- What is made of words that there are, there is.
 made_of : {A B : Type 0} (f : A → B) (o : Option A) (b : B) → option_map f o ≡ Some b →
     (a : A) × (o ≡ Some a) × (b ≡ f a)
 made_of f None b is = absurd (cc)
 made_of f (Some a) b is = (a, refl, cc)
 
--- If two options with values are mapped to the same, so are their values.
+-- Texts of two options that are there are equal.
 both : {A B : Type 0} (f : A → B) (o o' : Option A) (a a' : A) → o ≡ Some a → o' ≡ Some a' →
     option_map f o ≡ option_map f o' → f a ≡ f a'
 both f None o' a a' is is' same = absurd (cc)
@@ -91,7 +91,7 @@ pub same_released_compiled_views : SameReleasedCompiledViews
 same_released_compiled_views c P text class compiled =
     views_alike c class (coded_valid c.image compiled.coded) compiled.noninterference
 
--- Two options whose values are mapped to empty lists are mapped to the same.
+-- Words that there are, and of which nothing is made, give the same.
 nothing_of : {A B : Type 0} (f : A → List B) → ((a : A) → f a ≡ []) → (o o' : Option A) (a a' : A) →
     o ≡ Some a → o' ≡ Some a' → option_map f o ≡ option_map f o'
 nothing_of f none o o' a a' is is' =
