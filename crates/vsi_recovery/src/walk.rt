@@ -10,7 +10,8 @@ use vsi_syntax::{Span, Token};
 /// The fewest tokens that are read at once.
 const CHUNK: usize = 500;
 
-/// What a walk has read, and the number of the token of the text after that.
+/// The state of a walk: the constructs that haven't ended, and the number of the next token of the
+/// text.
 #[derive(Drop)]
 pub(crate) struct Walk<'a> {
     pub(crate) open: Open<'a>,
