@@ -1,8 +1,9 @@
 //! The constructs that haven't ended before a token.
 
-use crate::stock::{COMMAND, Stock};
+use crate::search::Choice;
+use crate::stock::{COMMAND, Stock, put_at};
 use std::alloc::{AllocError, Global};
-use vsi_syntax::{Kind, Token};
+use vsi_syntax::{Kind, Span, Token};
 
 /// A beginning in a list: the number of a token, and the number of those of `kept` before it.
 #[derive(Clone, Copy)]
@@ -20,8 +21,8 @@ struct Level {
     command: Start,
 }
 
-/// What was read of a list: a short list after which the same tokens may come, and the sequences
-/// that haven't ended.
+/// What was read of a list: a short list after which the same tokens may come, in which each token
+/// has its number in the list that was read as its span, and the sequences that haven't ended.
 #[derive(Drop)]
 pub(crate) struct Open<'a> {
     pub(crate) kept: Vec<Token<'a>>,
@@ -29,17 +30,32 @@ pub(crate) struct Open<'a> {
     now: Level,
 }
 
-/// The beginning of a list.
-const FIRST: Start = Start { place: 0, kept: 0 };
-
-/// The sequence of the program.
-const BODY: Level = Level {
-    mark: 0,
-    item: FIRST,
-    command: FIRST,
-};
+/// The span of a token with this number.
+fn at(number: usize) -> Span {
+    Span {
+        start: number,
+        stop: number,
+    }
+}
 
 impl<'a> Open<'a> {
+    /// The beginning of a list whose first token has this number.
+    pub(crate) fn new(alloc: Global, number: usize) -> Open<'a> {
+        let first = Start {
+            place: number,
+            kept: 0,
+        };
+        Open {
+            kept: Vec::new(alloc),
+            outer: Vec::new(alloc),
+            now: Level {
+                mark: 0,
+                item: first,
+                command: first,
+            },
+        }
+    }
+
     /// Where the last command of the innermost sequence begins.
     pub(crate) fn item(&self) -> Start {
         self.now.item
@@ -61,7 +77,7 @@ impl<'a> Open<'a> {
     }
 
     /// Whether the last command is a declaration at the head.
-    fn is_declaration(&self) -> bool {
+    pub(crate) fn is_declaration(&self) -> bool {
         match self.kept.first() {
             Some(token) => self.outer.is_empty() && token.kind == Kind::Var,
             None => false,
@@ -85,9 +101,9 @@ impl<'a> Open<'a> {
     ) -> Result<(), AllocError> {
         let is_declaration = self.is_declaration();
         self.kept.truncate(self.now.mark);
-        if self.outer.is_empty() && !is_declaration {
-            stock.put_all(&mut self.kept, COMMAND, token.span)?;
-            self.kept.push(token)?;
+        if !is_declaration {
+            stock.put_all(&mut self.kept, COMMAND, at(self.now.item.place))?;
+            put_at(&mut self.kept, token, at(number))?;
         }
         self.begin_command(number);
         self.now.item = self.now.command;
@@ -96,7 +112,7 @@ impl<'a> Open<'a> {
 
     /// Begins a block by the `{` with this number.
     fn begin(&mut self, number: usize, token: Token<'a>) -> Result<(), AllocError> {
-        self.kept.push(token)?;
+        put_at(&mut self.kept, token, at(number))?;
         self.outer.push(self.now)?;
         self.now.mark = self.kept.len();
         self.begin_command(number);
@@ -104,20 +120,24 @@ impl<'a> Open<'a> {
         Ok(())
     }
 
-    /// Ends a block.
-    fn close(&mut self, stock: &Stock<'a>, token: Token<'a>) -> Result<(), AllocError> {
+    /// Ends a block by the `}` with this number.
+    fn close(
+        &mut self,
+        stock: &Stock<'a>,
+        number: usize,
+        token: Token<'a>,
+    ) -> Result<(), AllocError> {
         self.kept.truncate(self.now.mark);
-        stock.put_all(&mut self.kept, COMMAND, token.span)?;
-        self.kept.push(token)?;
-        self.now = match self.outer.pop() {
-            Some(level) => level,
-            None => BODY,
-        };
+        stock.put_all(&mut self.kept, COMMAND, at(number))?;
+        put_at(&mut self.kept, token, at(number))?;
+        if let Some(level) = self.outer.pop() {
+            self.now = level;
+        }
         Ok(())
     }
 
-    /// Reads a token.
-    fn note(
+    /// Reads the token with this number.
+    pub(crate) fn note(
         &mut self,
         stock: &Stock<'a>,
         number: usize,
@@ -126,31 +146,55 @@ impl<'a> Open<'a> {
         match token.kind {
             Kind::Semicolon => self.end(stock, number, token),
             Kind::OpenBrace => self.begin(number, token),
-            Kind::CloseBrace => self.close(stock, token),
+            Kind::CloseBrace => self.close(stock, number, token),
             Kind::Do | Kind::Then | Kind::Else | Kind::In => {
-                self.kept.push(token)?;
+                put_at(&mut self.kept, token, at(number))?;
                 self.begin_command(number);
                 Ok(())
             }
-            _ => Ok(self.kept.push(token)?),
+            _ => put_at(&mut self.kept, token, at(number)),
         }
     }
-}
 
-/// The constructs that haven't ended before a token.
-pub(crate) fn open_at<'a>(
-    alloc: Global,
-    stock: &Stock<'a>,
-    list: &[Token<'a>],
-    place: usize,
-) -> Result<Open<'a>, AllocError> {
-    let mut open = Open {
-        kept: Vec::new(alloc),
-        outer: Vec::new(alloc),
-        now: BODY,
-    };
-    for (number, token) in list.iter().take(place).enumerate() {
-        open.note(stock, number, *token)?;
+    /// Reads tokens of a list that was read, each by its number and so many more.
+    fn note_again(
+        &mut self,
+        stock: &Stock<'a>,
+        tokens: &[Token<'a>],
+        more: usize,
+    ) -> Result<(), AllocError> {
+        for token in tokens {
+            self.note(stock, token.span.start.saturating_add(more), *token)?;
+        }
+        Ok(())
     }
-    Ok(open)
+
+    /// The constructs that haven't ended after a repair.
+    pub(crate) fn with(
+        &self,
+        alloc: Global,
+        stock: &Stock<'a>,
+        choice: Choice,
+    ) -> Result<Open<'a>, AllocError> {
+        let start = choice.start;
+        let first = match self.kept.first() {
+            Some(token) => token.span.start,
+            None => start.place,
+        };
+        let mut open = Open::new(alloc, first);
+        open.note_again(stock, self.kept.get(..start.kept).unwrap_or(&[]), 0)?;
+        let mut parts = Vec::new(alloc);
+        stock.put_all(&mut parts, choice.put, at(start.place))?;
+        for (number, token) in parts.iter().enumerate() {
+            open.note(stock, start.place.saturating_add(number), *token)?;
+        }
+        if choice.is_before {
+            open.note_again(
+                stock,
+                self.kept.get(start.kept..).unwrap_or(&[]),
+                parts.len(),
+            )?;
+        }
+        Ok(open)
+    }
 }

@@ -3,14 +3,15 @@
 ghost use Rattle.std.specs.Prelude.{◌≤◌, IfOk, length};
 ghost use Rattle.vsi_recovery.specs.Listed.{AreListed};
 
-use crate::context::open_at;
+use crate::context::Open;
 use crate::fault::{Cause, Fault};
 use crate::holes::tokens_of;
 use crate::listing::listed;
 use crate::naming::put_names;
 use crate::search::{Choice, Search};
 use crate::stock::{Part, Stock};
-use crate::tokens::{Reading, Stretch, Tokens, byte_at, is_put, landmark_from, put_numbered, read};
+use crate::tokens::{Reading, Stretch, Tokens, landmark_from};
+use crate::walk::{Walk, go_on, repair};
 use std::alloc::{AllocError, Global};
 use vsi_lattice::Lattice;
 use vsi_syntax::{Kind, Span, Token};
@@ -24,11 +25,30 @@ const MAX_REPAIRS: usize = 60;
 /// The most faults of a text that are looked for.
 const MAX_FAULTS: usize = 20;
 
-/// Adds a fault of the tree, unless it may come from a repair.
-fn put_fault(tokens: &Tokens<'_>, place: usize, faults: &mut Vec<Fault>) -> Result<(), AllocError> {
-    let at = byte_at(&tokens.list, place);
-    let (span, is_end) = match tokens.list.get(place) {
-        Some(token) if is_put(token) => return Ok(()),
+/// The byte at which the first of these tokens begins, or at which the last token before them ends.
+fn byte_of(tokens: &Tokens<'_>, rest: &[Token<'_>]) -> usize {
+    match rest.first() {
+        Some(token) => token.span.start,
+        None => tokens.last_stop(),
+    }
+}
+
+/// The byte at which the last of these tokens ends, or this one if there is none.
+fn end_of(list: &[Token<'_>], none: usize) -> usize {
+    match list.last() {
+        Some(last) => last.span.stop,
+        None => none,
+    }
+}
+
+/// Adds the fault at the first of these tokens, unless it may come from a repair.
+fn put_fault(
+    tokens: &Tokens<'_>,
+    rest: &[Token<'_>],
+    faults: &mut Vec<Fault>,
+) -> Result<(), AllocError> {
+    let at = byte_of(tokens, rest);
+    let (span, is_end) = match rest.first() {
         Some(token) => (token.span, token.kind == Kind::CloseBrace),
         None => (
             Span {
@@ -45,159 +65,136 @@ fn put_fault(tokens: &Tokens<'_>, place: usize, faults: &mut Vec<Fault>) -> Resu
     Ok(faults.push(Fault { cause, span })?)
 }
 
-/// The byte at which the token before one ends.
-fn stop_before(list: &[Token<'_>], place: usize) -> usize {
-    match list.get(..place) {
-        Some([.., last]) => last.span.stop,
-        _ => 0,
+/// The part of a text with a declaration that is out of place: these tokens begin with it.
+fn stretch_of_declaration(tokens: &Tokens<'_>, rest: &[Token<'_>], choice: Choice) -> Stretch {
+    let from = tokens.last_stop();
+    Stretch {
+        first: byte_of(tokens, rest),
+        from,
+        stop: end_of(rest.get(..choice.stop).unwrap_or(rest), from).saturating_sub(1),
+        is_out: false,
     }
 }
 
-/// The part of a text with a repair.
-fn stretch_of(tokens: &Tokens<'_>, place: usize, command: usize, choice: Choice) -> Stretch {
-    let list = tokens.list.as_slice();
-    Stretch {
-        first: byte_at(list, command.min(choice.from)),
-        from: stop_before(list, place),
-        stop: byte_at(list, landmark_from(list, choice.stop.max(place))),
-        is_out: choice.from < choice.stop,
+/// The part of a text with a repair, where the innermost command around the fault begins at this
+/// place.
+fn stretch_of(tokens: &Tokens<'_>, rest: &[Token<'_>], command: usize, choice: Choice) -> Stretch {
+    if choice.is_misplaced {
+        return stretch_of_declaration(tokens, rest, choice);
     }
+    let from = tokens.last_stop();
+    let place = choice.start.place;
+    let first = match tokens.list.get(command.min(place)) {
+        Some(token) => token.span.start,
+        None => byte_of(tokens, rest),
+    };
+    let stop = match rest.get(landmark_from(rest, choice.stop)..) {
+        Some([token, ..]) => token.span.start,
+        _ => end_of(rest, from),
+    };
+    let is_out = 0 < choice.stop || !choice.is_before && place < tokens.list.len();
+    Stretch {
+        first,
+        from,
+        stop,
+        is_out,
+    }
+}
+
+/// Whether a token is a brace.
+fn is_brace(token: &Token<'_>) -> bool {
+    token.kind == Kind::OpenBrace || token.kind == Kind::CloseBrace
+}
+
+/// Whether some of these tokens are braces.
+fn has_brace(list: &[Token<'_>]) -> bool {
+    for token in list {
+        if is_brace(token) {
+            return true;
+        }
+    }
+    false
 }
 
 /// Whether a repair changes which braces match, or may do so: it leaves some out, or puts a `;`
 /// before one.
-fn is_of_braces(tokens: &Tokens<'_>, choice: Choice) -> bool {
-    let stop = if choice.put == [Part::Semicolon].as_slice() {
-        choice.stop.saturating_add(1)
-    } else {
-        choice.stop
-    };
-    for token in tokens.list.get(choice.from..stop).unwrap_or(&[]) {
-        if token.kind == Kind::OpenBrace || token.kind == Kind::CloseBrace {
-            return true;
-        }
+fn is_of_braces(tokens: &Tokens<'_>, rest: &[Token<'_>], choice: Choice) -> bool {
+    if choice.is_misplaced {
+        return false;
     }
+    let is_before = choice.put == [Part::Semicolon].as_slice();
+    let stop = choice.stop.saturating_add(usize::from(is_before));
+    let is_back = !choice.is_before;
     choice.put == [Part::CloseBrace].as_slice()
+        || is_back && has_brace(tokens.list.get(choice.start.place..).unwrap_or(&[]))
+        || has_brace(rest.get(..stop).unwrap_or(rest))
 }
 
-/// Makes a repair.
-fn repair<'a>(
-    alloc: Global,
-    stock: &Stock<'a>,
-    tokens: &mut Tokens<'a>,
-    choice: Choice,
-) -> Result<(), AllocError> {
-    let at = byte_at(&tokens.list, choice.from);
-    let list = tokens.list.as_slice();
-    let mut made = Vec::from_slice(alloc, list.get(..choice.from).unwrap_or(list))?;
-    stock.put_all(
-        &mut made,
-        choice.put,
-        Span {
-            start: at,
-            stop: at,
-        },
-    )?;
-    made.extend_from_slice(list.get(choice.stop..).unwrap_or(&[]))?;
-    tokens.list = made;
-    tokens.is_mended = true;
-    Ok(())
-}
-
-/// What a search has found: a repair, where the innermost command around it begins, and how many
-/// more tokens may be read.
-#[derive(Clone, Copy)]
-struct Outcome {
-    best: Option<Choice>,
-    command: usize,
-    left: usize,
-}
-
-/// Looks for a repair of a fault at a token.
+/// Looks for a repair of the fault before these tokens.
 fn chosen<'a>(
     alloc: Global,
     stock: &Stock<'a>,
-    list: &[Token<'a>],
-    place: usize,
-    left: usize,
-) -> Result<Outcome, AllocError> {
-    let open = open_at(alloc, stock, list, place)?;
+    rest: &[Token<'a>],
+    tokens: &mut Tokens<'a>,
+    open: &Open<'a>,
+) -> Result<Option<Choice>, AllocError> {
     let mut search = Search {
         alloc,
         stock,
-        list,
-        open: &open,
-        left,
+        rest,
+        open,
+        left: tokens.left,
         best: None,
         is_found: false,
         landmarks: 1,
     };
-    search.run(place)?;
-    Ok(Outcome {
-        best: search.best,
-        command: open.command().place,
-        left: search.left,
-    })
+    search.run(tokens.list.len())?;
+    tokens.left = search.left;
+    Ok(search.best)
 }
 
 /// Adds the first fault of the tree, and repairs it. The answer is no if it can't be repaired.
 fn put_tree<'a>(
     alloc: Global,
     stock: &Stock<'a>,
+    source: &[Token<'a>],
     tokens: &mut Tokens<'a>,
-    place: usize,
+    walk: &mut Walk<'a>,
     faults: &mut Vec<Fault>,
 ) -> Result<bool, AllocError> {
-    put_fault(tokens, place, faults)?;
-    let chosen = chosen(alloc, stock, &tokens.list, place, tokens.left)?;
-    tokens.left = chosen.left;
-    let Some(choice) = chosen.best else {
+    let rest = source.get(walk.next..).unwrap_or(&[]);
+    put_fault(tokens, rest, faults)?;
+    let Some(choice) = chosen(alloc, stock, rest, tokens, &walk.open)? else {
         return Ok(false);
     };
-    let stretch = stretch_of(tokens, place, chosen.command, choice);
-    tokens.is_unclear = tokens.is_unclear || is_of_braces(tokens, choice);
+    let stretch = stretch_of(tokens, rest, walk.open.command().place, choice);
+    tokens.is_unclear = tokens.is_unclear || is_of_braces(tokens, rest, choice);
     tokens.stretches.push(stretch)?;
-    repair(alloc, stock, tokens, choice)?;
+    repair(alloc, stock, source, tokens, walk, choice)?;
     Ok(true)
 }
 
-/// Reads the tokens.
-fn reading<'a>(alloc: Global, tokens: &mut Tokens<'a>) -> Result<Reading, AllocError> {
-    let mut numbered = Vec::new(alloc);
-    put_numbered(&mut numbered, &tokens.list)?;
-    read(alloc, &numbered, &mut tokens.left)
-}
-
-/// Adds the first fault of the tree, if there is one and there may be more. The answer is yes if
-/// the tokens are to be read again.
-fn put_next<'a>(
-    alloc: Global,
-    stock: &Stock<'a>,
-    tokens: &mut Tokens<'a>,
-    reading: Reading,
-    faults: &mut Vec<Fault>,
-) -> Result<bool, AllocError> {
-    match reading {
-        Reading::Unexpected(place) if faults.len() < MAX_FAULTS => {
-            put_tree(alloc, stock, tokens, place, faults)
-        }
-        _ => Ok(false),
-    }
-}
-
-/// Adds the faults of the tree. The answer is yes if the repaired tokens are a program.
+/// Adds the faults of the tree, whose tokens are `source`. The answer is yes if the repaired tokens
+/// are a program.
 fn put_trees<'a>(
     alloc: Global,
     stock: &Stock<'a>,
+    source: &[Token<'a>],
     tokens: &mut Tokens<'a>,
     faults: &mut Vec<Fault>,
 ) -> Result<bool, AllocError> {
+    let mut walk = Walk {
+        open: Open::new(alloc, 0),
+        next: 0,
+    };
     for _repair in 0..MAX_REPAIRS {
-        let reading = reading(alloc, tokens)?;
-        if let Reading::Whole = reading {
-            return Ok(true);
+        match go_on(alloc, stock, source, tokens, &mut walk)? {
+            Reading::Whole => return Ok(true),
+            Reading::Stopped => return Ok(false),
+            Reading::Unexpected(_) => {}
         }
-        if !put_next(alloc, stock, tokens, reading, faults)? {
+        let is_enough = MAX_FAULTS <= faults.len();
+        if is_enough || !put_tree(alloc, stock, source, tokens, &mut walk, faults)? {
             return Ok(false);
         }
     }
@@ -215,8 +212,8 @@ fn all_faults<'a>(
     let Some(mut tokens) = tokens_of(alloc, &stock, text, MAX_FAULTS, &mut faults)? else {
         return Ok(faults);
     };
-    let source = Vec::from_slice(alloc, tokens.list.as_slice())?;
-    if put_trees(alloc, &stock, &mut tokens, &mut faults)? {
+    let source = std::mem::replace(&mut tokens.list, Vec::new(alloc));
+    if put_trees(alloc, &stock, &source, &mut tokens, &mut faults)? {
         put_names(
             alloc,
             &stock,

@@ -6,8 +6,8 @@ use crate::tokens::{Stretch, Tokens, byte_at, is_landmark};
 use std::alloc::{AllocError, Global};
 use vsi_syntax::{LexError, Span, Token, lex};
 
-/// The most tokens that are read in all readings of a text together.
-const MAX_READ: usize = 4_000_000;
+/// The most tokens that are read again for repairs and for names, in all readings together.
+const MAX_READ: usize = 1_000_000;
 
 /// A part of a text that has no token, and what takes its place.
 #[derive(Clone, Copy)]

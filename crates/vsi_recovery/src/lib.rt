@@ -21,6 +21,7 @@ mod search;
 mod skipping;
 mod stock;
 mod tokens;
+mod walk;
 
 pub use fault::{Cause, Fault};
 pub use finding::{MAX_FURTHER, further_faults};

@@ -1,15 +1,13 @@
 //! The names of a program that can't be resolved.
 
 use crate::fault::{Cause, Fault};
+use crate::skipping::DECLARATION;
 use crate::stock::{Part, Stock, put_at};
 use crate::tokens::{Tokens, is_put, number_of, put_numbered};
 use std::alloc::{AllocError, Global};
 use vsi_lattice::{Class, Classes, Lattice};
 use vsi_scope::{ScopeError, resolve};
 use vsi_syntax::{Kind, Span, Token, lex, parse};
-
-/// The number of tokens of a declaration of a global.
-const DECLARATION: usize = 5;
 
 /// Adds a class of the lattice with this span.
 fn put_class<'a>(

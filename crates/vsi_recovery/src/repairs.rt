@@ -2,13 +2,6 @@
 
 use crate::stock::{COMMAND, Part};
 
-/// A repair at a token: so many tokens from there are left out, and these are put in their place.
-#[derive(Clone, Copy)]
-pub(crate) struct Repair {
-    pub(crate) out: usize,
-    pub(crate) put: &'static [Part],
-}
-
 /// A branch after a first one.
 pub(crate) const OTHERWISE: &[Part] = &[Part::Else, Part::Name, Part::Assign, Part::Number];
 
@@ -27,103 +20,35 @@ const ASSIGNED: &[Part] = &[Part::Assign, Part::Number];
 /// A class of a declaration.
 const CLASS: &[Part] = &[Part::Colon, Part::Name];
 
-/// The repairs of one token that are tried at each fault, in this order.
-pub(crate) const SMALL: [Repair; 26] = [
-    Repair {
-        out: 0,
-        put: &[Part::Semicolon],
-    },
-    Repair {
-        out: 0,
-        put: &[Part::Number],
-    },
-    Repair { out: 1, put: &[] },
-    Repair {
-        out: 1,
-        put: &[Part::Assign],
-    },
-    Repair {
-        out: 0,
-        put: &[Part::Then],
-    },
-    Repair {
-        out: 0,
-        put: &[Part::Do],
-    },
-    Repair {
-        out: 0,
-        put: &[Part::In],
-    },
-    Repair {
-        out: 0,
-        put: &[Part::Close],
-    },
-    Repair {
-        out: 0,
-        put: &[Part::CloseBrace],
-    },
-    Repair {
-        out: 0,
-        put: &[Part::Assign],
-    },
-    Repair {
-        out: 0,
-        put: &[Part::Colon],
-    },
-    Repair {
-        out: 0,
-        put: &[Part::Name],
-    },
-    Repair {
-        out: 1,
-        put: &[Part::Then],
-    },
-    Repair {
-        out: 1,
-        put: &[Part::Do],
-    },
-    Repair {
-        out: 1,
-        put: &[Part::In],
-    },
-    Repair {
-        out: 1,
-        put: &[Part::Semicolon],
-    },
-    Repair {
-        out: 1,
-        put: &[Part::Less],
-    },
-    Repair {
-        out: 1,
-        put: &[Part::Name],
-    },
-    Repair {
-        out: 1,
-        put: &[Part::Number],
-    },
-    Repair {
-        out: 1,
-        put: &[Part::Var],
-    },
-    Repair {
-        out: 0,
-        put: OTHERWISE,
-    },
-    Repair {
-        out: 0,
-        put: COMMAND,
-    },
-    Repair { out: 0, put: CLASS },
-    Repair {
-        out: 0,
-        put: ASSIGNED,
-    },
-    Repair {
-        out: 2,
-        put: &[Part::Assign],
-    },
-    Repair { out: 2, put: &[] },
+/// The repairs of one token that are tried at each fault, in this order: how many tokens are left
+/// out, and what is put in their place.
+pub(crate) const SMALL: [(usize, &[Part]); 26] = [
+    (0, &[Part::Semicolon]),
+    (0, &[Part::Number]),
+    (1, &[]),
+    (1, &[Part::Assign]),
+    (0, &[Part::Then]),
+    (0, &[Part::Do]),
+    (0, &[Part::In]),
+    (0, &[Part::Close]),
+    (0, &[Part::CloseBrace]),
+    (0, &[Part::Assign]),
+    (0, &[Part::Colon]),
+    (0, &[Part::Name]),
+    (1, &[Part::Then]),
+    (1, &[Part::Do]),
+    (1, &[Part::In]),
+    (1, &[Part::Semicolon]),
+    (1, &[Part::Less]),
+    (1, &[Part::Name]),
+    (1, &[Part::Number]),
+    (1, &[Part::Var]),
+    (0, OTHERWISE),
+    (0, COMMAND),
+    (0, CLASS),
+    (0, ASSIGNED),
+    (2, &[Part::Assign]),
+    (2, &[]),
 ];
 
 /// The replacements of all tokens up to one at which reading can go on.

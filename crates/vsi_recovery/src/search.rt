@@ -1,8 +1,8 @@
 //! The search for a repair of a fault of the tree.
 
 use crate::context::{Open, Start};
-use crate::repairs::{ENDINGS, FILLINGS, Repair, SMALL};
-use crate::skipping::{OUTSIDE, lone_close, lone_else};
+use crate::repairs::{ENDINGS, FILLINGS, SMALL};
+use crate::skipping::{DECLARATION, OUTSIDE, lone_close, lone_else, misplaced};
 use crate::stock::{COMMAND, Part, Stock};
 use crate::tokens::{Reading, landmark_from, put_numbered, read};
 use std::alloc::{AllocError, Global};
@@ -11,22 +11,30 @@ use vsi_syntax::{Kind, Token};
 /// The most tokens that are skipped.
 const MAX_SKIPPED: usize = 400;
 
-/// A repair of a list: the tokens from one number up to another are left out, and these are put in
-/// their place. Then the first fault is at the token with the number `reached` at the earliest.
+/// The most tokens that are read after a repair: one with which reading goes over them is enough.
+const MAX_AHEAD: usize = 200;
+
+/// A repair at a fault. Parts are put in at a beginning before the fault; the tokens from there up
+/// to the fault come after the parts or are left out, and so many tokens after the fault are left
+/// out too. Then the first fault is so many tokens after this one at the earliest.
 #[derive(Clone, Copy)]
 pub(crate) struct Choice {
-    pub(crate) from: usize,
-    pub(crate) stop: usize,
+    pub(crate) start: Start,
     pub(crate) put: &'static [Part],
+    pub(crate) is_before: bool,
+    pub(crate) stop: usize,
+    /// Whether a declaration that is out of place is left out.
+    pub(crate) is_misplaced: bool,
     reached: usize,
 }
 
 /// A search: it ends with the first repair with which reading goes on up to a landmark and over it.
+/// `open` has what was read up to the fault, and `rest` the tokens from it on.
 #[derive(Drop)]
 pub(crate) struct Search<'s, 'a> {
     pub(crate) alloc: Global,
     pub(crate) stock: &'s Stock<'a>,
-    pub(crate) list: &'s [Token<'a>],
+    pub(crate) rest: &'s [Token<'a>],
     pub(crate) open: &'s Open<'a>,
     pub(crate) left: usize,
     pub(crate) best: Option<Choice>,
@@ -69,88 +77,119 @@ impl Search<'_, '_> {
     /// The end of what is read after a repair: after the next landmarks, and after a `var` that
     /// follows them where declarations may come.
     fn window_end(&self, stop: usize) -> usize {
+        let last = self.rest.len().min(stop.saturating_add(MAX_AHEAD));
+        let near = self.rest.get(..last).unwrap_or(self.rest);
         let mut end = stop;
         for _landmark in 0..self.landmarks {
-            end = landmark_from(self.list, end).saturating_add(1);
+            end = landmark_from(near, end).saturating_add(1);
         }
-        match self.list.get(end) {
+        match near.get(end) {
             Some(token) if token.kind == Kind::Var && self.open.is_at_head() => {
                 end.saturating_add(1)
             }
-            _ => end.min(self.list.len()),
+            _ => end.min(last),
         }
     }
 
-    /// Tries a repair from a beginning up to a token.
+    /// How many tokens after the fault the first fault is, if these parts are put in at a beginning
+    /// and the tokens from one number up to another come after what is kept; none if it is before
+    /// them.
+    fn reached(&mut self, choice: Choice, end: usize) -> Result<Option<usize>, AllocError> {
+        let kept = self.open.kept.as_slice();
+        let mut made = Vec::new(self.alloc);
+        put_numbered(&mut made, kept.get(..choice.start.kept).unwrap_or(&[]))?;
+        self.stock.put_numbered(&mut made, choice.put)?;
+        if choice.is_before {
+            put_numbered(&mut made, kept.get(choice.start.kept..).unwrap_or(&[]))?;
+        }
+        let before = made.len();
+        put_numbered(&mut made, self.rest.get(choice.stop..end).unwrap_or(&[]))?;
+        self.left = self.left.saturating_sub(made.len());
+        match read(self.alloc, &made)? {
+            Reading::Whole => Ok(Some(end)),
+            Reading::Unexpected(place) if before <= place => {
+                Ok(Some(place.saturating_sub(before).saturating_add(choice.stop)))
+            }
+            _ => Ok(None),
+        }
+    }
+
+    /// Tries a repair.
+    fn attempt_choice(&mut self, choice: Choice) -> Result<(), AllocError> {
+        if self.is_found || self.left == 0 || self.rest.len() < choice.stop {
+            return Ok(());
+        }
+        let end = self.window_end(choice.stop);
+        if let Some(reached) = self.reached(choice, end)? {
+            self.keep(Choice { reached, ..choice }, end <= reached);
+        }
+        Ok(())
+    }
+
+    /// Tries to put in parts in place of the tokens from a beginning up to one after the fault.
     fn attempt(
         &mut self,
         start: Start,
         stop: usize,
         put: &'static [Part],
     ) -> Result<(), AllocError> {
-        if self.is_found || self.list.len() < stop {
-            return Ok(());
-        }
-        let mut made = Vec::new(self.alloc);
-        put_numbered(&mut made, self.open.kept.get(..start.kept).unwrap_or(&[]))?;
-        self.stock.put_numbered(&mut made, put)?;
-        let before = made.len();
-        let end = self.window_end(stop);
-        put_numbered(&mut made, self.list.get(stop..end).unwrap_or(&[]))?;
-        let reached = match read(self.alloc, &made, &mut self.left)? {
-            Reading::Whole => end,
-            Reading::Unexpected(place) if place < before => return Ok(()),
-            Reading::Unexpected(place) => place.saturating_sub(before).saturating_add(stop),
-            Reading::Stopped => return Ok(()),
-        };
-        let from = start.place;
-        let choice = Choice {
-            from,
-            stop,
+        self.attempt_choice(Choice {
+            start,
             put,
-            reached,
-        };
-        self.keep(choice, end <= reached);
-        Ok(())
+            is_before: false,
+            stop,
+            is_misplaced: false,
+            reached: 0,
+        })
     }
 
-    /// Tries a repair of one token. A token that begins a construct is left out only if reading
-    /// goes on over two landmarks.
-    fn try_one(&mut self, here: Start, repair: Repair) -> Result<(), AllocError> {
-        let stop = here.place.saturating_add(repair.out);
-        let out = self.list.get(here.place..stop).unwrap_or(&[]);
-        if self.landmarks < 2 && has_opening(out) {
+    /// Tries to put in parts at a beginning.
+    fn attempt_before(&mut self, start: Start, put: &'static [Part]) -> Result<(), AllocError> {
+        self.attempt_choice(Choice {
+            start,
+            put,
+            is_before: true,
+            stop: 0,
+            is_misplaced: false,
+            reached: 0,
+        })
+    }
+
+    /// Tries to put in parts in place of so many tokens. A token that begins a construct is left out
+    /// only if reading goes on over two landmarks.
+    fn try_one(&mut self, here: Start, out: usize, put: &'static [Part]) -> Result<(), AllocError> {
+        if self.landmarks < 2 && has_opening(self.rest.get(..out).unwrap_or(&[])) {
             return Ok(());
         }
-        self.attempt(here, stop, repair.put)
+        self.attempt(here, out, put)
     }
 
     /// Tries repairs of one token.
     fn try_small(&mut self, here: Start) -> Result<(), AllocError> {
-        for repair in SMALL.as_slice() {
-            self.try_one(here, *repair)?;
+        for (out, put) in SMALL.as_slice() {
+            self.try_one(here, *out, put)?;
         }
         Ok(())
     }
 
     /// Tries to leave out the token before, and to put in the beginning of a construct.
     fn try_before(&mut self, here: Start) -> Result<(), AllocError> {
-        let before = Start {
-            place: here.place.saturating_sub(1),
-            kept: here.kept.saturating_sub(1),
-        };
-        if before.kept < here.kept {
-            self.attempt(before, here.place, &[])?;
+        if 0 < here.kept {
+            let before = Start {
+                place: here.place.saturating_sub(1),
+                kept: here.kept.saturating_sub(1),
+            };
+            self.attempt(before, 0, &[])?;
         }
         let start = self.open.command();
-        self.attempt(start, start.place, &[Part::If])?;
-        self.attempt(start, start.place, &[Part::While])
+        self.attempt_before(start, &[Part::If])?;
+        self.attempt_before(start, &[Part::While])
     }
 
     /// Tries repairs with which reading goes on over two landmarks.
     fn try_sure(&mut self, here: Start) -> Result<(), AllocError> {
         self.landmarks = 2;
-        if let Some(number) = lone_close(self.list, here.place) {
+        if let Some(number) = lone_close(self.rest) {
             self.attempt(here, number, &[])?;
             self.attempt(here, number, &[Part::Number])?;
         }
@@ -177,8 +216,8 @@ impl Search<'_, '_> {
     /// Tries to go on at each landmark in turn.
     fn try_landmarks(&mut self, here: Start) -> Result<(), AllocError> {
         let mut nest = OUTSIDE;
-        let list = self.list;
-        for (number, token) in list.iter().enumerate().skip(here.place).take(MAX_SKIPPED) {
+        let rest = self.rest;
+        for (number, token) in rest.iter().enumerate().take(MAX_SKIPPED) {
             if self.is_found {
                 return Ok(());
             }
@@ -187,8 +226,8 @@ impl Search<'_, '_> {
             }
             nest = nest.noted(token.kind);
         }
-        if list.len() <= here.place.saturating_add(MAX_SKIPPED) {
-            self.try_landmark(here, list.len(), Kind::Name)?;
+        if rest.len() <= MAX_SKIPPED {
+            self.try_landmark(here, rest.len(), Kind::Name)?;
         }
         Ok(())
     }
@@ -198,7 +237,7 @@ impl Search<'_, '_> {
         let start = self.open.item();
         let is_named = start.place.saturating_add(1) == here.place;
         if is_named && self.open.is_outermost() {
-            self.attempt(start, start.place, &[Part::Var])?;
+            self.attempt_before(start, &[Part::Var])?;
         }
         Ok(())
     }
@@ -207,25 +246,53 @@ impl Search<'_, '_> {
     fn try_endings(&mut self, here: Start) -> Result<(), AllocError> {
         for put in ENDINGS.as_slice() {
             if self.best.is_none() {
-                self.attempt(here, here.place, put)?;
+                self.attempt(here, 0, put)?;
             }
         }
         Ok(())
     }
 
-    /// Tries all repairs of a fault at a token.
+    /// Leaves out a declaration that begins where only a command, or a `;` and a command, may come.
+    fn leave_declaration(&mut self, here: Start) -> Result<(), AllocError> {
+        let Some(is_followed) = misplaced(self.rest) else {
+            return Ok(());
+        };
+        let choice = Choice {
+            start: here,
+            put: &[Part::Semicolon],
+            is_before: false,
+            stop: DECLARATION,
+            is_misplaced: true,
+            reached: 0,
+        };
+        let is_begun = self.open.item().place == here.place;
+        let is_ended = !is_begun && self.reached(choice, DECLARATION)?.is_some();
+        let put = match (is_begun, is_followed) {
+            (true, false) => COMMAND,
+            (false, true) => choice.put,
+            _ => &[],
+        };
+        if is_begun || is_ended && !self.open.is_declaration() {
+            self.best = Some(Choice { put, ..choice });
+            self.is_found = true;
+        }
+        Ok(())
+    }
+
+    /// Tries all repairs of the fault.
     pub(crate) fn run(&mut self, place: usize) -> Result<(), AllocError> {
         let here = Start {
             place,
             kept: self.open.kept.len(),
         };
-        let Some(token) = self.list.get(place) else {
+        let Some(token) = self.rest.first() else {
             return self.try_endings(here);
         };
+        self.leave_declaration(here)?;
         if token.kind == Kind::Colon {
             self.try_declaration(here)?;
         }
-        if let Some(number) = lone_else(self.list, place) {
+        if let Some(number) = lone_else(self.rest) {
             self.attempt(here, number, &[])?;
         }
         self.try_sure(here)?;

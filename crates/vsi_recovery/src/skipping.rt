@@ -2,6 +2,20 @@
 
 use vsi_syntax::{Kind, Token};
 
+/// The number of tokens of a declaration of a global.
+pub(crate) const DECLARATION: usize = 5;
+
+/// The most tokens that are passed over in search of one.
+const MAX_PASSED: usize = 10_000;
+
+/// Whether a command or a declaration may begin with a token of this kind.
+fn may_begin(kind: Kind) -> bool {
+    matches!(
+        kind,
+        Kind::Name | Kind::If | Kind::While | Kind::Letvar | Kind::OpenBrace | Kind::Var
+    )
+}
+
 /// The constructs that begin in a skipped part and haven't ended.
 #[derive(Clone, Copy)]
 pub(crate) struct Nest {
@@ -76,12 +90,11 @@ impl Nest {
     }
 }
 
-/// The number of the `else` from a token on that belongs to an `if` before it, if it has one.
-pub(crate) fn lone_else(list: &[Token<'_>], place: usize) -> Option<usize> {
-    let mut number = place;
+/// The number of the first `else` that belongs to an `if` before these tokens, if it is near.
+pub(crate) fn lone_else(list: &[Token<'_>]) -> Option<usize> {
     let mut braces = 0usize;
     let mut ifs = 0usize;
-    for token in list.get(place..).unwrap_or(&[]) {
+    for (number, token) in list.iter().enumerate().take(MAX_PASSED) {
         match token.kind {
             Kind::OpenBrace => braces = braces.saturating_add(1),
             Kind::CloseBrace if braces == 0 => return None,
@@ -91,17 +104,15 @@ pub(crate) fn lone_else(list: &[Token<'_>], place: usize) -> Option<usize> {
             Kind::Else if braces == 0 => ifs = ifs.saturating_sub(1),
             _ => {}
         }
-        number = number.saturating_add(1);
     }
     None
 }
 
-/// The number of the `)` from a token on that belongs to a bracket before it, if it has one: there
+/// The number of the first `)` that belongs to a bracket before these tokens, if it is near: there
 /// is none after a keyword or a brace.
-pub(crate) fn lone_close(list: &[Token<'_>], place: usize) -> Option<usize> {
-    let mut number = place;
+pub(crate) fn lone_close(list: &[Token<'_>]) -> Option<usize> {
     let mut rounds = 0usize;
-    for token in list.get(place..).unwrap_or(&[]) {
+    for (number, token) in list.iter().enumerate().take(MAX_PASSED) {
         match token.kind {
             Kind::Open => rounds = rounds.saturating_add(1),
             Kind::Close if rounds == 0 => return Some(number),
@@ -110,7 +121,23 @@ pub(crate) fn lone_close(list: &[Token<'_>], place: usize) -> Option<usize> {
             Kind::Then | Kind::Do | Kind::Else | Kind::In | Kind::Var => return None,
             _ => {}
         }
-        number = number.saturating_add(1);
     }
     None
+}
+
+/// Whether a command or a declaration follows the declaration with which these tokens begin, if
+/// they do.
+pub(crate) fn misplaced(list: &[Token<'_>]) -> Option<bool> {
+    let [first, name, colon, class, end, rest @ ..] = list else {
+        return None;
+    };
+    let is_begun = first.kind == Kind::Var && name.kind == Kind::Name;
+    let is_classed = colon.kind == Kind::Colon && class.kind == Kind::Name;
+    if !is_begun || !is_classed || end.kind != Kind::Semicolon {
+        return None;
+    }
+    match rest.first() {
+        Some(next) => Some(may_begin(next.kind)),
+        None => Some(false),
+    }
 }

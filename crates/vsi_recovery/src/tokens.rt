@@ -14,7 +14,7 @@ pub(crate) struct Stretch {
     pub(crate) is_out: bool,
 }
 
-/// The tokens of a text, with repairs.
+/// The tokens of a text up to one of them, with repairs.
 #[derive(Drop)]
 pub(crate) struct Tokens<'a> {
     pub(crate) list: Vec<Token<'a>>,
@@ -23,7 +23,7 @@ pub(crate) struct Tokens<'a> {
     pub(crate) is_mended: bool,
     /// Whether a repair may have changed which braces match.
     pub(crate) is_unclear: bool,
-    /// How many more tokens may be read, in all readings together.
+    /// How many more tokens may be read again.
     pub(crate) left: usize,
 }
 
@@ -34,7 +34,7 @@ pub(crate) enum Reading {
     Whole,
     /// The number of the first token with which no program goes on.
     Unexpected(usize),
-    /// The program is too deep, or too much has been read.
+    /// The program is too deep.
     Stopped,
 }
 
@@ -69,27 +69,14 @@ pub(crate) fn number_of(span: Span) -> usize {
     span.start.saturating_add(1) / 2
 }
 
-/// Reads a list whose spans are numbers, and counts the tokens up to its first fault.
-pub(crate) fn read<'a>(
-    alloc: Global,
-    list: &[Token<'a>],
-    left: &mut usize,
-) -> Result<Reading, AllocError> {
-    if *left == 0 {
-        return Ok(Reading::Stopped);
+/// Reads a list whose spans are numbers.
+pub(crate) fn read<'a>(alloc: Global, list: &[Token<'a>]) -> Result<Reading, AllocError> {
+    match parse(alloc, list) {
+        Ok(_) => Ok(Reading::Whole),
+        Err(ParseError::Memory) => Err(AllocError),
+        Err(ParseError::Unexpected(span)) => Ok(Reading::Unexpected(number_of(span))),
+        Err(ParseError::TooDeep(_)) => Ok(Reading::Stopped),
     }
-    let reading = match parse(alloc, list) {
-        Ok(_) => Reading::Whole,
-        Err(ParseError::Memory) => return Err(AllocError),
-        Err(ParseError::Unexpected(span)) => Reading::Unexpected(number_of(span)),
-        Err(ParseError::TooDeep(_)) => Reading::Stopped,
-    };
-    let count = match reading {
-        Reading::Unexpected(place) => place.saturating_add(1),
-        _ => list.len(),
-    };
-    *left = left.saturating_sub(count);
-    Ok(reading)
 }
 
 /// The byte at which a token begins, or the end of the last one if there is no such token.
@@ -122,6 +109,11 @@ pub(crate) fn is_put(token: &Token<'_>) -> bool {
 }
 
 impl Tokens<'_> {
+    /// The byte at which the last token ends.
+    pub(crate) fn last_stop(&self) -> usize {
+        byte_at(&self.list, self.list.len())
+    }
+
     /// Whether a fault of the tree at a byte may come from a repair.
     pub(crate) fn is_near(&self, at: usize) -> bool {
         for stretch in &self.stretches {
