@@ -29,7 +29,7 @@ use Rattle.vsi.specs.Holding.{Holding, IsImageAt, IsStoreAt}
 use Rattle.vsi.specs.Files.{IsBudgetOf, IsFullAt, IsStoredAt, LooksAt}
 use Rattle.vsi.specs.Refusals.{IsNoMemory, NoOther, RefusesFirst, FailsBy}
 use Rattle.vsi.specs.Performed.{control_of}
-use Rattle.vsi.specs.Reasons.{IsBoundaryStart, LacksDrive, RefusesControl, SaysShort, WhyDrive}
+use Rattle.vsi.specs.Undriven.{IsBoundaryStart, LacksDrive, RefusesControl, SaysShort, WhyDrive}
 use Rattle.vsi.proofs.Reasons.{FailsBy-weaker, handed, failed_by, fails_by}
 use Rattle.vsi.proofs.Unrun.{held_failed, kind_told}
 

@@ -49,6 +49,7 @@ mod saving;
 mod screen;
 mod serving;
 mod shaping;
+mod steering;
 mod subcommands;
 mod telling;
 mod trying;

@@ -3,7 +3,8 @@ use Rattle.std.proofs.lemmas.Result.{IfErr-weaker, IfOk-weaker}
 use Rattle.vsi.specs.Holding.{IsReadAt}
 use Rattle.vsi.specs.Performed.{ConformsFiles, IsPolicyAt, TellsBytes}
 use Rattle.vsi.specs.Refusals.{NoOther, FailsBy}
-use Rattle.vsi.specs.Reasons.{IsUnusable, RefusesAsked, RefusesBytes, RefusesConform}
+use Rattle.vsi.specs.Reasons.{RefusesBytes, RefusesConform}
+use Rattle.vsi.specs.Undriven.{IsUnusable, RefusesAsked}
 use Rattle.vsi.specs.Supplied.{begins_image}
 use Rattle.vsi.proofs.Conforming.{refuses_asked}
 use Rattle.vsi.proofs.Reasons.{FailsBy-weaker, handed, late_fails, fails_by}

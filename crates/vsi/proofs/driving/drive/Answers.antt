@@ -11,7 +11,7 @@ use Rattle.vsi.specs.Partly.{AnswersDrive, DrivenText, Partly}
 use Rattle.vsi.specs.Files.{IsFullAt, IsStoredAt}
 use Rattle.vsi.specs.Saved.{CutsInput}
 use Rattle.vsi.specs.Refusals.{LacksClassAt}
-use Rattle.vsi.specs.Reasons.{LacksDrive, WhyDrive}
+use Rattle.vsi.specs.Undriven.{LacksDrive, WhyDrive}
 use Rattle.vsi.proofs.Driven.{written_back}
 use Rattle.vsi.proofs.Cut.{Touches-trans, cut_on, cut_partly}
 use Rattle.vsi.proofs.Kept.{delivered_after, driven_state, early_state, first_state}
