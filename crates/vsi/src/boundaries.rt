@@ -210,7 +210,7 @@ fn boundary_failure<'a>(
     Failure::from(refused_start(cache.alloc, StartFault::Boundary(fault)))
 }
 
-/// A controller of an image with the boundary that these names have.
+/// A controller of an image with the boundary of its drive.
 pub(crate) fn controller_of<'a, 'c>(
     cache: &mut InputCache,
     policy: DrivePolicy<'a>,
@@ -219,11 +219,14 @@ pub(crate) fn controller_of<'a, 'c>(
     budget: u64,
 ) -> Result<Controller<'c>, Failure<'a>>
     requires class { IsClass (order steering.now.lattice) steering.now.driver }
+    requires names { boundary_in names.now ≡ boundary_for policy steering.now.cycle }
     ensures control { IfOk result (λ c. control c ≡ controlled steering.now.lattice
-        steering.now.driver steering.now.verified budget (boundary_in names.now)) }
+        steering.now.driver steering.now.verified budget
+        (boundary_for policy.entry steering.now.cycle)) }
     ensures sound { IfOk result (λ c. boundary_fault (control c) ≡ None) }
-    ensures failed { IfErr result (FailsBy (RefusesControl (boundary_in names.now)
-        steering.now.lattice steering.now.driver steering.now.verified budget) NoOther) }
+    ensures failed { IfErr result (FailsBy (RefusesControl
+        (boundary_for policy.entry steering.now.cycle) steering.now.lattice steering.now.driver
+        steering.now.verified budget) NoOther) }
 {
     let driver = steering.driver;
     match Controller::within(

@@ -4,7 +4,8 @@ ghost use Rattle.std.specs.Prelude.{◌≡◌, ◌<◌, ◌≤◌, Bool, Err, tr
 ghost use Rattle.std.specs.Str.Lossy.{utf8_lossy};
 ghost use Rattle.vsi.specs.Holding.{IsReadAt};
 ghost use Rattle.vsi.specs.Files.{Writes};
-ghost use Rattle.vsi.specs.Performed.{ConformsFiles, IsAskedAt, IsPolicyAt, IsWrittenAs, TellsBytes, TellsConforming};
+ghost use Rattle.vsi.specs.Interfaces.{IsAskedAt, IsPolicyAt};
+ghost use Rattle.vsi.specs.Performed.{ConformsFiles, IsWrittenAs, TellsBytes, TellsConforming};
 ghost use Rattle.vsi.specs.Partly.{BytesOf, Leaves};
 ghost use Rattle.vsi.specs.Failures.{TellsFault};
 ghost use Rattle.vsi_conform.specs.Beside.{beside};
