@@ -21,6 +21,7 @@ pub mod Unrun
 pub mod Unbounded
 pub mod Conforming
 pub mod Undriven
+pub mod Steered
 pub mod Short
 pub mod Declared
 pub mod Once

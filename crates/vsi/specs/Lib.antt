@@ -14,12 +14,15 @@ pub mod Laying
 pub mod Raises
 pub mod Admitted
 pub mod Boundaries
+pub mod Interfaces
+pub mod Steering
 pub mod Documents
 pub mod Files
 pub mod State
 pub mod Supplied
 pub mod Performed
 pub mod Refusals
+pub mod Undriven
 pub mod Reasons
 pub mod Partly
 pub mod Saved

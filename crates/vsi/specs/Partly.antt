@@ -7,7 +7,8 @@ use Rattle.vsi_image.specs.declared.instr.Image.{Image}
 use Rattle.vsi_image.specs.Meaning.{start}
 use Rattle.vsi_lsp.specs.Frames.{AreFrames}
 use Rattle.vsi_store.specs.declared.comparison.Comparison as found
-use Rattle.vsi_drive.specs.Control.{Control}
+use Rattle.vsi_drive.specs.Boundary.{Boundary}
+use Rattle.vsi_drive.specs.Control.{Control, controlled}
 use Rattle.vsi_drive.specs.Cycles.{text_of}
 use Rattle.vsi_devices.specs.Running.{trace_of}
 use Rattle.vsi_answers.specs.declared.bounds.BoundAnswer.{BoundAnswer}
@@ -26,12 +27,13 @@ use Rattle.vsi.specs.Admitted.{IsAdmitted}
 use Rattle.vsi.specs.Driven.{lines_of}
 use Rattle.vsi.specs.Holding.{Holding, IsImageAt}
 use Rattle.vsi.specs.Laying.{AnswersLayout, ToldCanonical}
-use Rattle.vsi.specs.Files.{BeginsAt, IsBudgetOf, IsStoredAt, LooksAt, OfFile, OfFiles, shown}
-use Rattle.vsi.specs.Performed.{AuditsTo, BoundsFile, ComparesFiles, ConformsFiles, DocumentOf, DrawsFiles, EmitsFile, RunsFiles, SearchesFiles, SourceOfFile, ToldAccepted, ToldClasses, ToldFlows, ToldJson, ToldListing, ToldPage, ToldRaises, ViewsFiles, control_of, judgement_of, profile_of}
+use Rattle.vsi.specs.Files.{BeginsAt, IsBudgetOf, IsStoredAt, OfFile, OfFiles, shown}
+use Rattle.vsi.specs.Performed.{AuditsTo, BoundsFile, ComparesFiles, ConformsFiles, DocumentOf, DrawsFiles, EmitsFile, RunsFiles, SearchesFiles, SourceOfFile, ToldAccepted, ToldClasses, ToldFlows, ToldJson, ToldListing, ToldPage, ToldRaises, ViewsFiles, judgement_of, profile_of}
 use Rattle.vsi.specs.Raises.{ToldUnserved}
 use Rattle.vsi.specs.Reasons.{ToldRefusal}
 use Rattle.vsi.specs.Seeing.{SeesFiles}
 use Rattle.vsi.specs.Shaping.{ShapedText}
+use Rattle.vsi.specs.Steering.{IsSteered}
 use Rattle.vsi.specs.Failures.{status_of}
 use Rattle.vsi.specs.Tried.{TriesFile}
 
@@ -102,15 +104,16 @@ pub record DrivenText (c : Control) (m : List ℤ) (remaining : Option (List ℕ
 pub record AnswersDrive (holds : Holding) (d : Driving) (given : Option (List ℕ)) (text : List ℕ) : Type 0 where
   pub lattice : Lattice
   pub driver : ℕ
-  pub looks : LooksAt holds d.lattice.now d.class.now lattice driver
   pub image : Image
+  pub boundary : Boundary
+  pub steered : IsSteered holds d lattice driver image boundary
   pub held : IsImageAt holds d.execution.image.now image
   pub first : List ℤ
   pub stored : IsStoredAt holds d.execution.store image first
   pub budget : ℕ
   pub within : IsBudgetOf d.execution.budget image budget
   pub admitted : IsAdmitted d.is_unbounded lattice image budget
-  pub driven : DrivenText (control_of d.lists lattice driver image budget) first given text
+  pub driven : DrivenText (controlled lattice driver image budget boundary) first given text
 
 -- `compare`: what the class sees of both runs, the same or not.
 abbrev pub AnswersCompare : Holding → Comparison → List ℕ → Type 0

@@ -8,9 +8,9 @@
 //! such as `LexError` or a `Walk` of `Step`s, are exported here too.
 //!
 //! To be believed: of `specs/` `Words`, `Holding`, `Loading`, `Driven`, `State`, `Tried`, `Shaping`,
-//! `Seeing`, `Laying`, `Raises`, `Documents`, `Admitted`, `Served`, `Files`, `Performed`, `Refusals`,
-//! `Reasons`, `Partly`, `Done`, `Screen`, `Input` and `Laws`, of `Failures` all but `FailsFor`, of `Noted`
-//! all but `Notes`, and of `Saved` its second part; its first part and `Diagnosing` are stepping stones
+//! `Seeing`, `Laying`, `Raises`, `Documents`, `Admitted`, `Served`, `Files`, `Interfaces`, `Boundaries`,
+//! `Steering`, `Performed`, `Refusals`, `Undriven`, `Reasons`, `Partly`, `Done`, `Screen`, `Input` and
+//! `Laws`, of `Failures` all but `FailsFor`, of `Noted` all but `Notes`, and of `Saved` its second part; its first part and `Diagnosing` are stepping stones
 //! of proofs.
 #![tactic(auto)]
 
@@ -49,6 +49,7 @@ mod saving;
 mod screen;
 mod serving;
 mod shaping;
+mod steering;
 mod subcommands;
 mod telling;
 mod trying;

@@ -1,7 +1,7 @@
 //! The paths of the files that a request reads.
 
 use crate::files::{OutputKind, Writing};
-use vsi_arguments::{Asked, Document, Request};
+use vsi_arguments::{Asked, Document, DrivePolicy, Request};
 
 /// The most files that a request names to read.
 pub(crate) const MOST_READ: usize = 4;
@@ -38,7 +38,7 @@ pub(crate) fn paths_of<'a>(request: &Request<'a>) -> [Option<&'a str>; MOST_READ
             ..
         } => [Some(*lattice), Some(execution.image), execution.store, None],
         Request::Drive(asked) => [
-            Some(asked.lattice),
+            Some(policy_path(asked.policy)),
             Some(asked.execution.image),
             asked.execution.store,
             None,
@@ -54,6 +54,13 @@ pub(crate) fn paths_of<'a>(request: &Request<'a>) -> [Option<&'a str>; MOST_READ
         Request::Policy(asked) => [Some(asked.lattice), asked.old, None, None],
         Request::Try(asked) => [Some(asked.source), asked.lattice, None, None],
         Request::Lattice(_) | Request::Lsp(_) | Request::Explain(_) => [None; MOST_READ],
+    }
+}
+
+/// The path of the file with the policy of a drive.
+fn policy_path<'a>(policy: DrivePolicy<'a>) -> &'a str {
+    match policy {
+        DrivePolicy::Lattice(path, _) | DrivePolicy::Interface(path) => path,
     }
 }
 

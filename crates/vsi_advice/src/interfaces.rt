@@ -1,5 +1,6 @@
 //! The explanation of a refused interface file.
 
+use crate::interface_cycles::of_cycle;
 use crate::interface_places::{pair_in, pair_named, pair_place, pairs_in, text_in};
 use crate::interface_runs::of_run;
 use std::alloc::{AllocError, Global};
@@ -17,8 +18,9 @@ const SHAPE: &[u8] = b"An interface begins like this:\n  lattice = \"two.toml\"\
     profile = \"base\"\n  globals = [[\"key\", \"H\"], [\"out\", \"L\"]]\n";
 
 /// The keys of an interface.
-const KEYS: [&[u8]; 8] = [
+const KEYS: [&[u8]; 9] = [
     b"lattice", b"classes", b"below", b"profile", b"order", b"bounded", b"globals", b"runs",
+    b"cycle",
 ];
 
 /// The keys of a run.
@@ -380,6 +382,9 @@ fn put_fault(
             page.name(name, 1, " is in `globals` twice. Hint: leave one out.\n")
         }
         InterfaceError::UnknownClass(name) => page.class(name, lattice),
+        InterfaceError::BadCycle(_) | InterfaceError::UnknownInCycle(_, _) => {
+            of_cycle(page, lattice, error)
+        }
         other => of_run(page, other),
     }
 }

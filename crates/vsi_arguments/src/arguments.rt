@@ -451,6 +451,27 @@ pub(crate) const FORCE: Argument = Argument {
     whole: word_help::FORCE,
 };
 
+pub(crate) const DRIVE_LATTICE: Argument = Argument {
+    name: "LATTICE",
+    form: Form::Place,
+    line: "The lattice file; with --interface left out",
+    whole: word_help::DRIVE_LATTICE,
+};
+
+pub(crate) const DRIVEN_IMAGE: Argument = Argument {
+    name: "IMAGE",
+    form: Form::PlaceUnless("interface"),
+    line: "The image file",
+    whole: word_help::IMAGE,
+};
+
+pub(crate) const DRIVE_INTERFACE: Argument = Argument {
+    name: "interface",
+    form: Form::Value("FILE"),
+    line: "The interface that bounds the controller",
+    whole: word_help::DRIVE_INTERFACE,
+};
+
 pub(crate) const INPUTS: Argument = Argument {
     name: "inputs",
     form: Form::Value("NAMES"),

@@ -84,6 +84,8 @@ initial store of the next. A faulty line, or a run that is out of budget, is
 answered by a line that says so, and leaves the store as it was. Before each
 answer the store is written to the file that --save gives, if any. Without
 --budget each run has the bound of the image as its budget, and so it halts.
+With --interface FILE the lattice and these lists are those of an interface, to
+which the image must conform, and IMAGE is the only operand.
 
 Statuses: 0 standard input has ended, 1 refused, 2 usage or no such class,
 4 file fault, 5 out of memory.";
@@ -95,7 +97,8 @@ Example:
   $ vsi drive two.toml add.image --class L < lines
   l = 5
   l = 6
-  refused: 47 AboveClass 0";
+  refused: 47 AboveClass 0
+  $ vsi drive --interface door.toml door.image --class user < codes";
 
 /// The long help of `lsp`.
 pub(crate) const LSP: &str = "\

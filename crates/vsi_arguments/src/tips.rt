@@ -4,7 +4,7 @@ use std::alloc::{AllocError, Global};
 
 /// The options that only some subcommands have, as a mistake quotes them, and the subcommands that
 /// have each.
-const OWNERS: [(&str, &str); 37] = [
+const OWNERS: [(&str, &str); 38] = [
     ("'--apply'", "mend"),
     ("'--bounded'", "emit-c"),
     (
@@ -30,6 +30,7 @@ const OWNERS: [(&str, &str); 37] = [
     ("'--full-store'", "run, view and drive"),
     ("'--header'", "emit-c"),
     ("'--inputs'", "drive"),
+    ("'--interface'", "drive"),
     (
         "'--json'",
         "check, conform, classes, flows, mend, audit and bound",

@@ -32,6 +32,7 @@ unvalued word plain =
       apart word (codes "--class") plain refl,
       apart word (codes "--color") plain refl,
       apart word (codes "--inputs") plain refl,
+      apart word (codes "--interface") plain refl,
       apart word (codes "--lattice") plain refl,
       apart word (codes "--name") plain refl,
       apart word (codes "--out") plain refl,

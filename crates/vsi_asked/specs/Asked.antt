@@ -12,6 +12,9 @@ use Rattle.vsi_arguments.specs.declared.request.Budget.TheVariants.{Number, Auto
 use Rattle.vsi_arguments.specs.declared.request.Compilation.{Compilation}
 use Rattle.vsi_arguments.specs.declared.request.Document.{Document}
 use Rattle.vsi_arguments.specs.declared.request.Document.TheVariants as document
+use Rattle.vsi_arguments.specs.declared.request.DrivePolicy.{DrivePolicy}
+use Rattle.vsi_arguments.specs.declared.request.DrivePolicy.TheVariants as policy
+use Rattle.vsi_arguments.specs.declared.request.Driving.{Driving}
 use Rattle.vsi_arguments.specs.declared.request.Execution.{Execution}
 use Rattle.vsi_arguments.specs.declared.request.Judging.{Judging}
 use Rattle.vsi_arguments.specs.declared.request.Layout.{Layout as Laid}
@@ -67,6 +70,21 @@ name_of (Explain page) = codes "explain"
 abbrev pub given : Option (Bor (List ℕ)) → List (List ℕ)
 given path = option_to_list (option_map (λ p. p.now) path)
 
+-- The lattice file of a drive, which has none with an interface.
+abbrev pub lattice_of : DrivePolicy → Option (Bor (List ℕ))
+lattice_of (policy.Lattice path lists) = Some path
+lattice_of (policy.Interface path) = None
+
+-- The interface file of a drive, if it has one.
+abbrev pub interface_of : DrivePolicy → Option (Bor (List ℕ))
+interface_of (policy.Lattice path lists) = None
+interface_of (policy.Interface path) = Some path
+
+-- The lists of a drive, which aren't given with an interface.
+abbrev pub lists_of : DrivePolicy → NameLists
+lists_of (policy.Lattice path lists) = lists
+lists_of (policy.Interface path) = record { inputs = None; outputs = None; released = None }
+
 -- The lattice file and the source text of a compilation.
 abbrev pub compiled : Compilation → List (List ℕ)
 compiled compilation = compilation.lattice.now ∷ compilation.source.now ∷ []
@@ -105,7 +123,7 @@ operands_of (EmitC emission) = emission.file.now ∷ []
 operands_of (Bound bounding) = searched bounding
 operands_of (Run execution initial_store has_trace has_count) = execution.image.now ∷ []
 operands_of (View lattice class execution initial_store) = lattice.now ∷ execution.image.now ∷ []
-operands_of (Drive driving) = driving.lattice.now ∷ driving.execution.image.now ∷ []
+operands_of (Drive driving) = given (lattice_of driving.policy) ++ driving.execution.image.now ∷ []
 operands_of (Compare comparison) = comparison.lattice.now ∷ comparison.image.now ∷ []
 operands_of (Leak search) = search.lattice.now ∷ search.source.now ∷ []
 operands_of (Report compilation) = compiled compilation
@@ -199,6 +217,12 @@ bounding lists =
     (codes "--inputs", given lists.inputs) ∷ (codes "--outputs", given lists.outputs)
     ∷ (codes "--release", given lists.released) ∷ []
 
+-- The options of a drive by this interface, if there is one, or by these lists, each with its values.
+abbrev pub drive_options : Driving → Option (Bor (List ℕ)) → NameLists → List (List ℕ × List (List ℕ))
+drive_options driving interface lists =
+    (codes "--class", driving.class.now ∷ []) ∷ (codes "--store", given driving.execution.store)
+    ∷ (codes "--save", given driving.save) ∷ (codes "--interface", given interface) ∷ bounding lists
+
 -- The options of a request, each with its values; `numbers_of` has the options that take numbers.
 abbrev pub options_of : Request → List (List ℕ × List (List ℕ))
 options_of (Try attempt) =
@@ -208,9 +232,7 @@ options_of (EmitC emission) =
     (codes "--lattice", given emission.lattice) ∷ (codes "--name", given emission.name) ∷ []
 options_of (Run execution initial_store has_trace has_count) = starting execution initial_store
 options_of (View lattice class execution initial_store) = (codes "--class", class.now ∷ []) ∷ starting execution initial_store
-options_of (Drive driving) =
-    (codes "--class", driving.class.now ∷ []) ∷ (codes "--store", given driving.execution.store)
-    ∷ (codes "--save", given driving.save) ∷ bounding driving.lists
+options_of (Drive driving) = drive_options driving (interface_of driving.policy) (lists_of driving.policy)
 options_of (Compare comparison) =
     (codes "--class", comparison.class.now ∷ [])
     ∷ (codes "--store", comparison.stores.0.now ∷ comparison.stores.1.now ∷ []) ∷ []

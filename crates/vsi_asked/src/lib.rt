@@ -10,6 +10,7 @@
 
 mod asking;
 mod documents;
+mod drives;
 mod help;
 pub mod laws;
 mod numbers;

@@ -102,10 +102,11 @@ const VIEW_OPTIONS: [&[u8]; 6] = [
 const DRIVE: [&[u8]; 4] = [b"--full-store", b"--unbounded", b"--explain", b"--force"];
 
 /// The options of `drive`.
-const DRIVE_OPTIONS: [&[u8]; 9] = [
+const DRIVE_OPTIONS: [&[u8]; 10] = [
     b"--class",
     b"--store",
     b"--save",
+    b"--interface",
     b"--inputs",
     b"--outputs",
     b"--release",
