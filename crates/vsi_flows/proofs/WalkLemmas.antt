@@ -1,13 +1,13 @@
 -- Each pair has a walk down the row of its target.
-use Rattle.std.proofs.Common.{◌≡◌, ℕ, suc, ◌+◌, ◌<◌, ◌≤◌, Bool, List, [], ◌∷◌, ◌++◌, length, get_or, Option, Some, None, refl, sym, ap, ◌∙◌, subst, arith, inl, inr}
+use Rattle.std.proofs.Common.{◌≡◌, ℕ, suc, ◌+◌, ◌<◌, ◌≤◌, Bool, List, [], ◌∷◌, ◌++◌, length, get_or, Option, Some, None, refl, sym, ap, ◌∙◌, subst, arith, inl, inr, map, take, drop}
 use Rattle.std.specs.Prelude.{Result, Ok, Err, IfOk}
 use Rattle.std.specs.List.{All, Contains, flat_map, slice_get}
 use Rattle.std.specs.Option.{MatchOption, IsSomeAnd}
 use Rattle.std.proofs.lemmas.Bool.{cases_lt}
-use Rattle.std.proofs.lemmas.List.{get_or_past, map_push, append_assoc, append-nil}
-use Rattle.std.proofs.lemmas.List.Elements.{All-nil, All-push, All-weaker}
+use Rattle.std.proofs.lemmas.List.{get_or_past, map_push, map-append, take_more, take-append-drop, append_assoc, append-nil}
+use Rattle.std.proofs.lemmas.List.Elements.{All-nil, All-push, All-weaker, All-append, All-head, All-tail, All-drop}
 use Rattle.std.proofs.lemmas.Grind.{flat_map-append}
-use Rattle.std.proofs.lemmas.Option.{slice_get-get_or, slice_get_read}
+use Rattle.std.proofs.lemmas.Option.{slice_get-get_or, slice_get_read, slice_get_within, get_or_from_slice_get}
 use Rattle.std.proofs.lemmas.Slice.Zip.{AllZip-left}
 use Rattle.vsi_lattice.specs.Order.{Lattice, IsLattice}
 use Rattle.vsi_types.specs.declared.rules.Profile.{Profile}
@@ -30,7 +30,7 @@ use Rattle.vsi_infer.proofs.ShortestLemmas.{row_back, row_plain, source_within, 
 use Rattle.vsi_flows.specs.declared.pair.Pair.{Pair}
 use Rattle.vsi_flows.specs.Rows.{AreRowsOf}
 use Rattle.vsi_flows.specs.Table.{IsTold, IsTable}
-use Rattle.vsi_flows.specs.Text.{Walked, IsWalkOf, pair_line, walked_lines, IsWalksText}
+use Rattle.vsi_flows.specs.Text.{Walked, IsWalkOf, pair_line, walked_lines, AddsLines, IsWalksText}
 use Rattle.vsi_flows.specs.Walks.{IsUnreached, FindWalks, FindsPair, IsFound, AreWalkLines}
 use Rattle.vsi_flows.proofs.RowLemmas.{row_is}
 
@@ -253,6 +253,52 @@ module _ (l : lattices.Lattice) (ss : List Step) (source : List ℕ) (r : Resolv
       joined : (x y z : List ℕ) → (x ++ y) ++ z ≡ x ++ ((y ++ z) ++ [])
       joined x y z = append_assoc x y z ∙ ap (λ t. x ++ t) (sym (append-nil (y ++ z)))
 
+  -- The lines of one list of pairs and then those of another are the lines of both.
+  pub lines_both : (pairs more : List Pair) (text with : List ℕ) → AreWalkLines l ss source r pairs text
+      → AreWalkLines l ss source r more with → AreWalkLines l ss source r (pairs ++ more) (text ++ with)
+  lines_both pairs more text with a b = record {
+    walked = a.walked ++ b.walked;
+    pairs_kept = map-append (λ w. w.pair) a.walked b.walked ∙ ap (λ ps. ps ++ map (λ w. w.pair) b.walked) a.pairs_kept
+        ∙ ap (λ ps. pairs ++ ps) b.pairs_kept;
+    walks = All-append (λ w. IsWalkOf ss w.pair w.walk) a.walked b.walked a.walks b.walks;
+    lines = ap (λ t. t ++ with) a.lines ∙ ap (λ t. flat_map (walked_lines l source r) a.walked ++ t) b.lines
+        ∙ sym (flat_map-append (walked_lines l source r) a.walked b.walked);
+  }
+
+  -- The line of a pair and then those of its walk have been added.
+  pub adds_lines : (pairs : List Pair) (number : ℕ) (pair : Pair) (walk : List Step) (old with new : List ℕ)
+      → number < length pairs → pair ≡ get_or pairs number pair → IsWalkOf ss pair walk
+      → with ≡ old ++ pair_line l r pair → new ≡ with ++ flat_map (step_line source r) walk
+      → AddsLines l ss source r pairs number old new
+  adds_lines pairs number pair walk old with new lt is h e f = record {
+    walked = record { pair = pair; walk = walk };
+    there = slice_get-get_or pairs number pair lt ∙ ap Some (sym is);
+    walk = h;
+    lines = f ∙ ap (λ t. t ++ flat_map (step_line source r) walk) e
+        ∙ append_assoc old (pair_line l r pair) (flat_map (step_line source r) walk);
+  }
+
+  -- The lines of the next pair have been added to those of the pairs before it, of which some may be elsewhere.
+  pub lines_next : (pairs : List Pair) (number : ℕ) (before old new : List ℕ)
+      → AreWalkLines l ss source r (take number pairs) (before ++ old)
+      → AddsLines l ss source r pairs number old new
+      → AreWalkLines l ss source r (take (number + 1) pairs) (before ++ new)
+  lines_next pairs number before old new a h =
+      let pair = h.walked.pair in
+      let inside : number < length pairs = slice_get_within pairs number pair h.there in
+      let more : take (number + 1) pairs ≡ take number pairs ++ pair ∷ [] =
+      take_more pairs number pair inside
+      ∙ ap (λ x. take number pairs ++ x ∷ []) (get_or_from_slice_get pairs number pair pair h.there) in
+      subst (λ ps. AreWalkLines l ss source r ps (before ++ new)) (sym more)
+      (lines_more (take number pairs) (before ++ old) ((before ++ old) ++ pair_line l r pair) (before ++ new) pair
+      h.walked.walk a h.walk refl
+      (ap (λ t. before ++ t) h.lines
+      ∙ joined before old (pair_line l r pair) (flat_map (step_line source r) h.walked.walk)))
+    where
+      joined : (w x y z : List ℕ) → w ++ (x ++ (y ++ z)) ≡ ((w ++ x) ++ y) ++ z
+      joined w x y z =
+          sym (append_assoc (w ++ x) y z ∙ append_assoc w x (y ++ z))
+
 -- The text consists of the lines of a table's pairs, each with a walk.
 pub walks_text : (l : lattices.Lattice) (P : Profile) (text : List ℕ) (r : Resolved)
     → Stands (class_named l) text r → (pairs : List Pair) → IsTable (order l) P (program r) pairs
@@ -265,3 +311,37 @@ walks_text l P text r stands pairs table out a = record {
   walks = a.walks;
   lines = a.lines;
 }
+
+-- Pairs that are true have lines.
+pub some_lines : (l : lattices.Lattice) (P : Profile) (source : List ℕ) (r : Resolved) (pairs : List Pair)
+    → All (IsTold (order l) P (program r)) pairs
+    → (out : List ℕ) × AreWalkLines l (steps_of P (program r)) source r pairs out
+some_lines l P source r [] told = ([], lines_none l (steps_of P (program r)) source r [] refl)
+some_lines l P source r (pair ∷ pairs) told =
+    let ss = steps_of P (program r) in
+    let steps = (All-head (IsTold (order l) P (program r)) pair pairs told).steps in
+    let rest = some_lines l P source r pairs (All-tail (IsTold (order l) P (program r)) pair pairs told) in
+    let walk = steps.walk in
+    let first : IsWalkOf ss pair walk = record { path = steps.path; count = steps.count } in
+    let one = lines_more l ss source r [] [] (pair_line l r pair)
+    (pair_line l r pair ++ flat_map (step_line source r) walk) pair walk (lines_none l ss source r [] refl) first refl
+    refl in (
+      (pair_line l r pair ++ flat_map (step_line source r) walk) ++ rest.0,
+      lines_both l ss source r (pair ∷ []) pairs (pair_line l r pair ++ flat_map (step_line source r) walk) rest.0 one
+          rest.1,
+    )
+
+-- The lines of a table's first pairs begin a text with the lines of all.
+pub lines_begin : (l : lattices.Lattice) (P : Profile) (source : List ℕ) (r : Resolved)
+    → Stands (class_named l) source r → (pairs : List Pair) → IsTable (order l) P (program r) pairs
+    → (number : ℕ) (part : List ℕ) → AreWalkLines l (steps_of P (program r)) source r (take number pairs) part
+    → (rest : List ℕ) × IsWalksText l P source (part ++ rest)
+lines_begin l P source r stands pairs table number part a =
+    let ss = steps_of P (program r) in
+    let rest = some_lines l P source r (drop number pairs)
+    (All-drop (IsTold (order l) P (program r)) number pairs table.told) in (
+      rest.0,
+      walks_text l P source r stands pairs table (part ++ rest.0)
+          (subst (λ ps. AreWalkLines l ss source r ps (part ++ rest.0)) (take-append-drop number pairs)
+          (lines_both l ss source r (take number pairs) (drop number pairs) part rest.0 a rest.1)),
+    )

@@ -4,3 +4,4 @@ pub mod Filling
 pub mod Independence
 pub mod Text
 pub mod Walks
+pub mod Walking

@@ -1,6 +1,6 @@
 -- The table as text.
-use Rattle.std.specs.Prelude.{◌≡◌, ℕ, ◌<◌, ◌↔◌, Bool, true, false, List, [], ◌∷◌, ◌++◌, map, length, slice_index_or, pos, codes, decimal}
-use Rattle.std.specs.List.{All, flat_map}
+use Rattle.std.specs.Prelude.{◌≡◌, ℕ, ◌<◌, ◌↔◌, Bool, true, false, List, [], ◌∷◌, ◌++◌, map, length, slice_index_or, pos, codes, decimal, Some}
+use Rattle.std.specs.List.{All, flat_map, slice_get}
 use Rattle.vsi_lattice.specs.declared.lattice.Lattice.{Lattice}
 use Rattle.vsi_lattice.specs.LatticeView.{class_named, order}
 use Rattle.vsi_image.specs.declared.instr.Image.{Image}
@@ -71,6 +71,14 @@ pub record IsWalkOf (ss : List Step) (pair : Pair) (walk : List Step) : Type 0 w
 -- The line of a pair and, below it, the lines of its walk's steps.
 abbrev pub walked_lines : Lattice → List ℕ → Resolved → Walked → List ℕ
 walked_lines l source r w = pair_line l r w.pair ++ flat_map (step_line source r) w.walk
+
+-- The lines of the pair with this number have been added: its own line and, below it, those of a walk of its fewest steps.
+pub record AddsLines (l : Lattice) (ss : List Step) (source : List ℕ) (r : Resolved) (pairs : List Pair) (number : ℕ)
+    (old new : List ℕ) : Type 0 where
+  pub walked : Walked
+  pub there : slice_get pairs number ≡ Some walked.pair
+  pub walk : IsWalkOf ss walked.pair walked.walk
+  pub lines : new ≡ old ++ walked_lines l source r walked
 
 -- The lines are those of the table of the text's program, and each pair has a walk of its fewest steps.
 pub record IsWalksText (l : Lattice) (P : Profile) (text out : List ℕ) : Type 0 where

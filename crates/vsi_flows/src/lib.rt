@@ -10,15 +10,18 @@
 #![tactic(auto)]
 
 mod error;
+mod finders;
 pub mod laws;
 mod pair;
 mod rows;
 mod table;
 mod text;
+mod walking;
 mod walks;
 
 pub use error::FlowsError;
 pub use pair::Pair;
 pub use table::flows_in;
 pub use text::{flows_text_in, flows_text_of, table_text};
+pub use walking::{WalkTable, Walks, table_walks, walk_table};
 pub use walks::{walks_text_in, walks_text_of};

@@ -1,77 +1,49 @@
-use Rattle.std.proofs.Common.{ℕ, map, refl, sym, subst}
-use Rattle.std.specs.List.{All}
-use Rattle.vsi_lattice.specs.LatticeView.{order}
+use Rattle.std.proofs.Common.{◌≡◌, ◌∙◌, [], ap, arith, subst, take}
+use Rattle.std.proofs.lemmas.List.{take_all}
+use Rattle.vsi_types.specs.declared.rules.Profile.{Profile}
 use Rattle.vsi_types.specs.Security.{program, steps_of}
-use Rattle.vsi_infer.specs.Flowing.{size_of}
-use Rattle.vsi_compiler.specs.SourceView.{source_of}
-use Rattle.vsi_compiler.proofs.Compiled.{lawful}
-use Rattle.vsi_compiler.proofs.Programs.{declared_classes}
-use Rattle.vsi_compiler.proofs.Held.{of_parts, ready, globals_at, declared_at}
-use Rattle.vsi_flows.specs.Rows.{AreRowsOf}
-use Rattle.vsi_flows.specs.Table.{IsTable}
-use Rattle.vsi_flows.specs.Walks.{FindWalks, IsFound, AreWalkLines}
-use Rattle.vsi_flows.proofs.WalkLemmas.{found_all, walks_text}
+use Rattle.vsi_flows.specs.Text.{IsWalksText}
+use Rattle.vsi_flows.specs.Walks.{AreWalkLines}
+use Rattle.vsi_flows.proofs.WalkLemmas.{lines_none, lines_next, walks_text}
 use Rattle.vsi_flows.proofs.walks.walks_text_of.Goals as goal
 
-pub program_rows-requires : goal.program_rows-requires
-program_rows-requires c =
-    declared_at _ c.resolved-resolved.ensures.kept _ _ c.lattice-lattice.ensures
-    c.resolved-resolved.ensures.value
+pub table_walks-requires : goal.table_walks-requires
+table_walks-requires c = c.in_ok-table.ensures.table
 
-pub pairs_of-requires-clause-globals : goal.pairs_of-requires-clause-globals
-pairs_of-requires-clause-globals c =
-    globals_at _ c.resolved-resolved.ensures.kept _ _ c.lattice-lattice.ensures
-    c.resolved-resolved.ensures.value
+pub put_lines-requires-clause-walks : goal.put_lines-requires-clause-walks
+put_lines-requires-clause-walks c = c.in_ok-walks.ensures.walks
 
-pub pairs_of-requires-clause-declared : goal.pairs_of-requires-clause-declared
-pairs_of-requires-clause-declared c =
-    declared_at _ c.resolved-resolved.ensures.kept _ _ c.lattice-lattice.ensures
-    c.resolved-resolved.ensures.value
+pub put_lines-requires-clause-number : goal.put_lines-requires-clause-number
+put_lines-requires-clause-number c = omega (arith, c.loop-number-test.true, c.len-number-end.ensures)
 
-pub walk_lines-requires-clause-globals : goal.walk_lines-requires-clause-globals
-walk_lines-requires-clause-globals c =
-    globals_at _ c.resolved-resolved.ensures.kept _ _ c.lattice-lattice.ensures
-    c.resolved-resolved.ensures.value
+pub loop-number-init : goal.loop-number-init
+loop-number-init c =
+    let t = c.in_ok-walks.walks.table.now in
+    let s = t.source.now in
+    lines_none s.lattice (steps_of t.profile (program s.resolved)) s.text s.resolved c.new-text.result.items
+    c.new-text.ensures.items
 
-pub walk_lines-requires-clause-declared : goal.walk_lines-requires-clause-declared
-walk_lines-requires-clause-declared c =
-    declared_at _ c.resolved-resolved.ensures.kept _ _ c.lattice-lattice.ensures
-    c.resolved-resolved.ensures.value
-
-pub walk_lines-requires-clause-found : goal.walk_lines-requires-clause-found
-walk_lines-requires-clause-found c =
-    let s = c.args.source.now in
-    let l = c.lattice-lattice.result.now in
-    let L = order l in
-    let P = c.args.profile in
-    let r = c.resolved-resolved.result.now in
-    let p = program r in
-    let is = of_parts s c.resolved-resolved.ensures.kept l s.text r c.lattice-lattice.ensures refl
-    c.resolved-resolved.ensures.value in
-    let rows = map (λ v. v.items) c.in_ok-rows.rows.items in
-    let table : IsTable L P p c.in_ok-pairs.pairs.items =
-    c.in_ok-pairs.ensures P (subst (λ v. AreRowsOf L P p (map (λ x. x.items) v)) (sym c.deref.ensures.value)
-    c.in_ok-rows.ensures) in
-    let find : FindWalks (steps_of P p) (size_of p) rows c.in_ok-found.found.items =
-    subst (λ (n : ℕ). FindWalks (steps_of P p) n rows c.in_ok-found.found.items) c.declarations-last.ensures.count
-    (subst (λ v. FindWalks (steps_of P p) c.declarations-last.result (map (λ x. x.items) v) c.in_ok-found.found.items)
-    c.deref-2.ensures.value c.in_ok-found.ensures) in
-    subst (λ f. All (IsFound (steps_of P p) (size_of p) f) c.deref-4.result.now) (sym c.deref-3.ensures.value)
-    (subst (All (IsFound (steps_of P p) (size_of p) c.in_ok-found.found.items)) (sym c.deref-4.ensures.value)
-    (found_all L (lawful l) P p (ready (source_of l s.text r) is) (declared_classes L r is.classes) rows c.in_ok-rows.ensures
-    c.in_ok-found.found.items find c.in_ok-pairs.pairs.items table))
+pub loop-number-preserved : goal.loop-number-preserved
+loop-number-preserved c =
+    let t = c.in_ok-walks.walks.table.now in
+    let s = t.source.now in
+    lines_next s.lattice (steps_of t.profile (program s.resolved)) s.text s.resolved t.pairs.items
+    c.loop-number.number [] c.loop-number.text.items c.put_lines.new.text.items c.loop-number.invariant
+    c.in_ok-put_lines.ensures
 
 pub returns : goal.returns
 returns c =
-    let l = c.lattice-lattice.result.now in
-    let text = c.text-text.result.now in
-    let r = c.resolved-resolved.result.now in
-    let is = of_parts c.args.source.now c.resolved-resolved.ensures.kept l text r c.lattice-lattice.ensures
-    c.text-text.ensures c.resolved-resolved.ensures.value in
-    let P = c.args.profile in
-    rw (← c.lattice-lattice.ensures, ← c.text-text.ensures)
-    (walks_text l P text r is.stands c.in_ok-pairs.pairs.items
-    (c.in_ok-pairs.ensures P (subst (λ v. AreRowsOf (order l) P (program r) (map (λ x. x.items) v))
-    (sym c.deref.ensures.value) c.in_ok-rows.ensures)) c.in_ok-lines.lines.items
-    (subst (λ ps. AreWalkLines l (steps_of P (program r)) text r ps c.in_ok-lines.lines.items)
-    c.deref-4.ensures.value c.in_ok-lines.ensures))
+    let t = c.in_ok-walks.walks.table.now in
+    let s = t.source.now in
+    let is = c.in_ok-walks.ensures.walks.table in
+    let out = c.loop-number.text.items in
+    let all : take c.loop-number.number t.pairs.items ≡ t.pairs.items =
+    take_all c.loop-number.number t.pairs.items (omega (arith, c.loop-number-test.false, c.len-number-end.ensures)) in
+    let whole : IsWalksText s.lattice t.profile s.text out =
+    walks_text s.lattice t.profile s.text s.resolved is.stands t.pairs.items is.table out
+    (subst (λ ps. AreWalkLines s.lattice (steps_of t.profile (program s.resolved)) s.text s.resolved ps out) all
+    c.loop-number.invariant) in
+    subst (λ x. IsWalksText x.lattice c.args.profile x.text out)
+    (ap (λ w. w.source.now) c.in_ok-walks.ensures.table ∙ c.in_ok-table.ensures.source)
+    (subst (λ (P : Profile). IsWalksText s.lattice P s.text out)
+    (ap (λ w. w.profile) c.in_ok-walks.ensures.table ∙ c.in_ok-table.ensures.profile) whole)

@@ -1,7 +1,7 @@
 use Rattle.std.proofs.Common.{map, take}
 use Rattle.vsi_types.specs.Security.{program, steps_of}
 use Rattle.vsi_flows.specs.Walks.{FindWalks}
-use Rattle.vsi_flows.proofs.walks.found_in.Given as goal
+use Rattle.vsi_flows.proofs.finders.found_in.Given as goal
 
 abbrev pub invariant-loop-row : goal.invariant-loop-row
 invariant-loop-row l =

@@ -1,6 +1,6 @@
 use Rattle.vsi_types.specs.Security.{program, steps_of}
 use Rattle.vsi_flows.proofs.WalkLemmas.{finds_there, arrived_walk}
-use Rattle.vsi_flows.proofs.walks.walk_of.Goals as goal
+use Rattle.vsi_flows.proofs.finders.walk_of.Goals as goal
 
 pub walk_from-requires-clause-known : goal.walk_from-requires-clause-known
 walk_from-requires-clause-known c =

@@ -5,7 +5,7 @@ use Rattle.vsi_types.specs.Security.{program, steps_of}
 use Rattle.vsi_infer.specs.Shortest.{FindsWalks}
 use Rattle.vsi_flows.specs.Walks.{IsUnreached, FindWalks}
 use Rattle.vsi_flows.proofs.WalkLemmas.{find_more}
-use Rattle.vsi_flows.proofs.walks.found_in.Goals as goal
+use Rattle.vsi_flows.proofs.finders.found_in.Goals as goal
 
 pub loop-row-preserved : goal.loop-row-preserved
 loop-row-preserved c =
