@@ -17,6 +17,7 @@ pub mod Boundaries
 pub mod Documents
 pub mod Files
 pub mod State
+pub mod Viewing
 pub mod Supplied
 pub mod Performed
 pub mod Refusals

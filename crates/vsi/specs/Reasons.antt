@@ -13,6 +13,7 @@ use Rattle.vsi_compiler.specs.Headline.{IsImageOf}
 use Rattle.vsi_compiler.specs.Readable.{HasProgram}
 use Rattle.vsi_drive.specs.BoundaryFaults.{boundary_fault}
 use Rattle.vsi_drive.specs.Control.{Control}
+use Rattle.vsi_drive.specs.Views.{view_of}
 use Rattle.vsi_drive.specs.declared.boundary.BoundaryFault.{BoundaryFault}
 use Rattle.vsi_drive.specs.declared.starts.StartFault.{StartFault}
 use Rattle.vsi_drive.specs.declared.starts.StartFault.TheVariants as start
@@ -55,6 +56,7 @@ use Rattle.vsi_arguments.specs.declared.request.Mending.{Mending}
 use Rattle.vsi_arguments.specs.declared.request.NameLists.{NameLists}
 use Rattle.vsi_arguments.specs.declared.request.InitialStore.{InitialStore}
 use Rattle.vsi_arguments.specs.declared.request.Search.{Search}
+use Rattle.vsi_arguments.specs.declared.request.Viewing.{Viewing}
 use Rattle.vsi_arguments.specs.declared.request.Request.{Request}
 use Rattle.vsi_arguments.specs.declared.request.Request.TheVariants as request
 use Rattle.vsi.specs.declared.failure.Failure.{Failure}
@@ -66,6 +68,7 @@ use Rattle.vsi.specs.Raises.{ToldUnserved}
 use Rattle.vsi.specs.Input.{two_classes}
 use Rattle.vsi.specs.Served.{Serves, unended_line}
 use Rattle.vsi.specs.Supplied.{begins_image}
+use Rattle.vsi.specs.Viewing.{viewing_control, viewing_lists}
 use Rattle.vsi.specs.Tried.{AreTried, BeginsSet, IsMade, IsTriedUnder, RunsMade, policy_path}
 use Rattle.vsi.specs.Files.{BeginsAt, IsBudgetOf, LooksAt, OfFiles, Writes}
 use Rattle.vsi.specs.Performed.{BoundsFile, ComparesFiles, ConformsFiles, DocumentOf, IsAskedAt, LooksFor, compilation_of, control_of, judgement_of, named_path, profile_of, wanted_of}
@@ -348,6 +351,26 @@ WhyDrive holds d reason =
     ⊎ RefusesFirst holds d.execution.image.now d.execution.store d.is_full reason ⊎ RefusesController holds d reason
     ⊎ RefusesBoundary holds d reason
 
+-- `view` with lists: the lattice lacks the class of a global, the boundary has a fault, or the run is out of budget.
+pub record RefusesViewWithin (holds : Holding) (asked : Viewing) (reason : Unanswered) : Type 0 where
+  pub lattice : Lattice
+  pub viewer : ℕ
+  pub looks : LooksAt holds asked.lattice.now asked.class.now lattice viewer
+  pub image : Image
+  pub words : List ℤ
+  pub begins : BeginsAt holds asked.execution asked.initial_store image words
+  pub budget : ℕ
+  pub within : IsBudgetOf asked.execution.budget image budget
+  pub is : RefusesControl (viewing_lists asked) lattice viewer image budget reason
+      ⊎ ((reason ≡ unanswered.OutOfBudget)
+      × (view_of (viewing_control asked lattice viewer image budget) budget words ≡ None))
+
+-- `view` with lists: the lattice is refused, or the image, or the words that it begins with, or the run has no answer.
+abbrev pub WhyViewWithin : Holding → Viewing → Unanswered → Type 0
+WhyViewWithin holds asked reason =
+    RefusesLattice holds asked.lattice.now reason ⊎ RefusesImage holds asked.execution.image.now reason
+    ⊎ RefusesStart holds asked.execution asked.initial_store reason ⊎ RefusesViewWithin holds asked reason
+
 -- The text of the failure says why a budget isn't enough.
 abbrev pub SaysShort : Lattice → Image → ℕ → Failure → Type 0
 SaysShort l image budget (fails.Refused text None) = IsShort l image budget text.items
@@ -447,6 +470,9 @@ Why holds (request.Run e o has_trace has_count) old new =
 Why holds (request.View lattice class e o) old new =
     FailsBy (WhyView holds lattice.now class.now e o)
     (LacksEither holds lattice.now class.now e.image.now e.budget)
+Why holds (request.ViewWithin asked) old new =
+    FailsBy (WhyViewWithin holds asked)
+    (LacksEither holds asked.lattice.now asked.class.now asked.execution.image.now asked.execution.budget)
 Why holds (request.Drive driving) old new =
     FailsBy (WhyDrive holds driving) (LacksDrive holds driving)
 Why holds (request.Compare comparison) old new =

@@ -8,8 +8,8 @@
 //! such as `LexError` or a `Walk` of `Step`s, are exported here too.
 //!
 //! To be believed: of `specs/` `Words`, `Holding`, `Loading`, `Driven`, `State`, `Tried`, `Shaping`,
-//! `Seeing`, `Laying`, `Raises`, `Documents`, `Admitted`, `Served`, `Files`, `Performed`, `Refusals`,
-//! `Reasons`, `Partly`, `Done`, `Screen`, `Input` and `Laws`, of `Failures` all but `FailsFor`, of `Noted`
+//! `Seeing`, `Laying`, `Raises`, `Documents`, `Admitted`, `Served`, `Files`, `Viewing`, `Performed`,
+//! `Refusals`, `Reasons`, `Partly`, `Done`, `Screen`, `Input` and `Laws`, of `Failures` all but `FailsFor`, of `Noted`
 //! all but `Notes`, and of `Saved` its second part; its first part and `Diagnosing` are stepping stones
 //! of proofs.
 #![tactic(auto)]
@@ -52,6 +52,7 @@ mod shaping;
 mod subcommands;
 mod telling;
 mod trying;
+mod viewing;
 mod warning;
 
 pub use command_line::command;

@@ -23,4 +23,5 @@ pub use request::{
     Asked, Attempt, Audit, Bounding, Budget, Colour, Comparison, Compilation, Conformance,
     Document, Drawing, Driving, EVERY, Emission, Execution, InitialStore, Judging, Layout, Looking,
     Mending, NameLists, RUNS_BUDGET, Reporting, Request, SEARCH, Search, Serving, TRY_BUDGET,
+    Viewing,
 };

@@ -9,6 +9,7 @@ use crate::documents::{asks_audit, asks_bound, asks_classes, asks_document, asks
 use crate::numbers::{has_budget, has_budget_or_auto, has_number, number_in, only_operand};
 use crate::own::has_own_alone;
 use crate::reading::{has_flag, has_operands, has_values};
+use crate::viewing::{asks_view_within, has_listing};
 use vsi_arguments::{
     Attempt, Audit, Bounding, Comparison, Compilation, Conformance, Document, Drawing, Driving,
     EVERY, Emission, Execution, InitialStore, Judging, Layout, Looking, Mending, NameLists,
@@ -32,7 +33,7 @@ fn has_flags(words: &[String], flags: &[(&str, bool)]) -> bool
 }
 
 /// Whether the arguments give an option this value, or no value.
-fn has_value(words: &[String], option: &str, value: Option<&str>) -> bool
+pub(crate) fn has_value(words: &[String], option: &str, value: Option<&str>) -> bool
     ensures { result ≡ true
         → values_in option.now false (texts words.now) ≡ spec.given value.entry }
 {
@@ -54,7 +55,7 @@ fn behind_name<'a>(words: &'a [String], name: &str) -> Option<&'a [String]>
 
 /// The arguments after the first, if the first is the name and the others have exactly these
 /// operands and flags.
-fn behind<'a>(
+pub(crate) fn behind<'a>(
     words: &'a [String],
     name: &str,
     operands: &[&[u8]],
@@ -101,7 +102,7 @@ pub(crate) fn asks_compilation(
 }
 
 /// Whether the arguments say how a run begins and where its text goes.
-fn has_initial_store(
+pub(crate) fn has_initial_store(
     words: &[String],
     execution: &Execution<'_>,
     initial_store: &InitialStore<'_>,
@@ -178,6 +179,7 @@ fn asks_view(
     };
     has_value(rest, "--class", Some(class))
         && has_initial_store(rest, execution, initial_store)
+        && has_listing(rest, None, None)
         && has_budget(rest, execution.budget)
 }
 
@@ -463,6 +465,7 @@ fn spells(words: &[String], request: &Request<'_>) -> bool
             execution,
             initial_store,
         } => asks_view(words, lattice, class, execution, initial_store),
+        Request::ViewWithin(viewing) => asks_view_within(words, viewing),
         Request::Drive(driving) => asks_drive(words, driving),
         Request::Compare(comparison) => asks_compare(words, comparison),
         Request::Leak(search) => asks_leak(words, search),
