@@ -57,6 +57,7 @@ cut_within (request.EmitC asked) = omega arith
 cut_within (request.Bound asked) = omega arith
 cut_within (request.Run e o has_trace has_count) = omega arith
 cut_within (request.View lattice class e o) = omega arith
+cut_within (request.ViewWithin asked) = omega arith
 cut_within (request.Drive driving) = omega arith
 cut_within (request.Compare comparison) = omega arith
 cut_within (request.Leak search) = omega arith

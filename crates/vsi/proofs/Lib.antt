@@ -28,3 +28,4 @@ pub mod Once
 pub mod Left
 pub mod Loading
 pub mod Looked
+pub mod Viewed

@@ -19,6 +19,7 @@ pub mod Steering
 pub mod Documents
 pub mod Files
 pub mod State
+pub mod Viewing
 pub mod Supplied
 pub mod Performed
 pub mod Refusals

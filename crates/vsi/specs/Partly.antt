@@ -36,6 +36,7 @@ use Rattle.vsi.specs.Shaping.{ShapedText}
 use Rattle.vsi.specs.Steering.{IsSteered}
 use Rattle.vsi.specs.Failures.{status_of}
 use Rattle.vsi.specs.Tried.{TriesFile}
+use Rattle.vsi.specs.Viewing.{AnswersViewWithin}
 
 -- ---- a part of an answer.
 
@@ -141,6 +142,7 @@ Answers holds given (request.EmitC asked) = BytesOf (EmitsFile holds asked)
 Answers holds given (request.Bound asked) = AnswersBound holds asked
 Answers holds given (request.Run e o has_trace has_count) = AnswersRun holds e o has_trace
 Answers holds given (request.View lattice class e o) = AnswersView holds lattice.now class.now e o
+Answers holds given (request.ViewWithin asked) = AnswersViewWithin holds asked
 Answers holds given (request.Drive driving) = AnswersDrive holds driving given
 Answers holds given (request.Compare comparison) = AnswersCompare holds comparison
 Answers holds given (request.Leak search) = BytesOf (SearchesFiles holds search)

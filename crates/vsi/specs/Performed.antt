@@ -78,6 +78,7 @@ use Rattle.vsi.specs.Supplied.{TellsSupplied, begins_image}
 use Rattle.vsi.specs.Tried.{TriesFile}
 use Rattle.vsi.specs.Files.{BeginsAt, IsBudgetOf, IsFullAt, IsStoredAt, LooksAt, OfFile, OfFiles, Writes, shown}
 use Rattle.vsi.specs.State.{state_text}
+use Rattle.vsi.specs.Viewing.{PerformsViewWithin}
 
 -- ---- the output.
 
@@ -453,6 +454,7 @@ Performs holds given (request.EmitC asked) left = Alone (Writes (EmitsFile holds
 Performs holds given (request.Bound asked) left = Alone (PerformsBound holds asked) holds left
 Performs holds given (request.Run e o has_trace has_count) left = PerformsRun holds e o has_trace left
 Performs holds given (request.View lattice class e o) left = PerformsView holds lattice.now class.now e o left
+Performs holds given (request.ViewWithin asked) left = PerformsViewWithin holds asked left
 Performs holds given (request.Drive driving) left = PerformsDrive holds driving given left
 Performs holds given (request.Compare comparison) left = Alone (PerformsCompare holds comparison) holds left
 Performs holds given (request.Leak search) left = Alone (Writes (SearchesFiles holds search)) holds left

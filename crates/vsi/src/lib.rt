@@ -9,7 +9,7 @@
 //!
 //! To be believed: of `specs/` `Words`, `Holding`, `Loading`, `Driven`, `State`, `Tried`, `Shaping`,
 //! `Seeing`, `Laying`, `Raises`, `Documents`, `Admitted`, `Served`, `Files`, `Interfaces`, `Boundaries`,
-//! `Steering`, `Performed`, `Refusals`, `Undriven`, `Reasons`, `Partly`, `Done`, `Screen`, `Input` and
+//! `Steering`, `Viewing`, `Performed`, `Refusals`, `Undriven`, `Reasons`, `Partly`, `Done`, `Screen`, `Input` and
 //! `Laws`, of `Failures` all but `FailsFor`, of `Noted` all but `Notes`, and of `Saved` its second part; its first part and `Diagnosing` are stepping stones
 //! of proofs.
 #![tactic(auto)]
@@ -53,6 +53,7 @@ mod steering;
 mod subcommands;
 mod telling;
 mod trying;
+mod viewing;
 mod warning;
 
 pub use command_line::command;

@@ -37,6 +37,12 @@ pub(crate) fn paths_of<'a>(request: &Request<'a>) -> [Option<&'a str>; MOST_READ
             execution,
             ..
         } => [Some(*lattice), Some(execution.image), execution.store, None],
+        Request::ViewWithin(asked) => [
+            Some(asked.lattice),
+            Some(asked.execution.image),
+            asked.execution.store,
+            None,
+        ],
         Request::Drive(asked) => [
             Some(policy_path(asked.policy)),
             Some(asked.execution.image),
@@ -78,6 +84,9 @@ pub(crate) fn is_state(request: &Request<'_>, path: &str) -> bool {
             initial_store,
             ..
         } => execution.store == Some(path) && initial_store.out == Some(path),
+        Request::ViewWithin(asked) => {
+            asked.execution.store == Some(path) && asked.initial_store.out == Some(path)
+        }
         Request::Drive(asked) => asked.execution.store == Some(path) && asked.save == Some(path),
         Request::Layout(asked) => asked.is_written && asked.source == path,
         _ => false,
@@ -90,6 +99,7 @@ pub(crate) fn writing_of<'a>(asked: &Asked<'a>) -> Writing<'a> {
         Request::Run { execution, .. } | Request::View { execution, .. } => {
             (OutputKind::Store, execution.store)
         }
+        Request::ViewWithin(asked) => (OutputKind::Store, asked.execution.store),
         Request::Drive(asked) => (OutputKind::Store, asked.execution.store),
         Request::Layout(asked) => (OutputKind::Source, Some(asked.source)),
         _ => (OutputKind::Image, None),

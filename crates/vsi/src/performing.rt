@@ -32,6 +32,7 @@ use crate::subcommands::{
 };
 use crate::telling::ErrorText;
 use crate::trying::try_source;
+use crate::viewing::view_within;
 use std::alloc::Global;
 use std::io::{Read, Write};
 use vsi_arguments::{Judging, Mending, Request};
@@ -185,6 +186,7 @@ pub(crate) fn perform<'a, F: Files, R: Read, W: Write>(
             files,
             output,
         ),
+        Request::ViewWithin(asked) => view_within(cache, &asked, files, output),
         Request::Drive(driving) => drive(
             cache,
             driving,

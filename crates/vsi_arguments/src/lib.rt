@@ -24,5 +24,5 @@ pub use request::{
     Asked, Attempt, Audit, Bounding, Budget, Colour, Comparison, Compilation, Conformance,
     Document, Drawing, DrivePolicy, Driving, EVERY, Emission, Execution, InitialStore, Judging,
     Layout, Looking, Mending, NameLists, RUNS_BUDGET, Reporting, Request, SEARCH, Search, Serving,
-    TRY_BUDGET,
+    TRY_BUDGET, Viewing,
 };

@@ -233,12 +233,28 @@ fn run_request<'a>(alloc: Global, matches: &ArgMatches<'a>) -> Result<Request<'a
     })
 }
 
+/// With one of the lists the view is bounded by them.
 fn view_request<'a>(alloc: Global, matches: &ArgMatches<'a>) -> Result<Request<'a>, AllocError> {
+    let viewing = viewing_in(alloc, matches)?;
+    if viewing.outputs.is_some() || viewing.released.is_some() {
+        return Ok(Request::ViewWithin(viewing));
+    }
     Ok(Request::View {
+        lattice: viewing.lattice,
+        class: viewing.class,
+        execution: viewing.execution,
+        initial_store: viewing.initial_store,
+    })
+}
+
+fn viewing_in<'a>(alloc: Global, matches: &ArgMatches<'a>) -> Result<Viewing<'a>, AllocError> {
+    Ok(Viewing {
         lattice: text(matches, "LATTICE"),
         class: text(matches, "class"),
         execution: execution_in(matches),
         initial_store: initial_store_in(alloc, matches)?,
+        outputs: matches.get_str("outputs"),
+        released: matches.get_str("release"),
     })
 }
 

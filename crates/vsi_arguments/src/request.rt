@@ -69,6 +69,18 @@ pub struct Driving<'a> {
     pub is_unbounded: bool,
 }
 
+/// A view with lists: the path of a lattice file, the class that sees the outputs, the run, the rest
+/// of its input and output, and the lists of outputs and of released outputs, one of which is given.
+#[derive(Drop)]
+pub struct Viewing<'a> {
+    pub lattice: &'a str,
+    pub class: &'a str,
+    pub execution: Execution<'a>,
+    pub initial_store: InitialStore<'a>,
+    pub outputs: Option<&'a str>,
+    pub released: Option<&'a str>,
+}
+
 /// A comparison: the paths of a lattice file, of an image and of two store files, the class of the
 /// observer, and the budget of each run.
 #[derive(Clone, Copy)]
@@ -274,6 +286,7 @@ pub enum Request<'a> {
         execution: Execution<'a>,
         initial_store: InitialStore<'a>,
     },
+    ViewWithin(Viewing<'a>),
     Drive(Driving<'a>),
     Compare(Comparison<'a>),
     Leak(Search<'a>),

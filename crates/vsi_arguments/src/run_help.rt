@@ -52,9 +52,9 @@ Runs an image and prints what a class may see.
 
 Reads the lattice file, looks for the class in it, reads and verifies the image,
 reads the store file, if one is given, sets globals, and runs the image. If it
-halts within its budget, a line `NAME = NUMBER` is printed for each global whose
-class is at or below the observer's, or written to a file. Otherwise nothing is
-printed or written.
+halts within its budget, a line `NAME = NUMBER` is printed, or written to a
+file, for each global whose class is at or below the observer's, or that
+--outputs and --release name instead. Otherwise nothing is printed or written.
 
 Statuses: 0 halted, 1 refused, 2 usage or no such class, 3 out of budget,
 4 file fault, 5 out of memory.";
@@ -69,7 +69,10 @@ Example:
   l = 1
   $ vsi build two.toml add.vsi add.image
   $ vsi view two.toml add.image --class L --budget 7 --store start.toml
-  l = 2";
+  l = 2
+  $ vsi view two.toml add.image --class L --budget 7 --release h
+  h = 1
+  l = 1";
 
 /// The long help of `drive`.
 pub(crate) const DRIVE: &str = "\

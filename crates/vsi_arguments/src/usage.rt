@@ -127,7 +127,7 @@ const SUBCOMMANDS: [Subcommand; 21] = [
         whole: run_help::VIEW,
         example: run_help::VIEW_EXAMPLE,
         arguments: &[
-            LATTICE, CLASS, IMAGE, BUDGET, STORE, SET, FULL_STORE, OUT, FORCE,
+            LATTICE, CLASS, IMAGE, BUDGET, STORE, SET, FULL_STORE, OUT, FORCE, OUTPUTS, RELEASE,
         ],
     },
     Subcommand {

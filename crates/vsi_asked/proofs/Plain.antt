@@ -9,7 +9,7 @@ use Rattle.vsi_arguments.specs.declared.request.Judging.{Judging}
 use Rattle.vsi_arguments.specs.declared.request.Request.{Request}
 use Rattle.vsi_arguments.specs.declared.request.Document.{Document}
 use Rattle.vsi_arguments.specs.declared.request.Document.TheVariants as document
-use Rattle.vsi_arguments.specs.declared.request.Request.TheVariants.{Check, Document as Documented, Explain, Layout, Mend}
+use Rattle.vsi_arguments.specs.declared.request.Request.TheVariants.{Check, Document as Documented, Explain, Layout, Mend, ViewWithin}
 use Rattle.vsi_asked.specs.Asked.{AsksFor, Spells, name_of}
 use Rattle.vsi_asked.specs.Help.{front_of, is_first, is_help, is_short}
 use Rattle.vsi_asked.specs.Laws.{ArePlainCheck, CheckIsAsked, IsPlainCheck}
@@ -141,6 +141,8 @@ one_request words lattice source plain (Layout layout) asks =
     absurd (unnamed (texts words) _ asks.spelled.asks.rest (codes "fmt") plain.are asks.spelled.asks.named refl)
 one_request words lattice source plain (Mend mending) asks =
     absurd (unnamed (texts words) _ asks.spelled.asks.rest (codes "mend") plain.are asks.spelled.asks.named refl)
+one_request words lattice source plain (ViewWithin viewing) asks =
+    absurd (unnamed (texts words) _ asks.spelled.asks.rest (codes "view") plain.are asks.spelled.asks.named refl)
 one_request words lattice source plain request asks =
     absurd (unnamed (texts words) _ asks.spelled.rest (name_of request) plain.are asks.spelled.named refl)
 

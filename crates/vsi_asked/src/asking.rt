@@ -10,6 +10,7 @@ use crate::drives::asks_drive;
 use crate::numbers::{has_budget, has_number, number_in, only_operand};
 use crate::own::has_own_alone;
 use crate::reading::{has_flag, has_operands, has_values};
+use crate::viewing::{asks_view_within, has_listing};
 use vsi_arguments::{
     Attempt, Audit, Bounding, Comparison, Compilation, Conformance, Document, Drawing, Emission,
     Execution, InitialStore, Judging, Layout, Looking, Mending, RUNS_BUDGET, Request, SEARCH,
@@ -102,7 +103,7 @@ pub(crate) fn asks_compilation(
 }
 
 /// Whether the arguments say how a run begins and where its text goes.
-fn has_initial_store(
+pub(crate) fn has_initial_store(
     words: &[String],
     execution: &Execution<'_>,
     initial_store: &InitialStore<'_>,
@@ -170,6 +171,7 @@ fn asks_view(
     };
     has_value(rest, "--class", Some(class))
         && has_initial_store(rest, execution, initial_store)
+        && has_listing(rest, None, None)
         && has_budget(rest, execution.budget)
 }
 
@@ -432,6 +434,7 @@ fn spells(words: &[String], request: &Request<'_>) -> bool
             execution,
             initial_store,
         } => asks_view(words, lattice, class, execution, initial_store),
+        Request::ViewWithin(viewing) => asks_view_within(words, viewing),
         Request::Drive(driving) => asks_drive(words, driving),
         Request::Compare(comparison) => asks_compare(words, comparison),
         Request::Leak(search) => asks_leak(words, search),

@@ -16,6 +16,7 @@ pub mod laws;
 mod numbers;
 mod own;
 mod reading;
+mod viewing;
 
 pub use asking::asks_for;
 pub use help::asks_help;

@@ -110,6 +110,9 @@ returns-in-Layout-clause-performed g c = rw c.in-Layout.is c.lay_out.ensures.per
 pub returns-in-View-clause-performed : goal.returns-in-View-clause-performed
 returns-in-View-clause-performed g c = rw c.in-View.is c.view.ensures.performed
 
+pub returns-in-ViewWithin-clause-performed : goal.returns-in-ViewWithin-clause-performed
+returns-in-ViewWithin-clause-performed g c = rw c.in-ViewWithin.is c.view_within.ensures.performed
+
 pub returns-in-Try-clause-performed : goal.returns-in-Try-clause-performed
 returns-in-Try-clause-performed g c = rw c.in-Try.is
     (put_alone _ _ _ _ _ c.try_source.result c.put-in-Try.result c.try_source.ensures.kept c.try_source.ensures.told
@@ -222,6 +225,9 @@ returns-in-Run-clause-left g c = rw c.in-Run.is c.run.ensures.left
 pub returns-in-View-clause-left : goal.returns-in-View-clause-left
 returns-in-View-clause-left g c = rw c.in-View.is c.view.ensures.left
 
+pub returns-in-ViewWithin-clause-left : goal.returns-in-ViewWithin-clause-left
+returns-in-ViewWithin-clause-left g c = rw c.in-ViewWithin.is c.view_within.ensures.left
+
 pub returns-in-Drive-clause-left : goal.returns-in-Drive-clause-left
 returns-in-Drive-clause-left g c = rw c.in-Drive.is c.drive.ensures.left
 
@@ -299,6 +305,9 @@ returns-in-Run-clause-state g c = rw c.in-Run.is (any_failure _ _ tt)
 
 pub returns-in-View-clause-state : goal.returns-in-View-clause-state
 returns-in-View-clause-state g c = rw c.in-View.is (any_failure _ _ tt)
+
+pub returns-in-ViewWithin-clause-state : goal.returns-in-ViewWithin-clause-state
+returns-in-ViewWithin-clause-state g c = rw c.in-ViewWithin.is (any_failure _ _ tt)
 
 pub returns-in-Drive-clause-state : goal.returns-in-Drive-clause-state
 returns-in-Drive-clause-state g c = rw c.in-Drive.is c.drive.ensures.state
@@ -409,6 +418,9 @@ returns-in-Run-clause-failed g c = rw c.in-Run.is c.run.ensures.failed
 
 pub returns-in-View-clause-failed : goal.returns-in-View-clause-failed
 returns-in-View-clause-failed g c = rw c.in-View.is c.view.ensures.failed
+
+pub returns-in-ViewWithin-clause-failed : goal.returns-in-ViewWithin-clause-failed
+returns-in-ViewWithin-clause-failed g c = rw c.in-ViewWithin.is c.view_within.ensures.failed
 
 pub returns-in-Drive-clause-failed : goal.returns-in-Drive-clause-failed
 returns-in-Drive-clause-failed g c = rw c.in-Drive.is c.drive.ensures.failed
