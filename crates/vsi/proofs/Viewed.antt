@@ -3,25 +3,26 @@ use Rattle.std.proofs.Common.{◌≡◌, ◌∙◌, ◌⊎◌, ℕ, ℤ, List, S
 use Rattle.std.specs.Prelude.{Result, IfErr, IsErrAnd}
 use Rattle.vsi_lattice.specs.declared.lattice.Lattice.{Lattice}
 use Rattle.vsi_image.specs.declared.instr.Image.{Image}
-use Rattle.vsi_drive.specs.Control.{Control}
+use Rattle.vsi_drive.specs.Control.{Control, controlled}
 use Rattle.vsi_drive.specs.Views.{view_of}
 use Rattle.vsi_answers.specs.declared.unanswered.Unanswered.{Unanswered}
 use Rattle.vsi_answers.specs.declared.unanswered.Unanswered.TheVariants as unanswered
 use Rattle.vsi_arguments.specs.declared.request.NameLists.{NameLists}
 use Rattle.vsi_arguments.specs.declared.request.Viewing.{Viewing}
 use Rattle.vsi.specs.declared.failure.Failure.{Failure}
+use Rattle.vsi.specs.Boundaries.{requested}
 use Rattle.vsi.specs.Files.{BeginsAt, IsBudgetOf, LooksAt}
 use Rattle.vsi.specs.Holding.{Holding}
-use Rattle.vsi.specs.Performed.{control_of}
-use Rattle.vsi.specs.Reasons.{RefusesControl, WhyViewWithin}
+use Rattle.vsi.specs.Reasons.{WhyViewWithin}
 use Rattle.vsi.specs.Refusals.{LacksEither, NoOther, FailsBy}
+use Rattle.vsi.specs.Undriven.{RefusesControl}
 use Rattle.vsi.specs.Viewing.{viewing_control, viewing_lists}
 use Rattle.vsi.proofs.Reasons.{failed_by, fails_by}
 
 -- The view has no answer for such a reason of its controller or its run.
 abbrev pub RefusesRun : Viewing → Lattice → ℕ → Image → ℕ → List ℤ → Unanswered → Type 0
 RefusesRun asked l viewer image budget words reason =
-    RefusesControl (viewing_lists asked) l viewer image budget reason
+    RefusesControl (requested (viewing_lists asked)) l viewer image budget reason
     ⊎ ((reason ≡ unanswered.OutOfBudget)
     × (view_of (viewing_control asked l viewer image budget) budget words ≡ None))
 
@@ -51,9 +52,10 @@ run_failed holds asked l viewer image words budget result failure looks begins w
 
 -- The controller of the lists that are those of a view is the view's.
 pub same_control : (asked : Viewing) (lists : NameLists) (l : Lattice) (viewer : ℕ) (image : Image) (budget : ℕ)
-    (k : Control) → lists ≡ viewing_lists asked → k ≡ control_of lists l viewer image budget →
+    (k : Control) → lists ≡ viewing_lists asked → k ≡ controlled l viewer image budget (requested lists) →
     k ≡ viewing_control asked l viewer image budget
-same_control asked lists l viewer image budget k same is = is ∙ ap (λ ls. control_of ls l viewer image budget) same
+same_control asked lists l viewer image budget k same is =
+    is ∙ ap (λ ls. controlled l viewer image budget (requested ls)) same
 
 -- A controller that is refused is refused to the view.
 pub control_failed : {T : Type 0} (holds : Holding) (asked : Viewing) (lists : NameLists) (l : Lattice) (viewer : ℕ)
@@ -61,13 +63,14 @@ pub control_failed : {T : Type 0} (holds : Holding) (asked : Viewing) (lists : N
     LooksAt holds asked.lattice.now asked.class.now l viewer →
     BeginsAt holds asked.execution asked.initial_store image words → IsBudgetOf asked.execution.budget image budget →
     lists ≡ viewing_lists asked → IsErrAnd result (λ s. s ≡ failure) →
-    FailsBy (RefusesControl lists l viewer image budget) NoOther failure →
+    FailsBy (RefusesControl (requested lists) l viewer image budget) NoOther failure →
     IfErr result (FailsBy (WhyViewWithin holds asked)
     (LacksEither holds asked.lattice.now asked.class.now asked.execution.image.now asked.execution.budget))
 control_failed holds asked lists l viewer image words budget result failure looks begins within same is told =
     run_failed holds asked l viewer image words budget result failure looks begins within is
-    (fails_by (RefusesControl lists l viewer image budget) (RefusesRun asked l viewer image budget words) NoOther
-    (λ reason refused. inl (subst (λ ls. RefusesControl ls l viewer image budget reason) same refused))
+    (fails_by (RefusesControl (requested lists) l viewer image budget) (RefusesRun asked l viewer image budget words)
+    NoOther
+    (λ reason refused. inl (subst (λ ls. RefusesControl (requested ls) l viewer image budget reason) same refused))
     failure told)
 
 -- A run of its controller that is out of budget is one of the view.
