@@ -5,6 +5,7 @@ mod Served
 pub mod Written
 pub mod Partly
 pub mod Cut
+pub mod Walked
 pub mod Kept
 pub mod Leaving
 pub mod Filled

@@ -22,6 +22,7 @@ pub mod Performed
 pub mod Refusals
 pub mod Reasons
 pub mod Partly
+pub mod Walked
 pub mod Saved
 pub mod Done
 pub mod Noted

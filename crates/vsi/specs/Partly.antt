@@ -6,6 +6,7 @@ use Rattle.vsi_lattice.specs.declared.lattice.Lattice.{Lattice}
 use Rattle.vsi_image.specs.declared.instr.Image.{Image}
 use Rattle.vsi_image.specs.Meaning.{start}
 use Rattle.vsi_lsp.specs.Frames.{AreFrames}
+use Rattle.vsi_flows.specs.Text.{IsWalksText}
 use Rattle.vsi_store.specs.declared.comparison.Comparison as found
 use Rattle.vsi_drive.specs.Control.{Control}
 use Rattle.vsi_drive.specs.Cycles.{text_of}
@@ -13,6 +14,7 @@ use Rattle.vsi_devices.specs.Running.{trace_of}
 use Rattle.vsi_answers.specs.declared.bounds.BoundAnswer.{BoundAnswer}
 use Rattle.vsi_arguments.specs.declared.request.Bounding.{Bounding}
 use Rattle.vsi_arguments.specs.declared.request.Comparison.{Comparison}
+use Rattle.vsi_arguments.specs.declared.request.Compilation.{Compilation}
 use Rattle.vsi_arguments.specs.declared.request.Driving.{Driving}
 use Rattle.vsi_arguments.specs.declared.request.Execution.{Execution}
 use Rattle.vsi_arguments.specs.declared.request.Judging.{Judging}
@@ -26,7 +28,7 @@ use Rattle.vsi.specs.Admitted.{IsAdmitted}
 use Rattle.vsi.specs.Driven.{lines_of}
 use Rattle.vsi.specs.Holding.{Holding, IsImageAt}
 use Rattle.vsi.specs.Laying.{AnswersLayout, ToldCanonical}
-use Rattle.vsi.specs.Files.{BeginsAt, IsBudgetOf, IsStoredAt, LooksAt, OfFile, OfFiles, shown}
+use Rattle.vsi.specs.Files.{AreFiles, BeginsAt, IsBudgetOf, IsStoredAt, LooksAt, OfFile, OfFiles, shown}
 use Rattle.vsi.specs.Performed.{AuditsTo, BoundsFile, ComparesFiles, ConformsFiles, DocumentOf, DrawsFiles, EmitsFile, RunsFiles, SearchesFiles, SourceOfFile, ToldAccepted, ToldClasses, ToldFlows, ToldJson, ToldListing, ToldPage, ToldRaises, ViewsFiles, control_of, judgement_of, profile_of}
 use Rattle.vsi.specs.Raises.{ToldUnserved}
 use Rattle.vsi.specs.Reasons.{ToldRefusal}
@@ -58,6 +60,18 @@ AnswersCheck true holds asked = λ text.
     ⊎ OfFiles holds asked.compilation (ToldRefusal (judgement_of asked)) text
 AnswersCheck false holds asked =
     OfFiles holds asked.compilation (ToldAccepted asked.is_steady asked.compilation.is_strict)
+
+-- `flows --walks`: the table of the text with a walk below each pair.
+pub record AnswersWalks (holds : Holding) (c : Compilation) (bytes : List ℕ) : Type 0 where
+  pub lattice : Lattice
+  pub source : List ℕ
+  pub files : AreFiles holds c lattice source
+  pub is : IsWalksText lattice (profile_of c.is_strict) source bytes
+
+-- `flows`: the table of the text, and with `--walks` a walk below each pair.
+abbrev pub AnswersFlows : Bool → Holding → Compilation → List ℕ → Type 0
+AnswersFlows true holds c = AnswersWalks holds c
+AnswersFlows false holds c = BytesOf (OfFiles holds c (ToldFlows false c.is_strict))
 
 -- `mend`; with `--json` the line for a text that no raise serves is an answer too.
 abbrev pub AnswersMend : Bool → Holding → Mending → Vec ℕ → Type 0
@@ -128,7 +142,7 @@ Answers holds given (request.Document asked) = BytesOf (λ text. (good : Bool) �
 Answers holds given (request.Conform asked) =
     BytesOf (λ text. (conforms : Bool) × ConformsFiles holds asked conforms text)
 Answers holds given (request.Classes c) = BytesOf (OfFiles holds c (ToldClasses c.is_strict))
-Answers holds given (request.Flows c has_walks) = BytesOf (OfFiles holds c (ToldFlows has_walks c.is_strict))
+Answers holds given (request.Flows c has_walks) = AnswersFlows has_walks holds c
 Answers holds given (request.Mend asked) = BytesOf (AnswersMend asked.is_json holds asked)
 Answers holds given (request.Build c image) = λ bytes. ⊥
 Answers holds given (request.List image) = BytesOf (OfFile holds image.now ToldListing)

@@ -52,6 +52,7 @@ mod shaping;
 mod subcommands;
 mod telling;
 mod trying;
+mod walking;
 mod warning;
 
 pub use command_line::command;

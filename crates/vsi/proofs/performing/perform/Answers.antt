@@ -4,7 +4,7 @@ use Rattle.std.specs.Io.KnownBytes.{Appends}
 use Rattle.vsi_devices.specs.Counted.{device_of}
 use Rattle.vsi_answers.specs.Requests.{ListsTo}
 use Rattle.vsi.specs.Shaping.{ShapedText}
-use Rattle.vsi.specs.Refusals.{AsksCanonical, AsksClasses, AsksFlows, NoOther, RefusesFile, RefusesFiles, RefusesImage, RefusesLattice, RefusesSource}
+use Rattle.vsi.specs.Refusals.{AsksCanonical, AsksClasses, NoOther, RefusesFile, RefusesFiles, RefusesImage, RefusesLattice, RefusesSource}
 use Rattle.vsi.specs.Reasons.{HasNoText, LacksEmitBound, LacksTried, OtherLeak, RefusesAudit, WhyDraw, WhyEmit, WhyPolicy, WhyTry}
 use Rattle.vsi.proofs.Filled.{alone}
 use Rattle.vsi.proofs.CarriedOut.{put_fails}
@@ -22,8 +22,7 @@ returns-in-Classes-clause-performed g c = rw c.in-Classes.is
 
 pub returns-in-Flows-clause-performed : goal.returns-in-Flows-clause-performed
 returns-in-Flows-clause-performed g c = rw c.in-Flows.is
-    (put_alone _ _ _ _ _ c.flows.result c.put-in-Flows.result c.flows.ensures.kept c.flows.ensures.told
-    c.put-in-Flows.ensures.done)
+    (alone _ c.put_flows.result _ _ c.put_flows.ensures.kept c.put_flows.ensures.performed)
 
 pub returns-in-Mend-clause-performed : goal.returns-in-Mend-clause-performed
 returns-in-Mend-clause-performed g c = rw c.in-Mend.is
@@ -141,8 +140,7 @@ returns-in-Classes-clause-left g c = rw c.in-Classes.is
     (put_leaves _ _ _ c.classes.result c.put.result c.classes.ensures.told c.put.ensures.left)
 
 pub returns-in-Flows-clause-left : goal.returns-in-Flows-clause-left
-returns-in-Flows-clause-left g c = rw c.in-Flows.is
-    (put_leaves _ _ _ c.flows.result c.put-in-Flows.result c.flows.ensures.told c.put-in-Flows.ensures.left)
+returns-in-Flows-clause-left g c = rw c.in-Flows.is c.put_flows.ensures.left
 
 pub returns-in-Mend-clause-left : goal.returns-in-Mend-clause-left
 returns-in-Mend-clause-left g c = rw c.in-Mend.is c.put_mend.ensures.left
@@ -321,11 +319,7 @@ returns-in-Classes-clause-failed g c = rw c.in-Classes.is
     c.classes.result c.put.result c.classes.ensures.failed c.put.ensures.failed)
 
 pub returns-in-Flows-clause-failed : goal.returns-in-Flows-clause-failed
-returns-in-Flows-clause-failed g c = rw c.in-Flows.is
-    (put_fails (RefusesFiles (g.F.Files.holds c.args.files.now) c.in-Flows.compilation
-    (AsksFlows c.in-Flows.has_walks c.in-Flows.compilation.is_strict))
-    NoOther
-    c.flows.result c.put-in-Flows.result c.flows.ensures.failed c.put-in-Flows.ensures.failed)
+returns-in-Flows-clause-failed g c = rw c.in-Flows.is c.put_flows.ensures.failed
 
 pub returns-in-Mend-clause-failed : goal.returns-in-Mend-clause-failed
 returns-in-Mend-clause-failed g c = rw c.in-Mend.is c.put_mend.ensures.failed
