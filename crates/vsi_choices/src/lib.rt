@@ -4,11 +4,13 @@
 //! `completion` offers the words and symbols with which some program goes on, and the names in scope
 //! or the classes where one may come. `layout_edits` writes the text of `laid_out`, which keeps the
 //! program and the comments (clause `laid`), and `fixes` the text of `repaired`, which is accepted
-//! (clause `accepted`). `folds` lists the blocks of several lines.
+//! (clause `accepted`); it also offers rewrites that hints offer, and a branch for an `if` without an
+//! `else`, with which the text is read on. `folds` lists the blocks of several lines.
 //!
 //! To be believed: the definitions of the crates below that the clauses cite.
 #![tactic(auto)]
 
+mod branching;
 mod completing;
 mod folding;
 mod laying;

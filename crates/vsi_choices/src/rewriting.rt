@@ -1,5 +1,6 @@
 //! Rewrites of a part of a text that is refused: of constructs of other languages, and of names.
 
+use crate::branching::put_branch;
 use crate::objects::{document_edits, edit, text_value};
 use crate::scope::names_after;
 use serde_json::{Value, json};
@@ -10,7 +11,7 @@ use vsi_client::{Encoding, Place, offset_of, range_of};
 use vsi_hints::{Hint, hint_at};
 use vsi_syntax::{LexError, Span, lex};
 
-/// The numbers of the refusals of tokens and of the tree.
+/// The numbers of the refusals of tokens and of the tree, of which the last one is Unexpected.
 const FIRST: u64 = 12;
 
 const LAST: u64 = 15;
@@ -177,7 +178,11 @@ fn put_rewrite(
     let at = offset_of(asked.encoding, asked.text, place);
     match number_at(error, "/code") {
         Some(UNBOUND) => put_nearest(alloc, asked, at, list),
-        Some(code) if FIRST <= code && code <= LAST => put_hinted(alloc, asked, at, list),
+        Some(LAST) => {
+            put_hinted(alloc, asked, at, list)?;
+            put_branch(alloc, asked, at, list)
+        }
+        Some(code) if FIRST <= code && code < LAST => put_hinted(alloc, asked, at, list),
         _ => Ok(()),
     }
 }
