@@ -28,8 +28,9 @@ pub(crate) struct Variable {
     pub(crate) is_declared: bool,
 }
 
-/// The variables of a program by their numbers, with the ending of loops last; the labels of all but
-/// that; the positions of their names; the flows of one step, unless there are too many variables; and the table of flows.
+/// The variables of a program by their numbers, with the ending of loops last; the labels of all
+/// but that; the positions of their names; the flows of one step, unless there are too many
+/// variables; and the table of flows.
 #[derive(Drop)]
 pub(crate) struct Facts {
     pub(crate) variables: Vec<Variable>,

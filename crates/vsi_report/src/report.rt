@@ -3,7 +3,7 @@
 ghost use Rattle.std.specs.Prelude.{◌≡◌, ◌≤◌, ℕ, List, [], length, IfOk};
 ghost use Rattle.vsi_lattice.specs.LatticeView.{class_named, names, order as order_of_lattice};
 ghost use Rattle.vsi_compiler.specs.Acceptance.{IsAccepted};
-ghost use Rattle.vsi_compiler.specs.Refusal.{HasShortestBadWalk, RefusesProgram};
+ghost use Rattle.vsi_compiler.specs.Refusal.{HasShortestBadWalk, Refuses, RefusesProgram};
 ghost use Rattle.vsi_report.specs.Banner.{HasLead};
 ghost use Rattle.vsi_report.specs.Graph.{texts};
 ghost use Rattle.vsi_report.specs.Lead.{HasTrueLead, allowed_words, lead_words};
@@ -290,6 +290,31 @@ fn faulty_page(
     page_with_refusal(alloc, profile, filing, lattice, source, error)
 }
 
+/// The page of a text that has a program, with its refusal.
+fn refusal_page(
+    alloc: Global,
+    profile: Profile,
+    filing: &Filing<'_>,
+    read: &Source<'_>,
+    error: &CompileError,
+) -> Result<Vec<u8>, ReportError>
+    requires { Refuses (class_named read.now.lattice) (order_of_lattice read.now.lattice) profile
+        read.now.text error.now }
+    ensures panel { IfOk result (λ page. HasPanel page.items read.now.text) }
+    ensures verdict { IfOk result (λ page.
+        HasVerdict read.now.lattice profile read.now.text page.items) }
+    ensures bounded { IfOk result (λ page.
+        IsShort read.now.lattice profile read.now.text [] page.items) }
+{
+    match error {
+        CompileError::Flow(walk) => {
+            refused_page(alloc, profile, filing, read, walk.steps.as_slice())
+        }
+        // A text that has a program is refused for a flow alone.
+        _ => Err(ReportError::Memory),
+    }
+}
+
 /// The page of a text that has a program.
 fn read_page(
     alloc: Global,
@@ -305,11 +330,7 @@ fn read_page(
 {
     match judge(alloc, profile, read) {
         Ok(chosen) => accepted_page(alloc, profile, filing, read, &chosen),
-        Err(CompileError::Flow(walk)) => {
-            refused_page(alloc, profile, filing, read, walk.steps.as_slice())
-        }
-        // A text that has a program is refused for a flow alone.
-        Err(_) => Err(ReportError::Memory),
+        Err(error) => refusal_page(alloc, profile, filing, read, &error),
     }
 }
 
