@@ -183,8 +183,14 @@ fn page_with_walk(
 {
     let sides = refused_sides(alloc, subject, read, facts, walk)?;
     let style = walk_style(alloc, walk.len())?;
-    let (lattice, source) = (subject.lattice, subject.source);
-    let told = lead_of(lattice, subject.order, program, source, walk, &facts.pairs);
+    let told = lead_of(
+        subject.lattice,
+        subject.order,
+        program,
+        subject.source,
+        walk,
+        &facts.pairs,
+    );
     let lead = refused_lead(alloc, &told)?;
     program_page(
         alloc,
@@ -194,7 +200,7 @@ fn page_with_walk(
         &style,
         facts,
         walk,
-        source,
+        subject.source,
         0,
     )
 }
