@@ -213,11 +213,10 @@ fn refused_page(
     read: &Source<'_>,
     walk: &[Step],
 ) -> Result<Vec<u8>, ReportError>
-    requires { HasShortestBadWalk (class_named read.now.lattice) (order_of_lattice read.now.lattice)
-        profile read.now.text walk.now }
     ensures panel { IfOk result (λ page. HasPanel page.items read.now.text) }
-    ensures verdict { IfOk result (λ page.
-        HasVerdict read.now.lattice profile read.now.text page.items) }
+    ensures verdict { HasShortestBadWalk (class_named read.now.lattice)
+        (order_of_lattice read.now.lattice) profile read.now.text walk.now
+        → IfOk result (λ page. HasVerdict read.now.lattice profile read.now.text page.items) }
     ensures bounded { IfOk result (λ page.
         IsShort read.now.lattice profile read.now.text [] page.items) }
 {
@@ -304,11 +303,10 @@ fn refusal_page(
     read: &Source<'_>,
     error: &CompileError,
 ) -> Result<Vec<u8>, ReportError>
-    requires { Refuses (class_named read.now.lattice) (order_of_lattice read.now.lattice) profile
-        read.now.text error.now }
     ensures panel { IfOk result (λ page. HasPanel page.items read.now.text) }
-    ensures verdict { IfOk result (λ page.
-        HasVerdict read.now.lattice profile read.now.text page.items) }
+    ensures verdict { Refuses (class_named read.now.lattice) (order_of_lattice read.now.lattice)
+        profile read.now.text error.now
+        → IfOk result (λ page. HasVerdict read.now.lattice profile read.now.text page.items) }
     ensures bounded { IfOk result (λ page.
         IsShort read.now.lattice profile read.now.text [] page.items) }
 {

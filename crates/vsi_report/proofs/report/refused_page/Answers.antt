@@ -33,7 +33,7 @@ returns-clause-panel c =
     c.page_with_walk.ensures.panel
 
 pub returns-clause-verdict : goal.returns-clause-verdict
-returns-clause-verdict c =
+returns-clause-verdict c = λ given.
     let s = c.args.read.now in
     let P = c.args.profile in
     let w = c.args.walk.now in
@@ -47,7 +47,7 @@ returns-clause-verdict c =
     let walk : HasShortestBadWalk (class_named l) (order l) P t w =
     subst (λ x. HasShortestBadWalk (class_named x) (order x) P t w) (sym c.lattice-lattice.ensures)
     (subst (λ x. HasShortestBadWalk (class_named s.lattice) (order s.lattice) P x w) (sym c.text-source.ensures)
-    c.requires) in
+    given) in
     subst (λ x. IfOk res (λ page. HasVerdict x P s.text page.items)) c.lattice-lattice.ensures
     (subst (λ x. IfOk res (λ page. HasVerdict l P x page.items)) c.text-source.ensures
     (refused_shown l P t p w c.in_ok-facts.facts.pairs.items res is.stands c.in_ok-facts.ensures.table walk
