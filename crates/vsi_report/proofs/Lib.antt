@@ -4,3 +4,4 @@ pub mod NameLemmas
 pub mod FlowsGraphLemmas
 pub mod SizeLemmas
 pub mod BannerLemmas
+pub mod LabelLemmas

@@ -1,20 +1,20 @@
 //! The facts of a program that a page or a picture shows.
 
-ghost use Rattle.std.specs.Prelude.{◌≡◌, IfErr, IfOk};
+ghost use Rattle.std.specs.Prelude.{◌≡◌, IfOk};
 ghost use Rattle.std.specs.List.{All};
 ghost use Rattle.vsi_lattice.specs.Order.{IsClass};
-ghost use Rattle.vsi_lattice.specs.LatticeView.{class_named, order};
+ghost use Rattle.vsi_lattice.specs.LatticeView.{order as order_of_lattice};
 ghost use Rattle.vsi_types.specs.Security.{program as program_of};
 ghost use Rattle.vsi_infer.specs.Inference.{AreClasses};
-ghost use Rattle.vsi_compiler.specs.Refusal.{RefusesProgram};
 ghost use Rattle.vsi_flows.specs.Table.{IsTable};
-ghost use Rattle.vsi_report.specs.Size.{AreFlows};
+ghost use Rattle.vsi_report.specs.Graph.{name_at, texts};
+ghost use Rattle.vsi_report.specs.Labels.{AreLabels};
 
 use crate::by_rule::{Flows, flows_of, has_flow};
-use crate::reached::reached_classes;
+use crate::labels::labels_of;
+use crate::order::Order;
 use crate::walking::{MOST_DRAWN, Use, uses_of};
 use std::alloc::{AllocError, Global};
-use vsi_compiler::{CompileError, resolved_program};
 use vsi_flows::{FlowsError, Pair, flows_in};
 use vsi_lattice::{Class, Classes, Lattice};
 use vsi_scope::{Resolved, Var};
@@ -28,11 +28,13 @@ pub(crate) struct Variable {
     pub(crate) is_declared: bool,
 }
 
-/// The variables of a program by their numbers, with the ending of loops last; the positions of
-/// their names; the flows of one step, unless there are too many variables; and the table of flows.
+/// The variables of a program by their numbers, with the ending of loops last; the labels of all
+/// but that; the positions of their names; the flows of one step, unless there are too many
+/// variables; and the table of flows.
 #[derive(Drop)]
 pub(crate) struct Facts {
     pub(crate) variables: Vec<Variable>,
+    pub(crate) labels: Vec<Vec<u8>>,
     pub(crate) uses: Vec<Use>,
     pub(crate) flows: Option<Flows>,
     pub(crate) pairs: Vec<Pair>,
@@ -124,10 +126,12 @@ fn pairs_of(
     lattice: &Lattice,
     program: &Resolved<'_>,
 ) -> Result<Vec<Pair>, AllocError>
-    requires globals { All (IsClass (order lattice.now)) (program_of program.now).globals }
-    requires declared { AreClasses (order lattice.now) (program_of program.now).declared }
+    requires globals { All (IsClass (order_of_lattice lattice.now))
+        (program_of program.now).globals }
+    requires declared { AreClasses (order_of_lattice lattice.now)
+        (program_of program.now).declared }
     ensures { IfOk result (λ pairs.
-        IsTable (order lattice.now) profile (program_of program.now) pairs.items) }
+        IsTable (order_of_lattice lattice.now) profile (program_of program.now) pairs.items) }
 {
     match flows_in(alloc, profile, lattice, program) {
         Ok(pairs) => Ok(pairs),
@@ -156,61 +160,53 @@ fn drawn_flows(
     Ok(Some(flows_of(alloc, profile, program)?))
 }
 
-/// The facts of a program, with the given classes and flows.
+/// The facts of a program, with the given classes, labels and flows.
 fn gathered(
     alloc: Global,
     profile: Profile,
     lattice: &Lattice,
     program: &Resolved<'_>,
-    inferred: &[Class],
+    chosen: &[Class],
+    labels: Vec<Vec<u8>>,
     pairs: Vec<Pair>,
 ) -> Result<Facts, AllocError>
-    ensures { IfOk result (λ facts. facts.pairs ≡ pairs) }
+    ensures pairs { IfOk result (λ facts. facts.pairs ≡ pairs) }
+    ensures labels { IfOk result (λ facts. facts.labels ≡ labels) }
 {
-    let variables = variables_of(alloc, program, inferred, lattice.bottom().index())?;
+    let variables = variables_of(alloc, program, chosen, lattice.bottom().index())?;
     let flows = drawn_flows(alloc, profile, program, variables.len())?;
+    let uses = uses_of(alloc, program)?;
     Ok(Facts {
         variables,
-        uses: uses_of(alloc, program)?,
+        labels,
+        uses,
         flows,
         pairs,
     })
 }
 
-/// The facts of a program.
-pub(crate) fn facts_of_program(
-    alloc: Global,
-    profile: Profile,
-    lattice: &Lattice,
-    program: &Resolved<'_>,
-) -> Result<Facts, AllocError>
-    requires globals { All (IsClass (order lattice.now)) (program_of program.now).globals }
-    requires declared { AreClasses (order lattice.now) (program_of program.now).declared }
-    ensures { IfOk result (λ facts.
-        IsTable (order lattice.now) profile (program_of program.now) facts.pairs.items) }
-{
-    let classes = reached_classes(alloc, profile, lattice, program)?;
-    let pairs = pairs_of(alloc, profile, lattice, program)?;
-    gathered(alloc, profile, lattice, program, &classes, pairs)
-}
-
-/// The facts of a text's program.
-///
-/// # Errors
-///
-/// The refusals of the tokens, the tree, the scope and the size; no flow is refused here.
+/// The facts of a program, with these classes of its letvars.
 pub(crate) fn facts_of(
     alloc: Global,
     profile: Profile,
     lattice: &Lattice,
-    source: &[u8],
-) -> Result<Facts, CompileError>
-    ensures flows { IfOk result (λ facts.
-        AreFlows lattice.now profile source.now facts.pairs.items) }
-    ensures refused { IfErr result (RefusesProgram (class_named lattice.now) source.now) }
+    order: &Order,
+    program: &Resolved<'_>,
+    chosen: &[Class],
+) -> Result<Facts, AllocError>
+    requires globals { All (IsClass (order_of_lattice lattice.now))
+        (program_of program.now).globals }
+    requires declared { AreClasses (order_of_lattice lattice.now)
+        (program_of program.now).declared }
+    ensures table { IfOk result (λ facts. IsTable (order_of_lattice lattice.now) profile
+        (program_of program.now) facts.pairs.items) }
+    ensures labels { IfOk result (λ facts. AreLabels (texts order.now.names.items)
+        (order_of_lattice lattice.now) (program_of program.now) chosen.now
+        (texts facts.labels.items)) }
 {
-    let program = resolved_program(alloc, lattice, source)?;
-    Ok(facts_of_program(alloc, profile, lattice, &program)?)
+    let pairs = pairs_of(alloc, profile, lattice, program)?;
+    let labels = labels_of(alloc, lattice, order, program, chosen)?;
+    gathered(alloc, profile, lattice, program, chosen, labels, pairs)
 }
 
 /// The number of a variable; the ending of loops has the last number.
@@ -223,6 +219,16 @@ pub(crate) fn number_of(facts: &Facts, variable: Var) -> usize {
 pub(crate) fn variable_name(facts: &Facts, number: usize) -> &[u8] {
     match facts.variables.get(number) {
         Some(variable) => variable.name.as_slice(),
+        None => b"",
+    }
+}
+
+/// The label of a variable in the panel of the source text.
+pub(crate) fn label_at(facts: &Facts, number: usize) -> &[u8]
+    ensures { result.now ≡ name_at (texts facts.now.labels.items) number }
+{
+    match facts.labels.get(number) {
+        Some(label) => label.as_slice(),
         None => b"",
     }
 }

@@ -5,9 +5,9 @@ use crate::page::{Page, Part};
 use crate::sides::Subject;
 use crate::telling::{put_name, put_place};
 use std::alloc::{AllocError, Global};
-use vsi_compiler::CompileError;
-use vsi_raised::raise_lines_in;
-use vsi_types::Step;
+use vsi_compiler::{CompileError, Source};
+use vsi_raised::raise_lines_of;
+use vsi_types::{Profile, Step};
 
 /// The beginning of the section.
 const FIX: &[u8] =
@@ -40,8 +40,12 @@ fn put_break(
 }
 
 /// The lines of the least raise, or none where no raise helps.
-fn raise_of(alloc: Global, subject: &Subject<'_>) -> Result<Option<Vec<u8>>, AllocError> {
-    match raise_lines_in(alloc, subject.profile, subject.lattice, subject.source) {
+fn raise_of(
+    alloc: Global,
+    profile: Profile,
+    read: &Source<'_>,
+) -> Result<Option<Vec<u8>>, AllocError> {
+    match raise_lines_of(alloc, profile, read) {
         Ok(lines) => Ok(Some(lines)),
         Err(CompileError::Memory) => Err(AllocError),
         Err(_) => Ok(None),
@@ -49,8 +53,13 @@ fn raise_of(alloc: Global, subject: &Subject<'_>) -> Result<Option<Vec<u8>>, All
 }
 
 /// Adds the fix of raising classes.
-fn put_raise(alloc: Global, page: &mut Page, subject: &Subject<'_>) -> Result<(), AllocError> {
-    match raise_of(alloc, subject)? {
+fn put_raise(
+    alloc: Global,
+    page: &mut Page,
+    profile: Profile,
+    read: &Source<'_>,
+) -> Result<(), AllocError> {
+    match raise_of(alloc, profile, read)? {
         Some(lines) => page.put_parts(&[
             Part::Markup(RAISES),
             Part::Text(&lines),
@@ -65,6 +74,7 @@ pub(crate) fn put_fixes(
     alloc: Global,
     page: &mut Page,
     subject: &Subject<'_>,
+    read: &Source<'_>,
     facts: &Facts,
     walk: &[Step],
 ) -> Result<(), AllocError> {
@@ -73,7 +83,7 @@ pub(crate) fn put_fixes(
         put_break(page, subject, facts, first, last)?;
     }
     if is_drawn(facts) {
-        put_raise(alloc, page, subject)?;
+        put_raise(alloc, page, subject.profile, read)?;
     }
     page.put(b"</ul>\n</section>\n")
 }

@@ -1,17 +1,17 @@
 //! The section of a page that shows a leak of a refused text, or that none was found.
 
-ghost use Rattle.std.specs.Prelude.{◌≡◌, IfSome};
+ghost use Rattle.std.specs.Prelude.{All};
 ghost use Rattle.vsi_lattice.specs.LatticeView.{order};
 ghost use Rattle.vsi_lattice.specs.Order.{IsClass};
 
 use crate::facts::is_strict;
+use crate::leak_search::{Search, classes_upwards, found_in};
 use crate::page::{Page, Part};
-use crate::sides::Subject;
 use std::alloc::{AllocError, Global};
-use vsi_compiler::CompileError;
+use vsi_compiler::{Source, image_of};
 use vsi_image::{Image, Verified};
 use vsi_lattice::{Class, Classes, Lattice};
-use vsi_leak::{Effort, Ending, Finding, Leak, Wanted, leak_of_text, leak_text};
+use vsi_leak::{Effort, Ending, Finding, Leak, leak_text};
 use vsi_types::Profile;
 
 /// The most instructions of a run in the search for a leak.
@@ -35,37 +35,18 @@ fn effort(lattice: &Lattice) -> Effort {
     }
 }
 
-/// The wanted leaks, at one class or at each.
-fn wanted(lattice: &Lattice, profile: Profile, class: Option<Class>) -> Wanted
-    ensures { result.class ≡ class }
-{
-    Wanted {
-        class,
-        endings: is_strict(profile),
-        steps: false,
-        effort: effort(lattice),
-    }
-}
-
-/// Adds a leak that a search finds, and answers in how many pairs of runs none was found.
-fn put_leak_by(
+/// Adds a leak at one of the classes, and answers in how many pairs of runs none was found there.
+fn put_leak_in(
     alloc: Global,
     page: &mut Page,
-    lattice: &Lattice,
-    source: &[u8],
-    wanted: &Wanted,
+    search: &Search<'_>,
+    classes: &[Class],
 ) -> Result<Option<u64>, AllocError>
-    requires { IfSome wanted.now.class (IsClass (order lattice.now)) }
+    requires { All (IsClass (order search.now.lattice.now)) classes.now }
 {
-    let (verified, finding) = match leak_of_text(alloc, lattice, source, wanted) {
-        Ok(searched) => searched,
-        Err(CompileError::Memory) => return Err(AllocError),
-        // A text without a program has no section.
-        Err(_) => return Ok(None),
-    };
-    match finding {
+    match found_in(alloc, search, classes)? {
         Finding::Leak(leak) => {
-            put_found(alloc, page, lattice, &verified, &leak)?;
+            put_found(alloc, page, search.lattice, search.verified, &leak)?;
             Ok(None)
         }
         Finding::Nothing { pairs } => Ok(Some(pairs)),
@@ -76,34 +57,53 @@ fn put_leak_by(
 fn put_leak_at(
     alloc: Global,
     page: &mut Page,
-    subject: &Subject<'_>,
+    search: &Search<'_>,
     class: usize,
 ) -> Result<Option<u64>, AllocError> {
-    let lattice = subject.lattice;
-    if class < lattice.count() {
-        let wanted = wanted(lattice, subject.profile, Some(Class::at(class as u8)));
-        return put_leak_by(alloc, page, lattice, subject.source, &wanted);
+    if class < search.lattice.count() {
+        return put_leak_in(alloc, page, search, &[Class::at(class as u8)]);
     }
     Ok(Some(0))
 }
 
 /// Adds a leak, at the class of the refused flow's last variable if there is one, otherwise at any
 /// class, or that none was found.
-pub(crate) fn put_leak(
+fn put_search(
     alloc: Global,
     page: &mut Page,
-    subject: &Subject<'_>,
+    search: &Search<'_>,
     class: usize,
 ) -> Result<(), AllocError> {
-    let Some(first) = put_leak_at(alloc, page, subject, class)? else {
+    let Some(first) = put_leak_at(alloc, page, search, class)? else {
         return Ok(());
     };
-    let lattice = subject.lattice;
-    let wanted = wanted(lattice, subject.profile, None);
-    match put_leak_by(alloc, page, lattice, subject.source, &wanted)? {
+    let classes = classes_upwards(alloc, search.lattice)?;
+    match put_leak_in(alloc, page, search, &classes)? {
         Some(pairs) => put_none(page, first.saturating_add(pairs)),
         None => Ok(()),
     }
+}
+
+/// Adds the section about leaks of a refused text. The refused flow begins with the variable that
+/// has the number `source`, and ends with one of this class.
+pub(crate) fn put_leak(
+    alloc: Global,
+    page: &mut Page,
+    profile: Profile,
+    read: &Source<'_>,
+    source: usize,
+    class: usize,
+) -> Result<(), AllocError> {
+    let verified = image_of(alloc, read)?;
+    let lattice = read.lattice();
+    let search = Search {
+        lattice,
+        verified: &verified,
+        source,
+        endings: is_strict(profile),
+        effort: effort(lattice),
+    };
+    put_search(alloc, page, &search, class)
 }
 
 /// Adds a leak that was found.

@@ -8,8 +8,8 @@
 //! the panel of a source text shows the text (`Shows` of `specs/Reading`).
 //!
 //! To be believed: `specs/Banner`, `specs/Covering`, `specs/Escape`, `specs/FlowsGraph`,
-//! `specs/Graph`, `specs/Page`, `specs/Reading`, `specs/Size` and `specs/Verdict`; the other files
-//! of `specs/` are only steps of proofs.
+//! `specs/Graph`, `specs/Page`, `specs/Reading`, `specs/Size` and `specs/Verdict`, and for the
+//! labels of variables `specs/Labels`; the other files of `specs/` are only steps of proofs.
 #![tactic(auto)]
 
 mod bands;
@@ -26,10 +26,12 @@ mod fixing;
 mod flows_graph;
 mod flows_picture;
 mod judged;
+mod labels;
 mod lattice_picture;
 mod layered_picture;
 mod layout;
 mod lead;
+mod leak_search;
 mod leak_section;
 mod marks;
 mod order;

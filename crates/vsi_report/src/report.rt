@@ -1,12 +1,11 @@
 //! The page of a text.
 
 ghost use Rattle.std.specs.Prelude.{◌≡◌, ◌≤◌, ℕ, List, [], length, IfOk};
-ghost use Rattle.vsi_image.specs.Fields.{fields};
-ghost use Rattle.vsi_image.specs.Listing.{listing as listing_of};
-ghost use Rattle.vsi_lattice.specs.LatticeView.{class_named, order};
+ghost use Rattle.vsi_lattice.specs.LatticeView.{class_named, names, order as order_of_lattice};
 ghost use Rattle.vsi_compiler.specs.Acceptance.{IsAccepted};
 ghost use Rattle.vsi_compiler.specs.Refusal.{HasShortestBadWalk, Refuses, RefusesProgram};
 ghost use Rattle.vsi_report.specs.Banner.{HasLead};
+ghost use Rattle.vsi_report.specs.Graph.{texts};
 ghost use Rattle.vsi_report.specs.Lead.{HasTrueLead, allowed_words, lead_words};
 ghost use Rattle.vsi_report.specs.Page.{HasPanel};
 ghost use Rattle.vsi_report.specs.Reading.{Shows};
@@ -16,20 +15,21 @@ ghost use Rattle.vsi_report.specs.declared.verdict.Verdict.{Verdict as Shown};
 ghost use Rattle.vsi_report.specs.declared.verdict.Verdict.TheVariants as verdicts;
 
 use crate::error::ReportError;
-use crate::facts::{Facts, facts_of, facts_of_program};
+use crate::facts::{Facts, facts_of};
 use crate::filing::Filing;
 use crate::lead::{Lead, lead_of, put_allowed, put_lead};
-use crate::order::order_of;
+use crate::order::{Order, order_of};
 use crate::page::Page;
+use crate::reached::reached_classes;
 use crate::sides::{Sides, Subject, accepted_sides, faulty_sides, refused_sides};
 use crate::size::check_size;
 use crate::source_view::{plain_panel, source_panel};
 use crate::style::{fault_style, plain_style, walk_style};
 use crate::verdict::{Verdict, begun_page};
 use std::alloc::{AllocError, Global};
-use vsi_compiler::{CompileError, compile_in, resolved_program};
+use vsi_compiler::{CompileError, Source, image_of, judge, read_source};
 use vsi_image::{Verified, listing};
-use vsi_lattice::Lattice;
+use vsi_lattice::{Class, Lattice};
 use vsi_scope::Resolved;
 use vsi_types::{Profile, Step};
 
@@ -61,7 +61,6 @@ fn program_page(
     alloc: Global,
     verdict: Verdict,
     lead: &Page,
-    subject: &Subject<'_>,
     sides: &Sides,
     style: &[u8],
     facts: &Facts,
@@ -74,7 +73,7 @@ fn program_page(
     ensures short { IfOk result (λ page. length page.items
         ≤ most_bytes (length source.now) (length facts.now.pairs.items) lines) }
 {
-    let panel = source_panel(alloc, subject.order, facts, walk, source)?;
+    let panel = source_panel(alloc, facts, walk, source)?;
     let begun = begun_page(alloc, verdict, sides.title.as_slice(), style, lead)?;
     joined(begun, sides, &panel, source, facts.pairs.len(), lines)
 }
@@ -103,6 +102,7 @@ fn page_with_image(
     profile: Profile,
     filing: &Filing<'_>,
     lattice: &Lattice,
+    order: &Order,
     facts: &Facts,
     source: &[u8],
     verified: &Verified,
@@ -114,12 +114,11 @@ fn page_with_image(
     ensures short { IfOk result (λ page. length page.items
         ≤ most_bytes (length source.now) (length facts.now.pairs.items) (length lines.now)) }
 {
-    let order = order_of(alloc, lattice)?;
     let subject = Subject {
         profile,
         filing,
         lattice,
-        order: &order,
+        order,
         source,
     };
     let sides = accepted_sides(alloc, &subject, facts, verified, lines)?;
@@ -129,7 +128,6 @@ fn page_with_image(
         alloc,
         Verdict::Accepted,
         &lead,
-        &subject,
         &sides,
         &style,
         facts,
@@ -139,71 +137,70 @@ fn page_with_image(
     )
 }
 
-/// The page of an accepted text.
+/// The page of an accepted text, with the classes of its letvars.
 fn accepted_page(
     alloc: Global,
     profile: Profile,
     filing: &Filing<'_>,
-    lattice: &Lattice,
-    source: &[u8],
-    verified: &Verified,
+    read: &Source<'_>,
+    chosen: &[Class],
 ) -> Result<Vec<u8>, ReportError>
-    ensures panel { IfOk result (λ page. HasPanel page.items source.now) }
-    ensures verdict { IsAccepted (class_named lattice.now) (order lattice.now) profile source.now
-        → IfOk result (λ page. HasVerdict lattice.now profile source.now page.items) }
+    requires { IsAccepted (class_named read.now.lattice) (order_of_lattice read.now.lattice) profile
+        read.now.text }
+    ensures panel { IfOk result (λ page. HasPanel page.items read.now.text) }
+    ensures verdict { IfOk result (λ page.
+        HasVerdict read.now.lattice profile read.now.text page.items) }
     ensures bounded { IfOk result (λ page.
-        IsShort lattice.now profile source.now (listing_of (fields verified.now)) page.items) }
+        IsBounded read.now.lattice profile read.now.text page.items) }
 {
-    match facts_of(alloc, profile, lattice, source) {
-        Ok(facts) => {
-            let lines = listing(alloc, verified.image())?;
-            page_with_image(
-                alloc, profile, filing, lattice, &facts, source, verified, &lines,
-            )
-        }
-        Err(error) => faulty_page(alloc, profile, filing, lattice, source, &error),
-    }
+    let lattice = read.lattice();
+    let source = read.text();
+    let program = read.resolved();
+    let order = order_of(alloc, lattice)?;
+    let facts = facts_of(alloc, profile, lattice, &order, program, chosen)?;
+    let verified = image_of(alloc, read)?;
+    let lines = listing(alloc, verified.image())?;
+    page_with_image(
+        alloc, profile, filing, lattice, &order, &facts, source, &verified, &lines,
+    )
 }
 
 /// The page of a text with a refused flow, with the facts of its program.
 fn page_with_walk(
     alloc: Global,
-    profile: Profile,
-    filing: &Filing<'_>,
-    lattice: &Lattice,
+    subject: &Subject<'_>,
+    read: &Source<'_>,
     program: &Resolved<'_>,
     facts: &Facts,
-    source: &[u8],
     walk: &[Step],
 ) -> Result<Vec<u8>, ReportError>
-    ensures panel { IfOk result (λ page. HasPanel page.items source.now) }
-    ensures led { IfOk result (λ page.
-        HasTrueLead lattice.now program.now walk.now facts.now.pairs.items page.items) }
+    requires { texts subject.now.order.now.names.items ≡ names subject.now.lattice.now }
+    ensures panel { IfOk result (λ page. HasPanel page.items subject.now.source.now) }
+    ensures led { IfOk result (λ page. HasTrueLead subject.now.lattice.now program.now walk.now
+        facts.now.pairs.items page.items) }
     ensures short { IfOk result (λ page. length page.items
-        ≤ most_bytes (length source.now) (length facts.now.pairs.items) 0) }
+        ≤ most_bytes (length subject.now.source.now) (length facts.now.pairs.items) 0) }
 {
-    let order = order_of(alloc, lattice)?;
-    let subject = Subject {
-        profile,
-        filing,
-        lattice,
-        order: &order,
-        source,
-    };
-    let sides = refused_sides(alloc, &subject, facts, walk)?;
+    let sides = refused_sides(alloc, subject, read, facts, walk)?;
     let style = walk_style(alloc, walk.len())?;
-    let told = lead_of(lattice, &order, program, source, walk, &facts.pairs);
+    let told = lead_of(
+        subject.lattice,
+        subject.order,
+        program,
+        subject.source,
+        walk,
+        &facts.pairs,
+    );
     let lead = refused_lead(alloc, &told)?;
     program_page(
         alloc,
         Verdict::Refused,
         &lead,
-        &subject,
         &sides,
         &style,
         facts,
         walk,
-        source,
+        subject.source,
         0,
     )
 }
@@ -213,26 +210,30 @@ fn refused_page(
     alloc: Global,
     profile: Profile,
     filing: &Filing<'_>,
-    lattice: &Lattice,
-    source: &[u8],
+    read: &Source<'_>,
     walk: &[Step],
 ) -> Result<Vec<u8>, ReportError>
-    ensures panel { IfOk result (λ page. HasPanel page.items source.now) }
-    ensures verdict { HasShortestBadWalk (class_named lattice.now) (order lattice.now) profile
-        source.now walk.now
-        → IfOk result (λ page. HasVerdict lattice.now profile source.now page.items) }
+    ensures panel { IfOk result (λ page. HasPanel page.items read.now.text) }
+    ensures verdict { HasShortestBadWalk (class_named read.now.lattice)
+        (order_of_lattice read.now.lattice) profile read.now.text walk.now
+        → IfOk result (λ page. HasVerdict read.now.lattice profile read.now.text page.items) }
     ensures bounded { IfOk result (λ page.
-        IsShort lattice.now profile source.now [] page.items) }
+        IsShort read.now.lattice profile read.now.text [] page.items) }
 {
-    match resolved_program(alloc, lattice, source) {
-        Ok(program) => {
-            let facts = facts_of_program(alloc, profile, lattice, &program)?;
-            page_with_walk(
-                alloc, profile, filing, lattice, &program, &facts, source, walk,
-            )
-        }
-        Err(error) => faulty_page(alloc, profile, filing, lattice, source, &error),
-    }
+    let lattice = read.lattice();
+    let source = read.text();
+    let program = read.resolved();
+    let order = order_of(alloc, lattice)?;
+    let chosen = reached_classes(alloc, profile, lattice, program)?;
+    let facts = facts_of(alloc, profile, lattice, &order, program, &chosen)?;
+    let subject = Subject {
+        profile,
+        filing,
+        lattice,
+        order: &order,
+        source,
+    };
+    page_with_walk(alloc, &subject, read, program, &facts, walk)
 }
 
 /// The page of a text that has no program, with the reason for the refusal.
@@ -294,27 +295,46 @@ fn faulty_page(
     page_with_refusal(alloc, profile, filing, lattice, source, error)
 }
 
-/// The page of a text that the compiler refuses, with its refusal.
+/// The page of a text that has a program, with its refusal.
 fn refusal_page(
     alloc: Global,
     profile: Profile,
     filing: &Filing<'_>,
-    lattice: &Lattice,
-    source: &[u8],
+    read: &Source<'_>,
     error: &CompileError,
 ) -> Result<Vec<u8>, ReportError>
-    ensures panel { IfOk result (λ page. HasPanel page.items source.now) }
-    ensures verdict { Refuses (class_named lattice.now) (order lattice.now) profile source.now
-        error.now → IfOk result (λ page. HasVerdict lattice.now profile source.now page.items) }
+    ensures panel { IfOk result (λ page. HasPanel page.items read.now.text) }
+    ensures verdict { Refuses (class_named read.now.lattice) (order_of_lattice read.now.lattice)
+        profile read.now.text error.now
+        → IfOk result (λ page. HasVerdict read.now.lattice profile read.now.text page.items) }
     ensures bounded { IfOk result (λ page.
-        IsShort lattice.now profile source.now [] page.items) }
+        IsShort read.now.lattice profile read.now.text [] page.items) }
 {
     match error {
         CompileError::Flow(walk) => {
-            let steps = walk.steps.as_slice();
-            refused_page(alloc, profile, filing, lattice, source, steps)
+            refused_page(alloc, profile, filing, read, walk.steps.as_slice())
         }
-        _ => faulty_page(alloc, profile, filing, lattice, source, error),
+        // A text that has a program is refused for a flow alone.
+        _ => Err(ReportError::Memory),
+    }
+}
+
+/// The page of a text that has a program.
+fn read_page(
+    alloc: Global,
+    profile: Profile,
+    filing: &Filing<'_>,
+    read: &Source<'_>,
+) -> Result<Vec<u8>, ReportError>
+    ensures panel { IfOk result (λ page. HasPanel page.items read.now.text) }
+    ensures verdict { IfOk result (λ page.
+        HasVerdict read.now.lattice profile read.now.text page.items) }
+    ensures bounded { IfOk result (λ page.
+        IsBounded read.now.lattice profile read.now.text page.items) }
+{
+    match judge(alloc, profile, read) {
+        Ok(chosen) => accepted_page(alloc, profile, filing, read, &chosen),
+        Err(error) => refusal_page(alloc, profile, filing, read, &error),
     }
 }
 
@@ -340,9 +360,9 @@ pub fn filed_page(
     ensures bounded { IfOk result (λ page.
         IsBounded lattice.now profile source.now page.items) }
 {
-    match compile_in(alloc, profile, lattice, source) {
-        Ok(verified) => accepted_page(alloc, profile, filing, lattice, source, &verified),
-        Err(error) => refusal_page(alloc, profile, filing, lattice, source, &error),
+    match read_source(alloc, lattice, source) {
+        Ok(read) => read_page(alloc, profile, filing, &read),
+        Err(error) => faulty_page(alloc, profile, filing, lattice, source, &error),
     }
 }
 

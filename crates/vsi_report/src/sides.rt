@@ -12,7 +12,7 @@ use crate::sections::{put_all_flows, put_lattice_if, put_listing, put_policy, pu
 use crate::telling::put_walk;
 use crate::walks::table_walks;
 use std::alloc::{AllocError, Global};
-use vsi_compiler::CompileError;
+use vsi_compiler::{CompileError, Source};
 use vsi_image::Verified;
 use vsi_lattice::Lattice;
 use vsi_types::{Profile, Step};
@@ -124,6 +124,14 @@ fn before_refused(
     Ok(page)
 }
 
+/// The number of the first variable of a walk.
+fn first_number(walk: &[Step]) -> usize {
+    match walk.first() {
+        Some(step) => step.source.0 as usize,
+        None => usize::MAX,
+    }
+}
+
 /// The class of the last variable of a walk.
 fn last_class(facts: &Facts, walk: &[Step]) -> usize {
     let Some(step) = walk.last() else {
@@ -139,6 +147,7 @@ fn last_class(facts: &Facts, walk: &[Step]) -> usize {
 fn after_refused(
     alloc: Global,
     subject: &Subject<'_>,
+    read: &Source<'_>,
     facts: &Facts,
     walk: &[Step],
 ) -> Result<Page, AllocError> {
@@ -148,11 +157,12 @@ fn after_refused(
     put_walk(&mut page, subject.order, facts, subject.source, walk)?;
     put_lattice_if(alloc, &mut page, subject.order, false)?;
     page.put(b"</div>\n<div>\n")?;
-    put_fixes(alloc, &mut page, subject, facts, walk)?;
-    put_leak(alloc, &mut page, subject, last_class(facts, walk))?;
+    put_fixes(alloc, &mut page, subject, read, facts, walk)?;
+    let (source, class) = (first_number(walk), last_class(facts, walk));
+    put_leak(alloc, &mut page, subject.profile, read, source, class)?;
     page.put(b"</div>\n")?;
     put_lattice_if(alloc, &mut page, subject.order, true)?;
-    let lines = table_walks(alloc, subject, facts)?;
+    let lines = table_walks(alloc, subject.profile, read, facts)?;
     put_all_flows(
         alloc,
         &mut page,
@@ -171,11 +181,12 @@ fn after_refused(
 pub(crate) fn refused_sides(
     alloc: Global,
     subject: &Subject<'_>,
+    read: &Source<'_>,
     facts: &Facts,
     walk: &[Step],
 ) -> Result<Sides, AllocError> {
     let before = before_refused(alloc, subject, facts, walk)?;
-    let after = after_refused(alloc, subject, facts, walk)?;
+    let after = after_refused(alloc, subject, read, facts, walk)?;
     let title = title_end(alloc, subject.filing)?;
     Ok(Sides {
         title,

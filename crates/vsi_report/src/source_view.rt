@@ -3,9 +3,8 @@
 ghost use Rattle.std.specs.Prelude.{◌≡◌, IfOk};
 ghost use Rattle.vsi_report.specs.Reading.{Shows};
 
-use crate::facts::{Facts, is_inferred, variable_class};
+use crate::facts::{Facts, label_at, variable_class};
 use crate::marks::{Mark, mark_at};
-use crate::order::{Order, name_of};
 use crate::panel::{Panel, advanced, begun, closed, ended, opened, place_of, source_of};
 use crate::walking::Use;
 use std::alloc::{AllocError, Global};
@@ -23,24 +22,6 @@ fn colour(class: Option<usize>) -> &'static [u8] {
         Some(class) => COLOURS[class % 8],
         None => b"name kn",
     }
-}
-
-/// The label of a variable's class: its name, with a star after it if it was inferred, or a question
-/// mark if it wasn't.
-fn class_label(
-    alloc: Global,
-    order: &Order,
-    facts: &Facts,
-    variable: usize,
-) -> Result<Vec<u8>, AllocError> {
-    let Some(class) = variable_class(facts, variable) else {
-        return Vec::from_slice(alloc, b"?");
-    };
-    let mut label = name_of(order, class).to_vec(alloc)?;
-    if is_inferred(facts, variable) {
-        label.extend_from_slice(b"*")?;
-    }
-    Ok(label)
 }
 
 /// Adds the number of a step and a preposition, after a comma unless it is the first.
@@ -162,7 +143,6 @@ fn with_gap<'a>(alloc: Global, panel: Panel<'a>, stop: usize) -> Result<Panel<'a
 fn with_variable<'a>(
     alloc: Global,
     panel: Panel<'a>,
-    order: &Order,
     facts: &Facts,
     walk: &[Step],
     variable: usize,
@@ -170,10 +150,15 @@ fn with_variable<'a>(
 ) -> Result<Panel<'a>, AllocError>
     ensures source { IfOk result (λ p. p.source ≡ panel.entry.source) }
 {
-    let class = class_label(alloc, order, facts, variable)?;
     let step = step_label(alloc, walk, token.span.start)?;
     let kind = colour(variable_class(facts, variable));
-    with_word(panel, kind, &class, &step, token.span.stop)
+    with_word(
+        panel,
+        kind,
+        label_at(facts, variable),
+        &step,
+        token.span.stop,
+    )
 }
 
 /// Whether a token is a keyword.
@@ -207,7 +192,6 @@ fn read_token(reader: Reader, uses: &[Use], token: &Token<'_>) -> (Reader, Optio
 fn with_token<'a>(
     alloc: Global,
     panel: Panel<'a>,
-    order: &Order,
     facts: &Facts,
     walk: &[Step],
     variable: Option<usize>,
@@ -217,7 +201,7 @@ fn with_token<'a>(
 {
     let panel = with_gap(alloc, panel, token.span.start)?;
     if let Some(variable) = variable {
-        return with_variable(alloc, panel, order, facts, walk, variable, token);
+        return with_variable(alloc, panel, facts, walk, variable, token);
     }
     if is_keyword(token.kind) {
         return with_word(panel, b"word", b"", b"", token.span.stop);
@@ -229,7 +213,6 @@ fn with_token<'a>(
 fn with_tokens<'a>(
     alloc: Global,
     panel: Panel<'a>,
-    order: &Order,
     facts: &Facts,
     walk: &[Step],
     tokens: &[Token<'_>],
@@ -245,7 +228,7 @@ fn with_tokens<'a>(
     for token in tokens {
         let (after, variable) = read_token(reader, &facts.uses, token);
         reader = after;
-        panel = with_token(alloc, panel, order, facts, walk, variable, token)?;
+        panel = with_token(alloc, panel, facts, walk, variable, token)?;
     }
     Ok(panel)
 }
@@ -253,7 +236,6 @@ fn with_tokens<'a>(
 /// The panel of a text that has a program, with the facts of the program.
 pub(crate) fn source_panel(
     alloc: Global,
-    order: &Order,
     facts: &Facts,
     walk: &[Step],
     source: &[u8],
@@ -263,7 +245,7 @@ pub(crate) fn source_panel(
     match lex(alloc, source) {
         Ok(tokens) => {
             let panel = begun(alloc, source)?;
-            let panel = with_tokens(alloc, panel, order, facts, walk, &tokens)?;
+            let panel = with_tokens(alloc, panel, facts, walk, &tokens)?;
             let panel = with_gap(alloc, panel, source.len())?;
             ended(panel)
         }

@@ -2,10 +2,10 @@
 
 use crate::facts::Facts;
 use crate::page::{Page, Part};
-use crate::sides::Subject;
 use std::alloc::{AllocError, Global};
-use vsi_compiler::CompileError;
-use vsi_flows::walks_text_in;
+use vsi_compiler::Source;
+use vsi_flows::walks_text_of;
+use vsi_types::Profile;
 
 /// The most pairs of a table whose refused ones have walks.
 const MOST_PAIRS: usize = 100;
@@ -25,19 +25,17 @@ fn are_few(facts: &Facts, source: &[u8]) -> bool {
 }
 
 /// A line for each pair of the table of flows, and after it a line for each step of its walk, as
-/// `walks_text_in` has them; no line if there are too many pairs or steps.
+/// `walks_text_of` has them; no line if there are too many pairs or steps.
 pub(crate) fn table_walks(
     alloc: Global,
-    subject: &Subject<'_>,
+    profile: Profile,
+    read: &Source<'_>,
     facts: &Facts,
 ) -> Result<Vec<u8>, AllocError> {
-    if !are_few(facts, subject.source) {
-        return Ok(Vec::new(alloc));
-    }
-    match walks_text_in(alloc, subject.profile, subject.lattice, subject.source) {
-        Ok(lines) => Ok(lines),
-        Err(CompileError::Memory) => Err(AllocError),
-        Err(_) => Ok(Vec::new(alloc)),
+    if are_few(facts, read.text()) {
+        walks_text_of(alloc, profile, read)
+    } else {
+        Ok(Vec::new(alloc))
     }
 }
 

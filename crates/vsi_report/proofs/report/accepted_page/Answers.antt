@@ -1,32 +1,65 @@
-use Rattle.std.proofs.Common.{◌≡◌, ◌≤◌, length, ap, ◌∙◌, subst}
+use Rattle.std.proofs.Common.{◌≡◌, ◌≤◌, length, ap, ◌∙◌, subst, sym}
 use Rattle.std.specs.Prelude.{IfOk}
 use Rattle.vsi_image.specs.Fields.{fields}
 use Rattle.vsi_image.specs.Listing.{listing}
-use Rattle.vsi_report.specs.Size.{most_bytes}
+use Rattle.vsi_lattice.specs.LatticeView.{class_named, order}
+use Rattle.vsi_types.specs.Security.{program}
+use Rattle.vsi_flows.specs.Table.{IsTable}
+use Rattle.vsi_compiler.proofs.Held.{of_parts, globals_at, declared_at, compiled_at}
+use Rattle.vsi_report.specs.Page.{HasPanel}
+use Rattle.vsi_report.specs.Size.{AreFlows, most_bytes}
 use Rattle.vsi_report.proofs.BannerLemmas.{accepted_shown}
-use Rattle.vsi_report.proofs.SizeLemmas.{short_for_less, short_with}
+use Rattle.vsi_report.proofs.SizeLemmas.{bounded_with, short_with}
 use Rattle.vsi_report.proofs.report.accepted_page.Goals as goal
 
-pub returns-in_ok-lines-in-Ok-clause-bounded : goal.returns-in_ok-lines-in-Ok-clause-bounded
-returns-in_ok-lines-in-Ok-clause-bounded c =
-    let lines = listing (fields c.args.verified.now) in
-    let pairs = c.in-Ok.facts.pairs.items in
-    short_with c.args.lattice.now c.args.profile c.args.source.now pairs lines c.page_with_image.result c.in-Ok.ensures.flows
+pub facts_of-requires-clause-globals : goal.facts_of-requires-clause-globals
+facts_of-requires-clause-globals c =
+    globals_at _ c.resolved-program.ensures.kept _ _ c.lattice-lattice.ensures c.resolved-program.ensures.value
+
+pub facts_of-requires-clause-declared : goal.facts_of-requires-clause-declared
+facts_of-requires-clause-declared c =
+    declared_at _ c.resolved-program.ensures.kept _ _ c.lattice-lattice.ensures c.resolved-program.ensures.value
+
+pub returns-clause-panel : goal.returns-clause-panel
+returns-clause-panel c =
+    subst (λ t. IfOk c.page_with_image.result (λ page. HasPanel page.items t)) c.text-source.ensures
+    c.page_with_image.ensures.panel
+
+pub returns-clause-verdict : goal.returns-clause-verdict
+returns-clause-verdict c =
+    let s = c.args.read.now in
+    let pairs = c.in_ok-facts.facts.pairs.items in
+    let l = c.lattice-lattice.result.now in
+    let p = c.resolved-program.result.now in
+    let table : IsTable (order s.lattice) c.args.profile (program s.resolved) pairs =
+    subst (λ r. IsTable (order s.lattice) c.args.profile (program r) pairs) c.resolved-program.ensures.value
+    (subst (λ x. IsTable (order x) c.args.profile (program p) pairs) c.lattice-lattice.ensures
+    c.in_ok-facts.ensures.table) in
+    accepted_shown s.lattice c.args.profile s.text pairs c.page_with_image.result c.requires
+    (record { resolved = s.resolved; stands = c.resolved-program.ensures.kept.stands; table = table })
+    c.page_with_image.ensures.led
+
+pub returns-clause-bounded : goal.returns-clause-bounded
+returns-clause-bounded c =
+    let s = c.args.read.now in
+    let pairs = c.in_ok-facts.facts.pairs.items in
+    let p = c.resolved-program.result.now in
+    let lines = listing (fields c.in_ok-verified.verified) in
+    let v = c.in_ok-verified.ensures in
+    let r = c.page_with_image.result in
+    let table : IsTable (order s.lattice) c.args.profile (program s.resolved) pairs =
+    subst (λ r. IsTable (order s.lattice) c.args.profile (program r) pairs) c.resolved-program.ensures.value
+    (subst (λ x. IsTable (order x) c.args.profile (program p) pairs) c.lattice-lattice.ensures
+    c.in_ok-facts.ensures.table) in
+    bounded_with s.lattice c.args.profile s.text c.in_ok-verified.verified r
+    (compiled_at (class_named s.lattice) (order s.lattice) c.args.profile s.text c.in_ok-verified.verified c.requires
+    v.globals v.meaning v.noninterference v.endings v.coded v.image v.size)
+    (short_with s.lattice c.args.profile s.text pairs lines r
+    (record { resolved = s.resolved; stands = c.resolved-program.ensures.kept.stands; table = table })
+    (subst (λ t. IfOk r (λ page. length page.items ≤ most_bytes (length t) (length pairs) (length lines)))
+    c.text-source.ensures
     (subst
-    (λ told. IfOk c.page_with_image.result (λ page.
-    length page.items ≤ most_bytes (length c.args.source.now) (length pairs) (length told)))
-    (c.deref.ensures.value ∙ c.in_ok-lines-in-Ok.ensures ∙ ap (λ i. listing (fields i)) c.image.ensures.same)
-    c.page_with_image.ensures.short)
-
-pub returns-in-Err-clause-bounded : goal.returns-in-Err-clause-bounded
-returns-in-Err-clause-bounded c =
-    short_for_less c.args.lattice.now c.args.profile c.args.source.now (listing (fields c.args.verified.now))
-    c.faulty_page.result c.faulty_page.ensures.short
-
-pub returns-in_ok-lines-in-Ok-clause-verdict : goal.returns-in_ok-lines-in-Ok-clause-verdict
-returns-in_ok-lines-in-Ok-clause-verdict c = λ accepted.
-    accepted_shown c.args.lattice.now c.args.profile c.args.source.now c.in-Ok.facts.pairs.items
-    c.page_with_image.result accepted c.in-Ok.ensures.flows c.page_with_image.ensures.led
-
-pub returns-in-Err-clause-verdict : goal.returns-in-Err-clause-verdict
-returns-in-Err-clause-verdict c = λ accepted. c.faulty_page.ensures.verdict c.in-Err.ensures.refused
+    (λ told. IfOk r (λ page.
+    length page.items ≤ most_bytes (length c.text-source.result.now) (length pairs) (length told)))
+    (c.deref.ensures.value ∙ c.in_ok-lines.ensures ∙ ap (λ i. listing (fields i)) c.image.ensures.same)
+    c.page_with_image.ensures.short)))

@@ -1,29 +1,71 @@
-use Rattle.std.proofs.Common.{[]}
-use Rattle.vsi_compiler.proofs.Compiled.{globals_of, declared_of}
+use Rattle.std.proofs.Common.{◌≡◌, ◌≤◌, [], length, subst, sym}
+use Rattle.std.specs.Prelude.{IfOk}
+use Rattle.vsi_lattice.specs.LatticeView.{class_named, order}
+use Rattle.vsi_compiler.specs.Refusal.{HasShortestBadWalk}
+use Rattle.vsi_compiler.specs.SourceView.{IsSource, source_of}
+use Rattle.vsi_compiler.proofs.Held.{of_parts, globals_at, declared_at}
+use Rattle.vsi_report.specs.Page.{HasPanel}
+use Rattle.vsi_report.specs.Size.{IsShort, most_bytes}
+use Rattle.vsi_report.specs.Verdict.{HasVerdict}
 use Rattle.vsi_report.proofs.BannerLemmas.{refused_shown}
 use Rattle.vsi_report.proofs.SizeLemmas.{short_with}
 use Rattle.vsi_report.proofs.report.refused_page.Goals as goal
 
-pub facts_of_program-requires-clause-globals : goal.facts_of_program-requires-clause-globals
-facts_of_program-requires-clause-globals c =
-    globals_of c.args.lattice.now c.in-Ok.program c.in-Ok.ensures.classes
+pub reached_classes-requires-clause-globals : goal.reached_classes-requires-clause-globals
+reached_classes-requires-clause-globals c =
+    globals_at _ c.resolved-program.ensures.kept _ _ c.lattice-lattice.ensures c.resolved-program.ensures.value
 
-pub facts_of_program-requires-clause-declared : goal.facts_of_program-requires-clause-declared
-facts_of_program-requires-clause-declared c =
-    declared_of c.args.lattice.now c.in-Ok.program c.in-Ok.ensures.classes
+pub reached_classes-requires-clause-declared : goal.reached_classes-requires-clause-declared
+reached_classes-requires-clause-declared c =
+    declared_at _ c.resolved-program.ensures.kept _ _ c.lattice-lattice.ensures c.resolved-program.ensures.value
 
-pub returns-in_ok-facts-in-Ok-clause-bounded : goal.returns-in_ok-facts-in-Ok-clause-bounded
-returns-in_ok-facts-in-Ok-clause-bounded c =
-    short_with c.args.lattice.now c.args.profile c.args.source.now c.in_ok-facts-in-Ok.facts.pairs.items []
-    c.page_with_walk.result
-    (record { resolved = c.in-Ok.program; stands = c.in-Ok.ensures.stands; table = c.in_ok-facts-in-Ok.ensures })
-    c.page_with_walk.ensures.short
+pub facts_of-requires-clause-globals : goal.facts_of-requires-clause-globals
+facts_of-requires-clause-globals c =
+    globals_at _ c.resolved-program.ensures.kept _ _ c.lattice-lattice.ensures c.resolved-program.ensures.value
 
-pub returns-in_ok-facts-in-Ok-clause-verdict : goal.returns-in_ok-facts-in-Ok-clause-verdict
-returns-in_ok-facts-in-Ok-clause-verdict c = λ walk.
-    refused_shown c.args.lattice.now c.args.profile c.args.source.now c.in-Ok.program c.args.walk.now
-    c.in_ok-facts-in-Ok.facts.pairs.items c.page_with_walk.result c.in-Ok.ensures.stands
-    c.in_ok-facts-in-Ok.ensures walk c.page_with_walk.ensures.led
+pub facts_of-requires-clause-declared : goal.facts_of-requires-clause-declared
+facts_of-requires-clause-declared c =
+    declared_at _ c.resolved-program.ensures.kept _ _ c.lattice-lattice.ensures c.resolved-program.ensures.value
 
-pub returns-in-Err-clause-verdict : goal.returns-in-Err-clause-verdict
-returns-in-Err-clause-verdict c = λ walk. c.faulty_page.ensures.verdict c.in-Err.ensures.refused
+pub returns-clause-panel : goal.returns-clause-panel
+returns-clause-panel c =
+    subst (λ t. IfOk c.page_with_walk.result (λ page. HasPanel page.items t)) c.text-source.ensures
+    c.page_with_walk.ensures.panel
+
+pub returns-clause-verdict : goal.returns-clause-verdict
+returns-clause-verdict c = λ given.
+    let s = c.args.read.now in
+    let P = c.args.profile in
+    let w = c.args.walk.now in
+    let l = c.lattice-lattice.result.now in
+    let t = c.text-source.result.now in
+    let p = c.resolved-program.result.now in
+    let res = c.page_with_walk.result in
+    let is : IsSource (source_of l t p) =
+    of_parts s c.resolved-program.ensures.kept l t p c.lattice-lattice.ensures c.text-source.ensures
+    c.resolved-program.ensures.value in
+    let walk : HasShortestBadWalk (class_named l) (order l) P t w =
+    subst (λ x. HasShortestBadWalk (class_named x) (order x) P t w) (sym c.lattice-lattice.ensures)
+    (subst (λ x. HasShortestBadWalk (class_named s.lattice) (order s.lattice) P x w) (sym c.text-source.ensures)
+    given) in
+    subst (λ x. IfOk res (λ page. HasVerdict x P s.text page.items)) c.lattice-lattice.ensures
+    (subst (λ x. IfOk res (λ page. HasVerdict l P x page.items)) c.text-source.ensures
+    (refused_shown l P t p w c.in_ok-facts.facts.pairs.items res is.stands c.in_ok-facts.ensures.table walk
+    c.page_with_walk.ensures.led))
+
+pub returns-clause-bounded : goal.returns-clause-bounded
+returns-clause-bounded c =
+    let s = c.args.read.now in
+    let P = c.args.profile in
+    let l = c.lattice-lattice.result.now in
+    let t = c.text-source.result.now in
+    let p = c.resolved-program.result.now in
+    let res = c.page_with_walk.result in
+    let is : IsSource (source_of l t p) =
+    of_parts s c.resolved-program.ensures.kept l t p c.lattice-lattice.ensures c.text-source.ensures
+    c.resolved-program.ensures.value in
+    subst (λ x. IfOk res (λ page. IsShort x P s.text [] page.items)) c.lattice-lattice.ensures
+    (subst (λ x. IfOk res (λ page. IsShort l P x [] page.items)) c.text-source.ensures
+    (short_with l P t c.in_ok-facts.facts.pairs.items [] res
+    (record { resolved = p; stands = is.stands; table = c.in_ok-facts.ensures.table })
+    c.page_with_walk.ensures.short))
