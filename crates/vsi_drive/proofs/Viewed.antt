@@ -50,13 +50,13 @@ ends_with c m last budget (Some s) reached is =
       | false ↦ λ off e. absurd (cc)
     ] refl is
 
--- What is made of words that there are, there is.
+-- If a mapped option has a value, so has the option, and the one is made of the other.
 made_of : {A B : Type 0} (f : A → B) (o : Option A) (b : B) → option_map f o ≡ Some b →
     (a : A) × (o ≡ Some a) × (b ≡ f a)
 made_of f None b is = absurd (cc)
 made_of f (Some a) b is = (a, refl, cc)
 
--- Texts of two options that are there are equal.
+-- If two options are mapped to one, the values that they have are mapped to one value.
 both : {A B : Type 0} (f : A → B) (o o' : Option A) (a a' : A) → o ≡ Some a → o' ≡ Some a' →
     option_map f o ≡ option_map f o' → f a ≡ f a'
 both f None o' a a' is is' same = absurd (cc)
@@ -91,7 +91,7 @@ pub same_released_compiled_views : SameReleasedCompiledViews
 same_released_compiled_views c P text class compiled =
     views_alike c class (coded_valid c.image compiled.coded) compiled.noninterference
 
--- Words that there are, and of which nothing is made, give the same.
+-- If a function maps every value to nothing, it maps two options that have values to one.
 nothing_of : {A B : Type 0} (f : A → List B) → ((a : A) → f a ≡ []) → (o o' : Option A) (a a' : A) →
     o ≡ Some a → o' ≡ Some a' → option_map f o ≡ option_map f o'
 nothing_of f none o o' a a' is is' =

@@ -3,17 +3,15 @@
 ghost use Rattle.std.specs.Prelude.{◌≤◌, IfOk, length};
 ghost use Rattle.vsi_recovery.specs.Listed.{AreListed};
 
-use crate::context::Open;
 use crate::fault::{Cause, Fault};
 use crate::holes::tokens_of;
 use crate::listing::listed;
 use crate::naming::put_names;
-use crate::search::{Choice, Search};
-use crate::stock::{Part, Stock};
-use crate::tokens::{Reading, Stretch, Tokens, landmark_from};
+use crate::tokens::{Stretch, Tokens};
 use crate::walk::{Walk, go_on, repair};
 use std::alloc::{AllocError, Global};
 use vsi_lattice::Lattice;
+use vsi_repairs::{Choice, Open, Part, Reading, Stock, landmark_from, repair_of};
 use vsi_syntax::{Kind, Span, Token};
 
 /// The most faults of a text that are reported after its first one.
@@ -130,29 +128,6 @@ fn is_of_braces(tokens: &Tokens<'_>, rest: &[Token<'_>], choice: Choice) -> bool
         || has_brace(rest.get(..stop).unwrap_or(rest))
 }
 
-/// Looks for a repair of the fault before these tokens.
-fn chosen<'a>(
-    alloc: Global,
-    stock: &Stock<'a>,
-    rest: &[Token<'a>],
-    tokens: &mut Tokens<'a>,
-    open: &Open<'a>,
-) -> Result<Option<Choice>, AllocError> {
-    let mut search = Search {
-        alloc,
-        stock,
-        rest,
-        open,
-        left: tokens.left,
-        best: None,
-        is_found: false,
-        landmarks: 1,
-    };
-    search.run(tokens.list.len())?;
-    tokens.left = search.left;
-    Ok(search.best)
-}
-
 /// Adds the first fault of the tree, and repairs it. The answer is no if it can't be repaired.
 fn put_tree<'a>(
     alloc: Global,
@@ -164,7 +139,9 @@ fn put_tree<'a>(
 ) -> Result<bool, AllocError> {
     let rest = source.get(walk.next..).unwrap_or(&[]);
     put_fault(tokens, rest, faults)?;
-    let Some(choice) = chosen(alloc, stock, rest, tokens, &walk.open)? else {
+    let place = tokens.list.len();
+    let found = repair_of(alloc, stock, &walk.open, place, rest, &mut tokens.left)?;
+    let Some(choice) = found else {
         return Ok(false);
     };
     let stretch = stretch_of(tokens, rest, walk.open.command().place, choice);

@@ -1,9 +1,9 @@
 //! The tokens of a text in which some bytes begin no token.
 
 use crate::fault::{Cause, Fault};
-use crate::stock::{Part, Stock, put_at};
-use crate::tokens::{Stretch, Tokens, byte_at, is_landmark};
+use crate::tokens::{Stretch, Tokens, byte_at};
 use std::alloc::{AllocError, Global};
+use vsi_repairs::{Part, Stock, is_landmark, put_at};
 use vsi_syntax::{LexError, Span, Token, lex};
 
 /// The most tokens that are read again for repairs and for names, in all readings together.

@@ -10,16 +10,11 @@
 //! To be believed: `specs/Listed`.
 #![tactic(auto)]
 
-mod context;
 mod fault;
 mod finding;
 mod holes;
 mod listing;
 mod naming;
-mod repairs;
-mod search;
-mod skipping;
-mod stock;
 mod tokens;
 mod walk;
 

@@ -1,11 +1,10 @@
 //! The names of a program that can't be resolved.
 
 use crate::fault::{Cause, Fault};
-use crate::skipping::DECLARATION;
-use crate::stock::{Part, Stock, put_at};
-use crate::tokens::{Tokens, is_put, number_of, put_numbered};
+use crate::tokens::{Tokens, is_put};
 use std::alloc::{AllocError, Global};
 use vsi_lattice::{Class, Classes, Lattice};
+use vsi_repairs::{DECLARATION, Part, Stock, number_of, put_at, put_numbered};
 use vsi_scope::{ScopeError, resolve};
 use vsi_syntax::{Kind, Span, Token, lex, parse};
 

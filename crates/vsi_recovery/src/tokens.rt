@@ -1,7 +1,6 @@
 //! Lists of tokens with repairs.
 
-use std::alloc::{AllocError, Global};
-use vsi_syntax::{Kind, ParseError, Span, Token, parse};
+use vsi_syntax::Token;
 
 /// A part of a text with a repair, by bytes. Names from `first` up to `stop` aren't judged, and no
 /// fault of the tree is reported from `from` to `stop`.
@@ -27,58 +26,6 @@ pub(crate) struct Tokens<'a> {
     pub(crate) left: usize,
 }
 
-/// The result of reading a list of tokens.
-#[derive(Clone, Copy)]
-pub(crate) enum Reading {
-    /// The list is a program.
-    Whole,
-    /// The number of the first token with which no program goes on.
-    Unexpected(usize),
-    /// The program is too deep.
-    Stopped,
-}
-
-/// Whether reading can go on at a kind of token.
-pub(crate) fn is_landmark(kind: Kind) -> bool {
-    matches!(
-        kind,
-        Kind::Semicolon | Kind::CloseBrace | Kind::Else | Kind::Do | Kind::In | Kind::Var
-    )
-}
-
-/// Adds tokens whose spans are their numbers: `number_of` finds a token by its span.
-pub(crate) fn put_numbered<'a>(
-    list: &mut Vec<Token<'a>>,
-    tokens: &[Token<'a>],
-) -> Result<(), AllocError> {
-    for token in tokens {
-        let start = list.len().saturating_mul(2);
-        let mut numbered = *token;
-        numbered.span = Span {
-            start,
-            stop: start.saturating_add(1),
-        };
-        list.push(numbered)?;
-    }
-    Ok(())
-}
-
-/// The number of the token with a span, in a list whose spans are numbers, or the number of tokens
-/// for the span after the last one.
-pub(crate) fn number_of(span: Span) -> usize {
-    span.start.saturating_add(1) / 2
-}
-
-/// Reads a list whose spans are numbers.
-pub(crate) fn read<'a>(alloc: Global, list: &[Token<'a>]) -> Result<Reading, AllocError> {
-    match parse(alloc, list) {
-        Ok(_) => Ok(Reading::Whole),
-        Err(ParseError::Memory) => Err(AllocError),
-        Err(ParseError::Unexpected(span)) => Ok(Reading::Unexpected(number_of(span))),
-        Err(ParseError::TooDeep(_)) => Ok(Reading::Stopped),
-    }
-}
-
 /// The byte at which a token begins, or the end of the last one if there is no such token.
 pub(crate) fn byte_at(list: &[Token<'_>], place: usize) -> usize {
     match list.get(place) {
@@ -88,19 +35,6 @@ pub(crate) fn byte_at(list: &[Token<'_>], place: usize) -> usize {
             None => 0,
         },
     }
-}
-
-/// The number of the first token from this one on at which reading can go on, or the number of
-/// tokens.
-pub(crate) fn landmark_from(list: &[Token<'_>], place: usize) -> usize {
-    let mut number = place;
-    for token in list.get(place..).unwrap_or(&[]) {
-        if is_landmark(token.kind) {
-            break;
-        }
-        number = number.saturating_add(1);
-    }
-    number
 }
 
 /// Whether a repair has put in a token: nothing of the text is in it.

@@ -1,16 +1,15 @@
 //! A walk over the tokens of a text, from one fault of the tree to the next.
 
-use crate::context::Open;
-use crate::search::Choice;
-use crate::stock::Stock;
-use crate::tokens::{Reading, Tokens, put_numbered, read};
+use crate::tokens::Tokens;
 use std::alloc::{AllocError, Global};
+use vsi_repairs::{Choice, Open, Reading, Stock, put_numbered, read};
 use vsi_syntax::{Span, Token};
 
 /// The fewest tokens that are read at once.
 const CHUNK: usize = 500;
 
-/// What a walk has read, and the number of the token of the text after that.
+/// The state of a walk: the constructs that haven't ended, and the number of the next token of the
+/// text.
 #[derive(Drop)]
 pub(crate) struct Walk<'a> {
     pub(crate) open: Open<'a>,

@@ -3,7 +3,7 @@
 use vsi_syntax::{Kind, Token};
 
 /// The number of tokens of a declaration of a global.
-pub(crate) const DECLARATION: usize = 5;
+pub const DECLARATION: usize = 5;
 
 /// The most tokens that are passed over in search of one.
 const MAX_PASSED: usize = 10_000;

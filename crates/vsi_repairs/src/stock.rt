@@ -8,7 +8,7 @@ const STOCK: &[u8] = b"; := do then in else ( ) { } 0 put_in_by_a_repair < : var
 
 /// A token that a repair puts in.
 #[derive(Clone, Copy, Debug, PartialEq, Eq)]
-pub(crate) enum Part {
+pub enum Part {
     Semicolon,
     Assign,
     Do,
@@ -57,13 +57,13 @@ fn is_part(kind: Kind, part: Part) -> bool {
 
 /// The tokens that repairs put in.
 #[derive(Drop)]
-pub(crate) struct Stock<'a> {
+pub struct Stock<'a> {
     tokens: Vec<Token<'a>>,
 }
 
 impl<'a> Stock<'a> {
     /// One token of each part.
-    pub(crate) fn new(alloc: Global) -> Result<Stock<'a>, AllocError> {
+    pub fn new(alloc: Global) -> Result<Stock<'a>, AllocError> {
         match lex(alloc, STOCK) {
             Ok(tokens) => Ok(Stock { tokens }),
             Err(_) => Err(AllocError),
@@ -71,12 +71,7 @@ impl<'a> Stock<'a> {
     }
 
     /// Adds the token of a part, with this span.
-    pub(crate) fn put(
-        &self,
-        list: &mut Vec<Token<'a>>,
-        part: Part,
-        span: Span,
-    ) -> Result<(), AllocError> {
+    pub fn put(&self, list: &mut Vec<Token<'a>>, part: Part, span: Span) -> Result<(), AllocError> {
         for token in &self.tokens {
             if is_part(token.kind, part) {
                 return put_at(list, *token, span);
@@ -86,7 +81,7 @@ impl<'a> Stock<'a> {
     }
 
     /// Adds the tokens of parts, all with this span.
-    pub(crate) fn put_all(
+    pub fn put_all(
         &self,
         list: &mut Vec<Token<'a>>,
         parts: &[Part],
@@ -113,7 +108,7 @@ impl<'a> Stock<'a> {
     }
 
     /// The name of the stock.
-    pub(crate) fn name(&self) -> &'a [u8] {
+    pub fn name(&self) -> &'a [u8] {
         for token in &self.tokens {
             if token.kind == Kind::Name {
                 return token.text;
@@ -124,7 +119,7 @@ impl<'a> Stock<'a> {
 }
 
 /// Adds a token with another span.
-pub(crate) fn put_at<'a>(
+pub fn put_at<'a>(
     list: &mut Vec<Token<'a>>,
     token: Token<'a>,
     span: Span,

@@ -1,10 +1,10 @@
 //! The search for a repair of a fault of the tree.
 
 use crate::context::{Open, Start};
+use crate::reading::{Reading, landmark_from, put_numbered, read};
 use crate::repairs::{ENDINGS, FILLINGS, SMALL};
 use crate::skipping::{DECLARATION, OUTSIDE, lone_close, lone_else, misplaced};
 use crate::stock::{COMMAND, Part, Stock};
-use crate::tokens::{Reading, landmark_from, put_numbered, read};
 use std::alloc::{AllocError, Global};
 use vsi_syntax::{Kind, Token};
 
@@ -14,33 +14,36 @@ const MAX_SKIPPED: usize = 400;
 /// The most tokens that are read after a repair: one with which reading goes over them is enough.
 const MAX_AHEAD: usize = 200;
 
+/// The cost of trying a repair, in tokens, beside the tokens that are read for it.
+const TRIAL: usize = 20;
+
 /// A repair at a fault. Parts are put in at a beginning before the fault; the tokens from there up
 /// to the fault come after the parts or are left out, and so many tokens after the fault are left
 /// out too. Then the first fault is so many tokens after this one at the earliest.
 #[derive(Clone, Copy)]
-pub(crate) struct Choice {
-    pub(crate) start: Start,
-    pub(crate) put: &'static [Part],
-    pub(crate) is_before: bool,
-    pub(crate) stop: usize,
+pub struct Choice {
+    pub start: Start,
+    pub put: &'static [Part],
+    pub is_before: bool,
+    pub stop: usize,
     /// Whether a declaration that is out of place is left out.
-    pub(crate) is_misplaced: bool,
+    pub is_misplaced: bool,
     reached: usize,
 }
 
 /// A search: it ends with the first repair with which reading goes on up to a landmark and over it.
 /// `open` has what was read up to the fault, and `rest` the tokens from it on.
 #[derive(Drop)]
-pub(crate) struct Search<'s, 'a> {
-    pub(crate) alloc: Global,
-    pub(crate) stock: &'s Stock<'a>,
-    pub(crate) rest: &'s [Token<'a>],
-    pub(crate) open: &'s Open<'a>,
-    pub(crate) left: usize,
-    pub(crate) best: Option<Choice>,
-    pub(crate) is_found: bool,
+struct Search<'s, 'a> {
+    alloc: Global,
+    stock: &'s Stock<'a>,
+    rest: &'s [Token<'a>],
+    open: &'s Open<'a>,
+    left: usize,
+    best: Option<Choice>,
+    is_found: bool,
     /// How many landmarks are read after a repair.
-    pub(crate) landmarks: usize,
+    landmarks: usize,
 }
 
 /// Whether a kind of token begins a construct that ends with another one.
@@ -104,7 +107,7 @@ impl Search<'_, '_> {
         }
         let before = made.len();
         put_numbered(&mut made, self.rest.get(choice.stop..end).unwrap_or(&[]))?;
-        self.left = self.left.saturating_sub(made.len());
+        self.left = self.left.saturating_sub(made.len().saturating_add(TRIAL));
         match read(self.alloc, &made)? {
             Reading::Whole => Ok(Some(end)),
             Reading::Unexpected(place) if before <= place => {
@@ -280,7 +283,7 @@ impl Search<'_, '_> {
     }
 
     /// Tries all repairs of the fault.
-    pub(crate) fn run(&mut self, place: usize) -> Result<(), AllocError> {
+    fn run(&mut self, place: usize) -> Result<(), AllocError> {
         let here = Start {
             place,
             kept: self.open.kept.len(),
@@ -299,4 +302,30 @@ impl Search<'_, '_> {
         self.try_small(here)?;
         self.try_landmarks(here)
     }
+}
+
+/// The repair of the fault at the first of these tokens, if one is found. `open` has what was read
+/// before them, `place` counts the tokens before them, and at most `left` tokens are read, from
+/// which those that were read are taken away.
+pub fn repair_of<'a>(
+    alloc: Global,
+    stock: &Stock<'a>,
+    open: &Open<'a>,
+    place: usize,
+    rest: &[Token<'a>],
+    left: &mut usize,
+) -> Result<Option<Choice>, AllocError> {
+    let mut search = Search {
+        alloc,
+        stock,
+        rest,
+        open,
+        left: *left,
+        best: None,
+        is_found: false,
+        landmarks: 1,
+    };
+    search.run(place)?;
+    *left = search.left;
+    Ok(search.best)
 }

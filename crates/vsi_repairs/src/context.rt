@@ -7,9 +7,9 @@ use vsi_syntax::{Kind, Span, Token};
 
 /// A beginning in a list: the number of a token, and the number of those of `kept` before it.
 #[derive(Clone, Copy)]
-pub(crate) struct Start {
-    pub(crate) place: usize,
-    pub(crate) kept: usize,
+pub struct Start {
+    pub place: usize,
+    pub kept: usize,
 }
 
 /// A sequence that hasn't ended: where it begins in `kept`, where its last command begins, and
@@ -24,8 +24,8 @@ struct Level {
 /// What was read of a list: a short list after which the same tokens may come, in which each token
 /// has its number in the list that was read as its span, and the sequences that haven't ended.
 #[derive(Drop)]
-pub(crate) struct Open<'a> {
-    pub(crate) kept: Vec<Token<'a>>,
+pub struct Open<'a> {
+    pub kept: Vec<Token<'a>>,
     outer: Vec<Level>,
     now: Level,
 }
@@ -40,7 +40,7 @@ fn at(number: usize) -> Span {
 
 impl<'a> Open<'a> {
     /// The beginning of a list whose first token has this number.
-    pub(crate) fn new(alloc: Global, number: usize) -> Open<'a> {
+    pub fn new(alloc: Global, number: usize) -> Open<'a> {
         let first = Start {
             place: number,
             kept: 0,
@@ -62,7 +62,7 @@ impl<'a> Open<'a> {
     }
 
     /// Where the innermost command begins.
-    pub(crate) fn command(&self) -> Start {
+    pub fn command(&self) -> Start {
         self.now.command
     }
 
@@ -137,7 +137,7 @@ impl<'a> Open<'a> {
     }
 
     /// Reads the token with this number.
-    pub(crate) fn note(
+    pub fn note(
         &mut self,
         stock: &Stock<'a>,
         number: usize,
@@ -170,7 +170,7 @@ impl<'a> Open<'a> {
     }
 
     /// The constructs that haven't ended after a repair.
-    pub(crate) fn with(
+    pub fn with(
         &self,
         alloc: Global,
         stock: &Stock<'a>,
