@@ -92,7 +92,7 @@ fn judge<'a>(
 }
 
 /// The version of the program.
-fn version() -> &'static [u8]
+pub(crate) fn version() -> &'static [u8]
     ensures { result.now ≡ program_version }
 {
     b"0.1.0"

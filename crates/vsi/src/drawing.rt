@@ -15,6 +15,7 @@ ghost use Rattle.vsi_report.specs.Page.{HasPanel};
 ghost use Rattle.vsi.specs.Refusals.{NoOther, RefusesLattice, RefusesProgramAt, FailsBy};
 ghost use Rattle.vsi.specs.Reasons.{WhyDraw};
 
+use crate::auditing::version;
 use crate::cache::{InputCache, InputKind};
 use crate::failure::Failure;
 use crate::files::Files;
@@ -56,6 +57,7 @@ fn page_of(
         source: compilation.source.as_bytes(),
         lattice: compilation.lattice.as_bytes(),
         policy,
+        version: version(),
     };
     filed_page(
         alloc,

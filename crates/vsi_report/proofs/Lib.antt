@@ -5,3 +5,5 @@ pub mod FlowsGraphLemmas
 pub mod SizeLemmas
 pub mod BannerLemmas
 pub mod LabelLemmas
+pub mod MarkedLemmas
+pub mod LabelledLemmas

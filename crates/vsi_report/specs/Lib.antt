@@ -12,3 +12,5 @@ pub mod Verdict
 pub mod Drawn
 pub mod Lead
 pub mod Labels
+pub mod Marked
+pub mod LabelledPage

@@ -6,8 +6,9 @@ use sha2::{Digest, Sha256};
 use std::alloc::{AllocError, Global};
 use vsi_types::Profile;
 
-/// The names of the files of a page, and the bytes of the lattice file. A name is empty where there
-/// is no file.
+/// What a page says of its making: the names of its files, the bytes of the lattice file, and the
+/// version of the program. A name is empty where there is no file, and the version where the page
+/// names none.
 #[derive(Clone, Copy)]
 pub struct Filing<'a> {
     /// The path of the source text.
@@ -16,6 +17,8 @@ pub struct Filing<'a> {
     pub lattice: &'a [u8],
     /// The bytes of the lattice file.
     pub policy: &'a [u8],
+    /// The version of the program that makes the page, as `0.1.0`.
+    pub version: &'a [u8],
 }
 
 /// The name of a file without its folders.
@@ -108,6 +111,18 @@ fn profile_name(profile: Profile) -> &'static [u8] {
     }
 }
 
+/// Adds the program that makes the page with its version, if the page names it.
+fn put_version(page: &mut Page, version: &[u8]) -> Result<(), AllocError> {
+    if version.is_empty() {
+        return Ok(());
+    }
+    page.put_parts(&[
+        Part::Markup(b"<dt>Made by</dt><dd>vsi "),
+        Part::Text(version),
+        Part::Markup(b"</dd>\n"),
+    ])
+}
+
 /// Adds the text of the lattice file, if it has one.
 fn put_policy_text(page: &mut Page, policy: &[u8]) -> Result<(), AllocError> {
     if policy.is_empty() {
@@ -134,8 +149,10 @@ pub(crate) fn put_filing(
     page.put_parts(&[
         Part::Markup(b"<dt>Profile</dt><dd>"),
         Part::Markup(profile_name(subject.profile)),
-        Part::Markup(b"</dd>\n</dl>\n"),
+        Part::Markup(b"</dd>\n"),
     ])?;
+    put_version(page, filing.version)?;
+    page.put(b"</dl>\n")?;
     put_policy_text(page, filing.policy)?;
     page.put(b"</section>\n")
 }

@@ -199,7 +199,7 @@ fn put_all_arrows(
 fn band_name<'a>(order: &'a Order, band: Band) -> &'a [u8] {
     match band.class {
         Some(class) => name_of(order, class),
-        None => b"not inferred",
+        None => b"no class",
     }
 }
 

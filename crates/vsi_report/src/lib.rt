@@ -5,11 +5,14 @@
 //! shows is the compiler's verdict (`HasVerdict` of `specs/Verdict`). `filed_page` makes it with
 //! the names of the files. `lattice_dot`, `flows_dot` and `policy_dot` write its pictures in the
 //! language of Graphviz. Every byte of a text or a name enters a page through `put_escaped`, and
-//! the panel of a source text shows the text (`Shows` of `specs/Reading`).
+//! the panel of a source text shows the text (`Shows` of `specs/Reading`). Each name in the panel
+//! that is tagged is a name of a variable, and its tag has the variable's label (`Marked` of
+//! `specs/Marked`).
 //!
 //! To be believed: `specs/Banner`, `specs/Covering`, `specs/Escape`, `specs/FlowsGraph`,
 //! `specs/Graph`, `specs/Page`, `specs/Reading`, `specs/Size` and `specs/Verdict`, and for the
-//! labels of variables `specs/Labels`; the other files of `specs/` are only steps of proofs.
+//! labels of variables `specs/Labels`, `specs/LabelledPage`, `specs/Marked` and `specs/Panel`; the
+//! other files of `specs/` are only steps of proofs.
 #![tactic(auto)]
 
 mod bands;

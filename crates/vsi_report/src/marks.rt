@@ -1,20 +1,24 @@
 //! The parts of a source text between its tokens that a page sets apart: comments, and characters
 //! that aren't visible or change the direction of a line.
 
-/// A part of a source text: its first byte, the byte after it, its kind, and its label.
+/// The kinds of parts of a source text that a page sets apart, other than names.
+#[derive(Clone, Copy)]
+pub(crate) enum Word {
+    Keyword,
+    Comment,
+    /// A character that isn't visible.
+    Hidden,
+}
+
+/// A part of a source text: its first byte, the byte after it, its kind unless it is plain, and its
+/// label.
 #[derive(Clone, Copy)]
 pub(crate) struct Mark {
     pub(crate) start: usize,
     pub(crate) stop: usize,
-    pub(crate) kind: &'static [u8],
+    pub(crate) word: Option<Word>,
     pub(crate) label: &'static [u8],
 }
-
-/// The kind of a comment.
-const NOTE: &[u8] = b"note";
-
-/// The kind of a character that isn't visible.
-const HIDDEN: &[u8] = b"mark";
 
 /// The names of the control characters below the space.
 const CONTROLS: [&[u8]; 32] = [
@@ -138,7 +142,7 @@ fn hidden_mark(source: &[u8], at: usize, stop: usize) -> Option<Mark> {
     Some(Mark {
         start: at,
         stop: at.saturating_add(length).min(stop),
-        kind: HIDDEN,
+        word: Some(Word::Hidden),
         label,
     })
 }
@@ -158,7 +162,7 @@ pub(crate) fn mark_at(source: &[u8], at: usize, stop: usize, is_comment: bool) -
         let mark = Mark {
             start: at,
             stop: end,
-            kind: NOTE,
+            word: Some(Word::Comment),
             label: b"",
         };
         return (mark, true);
@@ -171,7 +175,7 @@ fn plain(start: usize, stop: usize) -> Mark {
     Mark {
         start,
         stop,
-        kind: b"",
+        word: None,
         label: b"",
     }
 }

@@ -1,7 +1,10 @@
 //! The parts of a page and the writer that appends them.
 
 ghost use Rattle.std.specs.Prelude.{◌≡◌, ◌++◌, ℕ, List, [], IfOk, OnOk, decimal};
+ghost use Rattle.vsi_scope.specs.Program.{Resolved};
 ghost use Rattle.vsi_report.specs.Escape.{escaped};
+ghost use Rattle.vsi_report.specs.LabelledPage.{HasLabels};
+ghost use Rattle.vsi_report.specs.Marked.{IsMarked};
 ghost use Rattle.vsi_report.specs.Page.{HasPanel};
 ghost use Rattle.vsi_report.specs.Reading.{Shows};
 ghost use Rattle.vsi_report.specs.Banner.{untagged, HasLead};
@@ -126,6 +129,9 @@ impl Page {
     ) -> Result<Vec<u8>, AllocError>
         ensures panel { (source : List ℕ) → Shows panel.now.items source
             → IfOk result (λ page. HasPanel page.items source) }
+        ensures labels { (r : Resolved) (ls : List (List ℕ)) (source : List ℕ)
+            → Shows panel.now.items source → IsMarked r ls source panel.now.items
+            → IfOk result (λ page. HasLabels r ls source page.items) }
         ensures led { (v : Verdict) (lead : List ℕ) → HasLead v lead self.text.items
             → IfOk result (λ page. HasLead v lead page.items) }
     {

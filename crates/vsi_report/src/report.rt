@@ -2,11 +2,16 @@
 
 ghost use Rattle.std.specs.Prelude.{◌≡◌, ◌≤◌, ℕ, List, [], length, IfOk};
 ghost use Rattle.vsi_lattice.specs.LatticeView.{class_named, names, order as order_of_lattice};
+ghost use Rattle.vsi_scope.specs.Program.{Resolved as Program};
+ghost use Rattle.vsi_types.specs.Security.{program as program_of};
+ghost use Rattle.vsi_infer.specs.Inference.{IsLeast};
 ghost use Rattle.vsi_compiler.specs.Acceptance.{IsAccepted};
 ghost use Rattle.vsi_compiler.specs.Refusal.{HasShortestBadWalk, Refuses, RefusesProgram};
 ghost use Rattle.vsi_report.specs.Banner.{HasLead};
 ghost use Rattle.vsi_report.specs.Graph.{texts};
+ghost use Rattle.vsi_report.specs.LabelledPage.{HasLabels, HasTrueLabels};
 ghost use Rattle.vsi_report.specs.Lead.{HasTrueLead, allowed_words, lead_words};
+ghost use Rattle.vsi_report.specs.Marked.{IsMarked};
 ghost use Rattle.vsi_report.specs.Page.{HasPanel};
 ghost use Rattle.vsi_report.specs.Reading.{Shows};
 ghost use Rattle.vsi_report.specs.Size.{IsShort, IsBounded, most_bytes};
@@ -45,6 +50,8 @@ fn joined(
 ) -> Result<Vec<u8>, ReportError>
     requires { Shows panel.now.items source.now }
     ensures panel { IfOk result (λ page. HasPanel page.items source.now) }
+    ensures labels { (r : Program) (ls : List (List ℕ)) → IsMarked r ls source.now panel.now.items
+        → IfOk result (λ page. HasLabels r ls source.now page.items) }
     ensures led { (v : Shown) (lead : List ℕ) → HasLead v lead begun.text.items
         → IfOk result (λ page. HasLead v lead page.items) }
     ensures short { IfOk result (λ page.
@@ -63,17 +70,20 @@ fn program_page(
     lead: &Page,
     sides: &Sides,
     style: &[u8],
+    program: &Resolved<'_>,
     facts: &Facts,
     walk: &[Step],
     source: &[u8],
     lines: usize,
 ) -> Result<Vec<u8>, ReportError>
     ensures panel { IfOk result (λ page. HasPanel page.items source.now) }
+    ensures labels { IfOk result (λ page.
+        HasLabels program.now (texts facts.now.labels.items) source.now page.items) }
     ensures led { IfOk result (λ page. HasLead verdict lead.now.text.items page.items) }
     ensures short { IfOk result (λ page. length page.items
         ≤ most_bytes (length source.now) (length facts.now.pairs.items) lines) }
 {
-    let panel = source_panel(alloc, facts, walk, source)?;
+    let panel = source_panel(alloc, program, facts, walk, source)?;
     let begun = begun_page(alloc, verdict, sides.title.as_slice(), style, lead)?;
     joined(begun, sides, &panel, source, facts.pairs.len(), lines)
 }
@@ -103,12 +113,15 @@ fn page_with_image(
     filing: &Filing<'_>,
     lattice: &Lattice,
     order: &Order,
+    program: &Resolved<'_>,
     facts: &Facts,
     source: &[u8],
     verified: &Verified,
     lines: &[u8],
 ) -> Result<Vec<u8>, ReportError>
     ensures panel { IfOk result (λ page. HasPanel page.items source.now) }
+    ensures labels { IfOk result (λ page.
+        HasLabels program.now (texts facts.now.labels.items) source.now page.items) }
     ensures led { IfOk result (λ page. HasLead verdicts.Accepted
         (allowed_words (length facts.now.pairs.items)) page.items) }
     ensures short { IfOk result (λ page. length page.items
@@ -130,6 +143,7 @@ fn page_with_image(
         &lead,
         &sides,
         &style,
+        program,
         facts,
         &[],
         source,
@@ -145,9 +159,13 @@ fn accepted_page(
     read: &Source<'_>,
     chosen: &[Class],
 ) -> Result<Vec<u8>, ReportError>
-    requires { IsAccepted (class_named read.now.lattice) (order_of_lattice read.now.lattice) profile
-        read.now.text }
+    requires accepted { IsAccepted (class_named read.now.lattice)
+        (order_of_lattice read.now.lattice) profile read.now.text }
+    requires least { IsLeast (order_of_lattice read.now.lattice) profile
+        (program_of read.now.resolved) chosen.now }
     ensures panel { IfOk result (λ page. HasPanel page.items read.now.text) }
+    ensures labels { IfOk result (λ page.
+        HasTrueLabels read.now.lattice profile read.now.text page.items) }
     ensures verdict { IfOk result (λ page.
         HasVerdict read.now.lattice profile read.now.text page.items) }
     ensures bounded { IfOk result (λ page.
@@ -161,7 +179,7 @@ fn accepted_page(
     let verified = image_of(alloc, read)?;
     let lines = listing(alloc, verified.image())?;
     page_with_image(
-        alloc, profile, filing, lattice, &order, &facts, source, &verified, &lines,
+        alloc, profile, filing, lattice, &order, program, &facts, source, &verified, &lines,
     )
 }
 
@@ -176,6 +194,8 @@ fn page_with_walk(
 ) -> Result<Vec<u8>, ReportError>
     requires { texts subject.now.order.now.names.items ≡ names subject.now.lattice.now }
     ensures panel { IfOk result (λ page. HasPanel page.items subject.now.source.now) }
+    ensures labels { IfOk result (λ page. HasLabels program.now (texts facts.now.labels.items)
+        subject.now.source.now page.items) }
     ensures led { IfOk result (λ page. HasTrueLead subject.now.lattice.now program.now walk.now
         facts.now.pairs.items page.items) }
     ensures short { IfOk result (λ page. length page.items
@@ -198,6 +218,7 @@ fn page_with_walk(
         &lead,
         &sides,
         &style,
+        program,
         facts,
         walk,
         subject.source,
@@ -214,6 +235,9 @@ fn refused_page(
     walk: &[Step],
 ) -> Result<Vec<u8>, ReportError>
     ensures panel { IfOk result (λ page. HasPanel page.items read.now.text) }
+    ensures labels { HasShortestBadWalk (class_named read.now.lattice)
+        (order_of_lattice read.now.lattice) profile read.now.text walk.now
+        → IfOk result (λ page. HasTrueLabels read.now.lattice profile read.now.text page.items) }
     ensures verdict { HasShortestBadWalk (class_named read.now.lattice)
         (order_of_lattice read.now.lattice) profile read.now.text walk.now
         → IfOk result (λ page. HasVerdict read.now.lattice profile read.now.text page.items) }
@@ -284,6 +308,8 @@ fn faulty_page(
     ensures panel { IfOk result (λ page. HasPanel page.items source.now) }
     ensures verdict { RefusesProgram (class_named lattice.now) source.now error.now
         → IfOk result (λ page. HasVerdict lattice.now profile source.now page.items) }
+    ensures labels { RefusesProgram (class_named lattice.now) source.now error.now
+        → IfOk result (λ page. HasTrueLabels lattice.now profile source.now page.items) }
     ensures short { IfOk result (λ page.
         length page.items ≤ most_bytes (length source.now) 0 0) }
     ensures bounded { IfOk result (λ page.
@@ -307,6 +333,9 @@ fn refusal_page(
     ensures verdict { Refuses (class_named read.now.lattice) (order_of_lattice read.now.lattice)
         profile read.now.text error.now
         → IfOk result (λ page. HasVerdict read.now.lattice profile read.now.text page.items) }
+    ensures labels { Refuses (class_named read.now.lattice) (order_of_lattice read.now.lattice)
+        profile read.now.text error.now
+        → IfOk result (λ page. HasTrueLabels read.now.lattice profile read.now.text page.items) }
     ensures bounded { IfOk result (λ page.
         IsShort read.now.lattice profile read.now.text [] page.items) }
 {
@@ -329,6 +358,8 @@ fn read_page(
     ensures panel { IfOk result (λ page. HasPanel page.items read.now.text) }
     ensures verdict { IfOk result (λ page.
         HasVerdict read.now.lattice profile read.now.text page.items) }
+    ensures labels { IfOk result (λ page.
+        HasTrueLabels read.now.lattice profile read.now.text page.items) }
     ensures bounded { IfOk result (λ page.
         IsBounded read.now.lattice profile read.now.text page.items) }
 {
@@ -357,6 +388,8 @@ pub fn filed_page(
     ensures panel { IfOk result (λ page. HasPanel page.items source.now) }
     ensures verdict { IfOk result (λ page.
         HasVerdict lattice.now profile source.now page.items) }
+    ensures labels { IfOk result (λ page.
+        HasTrueLabels lattice.now profile source.now page.items) }
     ensures bounded { IfOk result (λ page.
         IsBounded lattice.now profile source.now page.items) }
 {
@@ -366,7 +399,7 @@ pub fn filed_page(
     }
 }
 
-/// The page of a text by `filed_page`, which names no files.
+/// The page of a text by `filed_page`, which names no files and no version.
 ///
 /// # Errors
 ///
@@ -380,6 +413,8 @@ pub fn report_page(
     ensures panel { IfOk result (λ page. HasPanel page.items source.now) }
     ensures verdict { IfOk result (λ page.
         HasVerdict lattice.now profile source.now page.items) }
+    ensures labels { IfOk result (λ page.
+        HasTrueLabels lattice.now profile source.now page.items) }
     ensures bounded { IfOk result (λ page.
         IsBounded lattice.now profile source.now page.items) }
 {
@@ -387,6 +422,7 @@ pub fn report_page(
         source: b"",
         lattice: b"",
         policy: b"",
+        version: b"",
     };
     filed_page(alloc, profile, &filing, lattice, source)
 }

@@ -1,13 +1,19 @@
 //! The source text of a page, with the class of each name and the steps of a walk.
 
-ghost use Rattle.std.specs.Prelude.{◌≡◌, IfOk};
+ghost use Rattle.std.specs.Prelude.{◌≡◌, ℕ, List, false, true, IfOk};
+ghost use Rattle.vsi_syntax.specs.Cut.{IsCut, pieces};
+ghost use Rattle.vsi_scope.specs.Program.{Resolved as Program};
+ghost use Rattle.vsi_report.specs.Graph.{name_at, texts};
+ghost use Rattle.vsi_report.specs.Marked.{IsLabelled, IsMarked, IsTokenAt, Marked};
 ghost use Rattle.vsi_report.specs.Reading.{Shows};
 
+use crate::drawn::{declarations, variable_name};
 use crate::facts::{Facts, label_at, variable_class};
-use crate::marks::{Mark, mark_at};
-use crate::panel::{Panel, advanced, begun, closed, ended, opened, place_of, source_of};
+use crate::marks::{Mark, Word, mark_at};
+use crate::panel::{Panel, advanced, begun, closed, ended, named, opened, place_of, source_of};
 use crate::walking::Use;
 use std::alloc::{AllocError, Global};
+use vsi_scope::{Resolved, Var};
 use vsi_syntax::{Kind, LexError, Token, lex, put_number};
 use vsi_types::Step;
 
@@ -78,18 +84,20 @@ struct Reader {
     is_declaring: bool,
 }
 
-/// A panel with a token of a kind that ends at a position, with the label of its class and that of
-/// its step.
+/// A panel with a part of the text up to a position that isn't a name, with its label.
 fn with_word<'a>(
     panel: Panel<'a>,
-    kind: &[u8],
-    class: &[u8],
-    step: &[u8],
+    word: Word,
+    label: &[u8],
     stop: usize,
 ) -> Result<Panel<'a>, AllocError>
     ensures source { IfOk result (λ p. p.source ≡ panel.entry.source) }
+    ensures marked { (r : Program) (ls : List (List ℕ))
+        → Marked r ls panel.entry.source.now panel.entry.page.items panel.entry.at panel.entry.line
+        false
+        → IfOk result (λ p. Marked r ls p.source.now p.page.items p.at p.line false) }
 {
-    let panel = opened(panel, kind, class, step)?;
+    let panel = opened(panel, word, label)?;
     let panel = advanced(panel, stop)?;
     closed(panel)
 }
@@ -111,7 +119,7 @@ fn marks_of(
         let (mark, goes_on) = mark_at(source, at, stop, is_comment);
         is_comment = goes_on;
         at = mark.stop;
-        if !mark.kind.is_empty() {
+        if mark.word.is_some() {
             marks.push(mark)?;
         }
     }
@@ -121,15 +129,26 @@ fn marks_of(
 /// A panel with a comment, or with a character that isn't visible.
 fn with_mark<'a>(panel: Panel<'a>, mark: Mark) -> Result<Panel<'a>, AllocError>
     ensures source { IfOk result (λ p. p.source ≡ panel.entry.source) }
+    ensures marked { (r : Program) (ls : List (List ℕ))
+        → Marked r ls panel.entry.source.now panel.entry.page.items panel.entry.at panel.entry.line
+        false
+        → IfOk result (λ p. Marked r ls p.source.now p.page.items p.at p.line false) }
 {
+    let Some(word) = mark.word else {
+        return Ok(panel);
+    };
     let panel = advanced(panel, mark.start)?;
-    with_word(panel, mark.kind, mark.label, b"", mark.stop)
+    with_word(panel, word, mark.label, mark.stop)
 }
 
 /// A panel with the text up to a token, in which comments and characters that aren't visible are
 /// set apart.
 fn with_gap<'a>(alloc: Global, panel: Panel<'a>, stop: usize) -> Result<Panel<'a>, AllocError>
     ensures source { IfOk result (λ p. p.source ≡ panel.entry.source) }
+    ensures marked { (r : Program) (ls : List (List ℕ))
+        → Marked r ls panel.entry.source.now panel.entry.page.items panel.entry.at panel.entry.line
+        false
+        → IfOk result (λ p. Marked r ls p.source.now p.page.items p.at p.line false) }
 {
     let marks = marks_of(alloc, source_of(&panel), place_of(&panel), stop)?;
     let mut panel = panel;
@@ -139,8 +158,8 @@ fn with_gap<'a>(alloc: Global, panel: Panel<'a>, stop: usize) -> Result<Panel<'a
     advanced(panel, stop)
 }
 
-/// A panel with a name of a variable.
-fn with_variable<'a>(
+/// A panel with a name of a variable, which comes next in its text.
+fn with_name<'a>(
     alloc: Global,
     panel: Panel<'a>,
     facts: &Facts,
@@ -149,16 +168,53 @@ fn with_variable<'a>(
     token: &Token<'_>,
 ) -> Result<Panel<'a>, AllocError>
     ensures source { IfOk result (λ p. p.source ≡ panel.entry.source) }
+    ensures marked { (r : Program)
+        → IsTokenAt panel.entry.source.now panel.entry.at token.now.text.now
+        → IsLabelled r (texts facts.now.labels.items) token.now.text.now
+        (name_at (texts facts.now.labels.items) variable)
+        → Marked r (texts facts.now.labels.items) panel.entry.source.now panel.entry.page.items
+        panel.entry.at panel.entry.line false
+        → IfOk result (λ p. Marked r (texts facts.now.labels.items) p.source.now p.page.items p.at
+        p.line false) }
 {
     let step = step_label(alloc, walk, token.span.start)?;
     let kind = colour(variable_class(facts, variable));
-    with_word(
-        panel,
-        kind,
-        label_at(facts, variable),
-        &step,
-        token.span.stop,
-    )
+    named(panel, kind, label_at(facts, variable), &step, token.text)
+}
+
+/// Whether a token of a text, at this position, is the name of a variable.
+fn is_name_of(program: &Resolved<'_>, variable: usize, at: usize, token: &Token<'_>) -> bool
+    ensures place { result ≡ true → token.now.span.start ≡ at }
+    ensures label { (ls : List (List ℕ)) → result ≡ true
+        → IsLabelled program.now ls token.now.text.now (name_at ls variable) }
+{
+    if token.span.start != at || variable >= declarations(program) as usize {
+        return false;
+    }
+    variable_name(program, Var(variable as u16)) == token.text
+}
+
+/// A panel with a name of a variable.
+fn with_variable<'a>(
+    alloc: Global,
+    panel: Panel<'a>,
+    program: &Resolved<'_>,
+    facts: &Facts,
+    walk: &[Step],
+    variable: usize,
+    token: &Token<'_>,
+) -> Result<Panel<'a>, AllocError>
+    ensures source { IfOk result (λ p. p.source ≡ panel.entry.source) }
+    ensures marked { IsTokenAt panel.entry.source.now token.now.span.start token.now.text.now
+        → Marked program.now (texts facts.now.labels.items) panel.entry.source.now
+        panel.entry.page.items panel.entry.at panel.entry.line false
+        → IfOk result (λ p. Marked program.now (texts facts.now.labels.items) p.source.now
+        p.page.items p.at p.line false) }
+{
+    if !is_name_of(program, variable, place_of(&panel), token) {
+        return Ok(panel);
+    }
+    with_name(alloc, panel, facts, walk, variable, token)
 }
 
 /// Whether a token is a keyword.
@@ -192,19 +248,25 @@ fn read_token(reader: Reader, uses: &[Use], token: &Token<'_>) -> (Reader, Optio
 fn with_token<'a>(
     alloc: Global,
     panel: Panel<'a>,
+    program: &Resolved<'_>,
     facts: &Facts,
     walk: &[Step],
     variable: Option<usize>,
     token: &Token<'_>,
 ) -> Result<Panel<'a>, AllocError>
     ensures source { IfOk result (λ p. p.source ≡ panel.entry.source) }
+    ensures marked { IsTokenAt panel.entry.source.now token.now.span.start token.now.text.now
+        → Marked program.now (texts facts.now.labels.items) panel.entry.source.now
+        panel.entry.page.items panel.entry.at panel.entry.line false
+        → IfOk result (λ p. Marked program.now (texts facts.now.labels.items) p.source.now
+        p.page.items p.at p.line false) }
 {
     let panel = with_gap(alloc, panel, token.span.start)?;
     if let Some(variable) = variable {
-        return with_variable(alloc, panel, facts, walk, variable, token);
+        return with_variable(alloc, panel, program, facts, walk, variable, token);
     }
     if is_keyword(token.kind) {
-        return with_word(panel, b"word", b"", b"", token.span.stop);
+        return with_word(panel, Word::Keyword, b"", token.span.stop);
     }
     Ok(panel)
 }
@@ -213,11 +275,17 @@ fn with_token<'a>(
 fn with_tokens<'a>(
     alloc: Global,
     panel: Panel<'a>,
+    program: &Resolved<'_>,
     facts: &Facts,
     walk: &[Step],
     tokens: &[Token<'_>],
 ) -> Result<Panel<'a>, AllocError>
     ensures source { IfOk result (λ p. p.source ≡ panel.entry.source) }
+    ensures marked { IsCut panel.entry.source.now (pieces tokens.now)
+        → Marked program.now (texts facts.now.labels.items) panel.entry.source.now
+        panel.entry.page.items panel.entry.at panel.entry.line false
+        → IfOk result (λ p. Marked program.now (texts facts.now.labels.items) p.source.now
+        p.page.items p.at p.line false) }
 {
     let mut panel = panel;
     let mut reader = Reader {
@@ -228,27 +296,44 @@ fn with_tokens<'a>(
     for token in tokens {
         let (after, variable) = read_token(reader, &facts.uses, token);
         reader = after;
-        panel = with_token(alloc, panel, facts, walk, variable, token)?;
+        panel = with_token(alloc, panel, program, facts, walk, variable, token)?;
     }
     Ok(panel)
 }
 
-/// The panel of a text that has a program, with the facts of the program.
+/// The panel of a text with these tokens, with the facts of its program.
+fn token_panel(
+    alloc: Global,
+    program: &Resolved<'_>,
+    facts: &Facts,
+    walk: &[Step],
+    source: &[u8],
+    tokens: &[Token<'_>],
+) -> Result<Vec<u8>, AllocError>
+    ensures shows { IfOk result (λ page. Shows page.items source.now) }
+    ensures marked { IsCut source.now (pieces tokens.now) → IfOk result (λ page.
+        IsMarked program.now (texts facts.now.labels.items) source.now page.items) }
+{
+    let panel = begun(alloc, source)?;
+    let panel = with_tokens(alloc, panel, program, facts, walk, tokens)?;
+    let panel = with_gap(alloc, panel, source.len())?;
+    ended(panel)
+}
+
+/// The panel of a text that has a program, with the program and its facts.
 pub(crate) fn source_panel(
     alloc: Global,
+    program: &Resolved<'_>,
     facts: &Facts,
     walk: &[Step],
     source: &[u8],
 ) -> Result<Vec<u8>, AllocError>
-    ensures { IfOk result (λ page. Shows page.items source.now) }
+    ensures shows { IfOk result (λ page. Shows page.items source.now) }
+    ensures marked { IfOk result (λ page.
+        IsMarked program.now (texts facts.now.labels.items) source.now page.items) }
 {
     match lex(alloc, source) {
-        Ok(tokens) => {
-            let panel = begun(alloc, source)?;
-            let panel = with_tokens(alloc, panel, facts, walk, &tokens)?;
-            let panel = with_gap(alloc, panel, source.len())?;
-            ended(panel)
-        }
+        Ok(tokens) => token_panel(alloc, program, facts, walk, source, &tokens),
         Err(LexError::Memory) => Err(AllocError),
         Err(_) => plain_panel(alloc, source),
     }
@@ -256,7 +341,9 @@ pub(crate) fn source_panel(
 
 /// The panel of a text without known facts.
 pub(crate) fn plain_panel(alloc: Global, source: &[u8]) -> Result<Vec<u8>, AllocError>
-    ensures { IfOk result (λ page. Shows page.items source.now) }
+    ensures shows { IfOk result (λ page. Shows page.items source.now) }
+    ensures marked { (r : Program) (ls : List (List ℕ))
+        → IfOk result (λ page. IsMarked r ls source.now page.items) }
 {
     let panel = begun(alloc, source)?;
     let panel = with_gap(alloc, panel, source.len())?;

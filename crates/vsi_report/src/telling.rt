@@ -28,7 +28,7 @@ pub(crate) fn put_class_of(
     number: usize,
 ) -> Result<(), AllocError> {
     let Some(class) = variable_class(facts, number) else {
-        return page.put(b"<span class=\"chip kn\">not inferred</span>");
+        return page.put(b"<span class=\"chip kn\">no class</span>");
     };
     let inferred: &'static [u8] = if is_inferred(facts, number) {
         b" <small>inferred</small>"

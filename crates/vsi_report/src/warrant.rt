@@ -1,22 +1,31 @@
 //! What is known of the runs of an image: their bound, and whether they are steady.
 
-use crate::page::{Page, Part};
+use crate::lead::number_word;
+use crate::page::Page;
 use std::alloc::{AllocError, Global};
 use vsi_bound::{Bound, bound_of};
 use vsi_image::Verified;
 use vsi_lattice::Lattice;
 use vsi_steady::{SteadyError, steady_in};
 
+/// Adds the least and the most instructions of a run, or their number if all runs have the same.
+fn put_range(page: &mut Page, least: usize, most: usize) -> Result<(), AllocError> {
+    page.number(least)?;
+    if least != most {
+        page.put(b" to ")?;
+        page.number(most)?;
+    }
+    page.put(number_word(most, b" instruction", b" instructions"))
+}
+
 /// Adds the sentence about the bound of an image.
 fn put_bound(page: &mut Page, bound: Bound) -> Result<(), AllocError> {
     match bound {
-        Bound::Halts { least, most } => page.put_parts(&[
-            Part::Markup(b"<li>Bound: from every store it halts, after "),
-            Part::Number(least as usize),
-            Part::Markup(b" to "),
-            Part::Number(most as usize),
-            Part::Markup(b" instructions.</li>\n"),
-        ]),
+        Bound::Halts { least, most } => {
+            page.put(b"<li>Bound: from every store it halts, after ")?;
+            put_range(page, least as usize, most as usize)?;
+            page.put(b".</li>\n")
+        }
         Bound::Endless { .. } | Bound::Unstructured(_) | Bound::TooLarge => {
             page.put(b"<li>Bound: none is known for the instructions of a run.</li>\n")
         }

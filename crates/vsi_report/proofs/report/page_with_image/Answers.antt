@@ -12,3 +12,6 @@ returns-clause-led c =
     let same : c.len.result ≡ length c.args.facts.now.pairs.items = omega arith in
     subst (λ words. IfOk c.program_page.result (λ page. HasLead Accepted words page.items))
     (c.in_ok-lead.ensures ∙ ap allowed_words same) c.program_page.ensures.led
+
+pub returns-clause-labels : goal.returns-clause-labels
+returns-clause-labels c = c.program_page.ensures.labels

@@ -10,3 +10,6 @@ returns-clause-led c =
     (subst (λ ps. IsLead c.args.subject.now.lattice.now c.args.program.now c.args.walk.now ps c.lead_of-told.result)
     c.deref.ensures.value c.lead_of-told.ensures)
     c.in_ok-lead.ensures c.program_page.ensures.led
+
+pub returns-clause-labels : goal.returns-clause-labels
+returns-clause-labels c = c.program_page.ensures.labels

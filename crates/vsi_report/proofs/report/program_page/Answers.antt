@@ -1,5 +1,6 @@
 use Rattle.std.proofs.Common.{◌≡◌, ◌≤◌, length, subst, arith}
 use Rattle.std.specs.Prelude.{IfOk}
+use Rattle.vsi_report.specs.Graph.{texts}
 use Rattle.vsi_report.specs.Size.{most_bytes}
 use Rattle.vsi_report.proofs.report.program_page.Goals as goal
 
@@ -15,3 +16,7 @@ returns-clause-short c =
     (λ n. IfOk c.joined.result (λ page.
     length page.items ≤ most_bytes (length c.args.source.now) n c.args.lines))
     same c.joined.ensures.short
+
+pub returns-clause-labels : goal.returns-clause-labels
+returns-clause-labels c =
+    c.joined.ensures.labels c.args.program.now (texts c.args.facts.now.labels.items) c.in_ok-panel.ensures.marked

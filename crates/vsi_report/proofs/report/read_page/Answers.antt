@@ -8,3 +8,6 @@ pub returns-in-Err-clause-bounded : goal.returns-in-Err-clause-bounded
 returns-in-Err-clause-bounded c =
     bounded_without c.args.read.now.lattice c.args.profile c.args.read.now.text c.refusal_page.result
     c.refusal_page.ensures.bounded
+
+pub returns-in-Err-clause-labels : goal.returns-in-Err-clause-labels
+returns-in-Err-clause-labels c = c.refusal_page.ensures.labels c.in-Err.ensures.refused
