@@ -63,6 +63,7 @@ memory_why holds (request.EmitC asked) old new = tt
 memory_why holds (request.Bound asked) old new = tt
 memory_why holds (request.Run e o has_trace has_count) old new = tt
 memory_why holds (request.View lattice class e o) old new = tt
+memory_why holds (request.ViewWithin asked) old new = tt
 memory_why holds (request.Drive driving) old new = tt
 memory_why holds (request.Compare comparison) old new = tt
 memory_why holds (request.Leak search) old new = tt

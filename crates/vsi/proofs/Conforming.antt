@@ -1,5 +1,5 @@
 -- Whether a source text conforms to an interface, and under which lattice.
-use Rattle.std.proofs.Common.{◌≡◌, ℕ, List, Bool, true, false, Option, Some, None, Result, IfSome, refl, subst}
+use Rattle.std.proofs.Common.{◌≡◌, ℕ, List, Bool, true, false, Option, Some, None, IfSome, refl, subst}
 use Rattle.std.specs.Global.{Vec}
 use Rattle.std.proofs.lemmas.Bool.{false≢true}
 use Rattle.vsi_lattice.specs.declared.lattice.Lattice.{Lattice}
@@ -8,9 +8,10 @@ use Rattle.vsi_conform.specs.declared.interface.Interface.{Interface}
 use Rattle.vsi_conform.specs.declared.reader.Asked.{Asked}
 use Rattle.vsi.specs.declared.failure.Failure.{Failure}
 use Rattle.vsi.specs.Holding.{Holding}
-use Rattle.vsi.specs.Performed.{IsAskedAt, IsVerdict}
+use Rattle.vsi.specs.Interfaces.{IsAskedAt}
+use Rattle.vsi.specs.Performed.{IsVerdict}
 use Rattle.vsi.specs.Refusals.{NoOther, FailsBy}
-use Rattle.vsi.specs.Reasons.{RefusesAsked, RefusesPolicy}
+use Rattle.vsi.specs.Undriven.{RefusesAsked, RefusesPolicy}
 use Rattle.vsi.proofs.Reasons.{fails_by}
 
 -- A Boolean that is true exactly if a text conforms, where no line is about its bound, gives its verdict.

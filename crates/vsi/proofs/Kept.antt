@@ -1,18 +1,19 @@
 -- The content of the store's file after a drive that fails.
-use Rattle.std.proofs.Common.{◌≡◌, ◌≢◌, ◌-◌, ◌∙◌, ℕ, ℤ, List, Some, None, inl, inr, refl, sym, subst}
+use Rattle.std.proofs.Common.{◌≡◌, ◌≢◌, ◌-◌, ◌∙◌, ℕ, ℤ, List, Some, None, inl, inr, subst}
 use Rattle.std.specs.Prelude.{Option}
 use Rattle.std.specs.Borrow.{Bor}
 use Rattle.std.proofs.KnownBytes.{Keeps-refl}
 use Rattle.vsi_lattice.specs.declared.lattice.Lattice.{Lattice}
 use Rattle.vsi_image.specs.declared.instr.Image.{Image}
-use Rattle.vsi_drive.specs.Control.{Control}
+use Rattle.vsi_drive.specs.Boundary.{Boundary}
+use Rattle.vsi_drive.specs.Control.{Control, controlled}
 use Rattle.vsi_arguments.specs.declared.request.Driving.{Driving}
 use Rattle.vsi.specs.Admitted.{IsAdmitted}
-use Rattle.vsi.specs.Files.{IsBudgetOf, IsStoredAt, LooksAt}
+use Rattle.vsi.specs.Files.{IsBudgetOf, IsStoredAt}
 use Rattle.vsi.specs.Holding.{Delivers, Holding, IsImageAt}
-use Rattle.vsi.specs.Performed.{control_of}
 use Rattle.vsi.specs.Saved.{CutsInput, LeavesState, SavesInput}
 use Rattle.vsi.specs.State.{HoldsState, StaysAt, Touches, state_text}
+use Rattle.vsi.specs.Steering.{IsSteered}
 use Rattle.vsi.proofs.Cut.{StaysAt-same, Touches-same, Touches-trans, cut_saves}
 
 -- A text that was put into the requested file is there.
@@ -49,21 +50,22 @@ first_state holds mid d given left old same touched stays = record {
 
 -- A drive that is cut short leaves the store after some of the lines.
 pub driven_state : (holds mid h left : Holding) (d : Driving) (given old new : Option (List ℕ)) (l : Lattice)
-    (driver : ℕ) (image : Image) (first : List ℤ) (budget most : ℕ) (k : Control) →
-    IsBudgetOf d.execution.budget image budget → LooksAt holds d.lattice.now d.class.now l driver →
+    (driver : ℕ) (image : Image) (b : Boundary) (first : List ℤ) (budget most : ℕ) (k : Control) →
+    IsBudgetOf d.execution.budget image budget → IsSteered holds d l driver image b →
     IsImageAt holds d.execution.image.now image → IsStoredAt holds d.execution.store image first →
-    k ≡ control_of d.lists l driver image budget → IsAdmitted d.is_unbounded l image budget → mid ≡ holds →
+    k ≡ controlled l driver image budget b → IsAdmitted d.is_unbounded l image budget → mid ≡ holds →
     Touches d.save mid h → Delivers d.save (state_text image first) mid h → Touches d.save h left →
     most ≡ d.every - 1 → CutsInput d.save image k first most given old new h left →
     LeavesState holds d given left old new
-driven_state holds mid h left d given old new l driver image first budget most k within looks held stored same admitted
-    kept begun saved touched is cut = record {
+driven_state holds mid h left d given old new l driver image b first budget most k within steered held stored same
+    admitted kept begun saved touched is cut = record {
       touches = Touches-trans d.save holds h left (subst (λ f. Touches d.save f h) kept begun) touched;
       state = inr (record {
         lattice = l;
         driver = driver;
-        looks = looks;
         image = image;
+        boundary = b;
+        steered = steered;
         held = held;
         first = first;
         stored = stored;

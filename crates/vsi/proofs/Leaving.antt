@@ -7,7 +7,8 @@ use Rattle.vsi_lattice.specs.declared.lattice.Lattice.{Lattice}
 use Rattle.vsi_image.specs.declared.instr.Image.{Image}
 use Rattle.vsi_image.specs.declared.instr.Instr.{Instr}
 use Rattle.vsi_image.specs.Meaning.{State, start}
-use Rattle.vsi_drive.specs.Control.{Control}
+use Rattle.vsi_drive.specs.Boundary.{Boundary}
+use Rattle.vsi_drive.specs.Control.{Control, controlled}
 use Rattle.vsi_devices.specs.Engine.{IsOfWriting}
 use Rattle.vsi_devices.specs.Running.{RunsApart, WrittenSteps, trace_of, trace_text}
 use Rattle.vsi_devices.specs.declared.error.EngineError.{EngineError}
@@ -25,10 +26,11 @@ use Rattle.vsi.specs.declared.failure.Failure.TheVariants.{Memory}
 use Rattle.vsi.specs.Admitted.{IsAdmitted}
 use Rattle.vsi.specs.Holding.{Holding, IsImageAt}
 use Rattle.vsi.specs.Partly.{AnswersCheck, AnswersDrive, AnswersRun, DrivenText, Leaves, Partly, WritesPart, cut_from}
-use Rattle.vsi.specs.Files.{BeginsAt, IsBudgetOf, IsStoredAt, LooksAt, OfFiles, shown}
-use Rattle.vsi.specs.Performed.{ToldJson, control_of, judgement_of}
+use Rattle.vsi.specs.Files.{BeginsAt, IsBudgetOf, IsStoredAt, OfFiles, shown}
+use Rattle.vsi.specs.Performed.{ToldJson, judgement_of}
 use Rattle.vsi.specs.Reasons.{ToldRefusal}
 use Rattle.vsi.specs.Failures.{status_of}
+use Rattle.vsi.specs.Steering.{IsSteered}
 use Rattle.vsi.proofs.Partly.{Partly-weaker, spent_leaf, whole_part}
 
 -- The line of JSON of a text is an answer of `check --json`, whether it accepts the text or not.
@@ -55,6 +57,7 @@ cut_within (request.EmitC asked) = omega arith
 cut_within (request.Bound asked) = omega arith
 cut_within (request.Run e o has_trace has_count) = omega arith
 cut_within (request.View lattice class e o) = omega arith
+cut_within (request.ViewWithin asked) = omega arith
 cut_within (request.Drive driving) = omega arith
 cut_within (request.Compare comparison) = omega arith
 cut_within (request.Leak search) = omega arith
@@ -198,18 +201,19 @@ device_leaf Kind engine.Memory old new failure only write memory part =
 
 -- The text that a controller has written for its input is a part of the answer of `drive`.
 pub driven_answers : (holds : Holding) (d : Driving) (given old new : Option (List ℕ)) (l : Lattice) (driver : ℕ)
-    (image : Image) (first : List ℤ) (budget : ℕ) (k : Control) → IsBudgetOf d.execution.budget image budget →
-    LooksAt holds d.lattice.now d.class.now l driver →
+    (image : Image) (b : Boundary) (first : List ℤ) (budget : ℕ) (k : Control) →
+    IsBudgetOf d.execution.budget image budget → IsSteered holds d l driver image b →
     IsImageAt holds d.execution.image.now image → IsStoredAt holds d.execution.store image first →
-    k ≡ control_of d.lists l driver image budget → IsAdmitted d.is_unbounded l image budget →
+    k ≡ controlled l driver image budget b → IsAdmitted d.is_unbounded l image budget →
     Partly (DrivenText k first given) old new → Partly (AnswersDrive holds d given) old new
-driven_answers holds d given old new l driver image first budget k within looks held stored same admitted =
+driven_answers holds d given old new l driver image b first budget k within steered held stored same admitted =
     Partly-weaker (DrivenText k first given) (AnswersDrive holds d given) old new
     (λ text is. record {
       lattice = l;
       driver = driver;
-      looks = looks;
       image = image;
+      boundary = b;
+      steered = steered;
       held = held;
       first = first;
       stored = stored;

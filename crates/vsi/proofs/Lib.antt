@@ -5,6 +5,7 @@ mod Served
 pub mod Written
 pub mod Partly
 pub mod Cut
+pub mod Walked
 pub mod Kept
 pub mod Leaving
 pub mod Filled
@@ -21,9 +22,11 @@ pub mod Unrun
 pub mod Unbounded
 pub mod Conforming
 pub mod Undriven
+pub mod Steered
 pub mod Short
 pub mod Declared
 pub mod Once
 pub mod Left
 pub mod Loading
 pub mod Looked
+pub mod Viewed

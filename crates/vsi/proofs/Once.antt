@@ -1,14 +1,15 @@
 -- Words that ask for `build` or `view` ask for one request alone, but for its numbers.
 use Rattle.std.proofs.Common.{◌≡◌, ℕ, true, false, List, [], ◌∷◌, refl, ap, sym, subst, ◌∙◌}
-use Rattle.std.specs.Prelude.{bytes_eq, codes, String}
+use Rattle.std.specs.Prelude.{◌||◌, Option, Some, None, bytes_eq, codes, is_some, String}
 use Rattle.std.specs.Borrow.{Bor}
 use Rattle.std.specs.declared.alloc.Global.{Global}
 use Rattle.vsi_arguments.specs.declared.request.Compilation.{Compilation}
 use Rattle.vsi_arguments.specs.declared.request.Execution.{Execution}
 use Rattle.vsi_arguments.specs.declared.request.InitialStore.{InitialStore}
 use Rattle.vsi_arguments.specs.declared.request.Request.{Request}
+use Rattle.vsi_arguments.specs.declared.request.Viewing.{Viewing}
 use Rattle.vsi_arguments.specs.declared.request.Document.TheVariants as document
-use Rattle.vsi_arguments.specs.declared.request.Request.TheVariants.{Build, Document, Explain, Layout, Mend, View}
+use Rattle.vsi_arguments.specs.declared.request.Request.TheVariants.{Build, Document, Explain, Layout, Mend, View, ViewWithin}
 use Rattle.vsi_asked.specs.Asked.{AsksFor, Spells, given, name_of}
 use Rattle.vsi_asked.specs.Words.{has_flag, operands_in, shown, texts, values_in}
 
@@ -85,6 +86,9 @@ one_build words c i asks (Explain page) asked =
 one_build words c i asks (Layout laid) asked =
     absurd (other_name (texts words) (codes "build") (codes "fmt") asks.spelled.rest asked.spelled.asks.rest
     asks.spelled.named asked.spelled.asks.named refl refl)
+one_build words c i asks (ViewWithin viewing) asked =
+    absurd (other_name (texts words) (codes "build") (codes "view") asks.spelled.rest asked.spelled.asks.rest
+    asks.spelled.named asked.spelled.asks.named refl refl)
 one_build words c i asks (Mend mending) asked =
     absurd (other_name (texts words) (codes "build") (codes "mend") asks.spelled.rest asked.spelled.asks.rest
     asks.spelled.named asked.spelled.asks.named refl refl)
@@ -121,6 +125,27 @@ same_view words l m x y e f o p first second =
           ∙ first.has_options.1.1.1.0;
       is_full = sym second.has_flags.0 ∙ ap (has_flag (codes "--full-store")) rest ∙ first.has_flags.0;
     }
+
+-- A list that has no value isn't given.
+ungiven : (list : Option (Bor (List ℕ))) → given list ≡ [] → is_some list ≡ false
+ungiven None none = refl
+ungiven (Some text) none = absurd (cc)
+
+-- Arguments don't request a view without lists and one with lists.
+apart_lists : (words : List (String Global)) (l x : Bor (List ℕ)) (e : Execution) (o : InitialStore)
+    (viewing : Viewing) → Spells words (View l x e o) → Spells words (ViewWithin viewing) → ⊥
+apart_lists words l x e o viewing first second =
+    let rest : second.asks.rest ≡ first.rest =
+    behind (texts words) (codes "view") first.rest second.asks.rest first.named second.asks.named in
+    let outputs : given viewing.outputs ≡ [] =
+    sym second.asks.has_options.1.1.1.1.0 ∙ ap (values_in (codes "--outputs") false) rest
+    ∙ first.has_options.1.1.1.1.0 in
+    let released : given viewing.released ≡ [] =
+    sym second.asks.has_options.1.1.1.1.1.0 ∙ ap (values_in (codes "--release") false) rest
+    ∙ first.has_options.1.1.1.1.1.0 in
+    let none : (is_some viewing.outputs || is_some viewing.released) ≡ false =
+    rw (ungiven viewing.outputs outputs, ungiven viewing.released released) refl in
+    let turned : true ≡ false = sym second.listed ∙ none in absurd cc
 
 -- Arguments that request a view request only that view.
 pub record OneView (l x : Bor (List ℕ)) (e : Execution) (o : InitialStore) (request : Request) : Type 0 where
@@ -164,6 +189,8 @@ one_view words l x e o asks (Explain page) asked =
 one_view words l x e o asks (Layout laid) asked =
     absurd (other_name (texts words) (codes "view") (codes "fmt") asks.spelled.rest asked.spelled.asks.rest
     asks.spelled.named asked.spelled.asks.named refl refl)
+one_view words l x e o asks (ViewWithin viewing) asked =
+    absurd (apart_lists words l x e o viewing asks.spelled asked.spelled)
 one_view words l x e o asks (Mend mending) asked =
     absurd (other_name (texts words) (codes "view") (codes "mend") asks.spelled.rest asked.spelled.asks.rest
     asks.spelled.named asked.spelled.asks.named refl refl)

@@ -93,7 +93,7 @@ refuses_tree holds path bytes text l answer result read same declared is told =
 -- ---- texts without a program.
 
 -- A refusal that reports an error which no program has says that there is no program.
-tells_program : (l : Lattice) (text : List ℕ) (error : CompileError) → RefusesProgram (class_named l) text error →
+pub tells_program : (l : Lattice) (text : List ℕ) (error : CompileError) → RefusesProgram (class_named l) text error →
     (HasProgram (class_named l) text → error ≡ compiler.Memory) → (reason : Unanswered) →
     Because (TellsSource (λ e. e ≡ error) l text) ⊥ reason →
     Because (TellsSource (IsProgramFault l text) l text) ⊥ reason

@@ -1,5 +1,5 @@
 -- The words that a controller begins with, and the reason why it doesn't, as a failure claims it.
-use Rattle.std.proofs.Common.{◌≡◌, ◌∙◌, ℕ, ℤ, List, [], Result, Ok, Err, Some, false, inl, inr, refl, sym, ap, subst}
+use Rattle.std.proofs.Common.{◌≡◌, ◌⊎◌, ◌∙◌, ℕ, ℤ, List, [], Result, Err, Some, false, inl, inr, refl, sym, ap, subst}
 use Rattle.std.specs.Prelude.{Bool, Option, IfErr, IfOk, IsErrAnd}
 use Rattle.std.specs.Borrow.{Bor}
 use Rattle.vsi_lattice.specs.LatticeView.{class_named}
@@ -11,7 +11,9 @@ use Rattle.vsi_store.specs.View.{first_unknown}
 use Rattle.vsi_store.specs.declared.views.ViewError.{ViewError}
 use Rattle.vsi_store.specs.declared.views.ViewError.TheVariants as views
 use Rattle.vsi_diagnostics.specs.declared.fault.Fault.TheVariants as fault
+use Rattle.vsi_drive.specs.Boundary.{Boundary}
 use Rattle.vsi_drive.specs.BoundaryFaults.{boundary_fault}
+use Rattle.vsi_drive.specs.Control.{controlled}
 use Rattle.vsi_drive.specs.declared.boundary.BoundaryFault.{BoundaryFault}
 use Rattle.vsi_drive.specs.declared.starts.StartFault.{StartFault}
 use Rattle.vsi_drive.specs.declared.starts.StartFault.TheVariants as start
@@ -22,14 +24,15 @@ use Rattle.vsi_answers.specs.Judged.{IsViewFault, TellsFault, TellsStartFault}
 use Rattle.vsi_answers.specs.declared.unanswered.Cause.TheVariants as cause
 use Rattle.vsi_answers.specs.declared.unanswered.Unanswered.{Unanswered}
 use Rattle.vsi_answers.specs.declared.unanswered.Unanswered.TheVariants as unanswered
+use Rattle.vsi_arguments.specs.declared.request.DrivePolicy.{DrivePolicy}
+use Rattle.vsi_arguments.specs.declared.request.DrivePolicy.TheVariants as policy
 use Rattle.vsi_arguments.specs.declared.request.Driving.{Driving}
-use Rattle.vsi_arguments.specs.declared.request.NameLists.{NameLists}
 use Rattle.vsi.specs.declared.failure.Failure.{Failure}
 use Rattle.vsi.specs.Holding.{Holding, IsImageAt, IsStoreAt}
-use Rattle.vsi.specs.Files.{IsBudgetOf, IsFullAt, IsStoredAt, LooksAt}
-use Rattle.vsi.specs.Refusals.{IsNoMemory, NoOther, RefusesFirst, FailsBy}
-use Rattle.vsi.specs.Performed.{control_of}
-use Rattle.vsi.specs.Reasons.{IsBoundaryStart, LacksDrive, RefusesControl, SaysShort, WhyDrive}
+use Rattle.vsi.specs.Files.{IsBudgetOf, IsFullAt, IsStoredAt}
+use Rattle.vsi.specs.Refusals.{IsNoMemory, NoOther, RefusesFirst, RefusesImage, FailsBy}
+use Rattle.vsi.specs.Steering.{IsLatticeOf, IsSteered, IsSteeredBy}
+use Rattle.vsi.specs.Undriven.{IsBoundaryStart, LacksDrive, LacksSteering, RefusesControl, RefusesSteering, SaysShort, WhyDrive}
 use Rattle.vsi.proofs.Reasons.{FailsBy-weaker, handed, failed_by, fails_by}
 use Rattle.vsi.proofs.Unrun.{held_failed, kind_told}
 
@@ -93,13 +96,13 @@ lacking_fault : (l : Lattice) (image : Image) (error : ViewError) → LacksContr
 lacking_fault l image error (i, first, is) = subst (λ e. IsViewFault l image (fault.View e)) (sym is) first
 
 -- The failure for that fault claims that the controller is refused.
-pub controller_fails : (lists : NameLists) (l : Lattice) (driver : ℕ) (image : Image) (budget : ℕ) (error : ViewError)
+pub controller_fails : (b : Boundary) (l : Lattice) (driver : ℕ) (image : Image) (budget : ℕ) (error : ViewError)
     (failure : Failure) → LacksController l image error →
     FailsBy (Because (TellsFault (λ f. (f ≡ fault.View error) × IsNoMemory f)) ⊥) NoOther failure →
-    FailsBy (RefusesControl lists l driver image budget) NoOther failure
-controller_fails lists l driver image budget error failure lacks told =
+    FailsBy (RefusesControl b l driver image budget) NoOther failure
+controller_fails b l driver image budget error failure lacks told =
     fails_by (Because (TellsFault (λ f. (f ≡ fault.View error) × IsNoMemory f)) ⊥)
-    (RefusesControl lists l driver image budget) NoOther
+    (RefusesControl b l driver image budget) NoOther
     (λ reason is. inl (kind_told (IsViewFault l image) (fault.View error) (λ other. lacking_fault l image error lacks)
     reason is))
     failure told
@@ -116,39 +119,41 @@ start_told Kind f kind unanswered.OutOfBudget told = absurd told
 start_told Kind f kind unanswered.Memory told = tt
 
 -- The failure for a fault of the boundary claims that the controller is refused.
-pub boundary_fails : (lists : NameLists) (l : Lattice) (driver : ℕ) (image : Image) (budget : ℕ) (f : BoundaryFault)
-    (failure : Failure) → boundary_fault (control_of lists l driver image budget) ≡ Some f →
+pub boundary_fails : (b : Boundary) (l : Lattice) (driver : ℕ) (image : Image) (budget : ℕ) (f : BoundaryFault)
+    (failure : Failure) → boundary_fault (controlled l driver image budget b) ≡ Some f →
     FailsBy (Because (TellsStartFault (λ g. g ≡ start.Boundary f)) ⊥) NoOther failure →
-    FailsBy (RefusesControl lists l driver image budget) NoOther failure
-boundary_fails lists l driver image budget f failure is told =
-    fails_by (Because (TellsStartFault (λ g. g ≡ start.Boundary f)) ⊥) (RefusesControl lists l driver image budget)
+    FailsBy (RefusesControl b l driver image budget) NoOther failure
+boundary_fails b l driver image budget f failure is told =
+    fails_by (Because (TellsStartFault (λ g. g ≡ start.Boundary f)) ⊥) (RefusesControl b l driver image budget)
     NoOther
-    (λ reason why. inr (start_told (IsBoundaryStart (control_of lists l driver image budget)) (start.Boundary f)
+    (λ reason why. inr (start_told (IsBoundaryStart (controlled l driver image budget b)) (start.Boundary f)
     (f, refl, is) reason why))
     failure told
 
 -- A drive whose controller is refused fails for that reason.
 pub control_failed : {T : Type 0} (holds : Holding) (d : Driving) (l : Lattice) (driver : ℕ) (image : Image)
-    (budget : ℕ) (result : Result T Failure) (failure : Failure) → LooksAt holds d.lattice.now d.class.now l driver →
+    (b : Boundary) (budget : ℕ) (result : Result T Failure) (failure : Failure) → IsSteered holds d l driver image b →
     IsImageAt holds d.execution.image.now image → IsBudgetOf d.execution.budget image budget →
-    IsErrAnd result (λ s. s ≡ failure) → FailsBy (RefusesControl d.lists l driver image budget) NoOther failure →
+    IsErrAnd result (λ s. s ≡ failure) → FailsBy (RefusesControl b l driver image budget) NoOther failure →
     IfErr result (FailsBy (WhyDrive holds d) (LacksDrive holds d))
-control_failed holds d l driver image budget result failure looks held within is told =
-    failed_by (RefusesControl d.lists l driver image budget) (WhyDrive holds d) (LacksDrive holds d)
+control_failed holds d l driver image b budget result failure steered held within is told =
+    failed_by (RefusesControl b l driver image budget) (WhyDrive holds d) (LacksDrive holds d)
     (λ reason refused. elim refused [
       | inl view ↦ inr (inr (inr (inl (record {
         lattice = l;
         driver = driver;
-        looks = looks;
         image = image;
+        boundary = b;
+        steered = steered;
         held = held;
         is = view;
       }))))
       | inr boundary ↦ inr (inr (inr (inr (record {
         lattice = l;
         driver = driver;
-        looks = looks;
         image = image;
+        boundary = b;
+        steered = steered;
         held = held;
         budget = budget;
         within = within;
@@ -157,21 +162,45 @@ control_failed holds d l driver image budget result failure looks held within is
     ])
     result failure is told
 
+-- The lattice by which a class drives an image is that of the drive.
+steered_lattice : (holds : Holding) (d : Driving) (p : DrivePolicy) (l : Lattice) (driver : ℕ) (image : Image)
+    (b : Boundary) → IsSteeredBy holds d p l driver image b → IsLatticeOf holds p l
+steered_lattice holds d (policy.Lattice path lists) l driver image b steered = steered.looks.lattice
+steered_lattice holds d (policy.Interface path) l driver image b steered = (steered.asked, steered.force)
+
+-- A drive that nobody steers fails for that reason, or because something is missing.
+pub unsteered_failed : {T : Type 0} (holds : Holding) (d : Driving) (result : Result T Failure) (failure : Failure) →
+    IsErrAnd result (λ s. s ≡ failure) →
+    FailsBy
+    (λ reason. RefusesSteering holds d.policy reason ⊎ RefusesImage holds d.execution.image.now reason)
+    (LacksSteering holds d) failure →
+    IfErr result (FailsBy (WhyDrive holds d) (LacksDrive holds d))
+unsteered_failed holds d result failure is told =
+    handed (FailsBy (WhyDrive holds d) (LacksDrive holds d)) failure result is
+    (FailsBy-weaker
+    (λ reason. RefusesSteering holds d.policy reason ⊎ RefusesImage holds d.execution.image.now reason)
+    (WhyDrive holds d) (LacksSteering holds d) (LacksDrive holds d)
+    (λ reason refused. elim refused [
+      | inl steering ↦ inl steering
+      | inr image ↦ inr (inl image)
+    ])
+    (λ s lacks. inl (inl lacks)) failure told)
+
 -- If the budget isn't enough for the image of a file, the caller that passes the failure on says so.
 pub short_failed : {T : Type 0} (holds : Holding) (d : Driving) (why : Unanswered → Type 0) (l : Lattice)
-    (driver : ℕ) (image : Image) (budget : ℕ) (result : Result T Failure) (failure : Failure) →
-    LooksAt holds d.lattice.now d.class.now l driver → IsImageAt holds d.execution.image.now image →
+    (driver : ℕ) (image : Image) (b : Boundary) (budget : ℕ) (result : Result T Failure) (failure : Failure) →
+    IsSteered holds d l driver image b → IsImageAt holds d.execution.image.now image →
     IsBudgetOf d.execution.budget image budget → IsErrAnd result (λ s. s ≡ failure) →
     FailsBy (λ reason. ⊥) (λ s. (d.is_unbounded ≡ false) × SaysShort l image budget s) failure →
     IfErr result (FailsBy why (LacksDrive holds d))
-short_failed holds d why l driver image budget result failure looks held within is told =
+short_failed holds d why l driver image b budget result failure steered held within is told =
     handed (FailsBy why (LacksDrive holds d)) failure result is
     (FailsBy-weaker (λ reason. ⊥) why (λ s. (d.is_unbounded ≡ false) × SaysShort l image budget s)
     (LacksDrive holds d) (λ reason none. absurd none)
     (λ s short. inr (record {
       bounded = short.0;
       lattice = l;
-      declared = looks.lattice;
+      declared = steered_lattice holds d d.policy l driver image b steered;
       image = image;
       held = held;
       budget = budget;

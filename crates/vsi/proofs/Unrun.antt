@@ -33,7 +33,8 @@ use Rattle.vsi.specs.Holding.{Holding, IsImageAt, IsLatticeAt, IsStoreAt}
 use Rattle.vsi.specs.Input.{two_classes}
 use Rattle.vsi.specs.Files.{BeginsAt}
 use Rattle.vsi.specs.Refusals.{IsNoMemory, LacksBound, LacksBoundAt, LacksClass, LacksClassAt, NoOther, RefusesImage, RefusesLattice, RefusesStart, RefusesStore, FailsBy}
-use Rattle.vsi.specs.Reasons.{HasNoText, IsUnusable}
+use Rattle.vsi.specs.Reasons.{HasNoText}
+use Rattle.vsi.specs.Undriven.{IsUnusable}
 use Rattle.vsi.specs.Failures.{status_of}
 use Rattle.vsi.proofs.Reasons.{FailsBy-weaker, handed, late_fails, failed_by, fails_by}
 

@@ -14,8 +14,8 @@ use Rattle.vsi_arguments.specs.declared.request.Compilation.{Compilation}
 use Rattle.vsi.specs.declared.failure.Failure.{Failure}
 use Rattle.vsi.specs.Holding.{Holding}
 use Rattle.vsi.specs.Files.{AreFiles, OfFiles, Writes}
-use Rattle.vsi.specs.Performed.{BuildsFile, PerformsBuild, ToldAccepted, ToldFlows, ToldRaises, profile_of}
-use Rattle.vsi.specs.Refusals.{AsksCheck, AsksFlows, AsksMend}
+use Rattle.vsi.specs.Performed.{BuildsFile, PerformsBuild, ToldAccepted, ToldRaises, profile_of}
+use Rattle.vsi.specs.Refusals.{AsksCheck, AsksMend}
 use Rattle.vsi.specs.Failures.{status_of, failure_of}
 use Rattle.vsi.proofs.Answered.{answered_told}
 
@@ -82,12 +82,6 @@ pub told_accepted : (is_steady is_strict : Bool) (l : Lattice) (source : List �
     AsksCheck is_steady is_strict l source (Ok text) → ToldAccepted is_steady is_strict l source text
 told_accepted true is_strict l source text told = told
 told_accepted false is_strict l source text told = told
-
--- The answer to the request of `flows` is the text that it writes.
-pub told_flows : (has_walks is_strict : Bool) (l : Lattice) (source : List ℕ) (text : Vec ℕ) →
-    AsksFlows has_walks is_strict l source (Ok text) → ToldFlows has_walks is_strict l source text
-told_flows true is_strict l source text told = told
-told_flows false is_strict l source text told = told
 
 -- The answer to the request of `mend` is the text that it writes.
 pub told_raises : (is_applied is_strict : Bool) (l : Lattice) (source : List ℕ) (text : Vec ℕ) →

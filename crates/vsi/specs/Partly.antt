@@ -6,13 +6,16 @@ use Rattle.vsi_lattice.specs.declared.lattice.Lattice.{Lattice}
 use Rattle.vsi_image.specs.declared.instr.Image.{Image}
 use Rattle.vsi_image.specs.Meaning.{start}
 use Rattle.vsi_lsp.specs.Frames.{AreFrames}
+use Rattle.vsi_flows.specs.Text.{IsWalksText}
 use Rattle.vsi_store.specs.declared.comparison.Comparison as found
-use Rattle.vsi_drive.specs.Control.{Control}
+use Rattle.vsi_drive.specs.Boundary.{Boundary}
+use Rattle.vsi_drive.specs.Control.{Control, controlled}
 use Rattle.vsi_drive.specs.Cycles.{text_of}
 use Rattle.vsi_devices.specs.Running.{trace_of}
 use Rattle.vsi_answers.specs.declared.bounds.BoundAnswer.{BoundAnswer}
 use Rattle.vsi_arguments.specs.declared.request.Bounding.{Bounding}
 use Rattle.vsi_arguments.specs.declared.request.Comparison.{Comparison}
+use Rattle.vsi_arguments.specs.declared.request.Compilation.{Compilation}
 use Rattle.vsi_arguments.specs.declared.request.Driving.{Driving}
 use Rattle.vsi_arguments.specs.declared.request.Execution.{Execution}
 use Rattle.vsi_arguments.specs.declared.request.Judging.{Judging}
@@ -26,14 +29,16 @@ use Rattle.vsi.specs.Admitted.{IsAdmitted}
 use Rattle.vsi.specs.Driven.{lines_of}
 use Rattle.vsi.specs.Holding.{Holding, IsImageAt}
 use Rattle.vsi.specs.Laying.{AnswersLayout, ToldCanonical}
-use Rattle.vsi.specs.Files.{BeginsAt, IsBudgetOf, IsStoredAt, LooksAt, OfFile, OfFiles, shown}
-use Rattle.vsi.specs.Performed.{AuditsTo, BoundsFile, ComparesFiles, ConformsFiles, DocumentOf, DrawsFiles, EmitsFile, RunsFiles, SearchesFiles, SourceOfFile, ToldAccepted, ToldClasses, ToldFlows, ToldJson, ToldListing, ToldPage, ToldRaises, ViewsFiles, control_of, judgement_of, profile_of}
+use Rattle.vsi.specs.Files.{AreFiles, BeginsAt, IsBudgetOf, IsStoredAt, OfFile, OfFiles, shown}
+use Rattle.vsi.specs.Performed.{AuditsTo, BoundsFile, ComparesFiles, ConformsFiles, DocumentOf, DrawsFiles, EmitsFile, RunsFiles, SearchesFiles, SourceOfFile, ToldAccepted, ToldClasses, ToldFlows, ToldJson, ToldListing, ToldPage, ToldRaises, ViewsFiles, judgement_of, profile_of}
 use Rattle.vsi.specs.Raises.{ToldUnserved}
 use Rattle.vsi.specs.Reasons.{ToldRefusal}
 use Rattle.vsi.specs.Seeing.{SeesFiles}
 use Rattle.vsi.specs.Shaping.{ShapedText}
+use Rattle.vsi.specs.Steering.{IsSteered}
 use Rattle.vsi.specs.Failures.{status_of}
 use Rattle.vsi.specs.Tried.{TriesFile}
+use Rattle.vsi.specs.Viewing.{AnswersViewWithin}
 
 -- ---- a part of an answer.
 
@@ -58,6 +63,18 @@ AnswersCheck true holds asked = λ text.
     ⊎ OfFiles holds asked.compilation (ToldRefusal (judgement_of asked)) text
 AnswersCheck false holds asked =
     OfFiles holds asked.compilation (ToldAccepted asked.is_steady asked.compilation.is_strict)
+
+-- `flows --walks`: the table of the text with a walk below each pair.
+pub record AnswersWalks (holds : Holding) (c : Compilation) (bytes : List ℕ) : Type 0 where
+  pub lattice : Lattice
+  pub source : List ℕ
+  pub files : AreFiles holds c lattice source
+  pub is : IsWalksText lattice (profile_of c.is_strict) source bytes
+
+-- `flows`: the table of the text, and with `--walks` a walk below each pair.
+abbrev pub AnswersFlows : Bool → Holding → Compilation → List ℕ → Type 0
+AnswersFlows true holds c = AnswersWalks holds c
+AnswersFlows false holds c = BytesOf (OfFiles holds c (ToldFlows false c.is_strict))
 
 -- `mend`; with `--json` the line for a text that no raise serves is an answer too.
 abbrev pub AnswersMend : Bool → Holding → Mending → Vec ℕ → Type 0
@@ -102,15 +119,16 @@ pub record DrivenText (c : Control) (m : List ℤ) (remaining : Option (List ℕ
 pub record AnswersDrive (holds : Holding) (d : Driving) (given : Option (List ℕ)) (text : List ℕ) : Type 0 where
   pub lattice : Lattice
   pub driver : ℕ
-  pub looks : LooksAt holds d.lattice.now d.class.now lattice driver
   pub image : Image
+  pub boundary : Boundary
+  pub steered : IsSteered holds d lattice driver image boundary
   pub held : IsImageAt holds d.execution.image.now image
   pub first : List ℤ
   pub stored : IsStoredAt holds d.execution.store image first
   pub budget : ℕ
   pub within : IsBudgetOf d.execution.budget image budget
   pub admitted : IsAdmitted d.is_unbounded lattice image budget
-  pub driven : DrivenText (control_of d.lists lattice driver image budget) first given text
+  pub driven : DrivenText (controlled lattice driver image budget boundary) first given text
 
 -- `compare`: what the class sees of both runs, the same or not.
 abbrev pub AnswersCompare : Holding → Comparison → List ℕ → Type 0
@@ -128,7 +146,7 @@ Answers holds given (request.Document asked) = BytesOf (λ text. (good : Bool) �
 Answers holds given (request.Conform asked) =
     BytesOf (λ text. (conforms : Bool) × ConformsFiles holds asked conforms text)
 Answers holds given (request.Classes c) = BytesOf (OfFiles holds c (ToldClasses c.is_strict))
-Answers holds given (request.Flows c has_walks) = BytesOf (OfFiles holds c (ToldFlows has_walks c.is_strict))
+Answers holds given (request.Flows c has_walks) = AnswersFlows has_walks holds c
 Answers holds given (request.Mend asked) = BytesOf (AnswersMend asked.is_json holds asked)
 Answers holds given (request.Build c image) = λ bytes. ⊥
 Answers holds given (request.List image) = BytesOf (OfFile holds image.now ToldListing)
@@ -138,6 +156,7 @@ Answers holds given (request.EmitC asked) = BytesOf (EmitsFile holds asked)
 Answers holds given (request.Bound asked) = AnswersBound holds asked
 Answers holds given (request.Run e o has_trace has_count) = AnswersRun holds e o has_trace
 Answers holds given (request.View lattice class e o) = AnswersView holds lattice.now class.now e o
+Answers holds given (request.ViewWithin asked) = AnswersViewWithin holds asked
 Answers holds given (request.Drive driving) = AnswersDrive holds driving given
 Answers holds given (request.Compare comparison) = AnswersCompare holds comparison
 Answers holds given (request.Leak search) = BytesOf (SearchesFiles holds search)

@@ -3,7 +3,6 @@ use Rattle.std.specs.Prelude.{◌≡◌, ◌≤◌, ℕ, ◌++◌, ◌∷◌, �
 use Rattle.std.specs.Borrow.{Bor}
 use Rattle.std.specs.Global.{Vec}
 use Rattle.std.specs.Io.KnownBytes.{Appends, Keeps}
-use Rattle.std.specs.Str.Lossy.{utf8_lossy}
 use Rattle.vsi_lattice.specs.LatticeView.{class_named, order}
 use Rattle.vsi_lattice.specs.declared.lattice.Lattice.{Lattice}
 use Rattle.vsi_types.specs.declared.rules.Profile.{Profile}
@@ -18,8 +17,9 @@ use Rattle.vsi_store.specs.declared.comparison.Comparison as found
 use Rattle.vsi_compiler.specs.Observation.{EndsAlike, IsNoninterfering}
 use Rattle.vsi_compiler.specs.Readable.{HasProgram}
 use Rattle.vsi_steady.specs.Steady.{IsSteady}
+use Rattle.vsi_drive.specs.Boundary.{Boundary}
 use Rattle.vsi_drive.specs.BoundaryFaults.{boundary_fault}
-use Rattle.vsi_drive.specs.Control.{Control, controlled}
+use Rattle.vsi_drive.specs.Control.{controlled}
 use Rattle.vsi_devices.specs.Running.{RunsApart}
 use Rattle.vsi_leak.specs.declared.whole.Wanted.{Wanted}
 use Rattle.vsi_audit.specs.Standing.{HasKnownClasses}
@@ -30,23 +30,19 @@ use Rattle.vsi_evidence.specs.declared.Manner.TheVariants as manner
 use Rattle.vsi_report.specs.FlowsGraph.{IsFlowsGraph, IsPolicyGraph}
 use Rattle.vsi_report.specs.Graph.{IsLatticeGraph}
 use Rattle.vsi_report.specs.Page.{HasPanel}
-use Rattle.vsi_conform.specs.Beside.{IsInside, beside}
 use Rattle.vsi_conform.specs.Conforms.{Conforms, IsUnbounded, Tells as TellsPoints}
 use Rattle.vsi_conform.specs.Json.{IsConformJson}
 use Rattle.vsi_conform.specs.Lines.{IsConformText}
 use Rattle.vsi_conform.specs.Points.{is_conforming}
-use Rattle.vsi_conform.specs.Reading.{IsReadAs}
 use Rattle.vsi_conform.specs.Totals.{total_of}
 use Rattle.vsi_conform.specs.declared.point.Answer.{Answer}
 use Rattle.vsi_conform.specs.declared.reader.Asked.{Asked}
-use Rattle.vsi_conform.specs.declared.reader.Policy.{Policy}
-use Rattle.vsi_conform.specs.declared.reader.Policy.TheVariants.{File, Tables}
 use Rattle.vsi_conform.specs.declared.interface.Interface.{Interface}
 use Rattle.vsi_conform.specs.declared.interface.Judgement.{Judgement}
 use Rattle.vsi_conform.specs.declared.interface.Judgement.TheVariants as judgement
 use Rattle.vsi_conform.specs.Checking.{TellsAccepted}
 use Rattle.vsi_answers.specs.Bounds.{IsBound, TellsBound}
-use Rattle.vsi_answers.specs.Judged.{AreImage, Declares}
+use Rattle.vsi_answers.specs.Judged.{AreImage}
 use Rattle.vsi_answers.specs.Requests.{BuildsTo, ChecksSteadyTo, ChecksTo, ClassesTo, ComparesTo, FlowsTo, ListsTo, ViewsTo, WalksTo}
 use Rattle.vsi_answers.specs.declared.bounds.BoundAnswer.{BoundAnswer}
 use Rattle.vsi_arguments.specs.declared.request.Audit.{Audit}
@@ -62,26 +58,27 @@ use Rattle.vsi_arguments.specs.declared.request.Emission.{Emission}
 use Rattle.vsi_arguments.specs.declared.request.Execution.{Execution}
 use Rattle.vsi_arguments.specs.declared.request.Judging.{Judging}
 use Rattle.vsi_arguments.specs.declared.request.Mending.{Mending}
-use Rattle.vsi_arguments.specs.declared.request.NameLists.{NameLists}
 use Rattle.vsi_arguments.specs.declared.request.InitialStore.{InitialStore}
 use Rattle.vsi_arguments.specs.declared.request.Search.{Search}
 use Rattle.vsi_arguments.specs.declared.request.Request.{Request}
 use Rattle.vsi_arguments.specs.declared.request.Request.TheVariants as request
 use Rattle.vsi.specs.Admitted.{IsAdmitted}
-use Rattle.vsi.specs.Boundaries.{requested}
 use Rattle.vsi.specs.Documents.{AuditsJson, BoundsJson, ToldClassesJson, ToldFlowsJson, ToldSarif}
 use Rattle.vsi.specs.Driven.{DrivesInput}
 use Rattle.vsi.specs.Holding.{Delivers, Fills, Holding, IsImageAt, IsLatticeAt, IsReadAt}
+use Rattle.vsi.specs.Interfaces.{IsAskedAt, IsPolicyAt}
 use Rattle.vsi.specs.Laying.{PerformsLayout, ToldCanonical}
 use Rattle.vsi.specs.Naming.{function_name}
 use Rattle.vsi.specs.Raises.{ToldMended}
 use Rattle.vsi.specs.Seeing.{SeesFiles}
 use Rattle.vsi.specs.Served.{Serves}
 use Rattle.vsi.specs.Shaping.{ShapedText}
+use Rattle.vsi.specs.Steering.{IsSteered}
 use Rattle.vsi.specs.Supplied.{TellsSupplied, begins_image}
 use Rattle.vsi.specs.Tried.{TriesFile}
 use Rattle.vsi.specs.Files.{BeginsAt, IsBudgetOf, IsFullAt, IsStoredAt, LooksAt, OfFile, OfFiles, Writes, shown}
 use Rattle.vsi.specs.State.{state_text}
+use Rattle.vsi.specs.Viewing.{PerformsViewWithin}
 
 -- ---- the output.
 
@@ -253,22 +250,6 @@ pub record SearchesFiles (holds : Holding) (s : Search) (text : Vec ℕ) : Type 
   pub pairs : ℕ
   pub line : text.items ≡ codes "no leak in " ++ decimal pairs ++ codes " pairs of runs\n"
 
--- The request that the interface in a file makes, whose lattice file, if there is one, isn't outside its folder.
-pub record IsAskedAt (holds : Holding) (path : List ℕ) (asked : Asked) : Type 0 where
-  pub bytes : List ℕ
-  pub read : IsReadAt holds path bytes
-  pub is : IsReadAs bytes asked
-  pub inside : IsInside asked.policy
-
--- The path of a file that an interface names, as it is opened.
-abbrev pub named_path : List ℕ → Vec ℕ → List ℕ
-named_path interface path = utf8_lossy (beside interface path.items)
-
--- The lattice of an interface: that of the file that it names, or of its own tables.
-abbrev pub IsPolicyAt : Holding → List ℕ → Policy → Lattice → Type 0
-IsPolicyAt holds interface (File path) l = IsLatticeAt holds (named_path interface path) l
-IsPolicyAt holds interface (Tables text) l = Declares text.items l
-
 -- A source text and the lattice that it is compiled with, under the base profile.
 abbrev pub compilation_of : Bor (List ℕ) → Bor (List ℕ) → Compilation
 compilation_of lattice source = record { lattice = lattice; source = source; is_strict = false }
@@ -421,19 +402,16 @@ pub record PerformsView (holds : Holding) (path class : List ℕ) (e : Execution
   pub written : Appends old new (shown o.out text.items)
   pub delivered : Delivers o.out text.items holds left
 
--- An image, the class that drives it by a lattice, the budget of each cycle, and the boundary with the names in lists.
-abbrev pub control_of : NameLists → Lattice → ℕ → Image → ℕ → Control
-control_of lists l class im budget = controlled l class im budget (requested lists)
-
--- `drive`: its boundary has no fault, its budget is enough or `--unbounded` is given, a cycle has run for each line of
--- the input, beginning with the words of the store file, its text has been written, and the last store goes to a file if
--- one is given.
+-- `drive`: a class drives the image by a lattice file or by an interface, its boundary has no fault, its budget is
+-- enough or `--unbounded` is given, a cycle has run for each line of the input, beginning with the words of the store
+-- file, its text has been written, and the last store goes to a file if one is given.
 pub record PerformsDrive (holds : Holding) (d : Driving) (given : Option (List ℕ)) (left : Holding)
     (old new : Option (List ℕ)) : Type 0 where
   pub lattice : Lattice
   pub driver : ℕ
-  pub looks : LooksAt holds d.lattice.now d.class.now lattice driver
   pub image : Image
+  pub boundary : Boundary
+  pub steered : IsSteered holds d lattice driver image boundary
   pub held : IsImageAt holds d.execution.image.now image
   pub first : List ℤ
   pub stored : IsStoredAt holds d.execution.store image first
@@ -441,8 +419,8 @@ pub record PerformsDrive (holds : Holding) (d : Driving) (given : Option (List �
   pub budget : ℕ
   pub within : IsBudgetOf d.execution.budget image budget
   pub admitted : IsAdmitted d.is_unbounded lattice image budget
-  pub sound : boundary_fault (control_of d.lists lattice driver image budget) ≡ None
-  pub drives : DrivesInput (control_of d.lists lattice driver image budget) first words given old new
+  pub sound : boundary_fault (controlled lattice driver image budget boundary) ≡ None
+  pub drives : DrivesInput (controlled lattice driver image budget boundary) first words given old new
   pub full : IsFullAt holds d.execution.store image d.is_full
   pub saved : Delivers d.save (state_text image words) holds left
 
@@ -476,6 +454,7 @@ Performs holds given (request.EmitC asked) left = Alone (Writes (EmitsFile holds
 Performs holds given (request.Bound asked) left = Alone (PerformsBound holds asked) holds left
 Performs holds given (request.Run e o has_trace has_count) left = PerformsRun holds e o has_trace left
 Performs holds given (request.View lattice class e o) left = PerformsView holds lattice.now class.now e o left
+Performs holds given (request.ViewWithin asked) left = PerformsViewWithin holds asked left
 Performs holds given (request.Drive driving) left = PerformsDrive holds driving given left
 Performs holds given (request.Compare comparison) left = Alone (PerformsCompare holds comparison) holds left
 Performs holds given (request.Leak search) left = Alone (Writes (SearchesFiles holds search)) holds left

@@ -1,5 +1,5 @@
 -- The reason why a request has failed early, given the contents of its files.
-use Rattle.std.specs.Prelude.{◌≡◌, ◌⊎◌, ℕ, ℤ, Bool, true, false, List, Option, Some, None, Err, IsSomeAnd}
+use Rattle.std.specs.Prelude.{◌≡◌, ℤ, ℕ, ◌⊎◌, Bool, true, false, List, Option, Some, None, Err, IsSomeAnd}
 use Rattle.std.specs.Global.{Vec}
 use Rattle.std.specs.Borrow.{Bor}
 use Rattle.std.specs.Io.KnownBytes.{Appends}
@@ -11,11 +11,7 @@ use Rattle.vsi_image.specs.Fields.{globals}
 use Rattle.vsi_store.specs.declared.comparison.Comparison as found
 use Rattle.vsi_compiler.specs.Headline.{IsImageOf}
 use Rattle.vsi_compiler.specs.Readable.{HasProgram}
-use Rattle.vsi_drive.specs.BoundaryFaults.{boundary_fault}
-use Rattle.vsi_drive.specs.Control.{Control}
-use Rattle.vsi_drive.specs.declared.boundary.BoundaryFault.{BoundaryFault}
-use Rattle.vsi_drive.specs.declared.starts.StartFault.{StartFault}
-use Rattle.vsi_drive.specs.declared.starts.StartFault.TheVariants as start
+use Rattle.vsi_drive.specs.Views.{view_of}
 use Rattle.vsi_audit.specs.Refusal as audited
 use Rattle.vsi_audit.specs.Telling.{IsAuditText}
 use Rattle.vsi_audit.specs.declared.error.AuditError.{AuditError}
@@ -26,15 +22,10 @@ use Rattle.vsi_leak.specs.Texts.{IsLeakText}
 use Rattle.vsi_leak.specs.declared.found.Finding.TheVariants as finding
 use Rattle.vsi_leak.specs.declared.found.Leak.{Leak}
 use Rattle.vsi_devices.specs.Running.{RunsApart}
-use Rattle.vsi_conform.specs.Faulty.{interface_line}
 use Rattle.vsi_conform.specs.declared.interface.Judgement.{Judgement}
-use Rattle.vsi_conform.specs.declared.reader.Asked.{Asked}
-use Rattle.vsi_conform.specs.declared.reader.Policy.{Policy}
-use Rattle.vsi_conform.specs.declared.reader.Policy.TheVariants.{File, Tables}
 use Rattle.vsi_conform.specs.Checking.{TellsRefused}
-use Rattle.vsi_answers.specs.Answers.{Because}
-use Rattle.vsi_answers.specs.Judged.{Declares, IsViewFault, TellsFault, TellsStartFault}
-use Rattle.vsi_answers.specs.Requests.{BuildsTo, ComparesTo, ListsTo, ReadsImage, ReadsLattice, ViewsTo}
+use Rattle.vsi_answers.specs.Judged.{Declares}
+use Rattle.vsi_answers.specs.Requests.{BuildsTo, ComparesTo, ListsTo, ReadsImage, ViewsTo}
 use Rattle.vsi_answers.specs.declared.unanswered.Unanswered.{Unanswered}
 use Rattle.vsi_answers.specs.declared.unanswered.Unanswered.TheVariants as unanswered
 use Rattle.vsi_answers.specs.declared.bounds.BoundAnswer.{BoundAnswer}
@@ -47,29 +38,30 @@ use Rattle.vsi_arguments.specs.declared.request.Comparison.{Comparison}
 use Rattle.vsi_arguments.specs.declared.request.Conformance.{Conformance}
 use Rattle.vsi_arguments.specs.declared.request.Document.{Document}
 use Rattle.vsi_arguments.specs.declared.request.Document.TheVariants as document
-use Rattle.vsi_arguments.specs.declared.request.Driving.{Driving}
 use Rattle.vsi_arguments.specs.declared.request.Emission.{Emission}
 use Rattle.vsi_arguments.specs.declared.request.Execution.{Execution}
 use Rattle.vsi_arguments.specs.declared.request.Judging.{Judging}
 use Rattle.vsi_arguments.specs.declared.request.Mending.{Mending}
-use Rattle.vsi_arguments.specs.declared.request.NameLists.{NameLists}
 use Rattle.vsi_arguments.specs.declared.request.InitialStore.{InitialStore}
 use Rattle.vsi_arguments.specs.declared.request.Search.{Search}
+use Rattle.vsi_arguments.specs.declared.request.Viewing.{Viewing}
 use Rattle.vsi_arguments.specs.declared.request.Request.{Request}
 use Rattle.vsi_arguments.specs.declared.request.Request.TheVariants as request
 use Rattle.vsi.specs.declared.failure.Failure.{Failure}
 use Rattle.vsi.specs.declared.failure.Failure.TheVariants as fails
-use Rattle.vsi.specs.Admitted.{IsShort}
+use Rattle.vsi.specs.Boundaries.{requested}
 use Rattle.vsi.specs.Holding.{Holding, IsImageAt, IsLatticeAt, IsReadAt}
 use Rattle.vsi.specs.Laying.{OtherLayout}
 use Rattle.vsi.specs.Raises.{ToldUnserved}
 use Rattle.vsi.specs.Input.{two_classes}
 use Rattle.vsi.specs.Served.{Serves, unended_line}
 use Rattle.vsi.specs.Supplied.{begins_image}
+use Rattle.vsi.specs.Viewing.{viewing_control, viewing_lists}
 use Rattle.vsi.specs.Tried.{AreTried, BeginsSet, IsMade, IsTriedUnder, RunsMade, policy_path}
 use Rattle.vsi.specs.Files.{BeginsAt, IsBudgetOf, LooksAt, OfFiles, Writes}
-use Rattle.vsi.specs.Performed.{BoundsFile, ComparesFiles, ConformsFiles, DocumentOf, IsAskedAt, LooksFor, compilation_of, control_of, judgement_of, named_path, profile_of, wanted_of}
-use Rattle.vsi.specs.Refusals.{AsksCanonical, AsksCheck, AsksClasses, AsksFlows, AsksImage, AsksMend, IsDifference, LacksBoundAt, LacksClass, LacksClassAt, LacksEither, NoOther, RefusesFile, RefusesFiles, RefusesFirst, RefusesImage, RefusesLattice, RefusesSource, RefusesStart, RefusesStore, FailsBy}
+use Rattle.vsi.specs.Performed.{BoundsFile, ComparesFiles, ConformsFiles, DocumentOf, LooksFor, compilation_of, judgement_of, profile_of, wanted_of}
+use Rattle.vsi.specs.Refusals.{AsksCanonical, AsksCheck, AsksClasses, AsksFlows, AsksImage, AsksMend, IsDifference, LacksBoundAt, LacksClass, LacksClassAt, LacksEither, NoOther, RefusesFile, RefusesFiles, RefusesImage, RefusesLattice, RefusesSource, RefusesStart, RefusesStore, FailsBy}
+use Rattle.vsi.specs.Undriven.{IsUnusable, LacksDrive, RefusesAsked, RefusesControl, SaysLine, WhyDrive}
 
 -- ---- why each subcommand has failed.
 
@@ -93,22 +85,6 @@ WhyMend true holds asked old new =
     (Writes (OfFiles holds asked.compilation (ToldUnserved (profile_of asked.compilation.is_strict))) old new))
 WhyMend false holds asked old new =
     FailsBy (RefusesFiles holds asked.compilation (AsksMend asked.is_applied asked.compilation.is_strict)) NoOther
-
--- The lattice of an interface is refused: that of the file that it names, or its own tables.
-abbrev pub RefusesPolicy : Holding → List ℕ → Policy → Unanswered → Type 0
-RefusesPolicy holds interface (File path) reason = RefusesLattice holds (named_path interface path) reason
-RefusesPolicy holds interface (Tables text) reason = ReadsLattice text.items (Err reason)
-
--- `conform`: the lattice of the interface of the file is refused.
-pub record RefusesAsked (holds : Holding) (path : List ℕ) (reason : Unanswered) : Type 0 where
-  pub asked : Asked
-  pub interface : IsAskedAt holds path asked
-  pub refused : RefusesPolicy holds path asked.policy reason
-
--- `conform`: the interface is refused with an error that the text describes; nothing claims that the interface has it.
-abbrev pub IsUnusable : Failure → Type 0
-IsUnusable (fails.Interface text error) = text.items ≡ interface_line error
-IsUnusable failure = ⊥
 
 -- The bytes begin as those of an image, and the image is refused.
 abbrev pub RefusesBytes : List ℕ → Unanswered → Type 0
@@ -274,11 +250,6 @@ WhyDocument holds (document.Audit asked) reason =
     RefusesLattice holds asked.lattice.now reason ⊎ RefusesImage holds asked.image.now reason
 WhyDocument holds (document.Bound asked) reason = WhyEmit holds asked.lattice asked.file reason
 
--- The failure is a refusal with this line.
-abbrev pub SaysLine : List ℕ → Failure → Type 0
-SaysLine line (fails.Refused text None) = text.items ≡ line
-SaysLine line failure = ⊥
-
 -- The request of `bound` about the image of an emission.
 abbrev pub bounding_of : Emission → Bounding
 bounding_of asked = record { lattice = asked.lattice; file = asked.file }
@@ -310,64 +281,25 @@ WhyPolicy holds lattice None reason = RefusesLattice holds lattice reason
 WhyPolicy holds lattice (Some old) reason =
     RefusesLattice holds lattice reason ⊎ RefusesLattice holds old.now reason
 
--- `drive`: the lattice lacks the class of a global of the image.
-pub record RefusesController (holds : Holding) (d : Driving) (reason : Unanswered) : Type 0 where
+-- `view` with lists: the lattice lacks the class of a global, the boundary has a fault, or the run is out of budget.
+pub record RefusesViewWithin (holds : Holding) (asked : Viewing) (reason : Unanswered) : Type 0 where
   pub lattice : Lattice
-  pub driver : ℕ
-  pub looks : LooksAt holds d.lattice.now d.class.now lattice driver
+  pub viewer : ℕ
+  pub looks : LooksAt holds asked.lattice.now asked.class.now lattice viewer
   pub image : Image
-  pub held : IsImageAt holds d.execution.image.now image
-  pub is : Because (TellsFault (IsViewFault lattice image)) ⊥ reason
-
--- The boundary of a controller has this fault, so that no drive begins.
-abbrev pub IsBoundaryStart : Control → StartFault → Type 0
-IsBoundaryStart c fault = (f : BoundaryFault) × (fault ≡ start.Boundary f) × (boundary_fault c ≡ Some f)
-
--- A controller is refused: the lattice lacks the class of a global, or the boundary has a fault.
-abbrev pub RefusesControl : NameLists → Lattice → ℕ → Image → ℕ → Unanswered → Type 0
-RefusesControl lists l driver image budget reason =
-    Because (TellsFault (IsViewFault l image)) ⊥ reason
-    ⊎ Because (TellsStartFault (IsBoundaryStart (control_of lists l driver image budget))) ⊥ reason
-
--- `drive`: the boundary has a fault.
-pub record RefusesBoundary (holds : Holding) (d : Driving) (reason : Unanswered) : Type 0 where
-  pub lattice : Lattice
-  pub driver : ℕ
-  pub looks : LooksAt holds d.lattice.now d.class.now lattice driver
-  pub image : Image
-  pub held : IsImageAt holds d.execution.image.now image
+  pub words : List ℤ
+  pub begins : BeginsAt holds asked.execution asked.initial_store image words
   pub budget : ℕ
-  pub within : IsBudgetOf d.execution.budget image budget
-  pub is : Because (TellsStartFault (IsBoundaryStart (control_of d.lists lattice driver image budget))) ⊥ reason
+  pub within : IsBudgetOf asked.execution.budget image budget
+  pub is : RefusesControl (requested (viewing_lists asked)) lattice viewer image budget reason
+      ⊎ ((reason ≡ unanswered.OutOfBudget)
+      × (view_of (viewing_control asked lattice viewer image budget) budget words ≡ None))
 
--- `drive`: the lattice is refused, or the image, or the store file, or it leaves out a global that it must have, or no
--- controller begins; a wrong line of the input isn't a reason, because its cycle writes the fault.
-abbrev pub WhyDrive : Holding → Driving → Unanswered → Type 0
-WhyDrive holds d reason =
-    RefusesLattice holds d.lattice.now reason ⊎ RefusesImage holds d.execution.image.now reason
-    ⊎ RefusesFirst holds d.execution.image.now d.execution.store d.is_full reason ⊎ RefusesController holds d reason
-    ⊎ RefusesBoundary holds d reason
-
--- The text of the failure says why a budget isn't enough.
-abbrev pub SaysShort : Lattice → Image → ℕ → Failure → Type 0
-SaysShort l image budget (fails.Refused text None) = IsShort l image budget text.items
-SaysShort l image budget failure = ⊥
-
--- `drive`: the budget isn't enough, and `--unbounded` isn't given.
-pub record FallsShort (holds : Holding) (d : Driving) (failure : Failure) : Type 0 where
-  pub bounded : d.is_unbounded ≡ false
-  pub lattice : Lattice
-  pub declared : IsLatticeAt holds d.lattice.now lattice
-  pub image : Image
-  pub held : IsImageAt holds d.execution.image.now image
-  pub budget : ℕ
-  pub within : IsBudgetOf d.execution.budget image budget
-  pub is : SaysShort lattice image budget failure
-
--- `drive`: the lattice has no class of the name, no bound was found for the image, or the budget isn't enough.
-abbrev pub LacksDrive : Holding → Driving → Failure → Type 0
-LacksDrive holds d failure =
-    LacksEither holds d.lattice.now d.class.now d.execution.image.now d.execution.budget failure ⊎ FallsShort holds d failure
+-- `view` with lists: the lattice is refused, or the image, or the words that it begins with, or the run has no answer.
+abbrev pub WhyViewWithin : Holding → Viewing → Unanswered → Type 0
+WhyViewWithin holds asked reason =
+    RefusesLattice holds asked.lattice.now reason ⊎ RefusesImage holds asked.execution.image.now reason
+    ⊎ RefusesStart holds asked.execution asked.initial_store reason ⊎ RefusesViewWithin holds asked reason
 
 -- `try`: the file of the lattice that a text names is refused.
 abbrev pub RefusesNamed : Holding → List ℕ → Option (List ℕ) → Unanswered → Type 0
@@ -447,6 +379,9 @@ Why holds (request.Run e o has_trace has_count) old new =
 Why holds (request.View lattice class e o) old new =
     FailsBy (WhyView holds lattice.now class.now e o)
     (LacksEither holds lattice.now class.now e.image.now e.budget)
+Why holds (request.ViewWithin asked) old new =
+    FailsBy (WhyViewWithin holds asked)
+    (LacksEither holds asked.lattice.now asked.class.now asked.execution.image.now asked.execution.budget)
 Why holds (request.Drive driving) old new =
     FailsBy (WhyDrive holds driving) (LacksDrive holds driving)
 Why holds (request.Compare comparison) old new =

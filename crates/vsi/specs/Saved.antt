@@ -6,7 +6,8 @@ use Rattle.std.specs.Prelude.{String}
 use Rattle.std.specs.declared.alloc.Global.{Global}
 use Rattle.vsi_lattice.specs.declared.lattice.Lattice.{Lattice}
 use Rattle.vsi_image.specs.declared.instr.Image.{Image}
-use Rattle.vsi_drive.specs.Control.{Control}
+use Rattle.vsi_drive.specs.Boundary.{Boundary}
+use Rattle.vsi_drive.specs.Control.{Control, controlled}
 use Rattle.vsi_drive.specs.Cycles.{store_behind, text_of}
 use Rattle.vsi_arguments.specs.declared.request.Driving.{Driving}
 use Rattle.vsi_arguments.specs.declared.request.Request.{Request}
@@ -14,11 +15,11 @@ use Rattle.vsi_arguments.specs.declared.request.Request.TheVariants.{Drive}
 use Rattle.vsi_asked.specs.Asked.{AsksFor}
 use Rattle.vsi.specs.Admitted.{IsAdmitted}
 use Rattle.vsi.specs.Driven.{lines_of}
-use Rattle.vsi.specs.Files.{IsBudgetOf, IsStoredAt, LooksAt}
+use Rattle.vsi.specs.Files.{IsBudgetOf, IsStoredAt}
 use Rattle.vsi.specs.Holding.{Holding, HoldsAt, IsImageAt}
 use Rattle.vsi.specs.Partly.{WritesPart}
-use Rattle.vsi.specs.Performed.{control_of}
 use Rattle.vsi.specs.State.{HoldsState, StaysAt, Touches, state_text}
+use Rattle.vsi.specs.Steering.{IsSteered}
 
 -- ---- while lines are driven.
 
@@ -83,15 +84,16 @@ pub record SavesDrive (holds : Holding) (d : Driving) (given : Option (List ℕ)
     (old new : Option (List ℕ)) : Type 0 where
   pub lattice : Lattice
   pub driver : ℕ
-  pub looks : LooksAt holds d.lattice.now d.class.now lattice driver
   pub image : Image
+  pub boundary : Boundary
+  pub steered : IsSteered holds d lattice driver image boundary
   pub held : IsImageAt holds d.execution.image.now image
   pub first : List ℤ
   pub stored : IsStoredAt holds d.execution.store image first
   pub budget : ℕ
   pub within : IsBudgetOf d.execution.budget image budget
   pub admitted : IsAdmitted d.is_unbounded lattice image budget
-  pub saves : SavesInput d.save image (control_of d.lists lattice driver image budget) first d.every given old new left
+  pub saves : SavesInput d.save image (controlled lattice driver image budget boundary) first d.every given old new left
 
 -- A drive that fails leaves its file as it was, and no answer, or with the store after some of the lines. No other file
 -- has changed.

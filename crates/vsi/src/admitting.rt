@@ -3,7 +3,7 @@
 ghost use Rattle.std.specs.Prelude.{◌≡◌, false, IfErr, IfOk, MatchResult, OnOk};
 ghost use Rattle.vsi.specs.Admitted.{IsAdmitted, IsEnough, IsShort, short_line};
 ghost use Rattle.vsi.specs.Refusals.{FailsBy};
-ghost use Rattle.vsi.specs.Reasons.{SaysShort};
+ghost use Rattle.vsi.specs.Undriven.{SaysShort};
 ghost use Rattle.vsi_answers.specs.Bounds.{IsBound};
 
 use crate::failure::Failure;

@@ -1,32 +1,33 @@
 //! The controller of a drive, with the boundary that the request gives it.
 
-ghost use Rattle.std.specs.Prelude.{◌≡◌, [], None, IfOk, IfErr, option_map, unwrap_or};
+ghost use Rattle.std.specs.Prelude.{◌≡◌, [], None, Some, IfOk, IfErr, option_map, unwrap_or};
+ghost use Rattle.vsi_conform.specs.Reading as spec;
+ghost use Rattle.vsi_conform.specs.Reading.{bytes_of};
 ghost use Rattle.vsi_drive.specs.Boundary.{boundary_of, listed};
 ghost use Rattle.vsi_drive.specs.BoundaryFaults.{boundary_fault};
-ghost use Rattle.vsi_drive.specs.Control.{control};
+ghost use Rattle.vsi_drive.specs.Control.{control, controlled};
 ghost use Rattle.vsi_drive.specs.declared.starts.StartFault.TheVariants as start;
 ghost use Rattle.vsi_answers.specs.Answers.{Because};
 ghost use Rattle.vsi_answers.specs.Judged.{TellsStartFault};
 ghost use Rattle.vsi_lattice.specs.LatticeView.{order};
 ghost use Rattle.vsi_lattice.specs.NamePlaces.{texts};
 ghost use Rattle.vsi_lattice.specs.Order.{IsClass};
-ghost use Rattle.vsi.specs.Boundaries.{boundary_in, given_names, read_names, requested};
-ghost use Rattle.vsi.specs.Performed.{control_of};
-ghost use Rattle.vsi.specs.Reasons.{RefusesControl};
+ghost use Rattle.vsi.specs.Boundaries.{boundary_for, boundary_in, bound_by, given_names, read_names, requested};
+ghost use Rattle.vsi.specs.Undriven.{RefusesControl};
 ghost use Rattle.vsi.specs.Refusals.{NoOther, FailsBy};
 
 use crate::cache::{InputCache, InputKind};
 use crate::failure::Failure;
 use crate::reading::faulty;
+use crate::steering::Steering;
 use std::alloc::{AllocError, Global};
 use vsi_answers::refused_start;
-use vsi_arguments::NameLists;
+use vsi_arguments::{DrivePolicy, NameLists};
+use vsi_conform::Cycle;
 use vsi_diagnostics::Fault;
 use vsi_drive::{Boundary, BoundaryFault, Controller, StartFault, names_of};
-use vsi_image::Verified;
-use vsi_lattice::{Class, Lattice};
 
-/// The names in the lists of a request.
+/// The names in the lists of a request, or in a table of an interface.
 #[derive(Drop)]
 pub(crate) struct Names<'a> {
     inputs: Option<Vec<&'a [u8]>>,
@@ -59,7 +60,7 @@ fn released_names<'a>(alloc: Global, list: Option<&'a str>) -> Result<Vec<&'a [u
 }
 
 /// The names in all lists.
-pub(crate) fn names_in<'a>(alloc: Global, lists: NameLists<'a>) -> Result<Names<'a>, AllocError>
+fn listed_names<'a>(alloc: Global, lists: NameLists<'a>) -> Result<Names<'a>, AllocError>
     ensures { IfOk result (λ names. boundary_in names ≡ requested lists.entry) }
 {
     let inputs = given_names(alloc, lists.inputs)?;
@@ -70,6 +71,75 @@ pub(crate) fn names_in<'a>(alloc: Global, lists: NameLists<'a>) -> Result<Names<
         outputs,
         released,
     })
+}
+
+/// The names that a table has.
+fn shown_names<'c>(alloc: Global, owned: &'c [Vec<u8>]) -> Result<Vec<&'c [u8]>, AllocError>
+    ensures { IfOk result (λ names. texts names.items ≡ bytes_of owned.now) }
+{
+    let mut names = Vec::new(alloc);
+    for name in owned {
+        names.push(name.as_slice())?;
+    }
+    Ok(names)
+}
+
+/// The names of a list that a table may have.
+fn shown_list<'c>(
+    alloc: Global,
+    list: &'c Option<Vec<Vec<u8>>>,
+) -> Result<Option<Vec<&'c [u8]>>, AllocError>
+    ensures { IfOk result (λ names. option_map (λ ns. texts ns.items) names
+        ≡ option_map (λ ns. bytes_of ns.items) list.now) }
+{
+    match list {
+        Some(owned) => Ok(Some(shown_names(alloc, owned)?)),
+        None => Ok(None),
+    }
+}
+
+/// The names in the table of a class.
+fn table_names<'c>(alloc: Global, cycle: &'c Cycle) -> Result<Names<'c>, AllocError>
+    ensures { IfOk result (λ names. boundary_in names ≡ bound_by (Some (spec.cycle cycle.now))) }
+{
+    let inputs = shown_list(alloc, &cycle.inputs)?;
+    let outputs = shown_list(alloc, &cycle.outputs)?;
+    let released = shown_names(alloc, &cycle.released)?;
+    Ok(Names {
+        inputs,
+        outputs,
+        released,
+    })
+}
+
+/// The names of a class by an interface, which may have a table for it.
+fn governed_names<'c>(alloc: Global, cycle: &'c Option<Cycle>) -> Result<Names<'c>, AllocError>
+    ensures { IfOk result (λ names.
+        boundary_in names ≡ bound_by (option_map spec.cycle cycle.now)) }
+{
+    match cycle {
+        Some(cycle) => table_names(alloc, cycle),
+        None => Ok(Names {
+            inputs: None,
+            outputs: None,
+            released: Vec::new(alloc),
+        }),
+    }
+}
+
+/// The names that bound a drive.
+pub(crate) fn names_in<'c>(
+    alloc: Global,
+    policy: DrivePolicy<'c>,
+    cycle: &'c Option<Cycle>,
+) -> Result<Names<'c>, AllocError>
+    ensures { IfOk result (λ names.
+        boundary_in names ≡ boundary_for policy.entry cycle.now) }
+{
+    match policy {
+        DrivePolicy::Lattice(_, lists) => listed_names(alloc, lists),
+        DrivePolicy::Interface(_) => governed_names(alloc, cycle),
+    }
 }
 
 /// The names of a list that has been read.
@@ -111,45 +181,63 @@ fn faulty_list<'a>(lists: NameLists<'a>, fault: BoundaryFault) -> (&'static str,
     }
 }
 
+/// Keeps the list at fault for an explanation, if it was given on the command line.
+fn keep_list(
+    cache: &mut InputCache,
+    policy: DrivePolicy<'_>,
+    fault: BoundaryFault,
+) -> Result<(), AllocError> {
+    match policy {
+        DrivePolicy::Lattice(_, lists) => {
+            let (option, list) = faulty_list(lists, fault);
+            cache.keep(InputKind::Names, option, list.as_bytes())
+        }
+        DrivePolicy::Interface(_) => Ok(()),
+    }
+}
+
 /// The failure for a fault of the boundary. The list at fault is kept for an explanation.
 fn boundary_failure<'a>(
     cache: &mut InputCache,
-    lists: NameLists<'a>,
+    policy: DrivePolicy<'a>,
     fault: BoundaryFault,
 ) -> Failure<'a>
     ensures { FailsBy (Because (TellsStartFault (λ f. f ≡ start.Boundary fault)) ⊥) NoOther result }
 {
-    let (option, list) = faulty_list(lists, fault);
-    if cache
-        .keep(InputKind::Names, option, list.as_bytes())
-        .is_err()
-    {
+    if keep_list(cache, policy, fault).is_err() {
         return Failure::Memory;
     }
     Failure::from(refused_start(cache.alloc, StartFault::Boundary(fault)))
 }
 
-/// A controller of an image with the requested boundary.
+/// A controller of an image with the boundary of its drive.
 pub(crate) fn controller_of<'a, 'c>(
     cache: &mut InputCache,
-    lists: NameLists<'a>,
-    names: &'c Names<'a>,
-    classes: &'c Lattice,
-    driver: Class,
-    verified: &'c Verified,
+    policy: DrivePolicy<'a>,
+    names: &'c Names<'_>,
+    steering: &'c Steering,
     budget: u64,
 ) -> Result<Controller<'c>, Failure<'a>>
-    requires class { IsClass (order classes.now) driver }
-    requires names { boundary_in names.now ≡ requested lists }
-    ensures control { IfOk result (λ c. control c
-        ≡ control_of lists.entry classes.now driver verified.now budget) }
+    requires class { IsClass (order steering.now.lattice) steering.now.driver }
+    requires names { boundary_in names.now ≡ boundary_for policy steering.now.cycle }
+    ensures control { IfOk result (λ c. control c ≡ controlled steering.now.lattice
+        steering.now.driver steering.now.verified budget
+        (boundary_for policy.entry steering.now.cycle)) }
     ensures sound { IfOk result (λ c. boundary_fault (control c) ≡ None) }
-    ensures failed { IfErr result (FailsBy
-        (RefusesControl lists.entry classes.now driver verified.now budget) NoOther) }
+    ensures failed { IfErr result (FailsBy (RefusesControl
+        (boundary_for policy.entry steering.now.cycle) steering.now.lattice steering.now.driver
+        steering.now.verified budget) NoOther) }
 {
-    match Controller::within(classes, verified, driver, budget, names.boundary()) {
+    let driver = steering.driver;
+    match Controller::within(
+        &steering.lattice,
+        &steering.verified,
+        driver,
+        budget,
+        names.boundary(),
+    ) {
         Ok(Ok(controller)) => Ok(controller),
-        Ok(Err(fault)) => Err(boundary_failure(cache, lists, fault)),
+        Ok(Err(fault)) => Err(boundary_failure(cache, policy, fault)),
         Err(error) => Err(faulty(cache.alloc, Fault::View(error))),
     }
 }

@@ -4,14 +4,16 @@ ghost use Rattle.std.specs.Prelude.{◌≡◌, ◌<◌, ◌≤◌, Bool, Err, tr
 ghost use Rattle.std.specs.Str.Lossy.{utf8_lossy};
 ghost use Rattle.vsi.specs.Holding.{IsReadAt};
 ghost use Rattle.vsi.specs.Files.{Writes};
-ghost use Rattle.vsi.specs.Performed.{ConformsFiles, IsAskedAt, IsPolicyAt, IsWrittenAs, TellsBytes, TellsConforming};
+ghost use Rattle.vsi.specs.Interfaces.{IsAskedAt, IsPolicyAt};
+ghost use Rattle.vsi.specs.Performed.{ConformsFiles, IsWrittenAs, TellsBytes, TellsConforming};
 ghost use Rattle.vsi.specs.Partly.{BytesOf, Leaves};
 ghost use Rattle.vsi.specs.Failures.{TellsFault};
 ghost use Rattle.vsi_conform.specs.Beside.{beside};
 ghost use Rattle.vsi_conform.specs.Totals.{total_of};
 ghost use Rattle.vsi_devices.specs.Counted.{device_of, faults_of};
 ghost use Rattle.vsi.specs.Refusals.{NoOther, FailsBy};
-ghost use Rattle.vsi.specs.Reasons.{DiffersConform, IsUnusable, RefusesBytes, RefusesConform, RefusesPolicy};
+ghost use Rattle.vsi.specs.Reasons.{DiffersConform, RefusesBytes, RefusesConform};
+ghost use Rattle.vsi.specs.Undriven.{IsUnusable, RefusesAsked, RefusesPolicy};
 ghost use Rattle.vsi.specs.Failures.{status_of};
 ghost use Rattle.vsi.specs.Supplied.{IsSuppliedAs, TellsSupplied};
 ghost use Rattle.vsi.specs.Supplied as supplied;
@@ -26,8 +28,8 @@ use std::io::Write;
 use vsi_answers::judged_image;
 use vsi_arguments::Conformance;
 use vsi_conform::{
-    Answer, Asked, Interface, InterfaceError, Policy, interface_text, is_within, path_beside,
-    points_json, points_text, read_interface, unknown_class,
+    Answer, Asked, Cycle, Interface, InterfaceError, Policy, interface_text, is_within,
+    path_beside, points_json, points_text, read_interface, unknown_class, unknown_cycle,
 };
 use vsi_conform_image::conform_image;
 use vsi_devices::Counted;
@@ -109,7 +111,22 @@ fn interface_in<'a, F: Files>(
     }
 }
 
-/// Judges the classes of an interface.
+/// Judges the classes of the boundaries of an interface.
+fn know_cycles<'a>(alloc: Global, lattice: &Lattice, cycles: &[Cycle]) -> Result<(), Failure<'a>>
+    ensures { IfErr result (FailsBy (λ reason. ⊥) IsUnusable) }
+{
+    let Some(place) = unknown_cycle(lattice, cycles) else {
+        return Ok(());
+    };
+    let mut name = Vec::new(alloc);
+    if let Some(cycle) = cycles.get(place) {
+        name.extend_from_slice(&cycle.class)?;
+    }
+    let number = place.saturating_add(1);
+    Err(unusable(alloc, InterfaceError::UnknownInCycle(number, name)))
+}
+
+/// Judges the classes of an interface's globals.
 fn know_classes<'a>(
     alloc: Global,
     lattice: &Lattice,
@@ -269,6 +286,30 @@ fn bytes_answer<'a>(
     }
 }
 
+/// The interface of a file and its lattice, which has all classes that the interface names. Its runs
+/// take together at most the budget.
+pub(crate) fn asked_in<'a, F: Files>(
+    cache: &mut InputCache,
+    path: &'a str,
+    budget: u64,
+    files: &mut F,
+) -> Result<(Asked, Lattice), Failure<'a>>
+    ensures kept { F.holds files.new ≡ F.holds files.old }
+    ensures asked { IfOk result (λ pair. IsAskedAt (F.holds files.old) path.now pair.0) }
+    ensures declared { IfOk result
+        (λ pair. IsPolicyAt (F.holds files.old) path.now pair.0.policy pair.1) }
+    ensures within { IfOk result (λ pair. total_of pair.0.interface ≤ budget) }
+    ensures failed { IfErr result
+        (FailsBy (RefusesAsked (F.holds files.old) path.now) IsUnusable) }
+{
+    let found = interface_in(cache, path, files)?;
+    let lattice = lattice_of(cache, path, &found.policy, files)?;
+    know_classes(cache.alloc, &lattice, &found.interface)?;
+    know_budgets(cache.alloc, &found.interface, budget)?;
+    know_cycles(cache.alloc, &lattice, &found.cycles)?;
+    Ok((found, lattice))
+}
+
 /// Judges the source text or the image by the interface.
 fn judged<'a, F: Files>(
     cache: &mut InputCache,
@@ -281,10 +322,7 @@ fn judged<'a, F: Files>(
     ensures failed { IfErr result
         (FailsBy (RefusesConform (F.holds files.old) asked.entry) IsUnusable) }
 {
-    let found = interface_in(cache, asked.interface, files)?;
-    let lattice = lattice_of(cache, asked.interface, &found.policy, files)?;
-    know_classes(cache.alloc, &lattice, &found.interface)?;
-    know_budgets(cache.alloc, &found.interface, asked.budget)?;
+    let (found, lattice) = asked_in(cache, asked.interface, asked.budget, files)?;
     let bytes = operand_in(cache, asked.source, files)?;
     bytes_answer(
         cache.alloc,

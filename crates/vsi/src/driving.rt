@@ -14,7 +14,7 @@ ghost use Rattle.vsi_drive.specs.Control.{control};
 ghost use Rattle.vsi_drive.specs.Cycles.{cycle};
 ghost use Rattle.vsi.specs.Holding.{IsStoreAt};
 ghost use Rattle.vsi.specs.Refusals.{NoOther, FailsBy};
-ghost use Rattle.vsi.specs.Reasons.{LacksDrive, WhyDrive};
+ghost use Rattle.vsi.specs.Undriven.{LacksDrive, WhyDrive};
 ghost use Rattle.vsi_answers.specs.Answers.{Because};
 ghost use Rattle.vsi_answers.specs.Judged.{IsStoreFault};
 ghost use Rattle.vsi_answers.specs.Judged as judged;
@@ -25,9 +25,9 @@ use crate::budgets::budget_of;
 use crate::cache::InputCache;
 use crate::failure::{Failure, STREAM, write};
 use crate::files::Files;
-use crate::ordering::policy_before_image;
 use crate::reading::{faulty, store_in};
 use crate::saving::{Drive, first_store, save, save_line};
+use crate::steering::steered;
 use std::io::{Read, Write};
 use vsi_arguments::Driving;
 use vsi_devices::Counted;
@@ -69,42 +69,28 @@ pub(crate) fn drive<'a, F: Files, R: Read, W: Write>(
     ensures failed { IfErr result (FailsBy (WhyDrive (F.holds files.old) driving.entry)
         (LacksDrive (F.holds files.old) driving.entry)) }
 {
-    let (classes, driver, verified) = policy_before_image(
-        cache,
-        driving.lattice,
-        driving.class,
-        driving.execution.image,
-        files,
-    )?;
+    let steering = steered(cache, driving, files)?;
     let mut words = first_store(
         cache,
-        &verified,
+        &steering.verified,
         driving.execution.store,
         driving.is_full,
         files,
     )?;
-    let budget = budget_of(cache.alloc, driving.execution.budget, &verified)?;
-    let names = names_in(cache.alloc, driving.lists)?;
-    let controller = controller_of(
-        cache,
-        driving.lists,
-        &names,
-        &classes,
-        driver,
-        &verified,
-        budget,
-    )?;
+    let budget = budget_of(cache.alloc, driving.execution.budget, &steering.verified)?;
+    let names = names_in(cache.alloc, driving.policy, &steering.cycle)?;
+    let controller = controller_of(cache, driving.policy, &names, &steering, budget)?;
     admit(
         cache.alloc,
         driving.is_unbounded,
-        &classes,
-        &verified,
+        &steering.lattice,
+        &steering.verified,
         budget,
         note,
     )?;
     save(
         cache.alloc,
-        &verified,
+        &steering.verified,
         words.as_slice(),
         driving.save,
         files,
@@ -112,12 +98,12 @@ pub(crate) fn drive<'a, F: Files, R: Read, W: Write>(
     let drive = Drive {
         alloc: cache.alloc,
         controller: &controller,
-        verified: &verified,
+        verified: &steering.verified,
         save: driving.save,
         most: driving.every.saturating_sub(1),
     };
     drive_input(&drive, &mut words, files, input, output)?;
-    save(cache.alloc, &verified, &words, driving.save, files)
+    save(cache.alloc, &steering.verified, &words, driving.save, files)
 }
 
 /// The words that a store file gives to the globals of an image, or zeros without one.

@@ -8,10 +8,11 @@
 //! such as `LexError` or a `Walk` of `Step`s, are exported here too.
 //!
 //! To be believed: of `specs/` `Words`, `Holding`, `Loading`, `Driven`, `State`, `Tried`, `Shaping`,
-//! `Seeing`, `Laying`, `Raises`, `Documents`, `Admitted`, `Served`, `Files`, `Performed`, `Refusals`,
-//! `Reasons`, `Partly`, `Done`, `Screen`, `Input` and `Laws`, of `Failures` all but `FailsFor`, of `Noted`
-//! all but `Notes`, and of `Saved` its second part; its first part and `Diagnosing` are stepping stones
-//! of proofs.
+//! `Seeing`, `Laying`, `Raises`, `Documents`, `Admitted`, `Served`, `Files`, `Interfaces`,
+//! `Boundaries`, `Steering`, `Viewing`, `Performed`, `Refusals`, `Undriven`, `Reasons`, `Partly`,
+//! `Done`, `Screen`, `Input` and `Laws`, of `Failures` all but `FailsFor`, of `Noted` all but `Notes`,
+//! and of `Saved` its second part; its first part, `Diagnosing` and `Walked` are stepping stones of
+//! proofs.
 #![tactic(auto)]
 
 mod admitting;
@@ -49,9 +50,12 @@ mod saving;
 mod screen;
 mod serving;
 mod shaping;
+mod steering;
 mod subcommands;
 mod telling;
 mod trying;
+mod viewing;
+mod walking;
 mod warning;
 
 pub use command_line::command;

@@ -1,7 +1,7 @@
 //! The paths of the files that a request reads.
 
 use crate::files::{OutputKind, Writing};
-use vsi_arguments::{Asked, Document, Request};
+use vsi_arguments::{Asked, Document, DrivePolicy, Request};
 
 /// The most files that a request names to read.
 pub(crate) const MOST_READ: usize = 4;
@@ -37,8 +37,14 @@ pub(crate) fn paths_of<'a>(request: &Request<'a>) -> [Option<&'a str>; MOST_READ
             execution,
             ..
         } => [Some(*lattice), Some(execution.image), execution.store, None],
-        Request::Drive(asked) => [
+        Request::ViewWithin(asked) => [
             Some(asked.lattice),
+            Some(asked.execution.image),
+            asked.execution.store,
+            None,
+        ],
+        Request::Drive(asked) => [
+            Some(policy_path(asked.policy)),
             Some(asked.execution.image),
             asked.execution.store,
             None,
@@ -57,6 +63,13 @@ pub(crate) fn paths_of<'a>(request: &Request<'a>) -> [Option<&'a str>; MOST_READ
     }
 }
 
+/// The path of the file with the policy of a drive.
+fn policy_path<'a>(policy: DrivePolicy<'a>) -> &'a str {
+    match policy {
+        DrivePolicy::Lattice(path, _) | DrivePolicy::Interface(path) => path,
+    }
+}
+
 /// Whether the file at the path is one that a request reads and then replaces: the store that it
 /// begins with, or the source text that it lays out.
 pub(crate) fn is_state(request: &Request<'_>, path: &str) -> bool {
@@ -71,6 +84,9 @@ pub(crate) fn is_state(request: &Request<'_>, path: &str) -> bool {
             initial_store,
             ..
         } => execution.store == Some(path) && initial_store.out == Some(path),
+        Request::ViewWithin(asked) => {
+            asked.execution.store == Some(path) && asked.initial_store.out == Some(path)
+        }
         Request::Drive(asked) => asked.execution.store == Some(path) && asked.save == Some(path),
         Request::Layout(asked) => asked.is_written && asked.source == path,
         _ => false,
@@ -83,6 +99,7 @@ pub(crate) fn writing_of<'a>(asked: &Asked<'a>) -> Writing<'a> {
         Request::Run { execution, .. } | Request::View { execution, .. } => {
             (OutputKind::Store, execution.store)
         }
+        Request::ViewWithin(asked) => (OutputKind::Store, asked.execution.store),
         Request::Drive(asked) => (OutputKind::Store, asked.execution.store),
         Request::Layout(asked) => (OutputKind::Source, Some(asked.source)),
         _ => (OutputKind::Image, None),

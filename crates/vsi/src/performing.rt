@@ -27,11 +27,11 @@ use crate::policies::policy;
 use crate::running::{Running, run, view};
 use crate::serving::serve;
 use crate::shaping::lattice;
-use crate::subcommands::{
-    build, check, check_as_json, classes, flows, format, list, mend, mend_as_json,
-};
+use crate::subcommands::{build, check, check_as_json, classes, format, list, mend, mend_as_json};
 use crate::telling::ErrorText;
 use crate::trying::try_source;
+use crate::viewing::view_within;
+use crate::walking::put_flows;
 use std::alloc::Global;
 use std::io::{Read, Write};
 use vsi_arguments::{Judging, Mending, Request};
@@ -149,7 +149,7 @@ pub(crate) fn perform<'a, F: Files, R: Read, W: Write>(
         Request::Flows {
             compilation,
             has_walks,
-        } => put(flows(cache, compilation, has_walks, files), output),
+        } => put_flows(cache, compilation, has_walks, files, output),
         Request::Mend(asked) => put_mend(cache, asked, files, output),
         Request::Build(compilation, image) => build(cache, compilation, image, files),
         Request::List(image) => put(list(cache, image, files), output),
@@ -185,6 +185,7 @@ pub(crate) fn perform<'a, F: Files, R: Read, W: Write>(
             files,
             output,
         ),
+        Request::ViewWithin(asked) => view_within(cache, &asked, files, output),
         Request::Drive(driving) => drive(
             cache,
             driving,

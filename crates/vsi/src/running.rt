@@ -47,7 +47,7 @@ pub(crate) fn keep_settings<'a>(
 
 /// The words that a run begins with, from a store file's bytes and then the settings, which are
 /// kept for an explanation.
-fn words_in<'a>(
+pub(crate) fn words_in<'a>(
     cache: &mut InputCache,
     verified: &Verified,
     file: &[u8],

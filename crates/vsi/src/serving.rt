@@ -3,7 +3,7 @@
 ghost use Rattle.std.specs.Prelude.{◌≡◌, ◌<◌, IfErr, IfOk, OnOk};
 ghost use Rattle.vsi.specs.Partly.{Partly};
 ghost use Rattle.vsi.specs.Refusals.{FailsBy};
-ghost use Rattle.vsi.specs.Reasons.{SaysLine};
+ghost use Rattle.vsi.specs.Undriven.{SaysLine};
 ghost use Rattle.vsi.specs.Served.{Serves, unended_line};
 ghost use Rattle.vsi.specs.Failures.{TellsFault, status_of};
 ghost use Rattle.vsi_devices.specs.Counted.{device_of, faults_of};

@@ -170,45 +170,21 @@ pub(crate) fn classes<'a, F: Files>(
     answered(vsi_answers::classes(cache.alloc, profile, &classes, text.as_slice()))
 }
 
-/// The flows between the declared variables of a text, each with a walk if requested.
-fn listed_flows(
-    alloc: Global,
-    has_walks: bool,
-    is_strict: bool,
-    classes: &Lattice,
-    text: &[u8],
-) -> Result<Vec<u8>, Unanswered>
-    ensures { AsksFlows has_walks is_strict classes.now text.now result }
-{
-    let profile = profile(is_strict);
-    if has_walks {
-        return vsi_answers::walks(alloc, profile, classes, text);
-    }
-    vsi_answers::flows(alloc, profile, classes, text)
-}
-
-/// The flows between the declared variables of the source text, each with a walk if requested.
+/// The flows between the declared variables of the source text.
 pub(crate) fn flows<'a, F: Files>(
     cache: &mut InputCache,
     compilation: Compilation<'a>,
-    has_walks: bool,
     files: &mut F,
 ) -> Result<Vec<u8>, Failure<'a>>
     ensures kept { F.holds files.new ≡ F.holds files.old }
     ensures told { IfOk result (OfFiles (F.holds files.old) compilation.entry
-        (ToldFlows has_walks compilation.entry.is_strict)) }
+        (ToldFlows false compilation.entry.is_strict)) }
     ensures failed { IfErr result (FailsBy (RefusesFiles (F.holds files.old) compilation.entry
-        (AsksFlows has_walks compilation.entry.is_strict)) NoOther) }
+        (AsksFlows false compilation.entry.is_strict)) NoOther) }
 {
     let (classes, text) = policy_and_text(cache, compilation, files)?;
-    let source = text.as_slice();
-    answered(listed_flows(
-        cache.alloc,
-        has_walks,
-        compilation.is_strict,
-        &classes,
-        source,
-    ))
+    let profile = profile(compilation.is_strict);
+    answered(vsi_answers::flows(cache.alloc, profile, &classes, text.as_slice()))
 }
 
 /// A line for each class of a text that has to rise, or the text with these classes if requested.

@@ -1,5 +1,6 @@
 //! The positions of the parts of an interface file.
 
+use std::alloc::{AllocError, Global};
 use toml::{Table, Value};
 use vsi_syntax::Span;
 use vsi_telling::finding::{key_place, quoted_place};
@@ -8,6 +9,9 @@ use vsi_telling::tables::{array_in, value_in};
 
 /// The header of each run.
 const RUN: &[u8] = b"[[runs]]";
+
+/// The header of each boundary.
+const CYCLE: &[u8] = b"[[cycle]]";
 
 /// A part of a file, found after this many bytes.
 fn behind(from: usize, span: Span) -> Span {
@@ -82,16 +86,54 @@ pub(crate) fn pair_place(bytes: &[u8], table: &Table, number: usize, side: usize
     Some(behind(key.stop, found))
 }
 
+/// The names of the globals of an interface.
+pub(crate) fn global_names(alloc: Global, table: &Table) -> Result<Vec<&[u8]>, AllocError> {
+    let mut names = Vec::new(alloc);
+    for number in 0..pairs_in(table) {
+        if let Some(name) = text_in(table, number, 0) {
+            names.push(name)?;
+        }
+    }
+    Ok(names)
+}
+
 /// The beginning of the run with this number, from 1.
 pub(crate) fn run_place(bytes: &[u8], number: usize) -> Option<Span> {
+    header_place(bytes, RUN, number)
+}
+
+/// The beginning of the boundary with this number, from 1.
+pub(crate) fn cycle_place(bytes: &[u8], number: usize) -> Option<Span> {
+    header_place(bytes, CYCLE, number)
+}
+
+/// The position of a key of a boundary, or else the beginning of the boundary.
+pub(crate) fn cycle_key_place(bytes: &[u8], number: usize, key: &[u8]) -> Option<Span> {
+    let cycle = cycle_place(bytes, number)?;
+    let stop = match cycle_place(bytes, number.saturating_add(1)) {
+        Some(next) => next.start,
+        None => bytes.len(),
+    };
+    let part = Span {
+        start: cycle.stop,
+        stop,
+    };
+    match key_place(part_of(bytes, part), key) {
+        Some(found) => Some(behind(part.start, found)),
+        None => Some(cycle),
+    }
+}
+
+/// The position of the header with this number, from 1.
+fn header_place(bytes: &[u8], header: &[u8], number: usize) -> Option<Span> {
     let mut left = number;
     let mut is_at_beginning = true;
     for at in 0..bytes.len() {
-        if is_at_beginning && bytes[at..].starts_with(RUN) {
+        if is_at_beginning && bytes[at..].starts_with(header) {
             if left <= 1 {
                 return Some(Span {
                     start: at,
-                    stop: at.saturating_add(RUN.len()),
+                    stop: at.saturating_add(header.len()),
                 });
             }
             left -= 1;

@@ -1,8 +1,8 @@
 //! The explanation of a faulty run of an interface file.
 
-use crate::interface_places::{entry_place, pairs_in, run_key_place, run_place, text_in};
+use crate::interface_places::{entry_place, global_names, run_key_place, run_place};
 use crate::interfaces::{Page, RUN_KEYS, is_run_key};
-use std::alloc::{AllocError, Global};
+use std::alloc::AllocError;
 use toml::{Table, Value};
 use vsi_conform::InterfaceError;
 use vsi_syntax::Span;
@@ -30,17 +30,6 @@ fn other_key(table: &Table, number: usize) -> Option<&[u8]> {
         }
     }
     None
-}
-
-/// The names of the globals of an interface.
-fn global_names(alloc: Global, table: &Table) -> Result<Vec<&[u8]>, AllocError> {
-    let mut names = Vec::new(alloc);
-    for number in 0..pairs_in(table) {
-        if let Some(name) = text_in(table, number, 0) {
-            names.push(name)?;
-        }
-    }
-    Ok(names)
 }
 
 /// The first name of a table whose value isn't a whole number.

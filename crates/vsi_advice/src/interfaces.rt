@@ -1,5 +1,6 @@
 //! The explanation of a refused interface file.
 
+use crate::interface_cycles::of_cycle;
 use crate::interface_places::{pair_in, pair_named, pair_place, pairs_in, text_in};
 use crate::interface_runs::of_run;
 use std::alloc::{AllocError, Global};
@@ -17,8 +18,9 @@ const SHAPE: &[u8] = b"An interface begins like this:\n  lattice = \"two.toml\"\
     profile = \"base\"\n  globals = [[\"key\", \"H\"], [\"out\", \"L\"]]\n";
 
 /// The keys of an interface.
-const KEYS: [&[u8]; 8] = [
+const KEYS: [&[u8]; 9] = [
     b"lattice", b"classes", b"below", b"profile", b"order", b"bounded", b"globals", b"runs",
+    b"cycle",
 ];
 
 /// The keys of a run.
@@ -129,7 +131,8 @@ impl Page<'_> {
             key,
             b": its keys are ",
         )?;
-        put_names_between(self.words, b"", &KEYS, b".\n")?;
+        put_names_between(self.words, b"", &KEYS[..5], b", ")?;
+        put_names_between(self.words, b"", &KEYS[5..], b".\n")?;
         self.hint(key, &KEYS, "Hint: remove the line.\n")?;
         Ok(key_place(self.bytes, key))
     }
@@ -312,7 +315,7 @@ impl Page<'_> {
 }
 
 /// The classes that an interface has of its own.
-fn own_classes(alloc: Global, table: &Table) -> Result<Vec<&[u8]>, AllocError> {
+pub(crate) fn own_classes(alloc: Global, table: &Table) -> Result<Vec<&[u8]>, AllocError> {
     let mut names = Vec::new(alloc);
     for place in 0..64 {
         let Some(value) = value_in(table, "classes", place) else {
@@ -380,6 +383,9 @@ fn put_fault(
             page.name(name, 1, " is in `globals` twice. Hint: leave one out.\n")
         }
         InterfaceError::UnknownClass(name) => page.class(name, lattice),
+        InterfaceError::BadCycle(_) | InterfaceError::UnknownInCycle(_, _) => {
+            of_cycle(page, lattice, error)
+        }
         other => of_run(page, other),
     }
 }

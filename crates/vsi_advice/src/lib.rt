@@ -11,6 +11,7 @@ ghost use Rattle.vsi_caret.specs.Safe.{all_plain};
 
 mod audits;
 mod boundaries;
+mod interface_cycles;
 mod interface_places;
 mod interface_runs;
 mod interfaces;

@@ -25,5 +25,5 @@ pub use raising::{apply, mend};
 pub use refusing::{refused_file, refused_source, refused_start};
 pub use runs::{compare, run, run_source, start_words, view};
 pub use steady::check_steady;
-pub use texts::{build, check, check_files, classes, flows, format, walks};
+pub use texts::{build, check, check_files, classes, flows, format};
 pub use unanswered::{Cause, Unanswered};

@@ -5,7 +5,7 @@ ghost use Rattle.vsi_lattice.specs.LatticeView.{class_named, order};
 ghost use Rattle.vsi_compiler.specs.declared.error.CompileError.TheVariants.{Memory};
 ghost use Rattle.vsi_compiler.specs.Acceptance.{IsAccepted};
 ghost use Rattle.vsi_compiler.specs.Refusal.{Refuses};
-ghost use Rattle.vsi_answers.specs.Requests.{BuildsTo, ChecksFilesTo, ChecksTo, ClassesTo, FlowsTo, FormatsTo, WalksTo};
+ghost use Rattle.vsi_answers.specs.Requests.{BuildsTo, ChecksFilesTo, ChecksTo, ClassesTo, FlowsTo, FormatsTo};
 
 use crate::files::declared_lattice;
 use crate::refusing::refused_source;
@@ -13,7 +13,7 @@ use crate::unanswered::Unanswered;
 use std::alloc::Global;
 use vsi_compiler::{CompileError, classes_text_in, format_text, judge, read_source};
 use vsi_devices::{EngineError, image_bytes};
-use vsi_flows::{flows_text_in, walks_text_in};
+use vsi_flows::flows_text_in;
 use vsi_lattice::Lattice;
 use vsi_types::Profile;
 
@@ -94,21 +94,6 @@ pub fn flows(
     ensures flows { FlowsTo lattice.now profile source.now result }
 {
     match flows_text_in(alloc, profile, lattice, source) {
-        Ok(lines) => Ok(lines),
-        Err(error) => Err(refused_source(alloc, lattice, source, error)),
-    }
-}
-
-/// The flows between the declared variables of the text, each with a walk.
-pub fn walks(
-    alloc: Global,
-    profile: Profile,
-    lattice: &Lattice,
-    source: &[u8],
-) -> Result<Vec<u8>, Unanswered>
-    ensures walks { WalksTo lattice.now profile source.now result }
-{
-    match walks_text_in(alloc, profile, lattice, source) {
         Ok(lines) => Ok(lines),
         Err(error) => Err(refused_source(alloc, lattice, source, error)),
     }

@@ -1,7 +1,7 @@
 //! The arguments of a subcommand, each a row of a table.
 
 use clap::{Arg, ArgAction};
-use std::alloc::Global;
+use std::alloc::{AllocError, Global};
 
 /// The values of `--color`: when an explanation is coloured.
 const WHEN: [&str; 3] = ["auto", "always", "never"];
@@ -14,6 +14,8 @@ pub(crate) enum Form {
     Place,
     /// By position, optional.
     FreePlace,
+    /// By position, required unless this option is given.
+    PlaceUnless(&'static str),
     /// By position, one or more.
     Places,
     /// `--NAME`, optional.
@@ -46,23 +48,31 @@ pub(crate) struct Argument {
 
 impl Argument {
     /// Builds the argument for the command-line parser.
-    pub(crate) fn made<'a>(&self, alloc: Global) -> Arg<'a> {
+    pub(crate) fn made<'a>(&self, alloc: Global) -> Result<Arg<'a>, AllocError> {
         let told = Arg::new(alloc, self.name)
             .help(self.line)
             .long_help(self.whole);
         match self.form {
-            Form::Place => told.required(true),
-            Form::FreePlace => told,
-            Form::Places => told.required(true).action(ArgAction::Append).num_args(1..),
-            Form::Flag => told.long(self.name).action(ArgAction::SetTrue),
-            Form::Value(value) => told.long(self.name).value_name(value),
-            Form::NeededValue(value) => told.long(self.name).value_name(value).required(true),
-            Form::Values(value) => appending(told.long(self.name), value),
-            Form::NeededValues(value) => appending(told.long(self.name), value).required(true),
-            Form::Number(value) => numeric(told.long(self.name), value),
-            Form::NeededNumber(value) => numeric(told.long(self.name), value).required(true),
-            Form::When(value) => chosen(told.long(self.name), value),
+            Form::PlaceUnless(option) => told.required_unless_present(option),
+            form => Ok(formed(told, self.name, form)),
         }
+    }
+}
+
+/// Makes an argument that is required or optional whatever else is given.
+fn formed<'a>(told: Arg<'a>, name: &'a str, form: Form) -> Arg<'a> {
+    match form {
+        Form::Place => told.required(true),
+        Form::FreePlace | Form::PlaceUnless(_) => told,
+        Form::Places => told.required(true).action(ArgAction::Append).num_args(1..),
+        Form::Flag => told.long(name).action(ArgAction::SetTrue),
+        Form::Value(value) => told.long(name).value_name(value),
+        Form::NeededValue(value) => told.long(name).value_name(value).required(true),
+        Form::Values(value) => appending(told.long(name), value),
+        Form::NeededValues(value) => appending(told.long(name), value).required(true),
+        Form::Number(value) => numeric(told.long(name), value),
+        Form::NeededNumber(value) => numeric(told.long(name), value).required(true),
+        Form::When(value) => chosen(told.long(name), value),
     }
 }
 

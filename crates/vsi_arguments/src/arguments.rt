@@ -346,25 +346,11 @@ pub(crate) const BUDGET: Argument = Argument {
     whole: word_help::BUDGET,
 };
 
-pub(crate) const DRIVE_BUDGET: Argument = Argument {
-    name: "budget",
-    form: Form::Number("N"),
-    line: "The maximum number of instructions; default: auto",
-    whole: word_help::DRIVE_BUDGET,
-};
-
 pub(crate) const RUNS_BUDGET: Argument = Argument {
     name: "budget",
     form: Form::Number("N"),
     line: "The most instructions of all runs; default: 1000000000",
     whole: word_help::RUNS_BUDGET,
-};
-
-pub(crate) const UNBOUNDED: Argument = Argument {
-    name: "unbounded",
-    form: Form::Flag,
-    line: "Takes a budget that may reveal secrets",
-    whole: word_help::UNBOUNDED,
 };
 
 pub(crate) const RUN_BUDGET: Argument = Argument {
@@ -437,25 +423,11 @@ pub(crate) const OUT: Argument = Argument {
     whole: word_help::OUT,
 };
 
-pub(crate) const SAVE: Argument = Argument {
-    name: "save",
-    form: Form::Value("FILE"),
-    line: "The file to write the store to, after each line",
-    whole: word_help::SAVE,
-};
-
 pub(crate) const FORCE: Argument = Argument {
     name: "force",
     form: Form::Flag,
     line: "Replaces a file of another kind too",
     whole: word_help::FORCE,
-};
-
-pub(crate) const INPUTS: Argument = Argument {
-    name: "inputs",
-    form: Form::Value("NAMES"),
-    line: "The globals that a line may set; default: all C sees",
-    whole: word_help::INPUTS,
 };
 
 pub(crate) const OUTPUTS: Argument = Argument {
@@ -470,18 +442,4 @@ pub(crate) const RELEASE: Argument = Argument {
     form: Form::Value("NAMES"),
     line: "Outputs that are written although C doesn't see them",
     whole: word_help::RELEASE,
-};
-
-pub(crate) const SAVE_EVERY: Argument = Argument {
-    name: "save-every",
-    form: Form::Number("N"),
-    line: "After how many lines the store is saved; default: 1",
-    whole: word_help::SAVE_EVERY,
-};
-
-pub(crate) const DRIVE_FULL_STORE: Argument = Argument {
-    name: "full-store",
-    form: Form::Flag,
-    line: "Requires each global to be in the store file",
-    whole: word_help::DRIVE_FULL_STORE,
 };

@@ -5,6 +5,8 @@
 mod argument;
 mod arguments;
 mod documents;
+mod drive_arguments;
+mod drives;
 mod error;
 mod escaped;
 mod help;
@@ -21,6 +23,7 @@ pub use error::ArgumentsError;
 pub use reader::request_of;
 pub use request::{
     Asked, Attempt, Audit, Bounding, Budget, Colour, Comparison, Compilation, Conformance,
-    Document, Drawing, Driving, EVERY, Emission, Execution, InitialStore, Judging, Layout, Looking,
-    Mending, NameLists, RUNS_BUDGET, Reporting, Request, SEARCH, Search, Serving, TRY_BUDGET,
+    Document, Drawing, DrivePolicy, Driving, EVERY, Emission, Execution, InitialStore, Judging,
+    Layout, Looking, Mending, NameLists, RUNS_BUDGET, Reporting, Request, SEARCH, Search, Serving,
+    TRY_BUDGET, Viewing,
 };

@@ -27,6 +27,10 @@ pub(crate) enum Mistake {
     WalksAndJson,
     /// Evidence is to be written as JSON.
     EvidenceAndJson,
+    /// An interface has the lattice of its drive.
+    LatticeAndInterface,
+    /// An interface has the boundary of its drive.
+    ListsAndInterface,
     /// It is said how often the store is saved, but not where.
     EveryAlone,
     NoSubcommand,
@@ -44,7 +48,9 @@ impl Mistake {
             | Mistake::ApplyAndJson
             | Mistake::JsonAndSarif
             | Mistake::WalksAndJson
-            | Mistake::EvidenceAndJson => ErrorKind::ArgumentConflict,
+            | Mistake::EvidenceAndJson
+            | Mistake::LatticeAndInterface
+            | Mistake::ListsAndInterface => ErrorKind::ArgumentConflict,
             Mistake::FlowsOfNothing => ErrorKind::MissingRequiredArgument,
             Mistake::NoTwoStores => ErrorKind::WrongNumberOfValues,
             Mistake::EveryAlone => ErrorKind::MissingRequiredArgument,
@@ -69,6 +75,13 @@ impl Mistake {
             Mistake::JsonAndSarif => "`--json` and `--sarif` don't go together",
             Mistake::WalksAndJson => "`--walks` and `--json` don't go together",
             Mistake::EvidenceAndJson => "`--evidence` and `--json` don't go together",
+            Mistake::LatticeAndInterface => {
+                "`--interface` names the lattice, so it goes with one operand, the IMAGE"
+            }
+            Mistake::ListsAndInterface => {
+                "`--interface` names the inputs and outputs, so it doesn't go with `--inputs`, \
+                `--outputs` and `--release`"
+            }
             Mistake::EveryAlone => "`--save-every` needs `--save`, which says where",
             Mistake::NoSubcommand => "a subcommand is needed",
         }

@@ -1,6 +1,7 @@
 //! Reads a request from the arguments of a command line.
 
 use crate::documents::{audit_request, bound_request, classes_request, listed_flows};
+use crate::drives::drive_request;
 use crate::error::ArgumentsError;
 use crate::escaped::escaped;
 use crate::mistake::Mistake;
@@ -232,12 +233,28 @@ fn run_request<'a>(alloc: Global, matches: &ArgMatches<'a>) -> Result<Request<'a
     })
 }
 
+/// With one of the lists the view is bounded by them.
 fn view_request<'a>(alloc: Global, matches: &ArgMatches<'a>) -> Result<Request<'a>, AllocError> {
+    let viewing = viewing_in(alloc, matches)?;
+    if viewing.outputs.is_some() || viewing.released.is_some() {
+        return Ok(Request::ViewWithin(viewing));
+    }
     Ok(Request::View {
+        lattice: viewing.lattice,
+        class: viewing.class,
+        execution: viewing.execution,
+        initial_store: viewing.initial_store,
+    })
+}
+
+fn viewing_in<'a>(alloc: Global, matches: &ArgMatches<'a>) -> Result<Viewing<'a>, AllocError> {
+    Ok(Viewing {
         lattice: text(matches, "LATTICE"),
         class: text(matches, "class"),
         execution: execution_in(matches),
         initial_store: initial_store_in(alloc, matches)?,
+        outputs: matches.get_str("outputs"),
+        released: matches.get_str("release"),
     })
 }
 
@@ -296,35 +313,6 @@ fn initial_store_in<'a>(
         is_full: matches.get_flag("full-store"),
         out: matches.get_str("out"),
     })
-}
-
-fn drive_request<'a>(matches: &ArgMatches<'a>) -> Result<Request<'a>, Mistake> {
-    let driving = driving_in(matches);
-    if driving.save.is_none() && matches.get_str("save-every").is_some() {
-        return Err(Mistake::EveryAlone);
-    }
-    Ok(Request::Drive(driving))
-}
-
-fn driving_in<'a>(matches: &ArgMatches<'a>) -> Driving<'a> {
-    Driving {
-        lattice: text(matches, "LATTICE"),
-        class: text(matches, "class"),
-        execution: execution_in(matches),
-        save: matches.get_str("save"),
-        every: number_of(matches, "save-every").unwrap_or(EVERY),
-        is_full: matches.get_flag("full-store"),
-        is_unbounded: matches.get_flag("unbounded"),
-        lists: name_lists_in(matches),
-    }
-}
-
-fn name_lists_in<'a>(matches: &ArgMatches<'a>) -> NameLists<'a> {
-    NameLists {
-        inputs: matches.get_str("inputs"),
-        outputs: matches.get_str("outputs"),
-        released: matches.get_str("release"),
-    }
 }
 
 fn compilation_in<'a>(matches: &ArgMatches<'a>) -> Compilation<'a> {
@@ -414,8 +402,13 @@ fn bounding_in<'a>(matches: &ArgMatches<'a>) -> Bounding<'a> {
 }
 
 fn execution_in<'a>(matches: &ArgMatches<'a>) -> Execution<'a> {
+    execution_of(matches, text(matches, "IMAGE"))
+}
+
+/// The run of an image.
+pub(crate) fn execution_of<'a>(matches: &ArgMatches<'a>, image: &'a str) -> Execution<'a> {
     Execution {
-        image: text(matches, "IMAGE"),
+        image,
         budget: budget_of(matches),
         store: matches.get_str("store"),
     }
@@ -448,6 +441,6 @@ fn texts<'a>(
 }
 
 /// The value of a required argument, which every successful parse has.
-fn text<'a>(matches: &ArgMatches<'a>, id: &str) -> &'a str {
+pub(crate) fn text<'a>(matches: &ArgMatches<'a>, id: &str) -> &'a str {
     matches.get_str(id).unwrap_or("")
 }

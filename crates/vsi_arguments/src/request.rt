@@ -45,20 +45,40 @@ pub struct NameLists<'a> {
     pub released: Option<&'a str>,
 }
 
-/// The driving of a controller: the path of a lattice file, the class that sets inputs and sees
-/// outputs, the run of each cycle, the path of a file that receives the store, after how many lines
-/// it does, whether each global must be in the store file, whether a budget is taken that runs may
-/// exceed for a reason that the class doesn't see, and the lists that bound the controller.
+/// The policy of a drive: who sees what, and what bounds the controller.
+#[derive(Clone, Copy)]
+pub enum DrivePolicy<'a> {
+    /// The path of a lattice file, and lists of the command line.
+    Lattice(&'a str, NameLists<'a>),
+    /// The path of an interface file, which the image must conform to.
+    Interface(&'a str),
+}
+
+/// The driving of a controller: its policy, the class that sets inputs and sees outputs, the run of
+/// each cycle, the path of a file that receives the store, after how many lines it does, whether each
+/// global must be in the store file, and whether a budget is taken that runs may exceed for a reason
+/// that the class doesn't see.
 #[derive(Clone, Copy)]
 pub struct Driving<'a> {
-    pub lattice: &'a str,
+    pub policy: DrivePolicy<'a>,
     pub class: &'a str,
     pub execution: Execution<'a>,
     pub save: Option<&'a str>,
     pub every: u64,
     pub is_full: bool,
     pub is_unbounded: bool,
-    pub lists: NameLists<'a>,
+}
+
+/// A view with lists: the path of a lattice file, the class that sees the outputs, the run, the rest
+/// of its input and output, and the lists of outputs and of released outputs, one of which is given.
+#[derive(Drop)]
+pub struct Viewing<'a> {
+    pub lattice: &'a str,
+    pub class: &'a str,
+    pub execution: Execution<'a>,
+    pub initial_store: InitialStore<'a>,
+    pub outputs: Option<&'a str>,
+    pub released: Option<&'a str>,
 }
 
 /// A comparison: the paths of a lattice file, of an image and of two store files, the class of the
@@ -266,6 +286,7 @@ pub enum Request<'a> {
         execution: Execution<'a>,
         initial_store: InitialStore<'a>,
     },
+    ViewWithin(Viewing<'a>),
     Drive(Driving<'a>),
     Compare(Comparison<'a>),
     Leak(Search<'a>),

@@ -52,9 +52,9 @@ Runs an image and prints what a class may see.
 
 Reads the lattice file, looks for the class in it, reads and verifies the image,
 reads the store file, if one is given, sets globals, and runs the image. If it
-halts within its budget, a line `NAME = NUMBER` is printed for each global whose
-class is at or below the observer's, or written to a file. Otherwise nothing is
-printed or written.
+halts within its budget, a line `NAME = NUMBER` is printed, or written to a
+file, for each global whose class is at or below the observer's, or that
+--outputs and --release name instead. Otherwise nothing is printed or written.
 
 Statuses: 0 halted, 1 refused, 2 usage or no such class, 3 out of budget,
 4 file fault, 5 out of memory.";
@@ -69,7 +69,10 @@ Example:
   l = 1
   $ vsi build two.toml add.vsi add.image
   $ vsi view two.toml add.image --class L --budget 7 --store start.toml
-  l = 2";
+  l = 2
+  $ vsi view two.toml add.image --class L --budget 7 --release h
+  h = 1
+  l = 1";
 
 /// The long help of `drive`.
 pub(crate) const DRIVE: &str = "\
@@ -79,11 +82,13 @@ Reads the lattice file, looks for the class in it, reads and verifies the image,
 and reads the store file, if one is given. Then each line of standard input sets
 globals at or below the class, the image runs, and the globals that the class
 sees are written as one line of the same form, or those that --inputs, --outputs
-and --release name instead. The final store of a run is the
-initial store of the next. A faulty line, or a run that is out of budget, is
-answered by a line that says so, and leaves the store as it was. Before each
-answer the store is written to the file that --save gives, if any. Without
---budget each run has the bound of the image as its budget, and so it halts.
+and --release name instead. The final store of a run is the initial store of the
+next. A faulty line, or a run that is out of budget, is answered by a line that
+says so, and leaves the store as it was. Before each answer the store is written
+to the file that --save gives, if any. Without --budget each run has the bound
+of the image as its budget, and so it halts.
+With --interface FILE the lattice and these lists are those of an interface, to
+which the image must conform, and IMAGE is the only operand.
 
 Statuses: 0 standard input has ended, 1 refused, 2 usage or no such class,
 4 file fault, 5 out of memory.";
@@ -95,7 +100,8 @@ Example:
   $ vsi drive two.toml add.image --class L < lines
   l = 5
   l = 6
-  refused: 47 AboveClass 0";
+  refused: 47 AboveClass 0
+  $ vsi drive --interface door.toml door.image --class user < codes";
 
 /// The long help of `lsp`.
 pub(crate) const LSP: &str = "\

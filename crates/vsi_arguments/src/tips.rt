@@ -4,7 +4,7 @@ use std::alloc::{AllocError, Global};
 
 /// The options that only some subcommands have, as a mistake quotes them, and the subcommands that
 /// have each.
-const OWNERS: [(&str, &str); 37] = [
+const OWNERS: [(&str, &str); 38] = [
     ("'--apply'", "mend"),
     ("'--bounded'", "emit-c"),
     (
@@ -30,6 +30,7 @@ const OWNERS: [(&str, &str); 37] = [
     ("'--full-store'", "run, view and drive"),
     ("'--header'", "emit-c"),
     ("'--inputs'", "drive"),
+    ("'--interface'", "drive"),
     (
         "'--json'",
         "check, conform, classes, flows, mend, audit and bound",
@@ -38,8 +39,8 @@ const OWNERS: [(&str, &str); 37] = [
     ("'--lattice'", "try, emit-c and lsp"),
     ("'--name'", "emit-c"),
     ("'--out'", "run and view"),
-    ("'--outputs'", "drive"),
-    ("'--release'", "drive"),
+    ("'--outputs'", "view and drive"),
+    ("'--release'", "view and drive"),
     ("'--sarif'", "check"),
     ("'--save'", "drive"),
     ("'--save-every'", "drive"),

@@ -2,6 +2,7 @@
 
 use crate::argument::Argument;
 use crate::arguments::*;
+use crate::drive_arguments::*;
 use crate::{help, run_help};
 use clap::{Arg, Command};
 use std::alloc::{AllocError, Global};
@@ -127,7 +128,7 @@ const SUBCOMMANDS: [Subcommand; 21] = [
         whole: run_help::VIEW,
         example: run_help::VIEW_EXAMPLE,
         arguments: &[
-            LATTICE, CLASS, IMAGE, BUDGET, STORE, SET, FULL_STORE, OUT, FORCE,
+            LATTICE, CLASS, IMAGE, BUDGET, STORE, SET, FULL_STORE, OUT, FORCE, OUTPUTS, RELEASE,
         ],
     },
     Subcommand {
@@ -136,9 +137,10 @@ const SUBCOMMANDS: [Subcommand; 21] = [
         whole: run_help::DRIVE,
         example: run_help::DRIVE_EXAMPLE,
         arguments: &[
-            LATTICE,
+            DRIVE_LATTICE,
             CLASS,
-            IMAGE,
+            DRIVEN_IMAGE,
+            DRIVE_INTERFACE,
             DRIVE_BUDGET,
             UNBOUNDED,
             STORE,
@@ -225,6 +227,10 @@ const UNREFUSED: [Subcommand; 3] = [
 /// The arguments that say how a refusal is reported.
 const MANNER: [Argument; 2] = [EXPLAIN, COLOR];
 
+/// The usage of `drive`, which has two forms.
+const DRIVE_USAGE: &str = "vsi drive [OPTIONS] --class <C> <LATTICE> <IMAGE>
+       vsi drive [OPTIONS] --class <C> --interface <FILE> <IMAGE>";
+
 impl Subcommand {
     /// Builds the subcommand for the command-line parser.
     fn made<'a>(&self, alloc: Global) -> Result<Command<'a>, AllocError> {
@@ -232,6 +238,9 @@ impl Subcommand {
             .about(self.line)
             .long_about(self.whole)
             .after_help(self.example);
+        if self.name == "drive" {
+            return taking(alloc, command.override_usage(DRIVE_USAGE), self.arguments);
+        }
         taking(alloc, command, self.arguments)
     }
 }
@@ -244,7 +253,7 @@ fn taking<'a>(
 ) -> Result<Command<'a>, AllocError> {
     let mut taken = Ok(command);
     for argument in arguments {
-        taken = with_argument(taken, argument.made(alloc));
+        taken = with_argument(taken, argument.made(alloc)?);
     }
     taken
 }

@@ -392,6 +392,23 @@ empty is replaced only if it is of the kind that is written, an image
 or a store. A file that is read is never replaced, except for a store
 by the one that follows it.";
 
+/// The lattice file of a drive.
+pub(crate) const DRIVE_LATTICE: &str = "\
+The path of the lattice file, a TOML document of at most 1048576 bytes
+with two keys: `classes`, an array of 1 to 64 names, and `below`, an
+array of pairs [low, high] of them. Every two classes must have a
+least class above both and a greatest class below both. With
+--interface it is left out, and IMAGE is the only operand.";
+
+/// `--interface`.
+pub(crate) const DRIVE_INTERFACE: &str = "\
+The path of an interface file, in place of LATTICE, --inputs,
+--outputs and --release. The lattice is that of the interface, and an
+image that doesn't conform to it, as `vsi conform` judges, isn't
+driven. A table `[[cycle]]` with the name of the class lists the
+inputs, outputs and released names. If there are such tables, a class
+without one drives nothing.";
+
 /// `--inputs`.
 pub(crate) const INPUTS: &str = "\
 Names of globals with commas between them, as in `typed,code`. A line

@@ -1,10 +1,9 @@
 -- How the arguments of a command line spell a request.
-use Rattle.std.specs.Prelude.{◌≡◌, ℕ, Bool, true, false, not, ◌&&◌, ◌||◌, if◌then◌else◌, List, [], ◌∷◌, ◌++◌, map, Option, Some, None, option_map, option_to_list, codes, IsTrue, String}
+use Rattle.std.specs.Prelude.{◌≡◌, ℕ, Bool, true, false, not, ◌&&◌, ◌||◌, if◌then◌else◌, List, [], ◌∷◌, ◌++◌, map, Option, Some, None, is_some, option_map, option_to_list, codes, IsTrue, String}
 use Rattle.std.specs.List.{list_all}
 use Rattle.std.specs.Option.{option_and_then, option_or}
 use Rattle.std.specs.declared.alloc.Global.{Global}
 use Rattle.std.specs.Borrow.{Bor}
-use Rattle.vsi_arguments.specs.declared.request.Attempt.{Attempt}
 use Rattle.vsi_arguments.specs.declared.request.Audit.{Audit as Auditing}
 use Rattle.vsi_arguments.specs.declared.request.Bounding.{Bounding}
 use Rattle.vsi_arguments.specs.declared.request.Budget.{Budget}
@@ -12,14 +11,18 @@ use Rattle.vsi_arguments.specs.declared.request.Budget.TheVariants.{Number, Auto
 use Rattle.vsi_arguments.specs.declared.request.Compilation.{Compilation}
 use Rattle.vsi_arguments.specs.declared.request.Document.{Document}
 use Rattle.vsi_arguments.specs.declared.request.Document.TheVariants as document
+use Rattle.vsi_arguments.specs.declared.request.DrivePolicy.{DrivePolicy}
+use Rattle.vsi_arguments.specs.declared.request.DrivePolicy.TheVariants as policy
+use Rattle.vsi_arguments.specs.declared.request.Driving.{Driving}
 use Rattle.vsi_arguments.specs.declared.request.Execution.{Execution}
 use Rattle.vsi_arguments.specs.declared.request.Judging.{Judging}
 use Rattle.vsi_arguments.specs.declared.request.Layout.{Layout as Laid}
 use Rattle.vsi_arguments.specs.declared.request.Mending.{Mending}
 use Rattle.vsi_arguments.specs.declared.request.NameLists.{NameLists}
 use Rattle.vsi_arguments.specs.declared.request.InitialStore.{InitialStore}
+use Rattle.vsi_arguments.specs.declared.request.Viewing.{Viewing}
 use Rattle.vsi_arguments.specs.declared.request.Request.{Request}
-use Rattle.vsi_arguments.specs.declared.request.Request.TheVariants.{Try, Lsp, Check, Document as Documented, Conform, Classes, Flows, Mend, Build, List as Listing, Audit, Source, EmitC, Bound, Run, View, Drive, Compare, Leak, Report, Draw, Policy, Format, Layout, Lattice as Shaped, Explain}
+use Rattle.vsi_arguments.specs.declared.request.Request.TheVariants.{Try, Lsp, Check, Document as Documented, Conform, Classes, Flows, Mend, Build, List as Listing, Audit, Source, EmitC, Bound, Run, View, ViewWithin, Drive, Compare, Leak, Report, Draw, Policy, Format, Layout, Lattice as Shaped, Explain}
 use Rattle.vsi_arguments.specs.declared.request.TheConstants.{EVERY, RUNS_BUDGET, SEARCH, TRY_BUDGET}
 use Rattle.vsi_explain.specs.Pages.{page_of}
 use Rattle.vsi_explain.specs.Subjects.{subject_page}
@@ -51,6 +54,7 @@ name_of (EmitC emission) = codes "emit-c"
 name_of (Bound bounding) = codes "bound"
 name_of (Run execution initial_store has_trace has_count) = codes "run"
 name_of (View lattice class execution initial_store) = codes "view"
+name_of (ViewWithin viewing) = codes "view"
 name_of (Drive driving) = codes "drive"
 name_of (Compare comparison) = codes "compare"
 name_of (Leak search) = codes "leak"
@@ -66,6 +70,21 @@ name_of (Explain page) = codes "explain"
 -- An optional path, as a list.
 abbrev pub given : Option (Bor (List ℕ)) → List (List ℕ)
 given path = option_to_list (option_map (λ p. p.now) path)
+
+-- The lattice file of a drive, which has none with an interface.
+abbrev pub lattice_of : DrivePolicy → Option (Bor (List ℕ))
+lattice_of (policy.Lattice path lists) = Some path
+lattice_of (policy.Interface path) = None
+
+-- The interface file of a drive, if it has one.
+abbrev pub interface_of : DrivePolicy → Option (Bor (List ℕ))
+interface_of (policy.Lattice path lists) = None
+interface_of (policy.Interface path) = Some path
+
+-- The lists of a drive, which aren't given with an interface.
+abbrev pub lists_of : DrivePolicy → NameLists
+lists_of (policy.Lattice path lists) = lists
+lists_of (policy.Interface path) = record { inputs = None; outputs = None; released = None }
 
 -- The lattice file and the source text of a compilation.
 abbrev pub compiled : Compilation → List (List ℕ)
@@ -105,7 +124,8 @@ operands_of (EmitC emission) = emission.file.now ∷ []
 operands_of (Bound bounding) = searched bounding
 operands_of (Run execution initial_store has_trace has_count) = execution.image.now ∷ []
 operands_of (View lattice class execution initial_store) = lattice.now ∷ execution.image.now ∷ []
-operands_of (Drive driving) = driving.lattice.now ∷ driving.execution.image.now ∷ []
+operands_of (ViewWithin viewing) = viewing.lattice.now ∷ viewing.execution.image.now ∷ []
+operands_of (Drive driving) = given (lattice_of driving.policy) ++ driving.execution.image.now ∷ []
 operands_of (Compare comparison) = comparison.lattice.now ∷ comparison.image.now ∷ []
 operands_of (Leak search) = search.lattice.now ∷ search.source.now ∷ []
 operands_of (Report compilation) = compiled compilation
@@ -172,6 +192,7 @@ flags_of (Bound bounding) = bound_flags false
 flags_of (Run execution initial_store has_trace has_count) =
     (codes "--full-store", initial_store.is_full) ∷ (codes "--trace", has_trace) ∷ (codes "--count", has_count) ∷ []
 flags_of (View lattice class execution initial_store) = (codes "--full-store", initial_store.is_full) ∷ []
+flags_of (ViewWithin viewing) = (codes "--full-store", viewing.initial_store.is_full) ∷ []
 flags_of (Drive driving) =
     (codes "--full-store", driving.is_full) ∷ (codes "--unbounded", driving.is_unbounded) ∷ []
 flags_of (Compare comparison) = []
@@ -199,6 +220,16 @@ bounding lists =
     (codes "--inputs", given lists.inputs) ∷ (codes "--outputs", given lists.outputs)
     ∷ (codes "--release", given lists.released) ∷ []
 
+-- The options of a drive by this interface, if there is one, or by these lists, each with its values.
+abbrev pub drive_options : Driving → Option (Bor (List ℕ)) → NameLists → List (List ℕ × List (List ℕ))
+drive_options driving interface lists =
+    (codes "--class", driving.class.now ∷ []) ∷ (codes "--store", given driving.execution.store)
+    ∷ (codes "--save", given driving.save) ∷ (codes "--interface", given interface) ∷ bounding lists
+
+-- The options that bound a view, each with its values.
+abbrev pub listing : Option (Bor (List ℕ)) → Option (Bor (List ℕ)) → List (List ℕ × List (List ℕ))
+listing outputs released = (codes "--outputs", given outputs) ∷ (codes "--release", given released) ∷ []
+
 -- The options of a request, each with its values; `numbers_of` has the options that take numbers.
 abbrev pub options_of : Request → List (List ℕ × List (List ℕ))
 options_of (Try attempt) =
@@ -208,9 +239,10 @@ options_of (EmitC emission) =
     (codes "--lattice", given emission.lattice) ∷ (codes "--name", given emission.name) ∷ []
 options_of (Run execution initial_store has_trace has_count) = starting execution initial_store
 options_of (View lattice class execution initial_store) = (codes "--class", class.now ∷ []) ∷ starting execution initial_store
-options_of (Drive driving) =
-    (codes "--class", driving.class.now ∷ []) ∷ (codes "--store", given driving.execution.store)
-    ∷ (codes "--save", given driving.save) ∷ bounding driving.lists
+options_of (ViewWithin viewing) =
+    (codes "--class", viewing.class.now ∷ [])
+    ∷ starting viewing.execution viewing.initial_store ++ listing viewing.outputs viewing.released
+options_of (Drive driving) = drive_options driving (interface_of driving.policy) (lists_of driving.policy)
 options_of (Compare comparison) =
     (codes "--class", comparison.class.now ∷ [])
     ∷ (codes "--store", comparison.stores.0.now ∷ comparison.stores.1.now ∷ []) ∷ []
@@ -229,6 +261,7 @@ numbers_of (Try attempt) = (codes "--budget", Some (Number TRY_BUDGET), Number a
 numbers_of (Conform conformance) = (codes "--budget", Some (Number RUNS_BUDGET), Number conformance.budget) ∷ []
 numbers_of (Run execution initial_store has_trace has_count) = budgeted execution.budget
 numbers_of (View lattice class execution initial_store) = budgeted execution.budget
+numbers_of (ViewWithin viewing) = budgeted viewing.execution.budget
 numbers_of (Drive driving) =
     (codes "--budget", Some Auto, driving.execution.budget)
     ∷ (codes "--save-every", Some (Number EVERY), Number driving.every) ∷ []
@@ -290,10 +323,26 @@ pub record AsksRaises (words : List (String Global)) (mending : Mending) : Type 
   pub asks : Asks words (codes "mend") (compiled mending.compilation) (flags_of (Mend mending)) [] []
   pub apart : (mending.is_applied && mending.is_json) ≡ false
 
+-- The options of a view without lists: it gives neither.
+abbrev pub unlisted : Bor (List ℕ) → Execution → InitialStore → List (List ℕ × List (List ℕ))
+unlisted class execution initial_store =
+    (codes "--class", class.now ∷ []) ∷ starting execution initial_store ++ listing None None
+
+-- The arguments are `view` with its operands, flags, options and numbers, and at least one list.
+pub record AsksViewWithin (words : List (String Global)) (viewing : Viewing) : Type 0 where
+  pub asks : Asks words (codes "view") (operands_of (ViewWithin viewing)) (flags_of (ViewWithin viewing))
+      (options_of (ViewWithin viewing)) (numbers_of (ViewWithin viewing))
+  pub listed : (is_some viewing.outputs || is_some viewing.released) ≡ true
+
 -- The arguments spell the request: its subcommand, then its operands, flags, options and numbers or, for `explain`, an
 -- operand that names its page.
 abbrev pub Spells : List (String Global) → Request → Type 0
 Spells words (Mend mending) = AsksRaises words mending
+Spells words (View lattice class execution initial_store) =
+    Asks words (codes "view") (operands_of (View lattice class execution initial_store))
+    (flags_of (View lattice class execution initial_store)) (unlisted class execution initial_store)
+    (numbers_of (View lattice class execution initial_store))
+Spells words (ViewWithin viewing) = AsksViewWithin words viewing
 Spells words (Layout layout) = AsksLayout words layout
 Spells words (Explain page) = AsksPage words page.now
 Spells words request =
@@ -305,6 +354,7 @@ abbrev pub free_flags : Request → List (List ℕ)
 free_flags (Build compilation image) = codes "--explain" ∷ codes "--force" ∷ []
 free_flags (Run execution initial_store has_trace has_count) = codes "--explain" ∷ codes "--force" ∷ []
 free_flags (View lattice class execution initial_store) = codes "--explain" ∷ codes "--force" ∷ []
+free_flags (ViewWithin viewing) = codes "--explain" ∷ codes "--force" ∷ []
 free_flags (Drive driving) = codes "--explain" ∷ codes "--force" ∷ []
 free_flags request = codes "--explain" ∷ []
 

@@ -6,13 +6,15 @@ ghost use Rattle.vsi_asked.specs.Asked as spec;
 ghost use Rattle.vsi_asked.specs.Words.{operands_in, shown, texts, values_in};
 
 use crate::documents::{asks_audit, asks_bound, asks_classes, asks_document, asks_flows};
-use crate::numbers::{has_budget, has_budget_or_auto, has_number, number_in, only_operand};
+use crate::drives::asks_drive;
+use crate::numbers::{has_budget, has_number, number_in, only_operand};
 use crate::own::has_own_alone;
 use crate::reading::{has_flag, has_operands, has_values};
+use crate::viewing::{asks_view_within, has_listing};
 use vsi_arguments::{
-    Attempt, Audit, Bounding, Comparison, Compilation, Conformance, Document, Drawing, Driving,
-    EVERY, Emission, Execution, InitialStore, Judging, Layout, Looking, Mending, NameLists,
-    RUNS_BUDGET, Request, SEARCH, Search, Serving, TRY_BUDGET,
+    Attempt, Audit, Bounding, Comparison, Compilation, Conformance, Document, Drawing, Emission,
+    Execution, InitialStore, Judging, Layout, Looking, Mending, RUNS_BUDGET, Request, SEARCH,
+    Search, Serving, TRY_BUDGET,
 };
 use vsi_explain::{page, subject_page};
 
@@ -32,7 +34,7 @@ fn has_flags(words: &[String], flags: &[(&str, bool)]) -> bool
 }
 
 /// Whether the arguments give an option this value, or no value.
-fn has_value(words: &[String], option: &str, value: Option<&str>) -> bool
+pub(crate) fn has_value(words: &[String], option: &str, value: Option<&str>) -> bool
     ensures { result ≡ true
         → values_in option.now false (texts words.now) ≡ spec.given value.entry }
 {
@@ -54,7 +56,7 @@ fn behind_name<'a>(words: &'a [String], name: &str) -> Option<&'a [String]>
 
 /// The arguments after the first, if the first is the name and the others have exactly these
 /// operands and flags.
-fn behind<'a>(
+pub(crate) fn behind<'a>(
     words: &'a [String],
     name: &str,
     operands: &[&[u8]],
@@ -101,7 +103,7 @@ pub(crate) fn asks_compilation(
 }
 
 /// Whether the arguments say how a run begins and where its text goes.
-fn has_initial_store(
+pub(crate) fn has_initial_store(
     words: &[String],
     execution: &Execution<'_>,
     initial_store: &InitialStore<'_>,
@@ -112,15 +114,6 @@ fn has_initial_store(
     has_value(words, "--store", execution.store)
         && has_value(words, "--out", initial_store.out)
         && has_values(words, b"--set", initial_store.settings.as_slice())
-}
-
-/// Whether the arguments give these lists of names.
-fn has_lists(words: &[String], lists: &NameLists<'_>) -> bool
-    ensures { result ≡ true → spec.HasOptions (texts words.now) (spec.bounding lists.now) }
-{
-    has_value(words, "--inputs", lists.inputs)
-        && has_value(words, "--outputs", lists.outputs)
-        && has_value(words, "--release", lists.released)
 }
 
 /// Whether the arguments request an attempt.
@@ -178,30 +171,8 @@ fn asks_view(
     };
     has_value(rest, "--class", Some(class))
         && has_initial_store(rest, execution, initial_store)
+        && has_listing(rest, None, None)
         && has_budget(rest, execution.budget)
-}
-
-/// Whether the arguments request the driving of a controller.
-fn asks_drive(words: &[String], driving: &Driving<'_>) -> bool
-    ensures { result ≡ true → spec.Spells words.now (request.Drive driving.now) }
-{
-    let operands = [
-        driving.lattice.as_bytes(),
-        driving.execution.image.as_bytes(),
-    ];
-    let flags = [
-        ("--full-store", driving.is_full),
-        ("--unbounded", driving.is_unbounded),
-    ];
-    let Some(rest) = behind(words, "drive", operands.as_slice(), flags.as_slice()) else {
-        return false;
-    };
-    has_value(rest, "--class", Some(driving.class))
-        && has_value(rest, "--store", driving.execution.store)
-        && has_value(rest, "--save", driving.save)
-        && has_lists(rest, &driving.lists)
-        && has_budget_or_auto(rest, driving.execution.budget)
-        && has_number(rest, "--save-every", Some(EVERY), driving.every)
 }
 
 /// Whether the arguments request a comparison.
@@ -463,6 +434,7 @@ fn spells(words: &[String], request: &Request<'_>) -> bool
             execution,
             initial_store,
         } => asks_view(words, lattice, class, execution, initial_store),
+        Request::ViewWithin(viewing) => asks_view_within(words, viewing),
         Request::Drive(driving) => asks_drive(words, driving),
         Request::Compare(comparison) => asks_compare(words, comparison),
         Request::Leak(search) => asks_leak(words, search),

@@ -10,11 +10,13 @@
 
 mod asking;
 mod documents;
+mod drives;
 mod help;
 pub mod laws;
 mod numbers;
 mod own;
 mod reading;
+mod viewing;
 
 pub use asking::asks_for;
 pub use help::asks_help;

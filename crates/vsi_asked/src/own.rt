@@ -98,14 +98,27 @@ const VIEW_OPTIONS: [&[u8]; 6] = [
     b"--color",
 ];
 
+/// The options of `view` with lists.
+const VIEW_WITHIN_OPTIONS: [&[u8]; 8] = [
+    b"--class",
+    b"--store",
+    b"--out",
+    b"--set",
+    b"--outputs",
+    b"--release",
+    b"--budget",
+    b"--color",
+];
+
 /// The flags of `drive`.
 const DRIVE: [&[u8]; 4] = [b"--full-store", b"--unbounded", b"--explain", b"--force"];
 
 /// The options of `drive`.
-const DRIVE_OPTIONS: [&[u8]; 9] = [
+const DRIVE_OPTIONS: [&[u8]; 10] = [
     b"--class",
     b"--store",
     b"--save",
+    b"--interface",
     b"--inputs",
     b"--outputs",
     b"--release",
@@ -221,6 +234,7 @@ pub(crate) fn has_own_alone(words: &[String], request: &Request<'_>) -> bool
         Request::Bound(_) => are_own(words, BOUND.as_slice(), NO_OPTIONS.as_slice()),
         Request::Run { .. } => are_own(words, RUN.as_slice(), RUN_OPTIONS.as_slice()),
         Request::View { .. } => are_own(words, VIEW.as_slice(), VIEW_OPTIONS.as_slice()),
+        Request::ViewWithin(_) => are_own(words, VIEW.as_slice(), VIEW_WITHIN_OPTIONS.as_slice()),
         Request::Drive(_) => are_own(words, DRIVE.as_slice(), DRIVE_OPTIONS.as_slice()),
         Request::Compare(_) => are_own(words, NO_FLAGS.as_slice(), COMPARE_OPTIONS.as_slice()),
         Request::Leak(_) => are_own(words, LEAK.as_slice(), LEAK_OPTIONS.as_slice()),

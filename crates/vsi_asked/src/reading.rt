@@ -5,11 +5,12 @@ ghost use Rattle.std.specs.Prelude.{option_map};
 ghost use Rattle.vsi_asked.specs.Words as spec;
 
 /// The options that take a value.
-const VALUED: [&[u8]; 15] = [
+const VALUED: [&[u8]; 16] = [
     b"--budget",
     b"--class",
     b"--color",
     b"--inputs",
+    b"--interface",
     b"--lattice",
     b"--name",
     b"--out",

@@ -44,6 +44,8 @@ fn tells_faults_of_what_is_written(rt: HostRuntime) -> Result<(), Fail> {
     for line in &[
         "check two sum",
         "classes two sum",
+        "flows two leak",
+        "flows --walks two leak",
         "list image",
         "run image --budget 3",
         "run image --budget 3 --trace",
@@ -57,6 +59,34 @@ fn tells_faults_of_what_is_written(rt: HostRuntime) -> Result<(), Fail> {
     let line = "build two sum made";
     let error = b"file fault: made\n";
     assert!(rt; is_cut_anywhere(rt.alloc(), line, Device::Image, 4, error)?);
+    Ok(())
+}
+
+/// The number of the lines of a text.
+fn line_count(text: &[u8]) -> usize {
+    let mut count: usize = 0;
+    for byte in text {
+        if *byte == b'\n' {
+            count = count.saturating_add(1);
+        }
+    }
+    count
+}
+
+// 25 variables in a chain are 300 pairs, and the walks have d * (25 - d) steps of pairs d apart:
+// 2,600. The lines are more than 65,536 bytes, so they are written in two parts.
+#[test]
+fn writes_walks_as_they_are_made(rt: HostRuntime) -> Result<(), Fail> {
+    let line = "flows --walks two chain";
+    let whole = show(rt.alloc(), line, Room::AMPLE)?;
+    assert!(rt; whole.status == 0);
+    assert!(rt; line_count(whole.output.as_slice()) == 2900);
+    assert!(rt; whole.output.as_slice().ends_with(b"by ASSIGN at 1:460\n"));
+    for bytes in &[0_usize, 1, 65_000, 66_000, 100_000] {
+        let cut = show(rt.alloc(), line, Room::only(Device::Output, *bytes))?;
+        assert!(rt; is_cut(&cut, &whole, Device::Output, *bytes, 4), "at {bytes}");
+        assert!(rt; cut.error.as_slice() == STREAM, "at {bytes}");
+    }
     Ok(())
 }
 

@@ -1,7 +1,7 @@
 -- The line of a refused interface.
 use Rattle.std.specs.Prelude.{ℕ, List, [], ◌++◌, codes, decimal, Option, Some, None}
 use Rattle.vsi_conform.specs.declared.error.InterfaceError.{InterfaceError}
-use Rattle.vsi_conform.specs.declared.error.InterfaceError.TheVariants.{NotToml, UnknownKey, BadLattice, BadProfile, BadOrder, BadBounded, BadGlobals, BadName, RepeatedGlobal, UnknownClass, BadRuns, BadRun, BadStore, NoBudget, NothingExpected, UnknownGlobal, AboveBudget, Memory}
+use Rattle.vsi_conform.specs.declared.error.InterfaceError.TheVariants.{NotToml, UnknownKey, BadLattice, BadProfile, BadOrder, BadBounded, BadGlobals, BadName, RepeatedGlobal, UnknownClass, BadRuns, BadRun, BadStore, NoBudget, NothingExpected, UnknownGlobal, BadCycle, UnknownInCycle, AboveBudget, Memory}
 
 -- The name of a fault.
 abbrev pub name_of : InterfaceError → List ℕ
@@ -21,16 +21,20 @@ name_of (BadStore run) = codes "BadStore"
 name_of (NoBudget run) = codes "NoBudget"
 name_of (NothingExpected run) = codes "NothingExpected"
 name_of (UnknownGlobal run name) = codes "UnknownGlobal"
+name_of (BadCycle cycle) = codes "BadCycle"
+name_of (UnknownInCycle cycle name) = codes "UnknownInCycle"
 name_of (AboveBudget budget) = codes "AboveBudget"
 name_of Memory = codes "Memory"
 
--- The number of the faulty run, from 1, or the budget.
+-- The number of the faulty run or boundary, from 1, or the budget.
 abbrev pub run_of : InterfaceError → Option ℕ
 run_of (BadRun run) = Some run
 run_of (BadStore run) = Some run
 run_of (NoBudget run) = Some run
 run_of (NothingExpected run) = Some run
 run_of (UnknownGlobal run name) = Some run
+run_of (BadCycle cycle) = Some cycle
+run_of (UnknownInCycle cycle name) = Some cycle
 run_of (AboveBudget budget) = Some budget
 run_of _ = None
 
@@ -41,6 +45,7 @@ word_of (BadName name) = Some name.items
 word_of (RepeatedGlobal name) = Some name.items
 word_of (UnknownClass name) = Some name.items
 word_of (UnknownGlobal run name) = Some name.items
+word_of (UnknownInCycle cycle name) = Some name.items
 word_of _ = None
 
 -- A space and a number, if there is one.

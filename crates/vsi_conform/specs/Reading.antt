@@ -1,12 +1,15 @@
 -- The contents of an interface file, in terms of the table that its text denotes.
-use Rattle.std.specs.Prelude.{◌≡◌, ℕ, ℤ, pos, negsuc, List, [], ◌∷◌, Bool, true, false, ◌&&◌, ◌||◌, if◌then◌else◌, Option, Some, None, option_map, option_and_then, map, codes, bytes_eq}
+use Rattle.std.specs.Prelude.{◌≡◌, ℕ, ◌+◌, ℤ, pos, negsuc, List, [], ◌∷◌, Bool, true, false, not, ◌&&◌, ◌||◌, if◌then◌else◌, Option, Some, None, IfSome, is_some, option_map, option_and_then, map, codes, bytes_eq}
 use Rattle.std.specs.Borrow.{Bor}
+use Rattle.std.specs.Global.{Vec}
 use Rattle.std.specs.List.{All}
 use Rattle.std.specs.Str.{IsUtf8}
 use Rattle.toml.specs.Data.{Data, Members, no_members, member, get_member, as_str, as_integer, as_bool, as_array, as_table}
 use Rattle.toml.specs.Parse.{parse_document}
+use Rattle.vsi_lattice.specs.Known.{Known}
 use Rattle.vsi_lattice.specs.Shape.{pair_of, all_of, array_at}
 use Rattle.vsi_image.specs.Fields.{Global, globals, is_taken}
+use Rattle.vsi_conform.specs.declared.cycles.Cycle.{Cycle}
 use Rattle.vsi_conform.specs.declared.error.InterfaceError.{InterfaceError}
 use Rattle.vsi_conform.specs.declared.error.InterfaceError.TheVariants.{NotToml, Memory}
 use Rattle.vsi_conform.specs.declared.interface.Interface.{Interface}
@@ -49,7 +52,7 @@ has_keys keys (member key d ms) = is_among keys key && has_keys keys ms
 abbrev pub interface_keys : List (List ℕ)
 interface_keys =
     codes "lattice" ∷ codes "classes" ∷ codes "below" ∷ codes "profile" ∷ codes "order" ∷ codes "bounded"
-    ∷ codes "globals" ∷ codes "runs" ∷ []
+    ∷ codes "globals" ∷ codes "runs" ∷ codes "cycle" ∷ []
 
 -- The keys of a run.
 abbrev pub run_keys : List (List ℕ)
@@ -164,6 +167,104 @@ abbrev pub runs_from : Option Data → Option (List Run)
 runs_from None = Some []
 runs_from (Some d) = option_and_then (all_of run_of) (as_array d)
 
+-- ---- boundaries.
+
+-- The keys of a boundary.
+abbrev pub cycle_keys : List (List ℕ)
+cycle_keys = codes "class" ∷ codes "inputs" ∷ codes "outputs" ∷ codes "released" ∷ []
+
+-- The boundary of a class's controllers, as a value of these definitions.
+pub record ClassBoundary : Type 0 where
+  pub class : List ℕ
+  pub inputs : Option (List (List ℕ))
+  pub outputs : Option (List (List ℕ))
+  pub released : List (List ℕ)
+
+-- The bytes of each name.
+abbrev pub bytes_of : List (Vec ℕ) → List (List ℕ)
+bytes_of names = map (λ name. name.items) names
+
+-- A boundary of the code.
+abbrev pub cycle : Cycle → ClassBoundary
+cycle c =
+    record {
+      class = c.class.items;
+      inputs = option_map (λ names. bytes_of names.items) c.inputs;
+      outputs = option_map (λ names. bytes_of names.items) c.outputs;
+      released = bytes_of c.released.items;
+    }
+
+-- The names of an array of texts.
+abbrev pub names_of : Data → Option (List (List ℕ))
+names_of d = option_and_then (all_of as_str) (as_array d)
+
+-- The list of inputs or of outputs, from the value at its key, which may be missing.
+abbrev pub list_from : Option Data → Option (Option (List (List ℕ)))
+list_from None = Some None
+list_from (Some d) = option_map (λ names. Some names) (names_of d)
+
+-- The released outputs, from the value at `released`, which may be missing.
+abbrev pub released_from : Option Data → Option (List (List ℕ))
+released_from None = Some []
+released_from (Some d) = names_of d
+
+-- A boundary with these parts.
+abbrev pub cycle_from : Option (List ℕ) → Option (Option (List (List ℕ))) → Option (Option (List (List ℕ))) →
+    Option (List (List ℕ)) → Option ClassBoundary
+cycle_from None inputs outputs released = None
+cycle_from (Some class) None outputs released = None
+cycle_from (Some class) (Some inputs) None released = None
+cycle_from (Some class) (Some inputs) (Some outputs) None = None
+cycle_from (Some class) (Some inputs) (Some outputs) (Some released) =
+    Some (record { class = class; inputs = inputs; outputs = outputs; released = released })
+
+-- The boundary of a table that has no keys other than those of one.
+abbrev pub cycle_in : Members → Option ClassBoundary
+cycle_in ms =
+    if has_keys cycle_keys ms then
+    cycle_from (text_at (codes "class") ms) (list_from (get_member (codes "inputs") ms))
+    (list_from (get_member (codes "outputs") ms)) (released_from (get_member (codes "released") ms)) else None
+
+-- The boundary of a value that is a table.
+abbrev pub cycle_of : Data → Option ClassBoundary
+cycle_of d = option_and_then cycle_in (as_table d)
+
+-- The boundaries, from the value at `cycle`, which may be missing.
+abbrev pub cycles_from : Option Data → Option (List ClassBoundary)
+cycles_from None = Some []
+cycles_from (Some d) = option_and_then (all_of cycle_of) (as_array d)
+
+-- The name is that of a global.
+abbrev pub IsKnown : List Global → List ℕ → Type 0
+IsKnown gs name = is_taken gs name ≡ true
+
+-- A boundary names no variables other than these globals.
+pub record BoundsGlobals (gs : List Global) (b : ClassBoundary) : Type 0 where
+  pub inputs : IfSome b.inputs (All (IsKnown gs))
+  pub outputs : IfSome b.outputs (All (IsKnown gs))
+  pub released : All (IsKnown gs) b.released
+
+-- One of the boundaries is that of this class.
+abbrev pub has_class : List ClassBoundary → List ℕ → Bool
+has_class [] class = false
+has_class (b ∷ bs) class = bytes_eq b.class class || has_class bs class
+
+-- No two boundaries have one class.
+abbrev pub are_apart : List ClassBoundary → Bool
+are_apart [] = true
+are_apart (b ∷ bs) = not (has_class bs b.class) && are_apart bs
+
+-- The table has these boundaries, at most one for each class, with names of these globals.
+pub record Bounds (ms : Members) (gs : List Global) (cycles : List Cycle) : Type 0 where
+  pub are : cycles_from (get_member (codes "cycle") ms) ≡ Some (map cycle cycles)
+  pub named : All (BoundsGlobals gs) (map cycle cycles)
+  pub apart : are_apart (map cycle cycles) ≡ true
+
+-- The number of the first of these boundaries whose class name denotes no class, where they have numbers from n on.
+abbrev pub first_unbound : Known → ℕ → List ClassBoundary → Option ℕ
+first_unbound known n [] = None
+first_unbound known n (b ∷ bs) = if is_some (known b.class) then first_unbound known (n + 1) bs else Some n
+
 -- ---- the whole interface.
 
 -- The lattice is either in the file whose path is at `lattice`, with no lattice table beside it, or in lattice tables,
@@ -204,3 +305,4 @@ pub record IsReadAs (text : List ℕ) (a : Asked) : Type 0 where
   pub keys : has_keys interface_keys table ≡ true
   pub policy : IsPolicy table a.policy
   pub interface : Asks table a.interface
+  pub cycles : Bounds table (globals a.interface.globals.items) a.cycles.items

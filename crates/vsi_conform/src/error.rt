@@ -10,7 +10,7 @@ use std::alloc::{AllocError, AllocFailed, Global};
 use thiserror::Error;
 use vsi_syntax::put_number;
 
-/// Why an interface file is refused. Runs are numbered from 1.
+/// Why an interface file is refused. Runs and boundaries are numbered from 1.
 #[derive(Debug, Drop, Error)]
 pub enum InterfaceError {
     /// The text isn't a TOML document.
@@ -62,6 +62,14 @@ pub enum InterfaceError {
     /// The run names this global, which the interface doesn't have.
     #[error("run {0} names an unknown global")]
     UnknownGlobal(usize, Vec<u8>),
+    /// The boundary isn't a table with a class and with arrays of names, has a key that boundaries
+    /// don't have, or has the class of a later one; or the value at `cycle` isn't an array.
+    #[error("cycle {0} is no boundary of a class")]
+    BadCycle(usize),
+    /// The boundary names this global, which the interface doesn't have, or it is that of this
+    /// class, which the lattice doesn't have.
+    #[error("cycle {0} names an unknown global or class")]
+    UnknownInCycle(usize, Vec<u8>),
     /// The runs may take more instructions together than this number.
     #[error("the runs may take more than {0} instructions")]
     AboveBudget(u64),
@@ -107,12 +115,15 @@ fn fault_name(error: &InterfaceError) -> &'static [u8]
         InterfaceError::NoBudget(_) => b"NoBudget",
         InterfaceError::NothingExpected(_) => b"NothingExpected",
         InterfaceError::UnknownGlobal(_, _) => b"UnknownGlobal",
+        InterfaceError::BadCycle(_) => b"BadCycle",
+        InterfaceError::UnknownInCycle(_, _) => b"UnknownInCycle",
         InterfaceError::AboveBudget(_) => b"AboveBudget",
         InterfaceError::Memory => b"Memory",
     }
 }
 
-/// The fields after the name of a fault: the number of a run or a budget, and a name or a key.
+/// The fields after the name of a fault: the number of a run or of a boundary, or a budget, and a
+/// name or a key.
 fn fault_fields(error: &InterfaceError) -> (Option<usize>, Option<&[u8]>)
     ensures run { result.0 ≡ spec.run_of error.now }
     ensures word { option_copied result.1 ≡ spec.word_of error.now }
@@ -125,15 +136,18 @@ fn fault_fields(error: &InterfaceError) -> (Option<usize>, Option<&[u8]>)
         InterfaceError::BadRun(run)
         | InterfaceError::BadStore(run)
         | InterfaceError::NoBudget(run)
-        | InterfaceError::NothingExpected(run) => (Some(*run), None),
-        InterfaceError::UnknownGlobal(run, word) => (Some(*run), Some(word.as_slice())),
+        | InterfaceError::NothingExpected(run)
+        | InterfaceError::BadCycle(run) => (Some(*run), None),
+        InterfaceError::UnknownGlobal(run, word) | InterfaceError::UnknownInCycle(run, word) => {
+            (Some(*run), Some(word.as_slice()))
+        }
         InterfaceError::AboveBudget(budget) => (Some(*budget as usize), None),
         _ => (None, None),
     }
 }
 
-/// The line of a refused interface: the name of the fault and, if there is one, the faulty run and
-/// the faulty name or key.
+/// The line of a refused interface: the name of the fault and, if there is one, the faulty run or
+/// boundary and the faulty name or key.
 pub fn interface_text(alloc: Global, error: &InterfaceError) -> Result<Vec<u8>, AllocError>
     ensures line { IfOk result (λ text. text.items ≡ spec.interface_line error.now) }
 {

@@ -2,12 +2,13 @@
 //!
 //! `check_json` judges a source text as `vsi check` does, and writes the answer as a line of JSON
 //! (`specs/Checking`). `read_interface` reads an interface file: the lattice, the judgement, the
-//! globals with their classes, and the required runs. `conform` reports each point in which a text
-//! differs from an interface; if there is none, the text conforms to it (`specs/Conforms`).
-//! `image_points` reports the points of an image. `is_within` compares the budgets of all runs with
-//! one budget (`specs/Totals`). `parts` has the lines and objects of points that name no position
-//! in a text. `points_text` and `points_json` write an answer (`specs/Lines`, `specs/Json`), and
-//! `interface_text` writes why an interface is refused (`specs/Faulty`).
+//! globals with their classes, the required runs, and the boundaries of controllers. `conform`
+//! reports each point in which a text differs from an interface; if there is none, the text
+//! conforms to it (`specs/Conforms`). `image_points` reports the points of an image. `is_within`
+//! compares the budgets of all runs with one budget (`specs/Totals`). `parts` has the lines and
+//! objects of points that name no position in a text. `points_text` and `points_json` write an
+//! answer (`specs/Lines`, `specs/Json`), and `interface_text` writes why an interface is refused
+//! (`specs/Faulty`).
 //!
 //! To be believed: all files of `specs/`.
 #![tactic(auto)]
@@ -15,6 +16,7 @@
 mod accepting;
 mod checking;
 mod conforming;
+mod cycles;
 mod declared;
 mod error;
 mod globals;
@@ -25,6 +27,7 @@ mod outside;
 pub mod parts;
 mod point;
 mod reader;
+mod runs;
 mod texts;
 mod totals;
 mod trials;
@@ -32,6 +35,7 @@ mod trials;
 pub use accepting::judged;
 pub use checking::{Checked, check_json, steady_diagnostic, unsteady_diagnostic};
 pub use conforming::{conform, image_points};
+pub use cycles::{Cycle, unknown_cycle};
 pub use error::{InterfaceError, interface_text};
 pub use interface::{Interface, Judgement, Trial};
 pub use json::points_json;

@@ -1,39 +1,35 @@
 //! Reads an interface file.
 
-ghost use Rattle.std.specs.Prelude.{◌≡◌, ◌≤◌, length, map, take, codes, Some, None, true, false};
-ghost use Rattle.std.specs.Prelude.{IsTrue, IfOk, IfSome, OnOk, option_map, option_and_then, string_bytes};
-ghost use Rattle.std.specs.List.{All};
+ghost use Rattle.std.specs.Prelude.{◌≡◌, ◌≤◌, length, take, codes, Some, None, false};
+ghost use Rattle.std.specs.Prelude.{IfOk, OnOk, option_map, string_bytes};
 ghost use Rattle.std.specs.Str.{IsUtf8};
 ghost use Rattle.std.specs.Str.Lossy.{utf8_lossy};
-ghost use Rattle.toml.specs.Data.{as_bool, as_table, get_member};
+ghost use Rattle.toml.specs.Data.{get_member};
 ghost use Rattle.toml.specs.View.{items_view, table_view, view};
-ghost use Rattle.vsi_image.specs.Fields as image;
 ghost use Rattle.vsi_image.specs.Fields.{global, globals};
 ghost use Rattle.vsi_lattice.specs.Shape as shape;
 ghost use Rattle.vsi_conform.specs.Beside.{IsInside, beside, folder};
-ghost use Rattle.vsi_conform.specs.Points.{entries};
 ghost use Rattle.vsi_conform.specs.Reading as spec;
 ghost use Rattle.vsi_conform.specs.Tables.{IsTablesText, with_copy};
 ghost use Rattle.vsi_lattice.specs.LatticeView.{class_named};
 ghost use Rattle.vsi_store.specs.View.{first_unknown};
 
+use crate::cycles::{Cycle, cycles_in};
 use crate::error::InterfaceError;
 use crate::globals::is_named;
-use crate::interface::{Interface, Judgement, Trial};
-use crate::keys::{entries_of, other_key, table_in, text_at, value_at};
+use crate::interface::{Interface, Judgement};
+use crate::keys::{other_key, table_in, text_at, value_at};
 use crate::outside::leads_out;
+use crate::runs::trials_in;
 use std::alloc::{AllocError, Global};
 use toml::{Table, Value};
 use vsi_lattice::Lattice;
 use vsi_syntax::is_name;
 
 /// The keys of an interface.
-const KEYS: [&str; 8] = [
-    "lattice", "classes", "below", "profile", "order", "bounded", "globals", "runs",
+const KEYS: [&str; 9] = [
+    "lattice", "classes", "below", "profile", "order", "bounded", "globals", "runs", "cycle",
 ];
-
-/// The keys of a run.
-const RUN_KEYS: [&str; 4] = ["store", "budget", "expect", "halts"];
 
 /// The most globals of a program.
 const MOST_GLOBALS: usize = 256;
@@ -55,6 +51,8 @@ pub struct Asked {
     pub policy: Policy,
     /// The requirements on a text.
     pub interface: Interface,
+    /// The boundaries of controllers, at most one for each class.
+    pub cycles: Vec<Cycle>,
 }
 
 /// The path of a file that an interface names, taken relative to the folder of the interface.
@@ -307,211 +305,6 @@ fn globals_of(alloc: Global, array: &[Value]) -> Result<Vec<(Vec<u8>, Vec<u8>)>,
     Ok(found)
 }
 
-/// The names and the words of a table of numbers, if each name is one of the globals; nothing if a
-/// value isn't a number.
-fn known_entries(
-    alloc: Global,
-    number: usize,
-    value: &Value,
-    globals: &[(Vec<u8>, Vec<u8>)],
-) -> Result<Option<Vec<(Vec<u8>, i64)>>, InterfaceError>
-    ensures entries { IfOk result (λ found. option_map (λ es. entries es.items) found
-        ≡ spec.entries_of (view value.now)) }
-    ensures named { IfOk result (λ found. IfSome found
-        (λ es. spec.are_named (image.globals globals.now) (entries es.items) ≡ true)) }
-{
-    let Some(entries) = entries_of(alloc, value)? else {
-        return Ok(None);
-    };
-    know_names(alloc, number, globals, &entries)?;
-    Ok(Some(entries))
-}
-
-/// Whether each name is one of the globals.
-fn know_names(
-    alloc: Global,
-    number: usize,
-    globals: &[(Vec<u8>, Vec<u8>)],
-    found: &[(Vec<u8>, i64)],
-) -> Result<(), InterfaceError>
-    ensures { OnOk result (spec.are_named (image.globals globals.now) (entries found.now) ≡ true) }
-{
-    for entry in found {
-        if !is_named(globals, &entry.0) {
-            let name = Vec::from_slice(alloc, &entry.0)?;
-            return Err(InterfaceError::UnknownGlobal(number, name));
-        }
-    }
-    Ok(())
-}
-
-/// The store of a run, numbered from 1; without one it is empty.
-fn store_in(
-    alloc: Global,
-    number: usize,
-    table: &Table,
-    globals: &[(Vec<u8>, Vec<u8>)],
-) -> Result<Vec<(Vec<u8>, i64)>, InterfaceError>
-    ensures store { IfOk result (λ store. spec.store_from
-        (get_member (codes "store") (table_view table.now)) ≡ Some (entries store.items)) }
-    ensures named { IfOk result
-        (λ store. spec.are_named (image.globals globals.now) (entries store.items) ≡ true) }
-{
-    let Some(value) = value_at(table, "store") else {
-        return Ok(Vec::new(alloc));
-    };
-    match known_entries(alloc, number, value, globals)? {
-        Some(entries) => Ok(entries),
-        None => Err(InterfaceError::BadStore(number)),
-    }
-}
-
-/// The budget of a run.
-fn budget_in(number: usize, table: &Table) -> Result<u64, InterfaceError>
-    ensures { IfOk result (λ budget. spec.budget_from
-        (get_member (codes "budget") (table_view table.now)) ≡ Some budget) }
-{
-    let Some(value) = value_at(table, "budget") else {
-        return Err(InterfaceError::NoBudget(number));
-    };
-    let Some(budget) = value.as_integer() else {
-        return Err(InterfaceError::NoBudget(number));
-    };
-    match natural(budget) {
-        Some(budget) => Ok(budget),
-        None => Err(InterfaceError::NoBudget(number)),
-    }
-}
-
-/// A number of at least 0.
-fn natural(number: i64) -> Option<u64>
-    ensures { result ≡ spec.natural number }
-{
-    if number < 0 {
-        None
-    } else {
-        Some(number as u64)
-    }
-}
-
-/// Whether a run has `halts = true`.
-fn is_halting(table: &Table) -> bool
-    ensures { IsTrue result → option_and_then as_bool
-        (get_member (codes "halts") (table_view table.now)) ≡ Some true }
-{
-    let Some(value) = value_at(table, "halts") else {
-        return false;
-    };
-    let Some(halts) = value.as_bool() else {
-        return false;
-    };
-    halts
-}
-
-/// The words that a run expects; there are none if it only has to halt.
-fn expect_in(
-    alloc: Global,
-    number: usize,
-    table: &Table,
-    globals: &[(Vec<u8>, Vec<u8>)],
-) -> Result<Vec<(Vec<u8>, i64)>, InterfaceError>
-    ensures expect { IfOk result (λ expect. spec.expect_from
-        (get_member (codes "expect") (table_view table.now))
-        (get_member (codes "halts") (table_view table.now)) ≡ Some (entries expect.items)) }
-    ensures named { IfOk result
-        (λ expect. spec.are_named (image.globals globals.now) (entries expect.items) ≡ true) }
-{
-    let Some(value) = value_at(table, "expect") else {
-        if is_halting(table) {
-            return Ok(Vec::new(alloc));
-        }
-        return Err(InterfaceError::NothingExpected(number));
-    };
-    if value_at(table, "halts").is_some() {
-        return Err(InterfaceError::NothingExpected(number));
-    }
-    match known_entries(alloc, number, value, globals)? {
-        Some(entries) => Ok(entries),
-        None => Err(InterfaceError::NothingExpected(number)),
-    }
-}
-
-/// The table of a run, if it has only the keys of a run.
-fn run_table(number: usize, value: &Value) -> Result<&Table, InterfaceError>
-    ensures table { IfOk result (λ table. as_table (view value.now) ≡ Some (table_view table.now)) }
-    ensures keys { IfOk result
-        (λ table. spec.has_keys spec.run_keys (table_view table.now) ≡ true) }
-{
-    let Some(table) = value.as_table() else {
-        return Err(InterfaceError::BadRun(number));
-    };
-    match other_key(table, &RUN_KEYS) {
-        Some(_) => Err(InterfaceError::BadRun(number)),
-        None => Ok(table),
-    }
-}
-
-/// A run; the numbers of runs begin with 1.
-fn trial_of(
-    alloc: Global,
-    number: usize,
-    value: &Value,
-    globals: &[(Vec<u8>, Vec<u8>)],
-) -> Result<Trial, InterfaceError>
-    ensures run { IfOk result (λ trial. spec.run_of (view value.now) ≡ Some (spec.run trial)) }
-    ensures named { IfOk result
-        (λ trial. spec.NamesGlobals (image.globals globals.now) (spec.run trial)) }
-{
-    let table = run_table(number, value)?;
-    let store = store_in(alloc, number, table, globals)?;
-    let budget = budget_in(number, table)?;
-    let expect = expect_in(alloc, number, table, globals)?;
-    Ok(Trial {
-        store,
-        budget,
-        expect,
-    })
-}
-
-/// The required runs.
-fn trials_in(
-    alloc: Global,
-    table: &Table,
-    globals: &[(Vec<u8>, Vec<u8>)],
-) -> Result<Vec<Trial>, InterfaceError>
-    ensures runs { IfOk result (λ trials. spec.runs_from
-        (get_member (codes "runs") (table_view table.now)) ≡ Some (map spec.run trials.items)) }
-    ensures named { IfOk result (λ trials. All (spec.NamesGlobals (image.globals globals.now))
-        (map spec.run trials.items)) }
-{
-    let Some(value) = value_at(table, "runs") else {
-        return Ok(Vec::new(alloc));
-    };
-    let Some(array) = value.as_array() else {
-        return Err(InterfaceError::BadRuns);
-    };
-    trials_of(alloc, array.as_slice(), globals)
-}
-
-/// The runs of an array.
-fn trials_of(
-    alloc: Global,
-    array: &[Value],
-    globals: &[(Vec<u8>, Vec<u8>)],
-) -> Result<Vec<Trial>, InterfaceError>
-    ensures runs { IfOk result (λ trials. shape.all_of spec.run_of (items_view array.now)
-        ≡ Some (map spec.run trials.items)) }
-    ensures named { IfOk result (λ trials. All (spec.NamesGlobals (image.globals globals.now))
-        (map spec.run trials.items)) }
-{
-    let mut trials = Vec::new(alloc);
-    for (i, item) in array.iter().enumerate() {
-        let trial = trial_of(alloc, i.saturating_add(1), item, globals)?;
-        trials.push(trial)?;
-    }
-    Ok(trials)
-}
-
 /// The requirements of a table on a text.
 fn interface_in(alloc: Global, table: &Table) -> Result<Interface, InterfaceError>
     ensures { IfOk result (spec.Asks (table_view table.now)) }
@@ -535,7 +328,7 @@ fn interface_in(alloc: Global, table: &Table) -> Result<Interface, InterfaceErro
 /// # Errors
 ///
 /// `NotToml` if the text is no document, isn't UTF-8, or has an integer beyond 64 bits; otherwise
-/// the first fault in the order keys, lattice, profile, order, bound, globals, runs.
+/// the first fault in the order keys, lattice, profile, order, bound, globals, runs, cycles.
 pub fn read_interface(alloc: Global, text: &[u8]) -> Result<Asked, InterfaceError>
     ensures read { IfOk result (spec.IsReadAs text.now) }
     ensures inside { IfOk result (λ asked. IsInside asked.policy) }
@@ -547,7 +340,12 @@ pub fn read_interface(alloc: Global, text: &[u8]) -> Result<Asked, InterfaceErro
     }
     let policy = policy_in(alloc, &table)?;
     let interface = interface_in(alloc, &table)?;
-    Ok(Asked { policy, interface })
+    let cycles = cycles_in(alloc, &table, &interface.globals)?;
+    Ok(Asked {
+        policy,
+        interface,
+        cycles,
+    })
 }
 
 /// The number, from 0, of the first required global whose class isn't in the lattice.

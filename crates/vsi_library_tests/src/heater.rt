@@ -6,7 +6,9 @@ ghost use Rattle.vsi_drive.specs.Control.{control};
 
 use std::alloc::{AllocError, Global};
 use vsi_compiler::compile;
-use vsi_drive::laws::{same_compiled_drives, same_drives, same_steady_drives};
+use vsi_drive::laws::{
+    plain_view, same_compiled_drives, same_compiled_views, same_drives, same_steady_drives,
+};
 use vsi_drive::{Controller, CycleEnding, LineFault};
 use vsi_image::Verified;
 use vsi_lattice::{Lattice, read_lattice};
@@ -133,6 +135,33 @@ fn is_ended(alloc: Global, lattice: &Lattice, verified: &Verified, store: &mut [
         && ends(alloc, &operator, store, b"", CycleEnding::Halted)
 }
 
+/// Everyone's view of a run from the last store.
+const THREE: &[u8] = b"temperature = 17\ntarget = 20\nheater = 1\n";
+
+/// Whether a run from the store has this view, or none.
+fn shows(alloc: Global, controller: &Controller, store: &[i64], want: Option<&[u8]>) -> bool
+    requires { length store.now ≡ length (control controller.now).image.globals.items }
+{
+    match (controller.view(alloc, store), want) {
+        (Ok(Some(text)), Some(lines)) => text.as_slice() == lines,
+        (Ok(None), None) => true,
+        _ => false,
+    }
+}
+
+/// Whether everyone sees three lines of a run from the store, and nothing of one that is spent.
+fn is_viewed(alloc: Global, lattice: &Lattice, verified: &Verified, store: &[i64]) -> bool
+    requires { length store.now ≡ length verified.now.globals.items }
+{
+    let Some(everyone) = controller(lattice, verified, b"Public", 100) else {
+        return false;
+    };
+    let Some(slow) = controller(lattice, verified, b"Public", 5) else {
+        return false;
+    };
+    shows(alloc, &everyone, store, Some(THREE)) && shows(alloc, &slow, store, None)
+}
+
 #[test]
 fn heats_a_house(rt: HostRuntime) -> Result<(), AllocError> {
     let alloc = rt.alloc();
@@ -142,8 +171,11 @@ fn heats_a_house(rt: HostRuntime) -> Result<(), AllocError> {
     assert!(rt; heats(alloc, &lattice, &verified, words));
     assert!(rt; words.get(3) == Some(&2) && words.get(4) == Some(&5));
     assert!(rt; is_ended(alloc, &lattice, &verified, words));
+    assert!(rt; is_viewed(alloc, &lattice, &verified, words));
     same_drives();
     same_compiled_drives();
     same_steady_drives();
+    same_compiled_views();
+    plain_view();
     Ok(())
 }

@@ -5,7 +5,8 @@ use Rattle.vsi_devices.specs.Counted.{device_of}
 use Rattle.vsi.specs.Partly.{BytesOf}
 use Rattle.vsi.specs.Performed.{ConformsFiles}
 use Rattle.vsi.specs.Refusals.{FailsBy}
-use Rattle.vsi.specs.Reasons.{DiffersConform, IsUnusable, RefusesConform}
+use Rattle.vsi.specs.Reasons.{DiffersConform, RefusesConform}
+use Rattle.vsi.specs.Undriven.{IsUnusable}
 use Rattle.vsi.proofs.Partly.{answer_leaves, kept_leaves}
 use Rattle.vsi.proofs.Reasons.{FailsBy-weaker, handed}
 use Rattle.vsi.proofs.Unrun.{answer_failed}

@@ -1,7 +1,7 @@
 use Rattle.std.proofs.Common.{subst}
 use Rattle.vsi_conform.specs.Reading.{IsReadAs}
 use Rattle.vsi.specs.Refusals.{FailsBy}
-use Rattle.vsi.specs.Reasons.{IsUnusable}
+use Rattle.vsi.specs.Undriven.{IsUnusable}
 use Rattle.vsi.proofs.Reasons.{handed, late_fails}
 use Rattle.vsi.proofs.conformance.interface_in.Goals as goal
 

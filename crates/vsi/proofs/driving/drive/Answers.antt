@@ -10,41 +10,43 @@ use Rattle.vsi.specs.State.{Touches, state_text}
 use Rattle.vsi.specs.Partly.{AnswersDrive, DrivenText, Partly}
 use Rattle.vsi.specs.Files.{IsFullAt, IsStoredAt}
 use Rattle.vsi.specs.Saved.{CutsInput}
-use Rattle.vsi.specs.Refusals.{LacksClassAt}
-use Rattle.vsi.specs.Reasons.{LacksDrive, WhyDrive}
+use Rattle.vsi.specs.Boundaries.{boundary_for}
+use Rattle.vsi.specs.Undriven.{LacksDrive, WhyDrive}
 use Rattle.vsi.proofs.Driven.{written_back}
 use Rattle.vsi.proofs.Cut.{Touches-trans, cut_on, cut_partly}
 use Rattle.vsi.proofs.Kept.{delivered_after, driven_state, early_state, first_state}
 use Rattle.vsi.proofs.Leaving.{driven_answers}
 use Rattle.vsi.proofs.Partly.{any_failure, kept_leaves, late_handed, late_leaves}
 use Rattle.vsi.proofs.Reasons.{late_failed}
-use Rattle.vsi.proofs.Undriven.{control_failed, first_failed, short_failed}
-use Rattle.vsi.proofs.Unrun.{handed_late, memory_failed, more_failed, unbounded_failed, unseen_failed}
+use Rattle.vsi.proofs.Undriven.{control_failed, first_failed, short_failed, unsteered_failed}
+use Rattle.vsi.proofs.Unrun.{handed_late, memory_failed, unbounded_failed}
 use Rattle.vsi.proofs.driving.drive.Goals as goal
 
 pub returns-clause-performed : goal.returns-clause-performed
 returns-clause-performed g c =
     let left = g.F.Files.holds c.save-2.new.files in
-    let image = c.in_ok-classes.verified in
+    let image = c.in_ok-steering.steering.verified in
     let given = g.R.Read.remaining (device_of c.args.input.now) in
     let old = g.W.Write.contents (device_of c.args.output.now) in
     let new = g.W.Write.contents (device_of c.drive_input.new.output) in
     let asked = c.args.driving.execution in
     on_ok_weaker c.save-2.result
     (λ saved. record {
-      lattice = c.in_ok-classes.classes;
-      driver = c.in_ok-classes.driver;
-      looks = c.in_ok-classes.ensures.looks;
+      lattice = c.in_ok-steering.steering.lattice;
+      driver = c.in_ok-steering.steering.driver;
       image = image;
-      held = c.in_ok-classes.ensures.held;
+      boundary = boundary_for c.args.driving.policy c.in_ok-steering.steering.cycle;
+      steered = c.in_ok-steering.ensures.steered;
+      held = c.in_ok-steering.ensures.held;
       first = c.in_ok-words.words.items;
       stored = subst (λ h. IsStoredAt h asked.store image c.in_ok-words.words.items)
-          c.in_ok-classes.ensures.kept c.in_ok-words.ensures.stored;
+          c.in_ok-steering.ensures.kept c.in_ok-words.ensures.stored;
       words = c.deref.result.now;
       budget = c.in_ok-budget.budget;
       within = c.in_ok-budget.ensures.budget;
       admitted = c.in_ok-admit.ensures.admitted;
-      sound = subst (λ k. boundary_fault k ≡ None) c.in_ok-controller.ensures.control c.in_ok-controller.ensures.sound;
+      sound = subst (λ k. boundary_fault k ≡ None) c.in_ok-controller.ensures.control
+          c.in_ok-controller.ensures.sound;
       drives = subst (λ k. DrivesInput k c.in_ok-words.words.items c.deref.result.now given old new)
           c.in_ok-controller.ensures.control
           (subst (λ m. DrivesInput (control c.in_ok-controller.controller) m c.deref.result.now given old new)
@@ -56,52 +58,48 @@ returns-clause-performed g c =
             c.deref_mut.ensures.len,
           )))) c.in_ok-drive_input.ensures.driven));
       full = subst (λ h. IsFullAt h asked.store image c.args.driving.is_full)
-          c.in_ok-classes.ensures.kept c.in_ok-words.ensures.full;
+          c.in_ok-steering.ensures.kept c.in_ok-words.ensures.full;
       saved = delivered_after c.args.driving.save (state_text image c.deref.result.now)
           (g.F.Files.holds c.args.files.now) (g.F.Files.holds c.drive_input.new.files) left
           (Touches-trans c.args.driving.save (g.F.Files.holds c.args.files.now) (g.F.Files.holds c.save.new.files)
           (g.F.Files.holds c.drive_input.new.files)
           (subst (λ h. Touches c.args.driving.save h (g.F.Files.holds c.save.new.files))
-          (c.in_ok-words.ensures.kept ∙ c.in_ok-classes.ensures.kept) c.in_ok-save.ensures.touched)
+          (c.in_ok-words.ensures.kept ∙ c.in_ok-steering.ensures.kept) c.in_ok-save.ensures.touched)
           c.in_ok-drive_input.ensures.touched) saved;
     })
     c.save-2.ensures.saved
 
-pub returns-in_err-classes-clause-failed : goal.returns-in_err-classes-clause-failed
-returns-in_err-classes-clause-failed g c =
-    let holds = g.F.Files.holds c.args.files.now in
-    more_failed (WhyDrive holds c.args.driving)
-    (LacksClassAt holds c.args.driving.lattice.now c.args.driving.class.now)
-    (LacksDrive holds c.args.driving) c.from_residual.result (λ failure lacks. inl (inl lacks))
-    (unseen_failed holds c.args.driving.lattice.now c.args.driving.execution.image.now (WhyDrive holds c.args.driving)
-    (LacksClassAt holds c.args.driving.lattice.now c.args.driving.class.now) c.from_residual.result
-    c.in_err-classes.field-0.0 (λ reason is. inl is) (λ reason is. inr (inl is)) c.from_residual.ensures.1
-    c.in_err-classes.ensures.failed)
+pub returns-in_err-steering-clause-failed : goal.returns-in_err-steering-clause-failed
+returns-in_err-steering-clause-failed g c =
+    unsteered_failed (g.F.Files.holds c.args.files.now) c.args.driving c.from_residual.result
+    c.in_err-steering.field-0.0 c.from_residual.ensures.1 c.in_err-steering.ensures.failed
 
 pub returns-in_err-words-clause-failed : goal.returns-in_err-words-clause-failed
 returns-in_err-words-clause-failed g c =
     let holds = g.F.Files.holds c.args.files.now in
     first_failed holds _ c.args.driving.execution.image.now c.args.driving.execution.store c.args.driving.is_full
     (WhyDrive holds c.args.driving) (LacksDrive holds c.args.driving)
-    c.in_ok-classes.verified c.from_residual-in_err-words.result
-    c.in_err-words.field-0.0 c.in_ok-classes.ensures.held c.in_ok-classes.ensures.kept
+    c.in_ok-steering.steering.verified c.from_residual-in_err-words.result
+    c.in_err-words.field-0.0 c.in_ok-steering.ensures.held c.in_ok-steering.ensures.kept
     (λ reason is. inr (inr (inl is))) c.from_residual-in_err-words.ensures.1 c.in_err-words.ensures.failed
 
 pub returns-in_err-budget-clause-failed : goal.returns-in_err-budget-clause-failed
 returns-in_err-budget-clause-failed g c =
     let holds = g.F.Files.holds c.args.files.now in
-    unbounded_failed holds c.args.driving.execution.image.now c.args.driving.execution.budget c.in_ok-classes.verified
+    unbounded_failed holds c.args.driving.execution.image.now c.args.driving.execution.budget
+    c.in_ok-steering.steering.verified
     (WhyDrive holds c.args.driving) (LacksDrive holds c.args.driving)
-    c.from_residual-in_err-budget.result c.in_err-budget.field-0.0 c.in_ok-classes.ensures.held
+    c.from_residual-in_err-budget.result c.in_err-budget.field-0.0 c.in_ok-steering.ensures.held
     (λ s lacks. inl (inr lacks)) c.from_residual-in_err-budget.ensures.1 c.in_err-budget.ensures.failed
 
 pub returns-in_err-admit-clause-failed : goal.returns-in_err-admit-clause-failed
 returns-in_err-admit-clause-failed g c =
     let holds = g.F.Files.holds c.args.files.now in
-    short_failed holds c.args.driving (WhyDrive holds c.args.driving) c.in_ok-classes.classes
-    c.in_ok-classes.driver c.in_ok-classes.verified c.in_ok-budget.budget
-    c.from_residual-in_err-admit.result c.in_err-admit.field-0.0 c.in_ok-classes.ensures.looks
-    c.in_ok-classes.ensures.held c.in_ok-budget.ensures.budget
+    short_failed holds c.args.driving (WhyDrive holds c.args.driving) c.in_ok-steering.steering.lattice
+    c.in_ok-steering.steering.driver c.in_ok-steering.steering.verified
+    (boundary_for c.args.driving.policy c.in_ok-steering.steering.cycle) c.in_ok-budget.budget
+    c.from_residual-in_err-admit.result c.in_err-admit.field-0.0 c.in_ok-steering.ensures.steered
+    c.in_ok-steering.ensures.held c.in_ok-budget.ensures.budget
     c.from_residual-in_err-admit.ensures.1 c.in_err-admit.ensures.failed
 
 pub returns-in_err-admit-clause-left : goal.returns-in_err-admit-clause-left
@@ -122,9 +120,11 @@ returns-in_err-names-clause-failed g c =
 
 pub returns-in_err-controller-clause-failed : goal.returns-in_err-controller-clause-failed
 returns-in_err-controller-clause-failed g c =
-    control_failed (g.F.Files.holds c.args.files.now) c.args.driving c.in_ok-classes.classes
-    c.in_ok-classes.driver c.in_ok-classes.verified c.in_ok-budget.budget c.from_residual-in_err-controller.result
-    c.in_err-controller.field-0.0 c.in_ok-classes.ensures.looks c.in_ok-classes.ensures.held
+    control_failed (g.F.Files.holds c.args.files.now) c.args.driving c.in_ok-steering.steering.lattice
+    c.in_ok-steering.steering.driver c.in_ok-steering.steering.verified
+    (boundary_for c.args.driving.policy c.in_ok-steering.steering.cycle) c.in_ok-budget.budget
+    c.from_residual-in_err-controller.result
+    c.in_err-controller.field-0.0 c.in_ok-steering.ensures.steered c.in_ok-steering.ensures.held
     c.in_ok-budget.ensures.budget c.from_residual-in_err-controller.ensures.1 c.in_err-controller.ensures.failed
 
 pub returns-clause-failed : goal.returns-clause-failed
@@ -133,8 +133,8 @@ returns-clause-failed g c =
     handed_late (WhyDrive holds c.args.driving) (LacksDrive holds c.args.driving)
     c.save-2.result c.save-2.ensures.failure
 
-pub returns-in_err-classes-clause-left : goal.returns-in_err-classes-clause-left
-returns-in_err-classes-clause-left g c = kept_leaves _ 4 _ c.from_residual.result
+pub returns-in_err-steering-clause-left : goal.returns-in_err-steering-clause-left
+returns-in_err-steering-clause-left g c = kept_leaves _ 4 _ c.from_residual.result
 
 pub returns-in_err-words-clause-left : goal.returns-in_err-words-clause-left
 returns-in_err-words-clause-left g c = kept_leaves _ 4 _ c.from_residual-in_err-words.result
@@ -157,13 +157,15 @@ returns-in_err-drive_input-clause-left g c =
     let drives = control c.in_ok-controller.controller in
     let asked = c.args.driving.execution in
     let words = c.in_ok-words.words.items in
-    let image = c.in_ok-classes.verified in
+    let image = c.in_ok-steering.steering.verified in
     late_handed (AnswersDrive holds c.args.driving given) old new c.from_residual-in_err-drive_input.result
     c.in_err-drive_input.field-0.0 c.from_residual-in_err-drive_input.ensures.1
     c.in_err-drive_input.ensures.failure
-    (driven_answers holds c.args.driving given old new c.in_ok-classes.classes c.in_ok-classes.driver image words
-    c.in_ok-budget.budget drives c.in_ok-budget.ensures.budget c.in_ok-classes.ensures.looks c.in_ok-classes.ensures.held
-    (subst (λ h. IsStoredAt h asked.store image words) c.in_ok-classes.ensures.kept c.in_ok-words.ensures.stored)
+    (driven_answers holds c.args.driving given old new c.in_ok-steering.steering.lattice
+    c.in_ok-steering.steering.driver image (boundary_for c.args.driving.policy c.in_ok-steering.steering.cycle) words
+    c.in_ok-budget.budget drives c.in_ok-budget.ensures.budget c.in_ok-steering.ensures.steered
+    c.in_ok-steering.ensures.held
+    (subst (λ h. IsStoredAt h asked.store image words) c.in_ok-steering.ensures.kept c.in_ok-words.ensures.stored)
     c.in_ok-controller.ensures.control
     c.in_ok-admit.ensures.admitted
     (subst (λ m. Partly (DrivenText drives m given) old new) c.deref_mut.ensures.value
@@ -178,11 +180,13 @@ returns-clause-left g c =
     let drives = control c.in_ok-controller.controller in
     let asked = c.args.driving.execution in
     let words = c.in_ok-words.words.items in
-    let image = c.in_ok-classes.verified in
+    let image = c.in_ok-steering.steering.verified in
     late_leaves (AnswersDrive holds c.args.driving given) old new c.save-2.result c.save-2.ensures.failure
-    (driven_answers holds c.args.driving given old new c.in_ok-classes.classes c.in_ok-classes.driver image words
-    c.in_ok-budget.budget drives c.in_ok-budget.ensures.budget c.in_ok-classes.ensures.looks c.in_ok-classes.ensures.held
-    (subst (λ h. IsStoredAt h asked.store image words) c.in_ok-classes.ensures.kept c.in_ok-words.ensures.stored)
+    (driven_answers holds c.args.driving given old new c.in_ok-steering.steering.lattice
+    c.in_ok-steering.steering.driver image (boundary_for c.args.driving.policy c.in_ok-steering.steering.cycle) words
+    c.in_ok-budget.budget drives c.in_ok-budget.ensures.budget c.in_ok-steering.ensures.steered
+    c.in_ok-steering.ensures.held
+    (subst (λ h. IsStoredAt h asked.store image words) c.in_ok-steering.ensures.kept c.in_ok-words.ensures.stored)
     c.in_ok-controller.ensures.control
     c.in_ok-admit.ensures.admitted
     (subst (λ m. Partly (DrivenText drives m given) old new) c.deref_mut.ensures.value
@@ -198,34 +202,34 @@ returns-in_err-save-clause-failed g c =
 pub returns-in_err-save-clause-left : goal.returns-in_err-save-clause-left
 returns-in_err-save-clause-left g c = kept_leaves _ 4 _ c.from_residual-in_err-save.result
 
-pub returns-in_err-classes-clause-state : goal.returns-in_err-classes-clause-state
-returns-in_err-classes-clause-state g c = any_failure _ c.from_residual.result
-    (early_state _ c.args.driving _ _ _ c.in_err-classes.ensures.kept)
+pub returns-in_err-steering-clause-state : goal.returns-in_err-steering-clause-state
+returns-in_err-steering-clause-state g c = any_failure _ c.from_residual.result
+    (early_state _ c.args.driving _ _ _ c.in_err-steering.ensures.kept)
 
 pub returns-in_err-words-clause-state : goal.returns-in_err-words-clause-state
 returns-in_err-words-clause-state g c = any_failure _ c.from_residual-in_err-words.result
-    (early_state _ c.args.driving _ _ _ (c.in_err-words.ensures.kept ∙ c.in_ok-classes.ensures.kept))
+    (early_state _ c.args.driving _ _ _ (c.in_err-words.ensures.kept ∙ c.in_ok-steering.ensures.kept))
 
 pub returns-in_err-budget-clause-state : goal.returns-in_err-budget-clause-state
 returns-in_err-budget-clause-state g c = any_failure _ c.from_residual-in_err-budget.result
-    (early_state _ c.args.driving _ _ _ (c.in_ok-words.ensures.kept ∙ c.in_ok-classes.ensures.kept))
+    (early_state _ c.args.driving _ _ _ (c.in_ok-words.ensures.kept ∙ c.in_ok-steering.ensures.kept))
 
 pub returns-in_err-admit-clause-state : goal.returns-in_err-admit-clause-state
 returns-in_err-admit-clause-state g c = any_failure _ c.from_residual-in_err-admit.result
-    (early_state _ c.args.driving _ _ _ (c.in_ok-words.ensures.kept ∙ c.in_ok-classes.ensures.kept))
+    (early_state _ c.args.driving _ _ _ (c.in_ok-words.ensures.kept ∙ c.in_ok-steering.ensures.kept))
 
 pub returns-in_err-names-clause-state : goal.returns-in_err-names-clause-state
 returns-in_err-names-clause-state g c = any_failure _ c.from_residual-in_err-names.result
-    (early_state _ c.args.driving _ _ _ (c.in_ok-words.ensures.kept ∙ c.in_ok-classes.ensures.kept))
+    (early_state _ c.args.driving _ _ _ (c.in_ok-words.ensures.kept ∙ c.in_ok-steering.ensures.kept))
 
 pub returns-in_err-controller-clause-state : goal.returns-in_err-controller-clause-state
 returns-in_err-controller-clause-state g c = any_failure _ c.from_residual-in_err-controller.result
-    (early_state _ c.args.driving _ _ _ (c.in_ok-words.ensures.kept ∙ c.in_ok-classes.ensures.kept))
+    (early_state _ c.args.driving _ _ _ (c.in_ok-words.ensures.kept ∙ c.in_ok-steering.ensures.kept))
 
 pub returns-in_err-save-clause-state : goal.returns-in_err-save-clause-state
 returns-in_err-save-clause-state g c = any_failure _ c.from_residual-in_err-save.result
     (first_state _ (g.F.Files.holds c.first_store.new.files) c.args.driving _ _ _
-    (c.in_ok-words.ensures.kept ∙ c.in_ok-classes.ensures.kept)
+    (c.in_ok-words.ensures.kept ∙ c.in_ok-steering.ensures.kept)
     c.in_err-save.ensures.touched c.in_err-save.ensures.stays)
 
 pub returns-in_err-drive_input-clause-state : goal.returns-in_err-drive_input-clause-state
@@ -236,16 +240,18 @@ returns-in_err-drive_input-clause-state g c =
     let new = g.W.Write.contents (device_of c.drive_input.new.output) in
     let drives = control c.in_ok-controller.controller in
     let words = c.in_ok-words.words.items in
-    let image = c.in_ok-classes.verified in
+    let image = c.in_ok-steering.steering.verified in
     any_failure _ c.from_residual-in_err-drive_input.result
     (driven_state (holds c.args.files.now) (holds c.first_store.new.files) (holds c.save.new.files)
     (holds c.drive_input.new.files) c.args.driving given old new
-    c.in_ok-classes.classes c.in_ok-classes.driver image words c.in_ok-budget.budget c.saturating_sub.result drives
-    c.in_ok-budget.ensures.budget c.in_ok-classes.ensures.looks c.in_ok-classes.ensures.held
-    (subst (λ h. IsStoredAt h c.args.driving.execution.store image words) c.in_ok-classes.ensures.kept
+    c.in_ok-steering.steering.lattice c.in_ok-steering.steering.driver image
+    (boundary_for c.args.driving.policy c.in_ok-steering.steering.cycle) words c.in_ok-budget.budget
+    c.saturating_sub.result drives
+    c.in_ok-budget.ensures.budget c.in_ok-steering.ensures.steered c.in_ok-steering.ensures.held
+    (subst (λ h. IsStoredAt h c.args.driving.execution.store image words) c.in_ok-steering.ensures.kept
     c.in_ok-words.ensures.stored)
     c.in_ok-controller.ensures.control
-    c.in_ok-admit.ensures.admitted (c.in_ok-words.ensures.kept ∙ c.in_ok-classes.ensures.kept)
+    c.in_ok-admit.ensures.admitted (c.in_ok-words.ensures.kept ∙ c.in_ok-steering.ensures.kept)
     c.in_ok-save.ensures.touched
     (subst (λ m. Delivers c.args.driving.save (state_text image m) (holds c.first_store.new.files)
     (holds c.save.new.files)) c.as_slice.ensures.value c.in_ok-save.ensures.saved)
@@ -261,17 +267,19 @@ returns-clause-state g c =
     let new = g.W.Write.contents (device_of c.drive_input.new.output) in
     let drives = control c.in_ok-controller.controller in
     let words = c.in_ok-words.words.items in
-    let image = c.in_ok-classes.verified in
+    let image = c.in_ok-steering.steering.verified in
     IfErr-weaker c.save-2.result _ _
     (λ failure stays.
     driven_state (holds c.args.files.now) (holds c.first_store.new.files) (holds c.save.new.files)
     (holds c.save-2.new.files) c.args.driving given old new
-    c.in_ok-classes.classes c.in_ok-classes.driver image words c.in_ok-budget.budget c.saturating_sub.result drives
-    c.in_ok-budget.ensures.budget c.in_ok-classes.ensures.looks c.in_ok-classes.ensures.held
-    (subst (λ h. IsStoredAt h c.args.driving.execution.store image words) c.in_ok-classes.ensures.kept
+    c.in_ok-steering.steering.lattice c.in_ok-steering.steering.driver image
+    (boundary_for c.args.driving.policy c.in_ok-steering.steering.cycle) words c.in_ok-budget.budget
+    c.saturating_sub.result drives
+    c.in_ok-budget.ensures.budget c.in_ok-steering.ensures.steered c.in_ok-steering.ensures.held
+    (subst (λ h. IsStoredAt h c.args.driving.execution.store image words) c.in_ok-steering.ensures.kept
     c.in_ok-words.ensures.stored)
     c.in_ok-controller.ensures.control
-    c.in_ok-admit.ensures.admitted (c.in_ok-words.ensures.kept ∙ c.in_ok-classes.ensures.kept)
+    c.in_ok-admit.ensures.admitted (c.in_ok-words.ensures.kept ∙ c.in_ok-steering.ensures.kept)
     c.in_ok-save.ensures.touched
     (subst (λ m. Delivers c.args.driving.save (state_text image m) (holds c.first_store.new.files)
     (holds c.save.new.files)) c.as_slice.ensures.value c.in_ok-save.ensures.saved)

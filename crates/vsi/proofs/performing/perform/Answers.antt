@@ -4,7 +4,7 @@ use Rattle.std.specs.Io.KnownBytes.{Appends}
 use Rattle.vsi_devices.specs.Counted.{device_of}
 use Rattle.vsi_answers.specs.Requests.{ListsTo}
 use Rattle.vsi.specs.Shaping.{ShapedText}
-use Rattle.vsi.specs.Refusals.{AsksCanonical, AsksClasses, AsksFlows, NoOther, RefusesFile, RefusesFiles, RefusesImage, RefusesLattice, RefusesSource}
+use Rattle.vsi.specs.Refusals.{AsksCanonical, AsksClasses, NoOther, RefusesFile, RefusesFiles, RefusesImage, RefusesLattice, RefusesSource}
 use Rattle.vsi.specs.Reasons.{HasNoText, LacksEmitBound, LacksTried, OtherLeak, RefusesAudit, WhyDraw, WhyEmit, WhyPolicy, WhyTry}
 use Rattle.vsi.proofs.Filled.{alone}
 use Rattle.vsi.proofs.CarriedOut.{put_fails}
@@ -22,8 +22,7 @@ returns-in-Classes-clause-performed g c = rw c.in-Classes.is
 
 pub returns-in-Flows-clause-performed : goal.returns-in-Flows-clause-performed
 returns-in-Flows-clause-performed g c = rw c.in-Flows.is
-    (put_alone _ _ _ _ _ c.flows.result c.put-in-Flows.result c.flows.ensures.kept c.flows.ensures.told
-    c.put-in-Flows.ensures.done)
+    (alone _ c.put_flows.result _ _ c.put_flows.ensures.kept c.put_flows.ensures.performed)
 
 pub returns-in-Mend-clause-performed : goal.returns-in-Mend-clause-performed
 returns-in-Mend-clause-performed g c = rw c.in-Mend.is
@@ -110,6 +109,9 @@ returns-in-Layout-clause-performed g c = rw c.in-Layout.is c.lay_out.ensures.per
 pub returns-in-View-clause-performed : goal.returns-in-View-clause-performed
 returns-in-View-clause-performed g c = rw c.in-View.is c.view.ensures.performed
 
+pub returns-in-ViewWithin-clause-performed : goal.returns-in-ViewWithin-clause-performed
+returns-in-ViewWithin-clause-performed g c = rw c.in-ViewWithin.is c.view_within.ensures.performed
+
 pub returns-in-Try-clause-performed : goal.returns-in-Try-clause-performed
 returns-in-Try-clause-performed g c = rw c.in-Try.is
     (put_alone _ _ _ _ _ c.try_source.result c.put-in-Try.result c.try_source.ensures.kept c.try_source.ensures.told
@@ -141,8 +143,7 @@ returns-in-Classes-clause-left g c = rw c.in-Classes.is
     (put_leaves _ _ _ c.classes.result c.put.result c.classes.ensures.told c.put.ensures.left)
 
 pub returns-in-Flows-clause-left : goal.returns-in-Flows-clause-left
-returns-in-Flows-clause-left g c = rw c.in-Flows.is
-    (put_leaves _ _ _ c.flows.result c.put-in-Flows.result c.flows.ensures.told c.put-in-Flows.ensures.left)
+returns-in-Flows-clause-left g c = rw c.in-Flows.is c.put_flows.ensures.left
 
 pub returns-in-Mend-clause-left : goal.returns-in-Mend-clause-left
 returns-in-Mend-clause-left g c = rw c.in-Mend.is c.put_mend.ensures.left
@@ -222,6 +223,9 @@ returns-in-Run-clause-left g c = rw c.in-Run.is c.run.ensures.left
 pub returns-in-View-clause-left : goal.returns-in-View-clause-left
 returns-in-View-clause-left g c = rw c.in-View.is c.view.ensures.left
 
+pub returns-in-ViewWithin-clause-left : goal.returns-in-ViewWithin-clause-left
+returns-in-ViewWithin-clause-left g c = rw c.in-ViewWithin.is c.view_within.ensures.left
+
 pub returns-in-Drive-clause-left : goal.returns-in-Drive-clause-left
 returns-in-Drive-clause-left g c = rw c.in-Drive.is c.drive.ensures.left
 
@@ -300,6 +304,9 @@ returns-in-Run-clause-state g c = rw c.in-Run.is (any_failure _ _ tt)
 pub returns-in-View-clause-state : goal.returns-in-View-clause-state
 returns-in-View-clause-state g c = rw c.in-View.is (any_failure _ _ tt)
 
+pub returns-in-ViewWithin-clause-state : goal.returns-in-ViewWithin-clause-state
+returns-in-ViewWithin-clause-state g c = rw c.in-ViewWithin.is (any_failure _ _ tt)
+
 pub returns-in-Drive-clause-state : goal.returns-in-Drive-clause-state
 returns-in-Drive-clause-state g c = rw c.in-Drive.is c.drive.ensures.state
 
@@ -321,11 +328,7 @@ returns-in-Classes-clause-failed g c = rw c.in-Classes.is
     c.classes.result c.put.result c.classes.ensures.failed c.put.ensures.failed)
 
 pub returns-in-Flows-clause-failed : goal.returns-in-Flows-clause-failed
-returns-in-Flows-clause-failed g c = rw c.in-Flows.is
-    (put_fails (RefusesFiles (g.F.Files.holds c.args.files.now) c.in-Flows.compilation
-    (AsksFlows c.in-Flows.has_walks c.in-Flows.compilation.is_strict))
-    NoOther
-    c.flows.result c.put-in-Flows.result c.flows.ensures.failed c.put-in-Flows.ensures.failed)
+returns-in-Flows-clause-failed g c = rw c.in-Flows.is c.put_flows.ensures.failed
 
 pub returns-in-Mend-clause-failed : goal.returns-in-Mend-clause-failed
 returns-in-Mend-clause-failed g c = rw c.in-Mend.is c.put_mend.ensures.failed
@@ -409,6 +412,9 @@ returns-in-Run-clause-failed g c = rw c.in-Run.is c.run.ensures.failed
 
 pub returns-in-View-clause-failed : goal.returns-in-View-clause-failed
 returns-in-View-clause-failed g c = rw c.in-View.is c.view.ensures.failed
+
+pub returns-in-ViewWithin-clause-failed : goal.returns-in-ViewWithin-clause-failed
+returns-in-ViewWithin-clause-failed g c = rw c.in-ViewWithin.is c.view_within.ensures.failed
 
 pub returns-in-Drive-clause-failed : goal.returns-in-Drive-clause-failed
 returns-in-Drive-clause-failed g c = rw c.in-Drive.is c.drive.ensures.failed

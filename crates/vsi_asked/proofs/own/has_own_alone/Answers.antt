@@ -68,6 +68,11 @@ pub returns-in-View : goal.returns-in-View
 returns-in-View c =
     rw c.in-View.is (rw (c.as_slice-in-View.ensures, c.as_slice-in-View-2.ensures) at c.are_own-in-View.ensures)
 
+pub returns-in-ViewWithin : goal.returns-in-ViewWithin
+returns-in-ViewWithin c =
+    rw c.in-ViewWithin.is
+    (rw (c.as_slice-in-ViewWithin.ensures, c.as_slice-in-ViewWithin-2.ensures) at c.are_own-in-ViewWithin.ensures)
+
 pub returns-in-Drive : goal.returns-in-Drive
 returns-in-Drive c =
     rw c.in-Drive.is (rw (c.as_slice-in-Drive.ensures, c.as_slice-in-Drive-2.ensures) at c.are_own-in-Drive.ensures)

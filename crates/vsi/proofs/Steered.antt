@@ -1,0 +1,120 @@
+-- The class that drives an image, the reasons why none does, and the tables of classes.
+use Rattle.std.proofs.Common.{◌≡◌, ◌<◌, ◌⊎◌, ℕ, List, [], ◌∷◌, Result, true, false, Some, None, length, map, refl, sym, ap, subst, arith}
+use Rattle.std.specs.Prelude.{Option, IfErr, IfOk, bytes_eq, option_map}
+use Rattle.std.specs.Borrow.{Bor}
+use Rattle.std.proofs.lemmas.Result.{IfOk-weaker}
+use Rattle.vsi_conform.specs.Reading.{ClassBoundary, cycle}
+use Rattle.vsi_conform.specs.declared.cycles.Cycle.{Cycle}
+use Rattle.vsi_drive.specs.Boundary.{no_boundary}
+use Rattle.vsi_answers.specs.declared.unanswered.Unanswered.{Unanswered}
+use Rattle.vsi_arguments.specs.declared.request.DrivePolicy.{DrivePolicy}
+use Rattle.vsi_arguments.specs.declared.request.DrivePolicy.TheVariants as policy
+use Rattle.vsi_arguments.specs.declared.request.Driving.{Driving}
+use Rattle.vsi_arguments.specs.declared.request.NameLists.{NameLists}
+use Rattle.vsi.specs.declared.failure.Failure.{Failure}
+use Rattle.vsi.specs.declared.steering.Steering.{Steering}
+use Rattle.vsi.specs.Boundaries.{boundary_at, boundary_for, bound_by, requested, table_of}
+use Rattle.vsi.specs.Files.{LooksAt}
+use Rattle.vsi.specs.Holding.{Holding}
+use Rattle.vsi.specs.Refusals.{LacksClassAt, RefusesImage, RefusesLattice, FailsBy}
+use Rattle.vsi.specs.Steering.{IsGoverned, IsListed, IsSteeredBy}
+use Rattle.vsi.specs.Undriven.{LacksGoverned, LacksPolicy, RefusesAsked, RefusesSteering}
+
+-- The lattice of an interface is refused, or an image.
+abbrev pub WhyGoverned : Holding → List ℕ → List ℕ → Unanswered → Type 0
+WhyGoverned holds interface image reason = RefusesAsked holds interface reason ⊎ RefusesImage holds image reason
+
+-- ---- the tables of classes.
+
+-- Behind the table of another class, the first table of the class is the same.
+pub later_table : (left rest : List Cycle) (c : Cycle) (class : List ℕ) (found : Option ClassBoundary) →
+    left ≡ c ∷ rest → bytes_eq c.class.items class ≡ false → table_of (map cycle left) class ≡ found →
+    table_of (map cycle rest) class ≡ found
+later_table left rest c class found is other same =
+    let first : table_of (map cycle (c ∷ rest)) class ≡ found =
+    subst (λ cs. table_of (map cycle cs) class ≡ found) is same in
+    rw other at first
+
+-- The first table is that of the class.
+pub first_table : (left rest : List Cycle) (c : Cycle) (class : List ℕ) (found : Option ClassBoundary) →
+    left ≡ c ∷ rest → bytes_eq c.class.items class ≡ true → table_of (map cycle left) class ≡ found →
+    Some (cycle c) ≡ found
+first_table left rest c class found is own same =
+    let first : table_of (map cycle (c ∷ rest)) class ≡ found =
+    subst (λ cs. table_of (map cycle cs) class ≡ found) is same in
+    rw own at first
+
+-- No tables have none of the class.
+pub no_table : (left : List Cycle) (class : List ℕ) (found : Option ClassBoundary) → length left ≡ 0 →
+    table_of (map cycle left) class ≡ found → None ≡ found
+no_table [] class found none same = same
+no_table (c ∷ cs) class found none same = absurd (omega arith)
+
+-- Without tables, each class has the boundary without lists.
+pub unbound_at : (cs : List Cycle) (class : List ℕ) → length cs ≡ 0 →
+    boundary_at (map cycle cs) class ≡ Some no_boundary
+unbound_at [] class none = refl
+unbound_at (c ∷ cs) class none = absurd (omega arith)
+
+-- The boundary of a class is that of its table.
+pub bound_at : (bs : List ClassBoundary) (class : List ℕ) (b : ClassBoundary) → Some b ≡ table_of bs class →
+    boundary_at bs class ≡ Some (bound_by (Some b))
+bound_at [] class b is = cc
+bound_at (first ∷ bs) class b is = ap (option_map (λ found. bound_by (Some found))) (sym is)
+
+-- A class without a table has no boundary among tables.
+pub lacking_at : (bs : List ClassBoundary) (class : List ℕ) → 0 < length bs → None ≡ table_of bs class →
+    boundary_at bs class ≡ None
+lacking_at [] class some is = absurd (omega arith)
+lacking_at (first ∷ bs) class some is = ap (option_map (λ found. bound_by (Some found))) (sym is)
+
+-- ---- the class of a drive.
+
+-- The class that a lattice file gives drives by the policy that names the file.
+pub steered_listed : (holds : Holding) (d : Driving) (p : DrivePolicy) (path : Bor (List ℕ)) (lists : NameLists)
+    (result : Result Steering Failure) → p ≡ policy.Lattice path lists →
+    IfOk result (λ s. LooksAt holds path.now d.class.now s.lattice s.driver) →
+    IfOk result (λ s. IsSteeredBy holds d p s.lattice s.driver s.verified (boundary_for p s.cycle))
+steered_listed holds d p path lists result is looks =
+    subst (λ q. IfOk result (λ s. IsSteeredBy holds d q s.lattice s.driver s.verified (boundary_for q s.cycle)))
+    (sym is)
+    (IfOk-weaker result (λ s. LooksAt holds path.now d.class.now s.lattice s.driver)
+    (λ s. IsListed holds d path.now (requested lists) s.lattice s.driver (requested lists))
+    (λ s seen. record { looks = seen; same = refl }) looks)
+
+-- The class that an interface gives drives by the policy that names the interface.
+pub steered_governed : (holds : Holding) (d : Driving) (p : DrivePolicy) (path : Bor (List ℕ))
+    (result : Result Steering Failure) → p ≡ policy.Interface path →
+    IfOk result (λ s. IsGoverned holds path.now d.class.now s.lattice s.driver s.verified
+    (bound_by (option_map cycle s.cycle))) →
+    IfOk result (λ s. IsSteeredBy holds d p s.lattice s.driver s.verified (boundary_for p s.cycle))
+steered_governed holds d p path result is governed =
+    subst (λ q. IfOk result (λ s. IsSteeredBy holds d q s.lattice s.driver s.verified (boundary_for q s.cycle)))
+    (sym is) governed
+
+-- Why no class drives by a lattice file is why none drives by the policy that names the file.
+pub unsteered_listed : (holds : Holding) (d : Driving) (p : DrivePolicy) (path : Bor (List ℕ)) (lists : NameLists)
+    (result : Result Steering Failure) → p ≡ policy.Lattice path lists →
+    IfErr result (FailsBy
+    (λ reason. RefusesLattice holds path.now reason ⊎ RefusesImage holds d.execution.image.now reason)
+    (LacksClassAt holds path.now d.class.now)) →
+    IfErr result (FailsBy
+    (λ reason. RefusesSteering holds p reason ⊎ RefusesImage holds d.execution.image.now reason) (LacksPolicy holds d p))
+unsteered_listed holds d p path lists result is failed =
+    subst (λ q. IfErr result (FailsBy
+    (λ reason. RefusesSteering holds q reason ⊎ RefusesImage holds d.execution.image.now reason)
+    (LacksPolicy holds d q)))
+    (sym is) failed
+
+-- Why no class drives by an interface is why none drives by the policy that names the interface.
+pub unsteered_governed : (holds : Holding) (d : Driving) (p : DrivePolicy) (path : Bor (List ℕ))
+    (result : Result Steering Failure) → p ≡ policy.Interface path →
+    IfErr result (FailsBy (WhyGoverned holds path.now d.execution.image.now)
+    (LacksGoverned holds path.now d.class.now d.execution.image.now)) →
+    IfErr result (FailsBy
+    (λ reason. RefusesSteering holds p reason ⊎ RefusesImage holds d.execution.image.now reason) (LacksPolicy holds d p))
+unsteered_governed holds d p path result is failed =
+    subst (λ q. IfErr result (FailsBy
+    (λ reason. RefusesSteering holds q reason ⊎ RefusesImage holds d.execution.image.now reason)
+    (LacksPolicy holds d q)))
+    (sym is) failed

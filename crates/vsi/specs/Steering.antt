@@ -1,0 +1,60 @@
+-- The class that drives an image, its lattice and its boundary.
+use Rattle.std.specs.Prelude.{◌≡◌, ◌≤◌, ℕ, ◌++◌, List, Some, codes, map}
+use Rattle.vsi_lattice.specs.LatticeView.{class_named, order}
+use Rattle.vsi_lattice.specs.Order.{IsClass}
+use Rattle.vsi_lattice.specs.declared.lattice.Lattice.{Lattice}
+use Rattle.vsi_image.specs.declared.instr.Image.{Image}
+use Rattle.vsi_drive.specs.Boundary.{Boundary}
+use Rattle.vsi_conform.specs.Reading.{cycle}
+use Rattle.vsi_conform.specs.Totals.{total_of}
+use Rattle.vsi_conform.specs.declared.reader.Asked.{Asked}
+use Rattle.vsi_conform_image.specs.Conforms.{Conforms}
+use Rattle.vsi_arguments.specs.declared.request.DrivePolicy.{DrivePolicy}
+use Rattle.vsi_arguments.specs.declared.request.DrivePolicy.TheVariants as policy
+use Rattle.vsi_arguments.specs.declared.request.Driving.{Driving}
+use Rattle.vsi_arguments.specs.declared.request.TheConstants.{RUNS_BUDGET}
+use Rattle.vsi.specs.Boundaries.{boundary_at, requested}
+use Rattle.vsi.specs.Files.{LooksAt}
+use Rattle.vsi.specs.Holding.{Holding, IsLatticeAt}
+use Rattle.vsi.specs.Interfaces.{IsAskedAt, IsPolicyAt}
+
+-- The interface of a file and its lattice, with runs that take together at most the default budget of `conform`.
+pub record IsInForce (holds : Holding) (interface : List ℕ) (asked : Asked) (l : Lattice) : Type 0 where
+  pub is_asked : IsAskedAt holds interface asked
+  pub declared : IsPolicyAt holds interface asked.policy l
+  pub within : total_of asked.interface ≤ RUNS_BUDGET
+
+-- By the interface of a file, a class drives an image within a boundary: the image conforms to the interface under the
+-- lattice of the interface, the lattice has the class, and the boundary is the one that the interface has for it.
+pub record IsGoverned (holds : Holding) (interface class : List ℕ) (l : Lattice) (driver : ℕ) (im : Image)
+    (b : Boundary) : Type 0 where
+  pub asked : Asked
+  pub force : IsInForce holds interface asked l
+  pub named : class_named l class ≡ Some driver
+  pub is : IsClass (order l) driver
+  pub conforms : Conforms l im asked.interface
+  pub bounded : boundary_at (map cycle asked.cycles.items) class ≡ Some b
+
+-- By a lattice file, a class drives an image within the boundary that lists give.
+pub record IsListed (holds : Holding) (d : Driving) (path : List ℕ) (listed : Boundary) (l : Lattice) (driver : ℕ)
+    (b : Boundary) : Type 0 where
+  pub looks : LooksAt holds path d.class.now l driver
+  pub same : b ≡ listed
+
+-- The class of a drive, under a lattice and with an image, and its boundary.
+abbrev pub IsSteeredBy : Holding → Driving → DrivePolicy → Lattice → ℕ → Image → Boundary → Type 0
+IsSteeredBy holds d (policy.Lattice path lists) l driver im b = IsListed holds d path.now (requested lists) l driver b
+IsSteeredBy holds d (policy.Interface path) l driver im b = IsGoverned holds path.now d.class.now l driver im b
+
+-- The same by the policy of the drive.
+abbrev pub IsSteered : Holding → Driving → Lattice → ℕ → Image → Boundary → Type 0
+IsSteered holds d = IsSteeredBy holds d d.policy
+
+-- The lattice of a drive.
+abbrev pub IsLatticeOf : Holding → DrivePolicy → Lattice → Type 0
+IsLatticeOf holds (policy.Lattice path lists) l = IsLatticeAt holds path.now l
+IsLatticeOf holds (policy.Interface path) l = (asked : Asked) × IsInForce holds path.now asked l
+
+-- The line of a class that the tables of an interface leave out.
+abbrev pub no_cycle_line : List ℕ → List ℕ
+no_cycle_line class = codes "no cycle of class " ++ class ++ codes "\n"

@@ -1,0 +1,187 @@
+//! The class that drives an image, by a lattice file or by an interface with boundaries.
+
+ghost use Rattle.std.specs.Prelude.{◌≡◌, ◌⊎◌, Some, map, option_map, IfErr, IfOk, OnOk};
+ghost use Rattle.vsi_conform.specs.Reading as reading;
+ghost use Rattle.vsi_conform_image.specs.Conforms.{Conforms};
+ghost use Rattle.vsi_lattice.specs.Order.{IsClass};
+ghost use Rattle.vsi_lattice.specs.LatticeView.{order};
+ghost use Rattle.vsi.specs.Boundaries.{boundary_at, boundary_for, bound_by, table_of};
+ghost use Rattle.vsi.specs.Files.{LooksAt};
+ghost use Rattle.vsi.specs.Holding.{IsImageAt};
+ghost use Rattle.vsi.specs.Undriven.{LacksCycle, LacksGoverned, LacksSteering, RefusesAsked, RefusesSteering, SaysDiffering};
+ghost use Rattle.vsi.specs.Refusals.{LacksClassAt, RefusesImage, RefusesLattice, FailsBy};
+ghost use Rattle.vsi.specs.Steering.{IsGoverned, IsSteered, no_cycle_line};
+
+use crate::cache::InputCache;
+use crate::conformance::asked_in;
+use crate::failure::Failure;
+use crate::files::Files;
+use crate::ordering::policy_before_image;
+use crate::reading::{class_in, image_in};
+use std::alloc::{AllocError, Global};
+use vsi_arguments::{DrivePolicy, Driving, RUNS_BUDGET};
+use vsi_conform::{Cycle, Interface};
+use vsi_conform_image::{conform_image, points_text};
+use vsi_image::Verified;
+use vsi_lattice::{Class, Lattice};
+
+/// The class that drives an image by a lattice, and the table with its boundary, if an interface has
+/// one.
+#[derive(Drop)]
+pub(crate) struct Steering {
+    pub(crate) lattice: Lattice,
+    pub(crate) driver: Class,
+    pub(crate) verified: Verified,
+    pub(crate) cycle: Option<Cycle>,
+}
+
+/// Judges an image by an interface. The failure has the lines of `conform`.
+fn know_image<'a>(
+    alloc: Global,
+    lattice: &Lattice,
+    verified: &Verified,
+    interface: &Interface,
+) -> Result<(), Failure<'a>>
+    ensures conforms { OnOk result (Conforms lattice.now verified.now interface.now) }
+    ensures failed { IfErr result
+        (FailsBy (λ reason. ⊥) (SaysDiffering lattice.now verified.now interface.now)) }
+{
+    let answer = conform_image(alloc, lattice, verified, interface)?;
+    if answer.conforms() {
+        return Ok(());
+    }
+    let lines = points_text(alloc, lattice, verified.image(), interface, &answer)?;
+    Err(Failure::Refused(lines, None))
+}
+
+/// The boundary of a class.
+fn own_cycle(cycles: Vec<Cycle>, class: &[u8]) -> Option<Cycle>
+    ensures { option_map reading.cycle result
+        ≡ table_of (map reading.cycle cycles.items) class.now }
+{
+    for cycle in cycles {
+        if cycle.class.as_slice() == class {
+            return Some(cycle);
+        }
+    }
+    None
+}
+
+/// The line of a class without a boundary.
+fn lacking_line(alloc: Global, class: &[u8]) -> Result<Vec<u8>, AllocError>
+    ensures { IfOk result (λ text. text.items ≡ no_cycle_line class.now) }
+{
+    let mut text = Vec::new(alloc);
+    text.extend_from_slice(b"no cycle of class ")?;
+    text.extend_from_slice(class)?;
+    text.extend_from_slice(b"\n")?;
+    Ok(text)
+}
+
+/// The boundary of a class among those of an interface; without any, no class needs one.
+fn cycle_for<'a>(
+    alloc: Global,
+    cycles: Vec<Cycle>,
+    class: &'a str,
+) -> Result<Option<Cycle>, Failure<'a>>
+    ensures bounded { IfOk result (λ cycle.
+        boundary_at (map reading.cycle cycles.items) class.now
+        ≡ Some (bound_by (option_map reading.cycle cycle))) }
+    ensures failed { IfErr result
+        (FailsBy (λ reason. ⊥) (LacksCycle (map reading.cycle cycles.items) class.now)) }
+{
+    if cycles.is_empty() {
+        return Ok(None);
+    }
+    match own_cycle(cycles, class.as_bytes()) {
+        Some(cycle) => Ok(Some(cycle)),
+        None => {
+            let line = lacking_line(alloc, class.as_bytes())?;
+            Err(Failure::Refused(line, None))
+        }
+    }
+}
+
+/// The class that drives an image by a lattice file.
+fn by_lattice<'a, F: Files>(
+    cache: &mut InputCache,
+    lattice: &'a str,
+    class: &'a str,
+    image: &'a str,
+    files: &mut F,
+) -> Result<Steering, Failure<'a>>
+    ensures kept { F.holds files.new ≡ F.holds files.old }
+    ensures looks { IfOk result (λ steering.
+        LooksAt (F.holds files.old) lattice.now class.now steering.lattice steering.driver) }
+    ensures held { IfOk result
+        (λ steering. IsImageAt (F.holds files.old) image.now steering.verified) }
+    ensures failed { IfErr result (FailsBy (λ reason.
+        RefusesLattice (F.holds files.old) lattice.now reason
+        ⊎ RefusesImage (F.holds files.old) image.now reason)
+        (LacksClassAt (F.holds files.old) lattice.now class.now)) }
+{
+    let (lattice, driver, verified) = policy_before_image(cache, lattice, class, image, files)?;
+    Ok(Steering {
+        lattice,
+        driver,
+        verified,
+        cycle: None,
+    })
+}
+
+/// The class that drives an image by an interface, to which the image conforms.
+fn by_interface<'a, F: Files>(
+    cache: &mut InputCache,
+    interface: &'a str,
+    class: &'a str,
+    image: &'a str,
+    files: &mut F,
+) -> Result<Steering, Failure<'a>>
+    ensures kept { F.holds files.new ≡ F.holds files.old }
+    ensures governed { IfOk result (λ steering. IsGoverned (F.holds files.old) interface.now
+        class.now steering.lattice steering.driver steering.verified
+        (bound_by (option_map reading.cycle steering.cycle))) }
+    ensures held { IfOk result
+        (λ steering. IsImageAt (F.holds files.old) image.now steering.verified) }
+    ensures failed { IfErr result (FailsBy (λ reason.
+        RefusesAsked (F.holds files.old) interface.now reason
+        ⊎ RefusesImage (F.holds files.old) image.now reason)
+        (LacksGoverned (F.holds files.old) interface.now class.now image.now)) }
+{
+    let (asked, lattice) = asked_in(cache, interface, RUNS_BUDGET, files)?;
+    let driver = class_in(&lattice, class)?;
+    let verified = image_in(cache, image, files)?;
+    know_image(cache.alloc, &lattice, &verified, &asked.interface)?;
+    let cycle = cycle_for(cache.alloc, asked.cycles, class)?;
+    Ok(Steering {
+        lattice,
+        driver,
+        verified,
+        cycle,
+    })
+}
+
+/// The class that drives the image of a drive, its lattice and its boundary.
+pub(crate) fn steered<'a, F: Files>(
+    cache: &mut InputCache,
+    driving: Driving<'a>,
+    files: &mut F,
+) -> Result<Steering, Failure<'a>>
+    ensures kept { F.holds files.new ≡ F.holds files.old }
+    ensures class { IfOk result (λ steering. IsClass (order steering.lattice) steering.driver) }
+    ensures steered { IfOk result (λ steering. IsSteered (F.holds files.old) driving.entry
+        steering.lattice steering.driver steering.verified
+        (boundary_for driving.entry.policy steering.cycle)) }
+    ensures held { IfOk result (λ steering.
+        IsImageAt (F.holds files.old) driving.entry.execution.image.now steering.verified) }
+    ensures failed { IfErr result (FailsBy (λ reason.
+        RefusesSteering (F.holds files.old) driving.entry.policy reason
+        ⊎ RefusesImage (F.holds files.old) driving.entry.execution.image.now reason)
+        (LacksSteering (F.holds files.old) driving.entry)) }
+{
+    let image = driving.execution.image;
+    match driving.policy {
+        DrivePolicy::Lattice(path, _) => by_lattice(cache, path, driving.class, image, files),
+        DrivePolicy::Interface(path) => by_interface(cache, path, driving.class, image, files),
+    }
+}

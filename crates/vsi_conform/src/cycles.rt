@@ -1,0 +1,296 @@
+//! Reads the tables `[[cycle]]` of an interface file: the boundary of each class's controllers.
+
+ghost use Rattle.std.specs.Prelude.{◌≡◌, map, codes, Some, true, false, IfOk, IfSome, option_map};
+ghost use Rattle.std.specs.List.{All};
+ghost use Rattle.std.specs.Option.{MatchOption};
+ghost use Rattle.toml.specs.Data.{as_str, as_table, get_member};
+ghost use Rattle.toml.specs.View.{items_view, table_view, view};
+ghost use Rattle.vsi_image.specs.Fields as image;
+ghost use Rattle.vsi_lattice.specs.LatticeView.{class_named};
+ghost use Rattle.vsi_lattice.specs.Shape as shape;
+ghost use Rattle.vsi_conform.specs.Reading as spec;
+
+use crate::error::InterfaceError;
+use crate::globals::is_named;
+use crate::keys::{other_key, text_at, value_at};
+use std::alloc::Global;
+use toml::{Table, Value};
+use vsi_lattice::Lattice;
+
+/// The keys of a boundary.
+const CYCLE_KEYS: [&str; 4] = ["class", "inputs", "outputs", "released"];
+
+/// The boundary of the controllers that a class drives: names of globals of the interface.
+#[derive(Debug, Drop)]
+pub struct Cycle {
+    /// The name of the class.
+    pub class: Vec<u8>,
+    /// The globals that a line may set; without a list, all that the class sees.
+    pub inputs: Option<Vec<Vec<u8>>>,
+    /// The globals that a cycle writes; without a list, those that the class sees or are released.
+    pub outputs: Option<Vec<Vec<u8>>>,
+    /// The outputs that are written whatever their class is.
+    pub released: Vec<Vec<u8>>,
+}
+
+/// A name, if it is that of a global.
+fn known_name(
+    alloc: Global,
+    number: usize,
+    name: &[u8],
+    globals: &[(Vec<u8>, Vec<u8>)],
+) -> Result<Vec<u8>, InterfaceError>
+    ensures name { IfOk result (λ known. known.items ≡ name.now) }
+    ensures known { IfOk result
+        (λ known. spec.IsKnown (image.globals globals.now) known.items) }
+{
+    let known = Vec::from_slice(alloc, name)?;
+    if !is_named(globals, name) {
+        return Err(InterfaceError::UnknownInCycle(number, known));
+    }
+    Ok(known)
+}
+
+/// The name of a value that is a text, if it is that of a global.
+fn name_of(
+    alloc: Global,
+    number: usize,
+    value: &Value,
+    globals: &[(Vec<u8>, Vec<u8>)],
+) -> Result<Vec<u8>, InterfaceError>
+    ensures name { IfOk result (λ name. as_str (view value.now) ≡ Some name.items) }
+    ensures known { IfOk result
+        (λ name. spec.IsKnown (image.globals globals.now) name.items) }
+{
+    match value.as_str() {
+        Some(name) => known_name(alloc, number, name.as_bytes(), globals),
+        None => Err(InterfaceError::BadCycle(number)),
+    }
+}
+
+/// The names of an array.
+fn names_of(
+    alloc: Global,
+    number: usize,
+    array: &[Value],
+    globals: &[(Vec<u8>, Vec<u8>)],
+) -> Result<Vec<Vec<u8>>, InterfaceError>
+    ensures names { IfOk result (λ names. shape.all_of as_str (items_view array.now)
+        ≡ Some (spec.bytes_of names.items)) }
+    ensures known { IfOk result
+        (λ names. All (spec.IsKnown (image.globals globals.now)) (spec.bytes_of names.items)) }
+{
+    let mut names = Vec::new(alloc);
+    for value in array {
+        let name = name_of(alloc, number, value, globals)?;
+        names.push(name)?;
+    }
+    Ok(names)
+}
+
+/// The names of a value that is an array.
+fn names_in(
+    alloc: Global,
+    number: usize,
+    value: &Value,
+    globals: &[(Vec<u8>, Vec<u8>)],
+) -> Result<Vec<Vec<u8>>, InterfaceError>
+    ensures names { IfOk result
+        (λ names. spec.names_of (view value.now) ≡ Some (spec.bytes_of names.items)) }
+    ensures known { IfOk result
+        (λ names. All (spec.IsKnown (image.globals globals.now)) (spec.bytes_of names.items)) }
+{
+    match value.as_array() {
+        Some(array) => names_of(alloc, number, array.as_slice(), globals),
+        None => Err(InterfaceError::BadCycle(number)),
+    }
+}
+
+/// The names at a key, if it is there.
+fn names_at(
+    alloc: Global,
+    number: usize,
+    table: &Table,
+    key: &str,
+    globals: &[(Vec<u8>, Vec<u8>)],
+) -> Result<Option<Vec<Vec<u8>>>, InterfaceError>
+    ensures names { IfOk result (λ list. spec.list_from (get_member key.now (table_view table.now))
+        ≡ Some (option_map (λ names. spec.bytes_of names.items) list)) }
+    ensures known { IfOk result (λ list. IfSome list
+        (λ names. All (spec.IsKnown (image.globals globals.now)) (spec.bytes_of names.items))) }
+{
+    let Some(value) = value_at(table, key) else {
+        return Ok(None);
+    };
+    let names = names_in(alloc, number, value, globals)?;
+    Ok(Some(names))
+}
+
+/// The released names; without the key there are none.
+fn released_in(
+    alloc: Global,
+    number: usize,
+    table: &Table,
+    globals: &[(Vec<u8>, Vec<u8>)],
+) -> Result<Vec<Vec<u8>>, InterfaceError>
+    ensures names { IfOk result (λ names. spec.released_from
+        (get_member (codes "released") (table_view table.now))
+        ≡ Some (spec.bytes_of names.items)) }
+    ensures known { IfOk result
+        (λ names. All (spec.IsKnown (image.globals globals.now)) (spec.bytes_of names.items)) }
+{
+    match value_at(table, "released") {
+        Some(value) => names_in(alloc, number, value, globals),
+        None => Ok(Vec::new(alloc)),
+    }
+}
+
+/// The name of the class of a boundary.
+fn class_in(alloc: Global, number: usize, table: &Table) -> Result<Vec<u8>, InterfaceError>
+    ensures { IfOk result
+        (λ class. spec.text_at (codes "class") (table_view table.now) ≡ Some class.items) }
+{
+    match text_at(table, "class") {
+        Some(class) => Ok(Vec::from_slice(alloc, class.as_bytes())?),
+        None => Err(InterfaceError::BadCycle(number)),
+    }
+}
+
+/// The table of a boundary, if it has only the keys of one.
+fn cycle_table(number: usize, value: &Value) -> Result<&Table, InterfaceError>
+    ensures table { IfOk result (λ table. as_table (view value.now) ≡ Some (table_view table.now)) }
+    ensures keys { IfOk result
+        (λ table. spec.has_keys spec.cycle_keys (table_view table.now) ≡ true) }
+{
+    let Some(table) = value.as_table() else {
+        return Err(InterfaceError::BadCycle(number));
+    };
+    match other_key(table, &CYCLE_KEYS) {
+        Some(_) => Err(InterfaceError::BadCycle(number)),
+        None => Ok(table),
+    }
+}
+
+/// A boundary; the numbers of boundaries begin with 1.
+fn cycle_of(
+    alloc: Global,
+    number: usize,
+    value: &Value,
+    globals: &[(Vec<u8>, Vec<u8>)],
+) -> Result<Cycle, InterfaceError>
+    ensures cycle { IfOk result
+        (λ cycle. spec.cycle_of (view value.now) ≡ Some (spec.cycle cycle)) }
+    ensures named { IfOk result
+        (λ cycle. spec.BoundsGlobals (image.globals globals.now) (spec.cycle cycle)) }
+{
+    let table = cycle_table(number, value)?;
+    let class = class_in(alloc, number, table)?;
+    let inputs = names_at(alloc, number, table, "inputs", globals)?;
+    let outputs = names_at(alloc, number, table, "outputs", globals)?;
+    let released = released_in(alloc, number, table, globals)?;
+    Ok(Cycle {
+        class,
+        inputs,
+        outputs,
+        released,
+    })
+}
+
+/// The boundaries of an array.
+fn cycles_of(
+    alloc: Global,
+    array: &[Value],
+    globals: &[(Vec<u8>, Vec<u8>)],
+) -> Result<Vec<Cycle>, InterfaceError>
+    ensures cycles { IfOk result (λ cycles. shape.all_of spec.cycle_of (items_view array.now)
+        ≡ Some (map spec.cycle cycles.items)) }
+    ensures named { IfOk result (λ cycles. All (spec.BoundsGlobals (image.globals globals.now))
+        (map spec.cycle cycles.items)) }
+{
+    let mut cycles = Vec::new(alloc);
+    for (i, item) in array.iter().enumerate() {
+        let cycle = cycle_of(alloc, i.saturating_add(1), item, globals)?;
+        cycles.push(cycle)?;
+    }
+    Ok(cycles)
+}
+
+/// The boundaries of an interface; several may have the same class.
+fn all_cycles(
+    alloc: Global,
+    table: &Table,
+    globals: &[(Vec<u8>, Vec<u8>)],
+) -> Result<Vec<Cycle>, InterfaceError>
+    ensures cycles { IfOk result (λ cycles. spec.cycles_from
+        (get_member (codes "cycle") (table_view table.now)) ≡ Some (map spec.cycle cycles.items)) }
+    ensures named { IfOk result (λ cycles. All (spec.BoundsGlobals (image.globals globals.now))
+        (map spec.cycle cycles.items)) }
+{
+    let Some(value) = value_at(table, "cycle") else {
+        return Ok(Vec::new(alloc));
+    };
+    let Some(array) = value.as_array() else {
+        return Err(InterfaceError::BadCycle(1));
+    };
+    cycles_of(alloc, array.as_slice(), globals)
+}
+
+/// Whether one of these boundaries is that of a class.
+fn has_class(cycles: &[Cycle], class: &[u8]) -> bool
+    ensures { result ≡ spec.has_class (map spec.cycle cycles.now) class.now }
+{
+    let mut rest = cycles;
+    while let [first, others @ ..] = rest {
+        if first.class.as_slice() == class {
+            return true;
+        }
+        rest = others;
+    }
+    false
+}
+
+/// The number, from 1, of the first boundary whose class a later one has too.
+fn repeated(cycles: &[Cycle]) -> Option<usize>
+    ensures { MatchOption result (spec.are_apart (map spec.cycle cycles.now) ≡ true)
+        (λ _. spec.are_apart (map spec.cycle cycles.now) ≡ false) }
+{
+    let mut rest = cycles;
+    let mut number: usize = 1;
+    while let [first, others @ ..] = rest {
+        if has_class(others, &first.class) {
+            return Some(number);
+        }
+        number = number.saturating_add(1);
+        rest = others;
+    }
+    None
+}
+
+/// The boundaries of an interface, at most one for each class.
+pub(crate) fn cycles_in(
+    alloc: Global,
+    table: &Table,
+    globals: &[(Vec<u8>, Vec<u8>)],
+) -> Result<Vec<Cycle>, InterfaceError>
+    ensures { IfOk result (λ cycles. spec.Bounds (table_view table.now)
+        (image.globals globals.now) cycles.items) }
+{
+    let cycles = all_cycles(alloc, table, globals)?;
+    match repeated(&cycles) {
+        Some(number) => Err(InterfaceError::BadCycle(number)),
+        None => Ok(cycles),
+    }
+}
+
+/// The number, from 0, of the first boundary whose class isn't in the lattice.
+pub fn unknown_cycle(lattice: &Lattice, cycles: &[Cycle]) -> Option<usize>
+    ensures { result
+        ≡ spec.first_unbound (class_named lattice.now) 0 (map spec.cycle cycles.now) }
+{
+    for (i, cycle) in cycles.iter().enumerate() {
+        if lattice.class_named(cycle.class.as_slice()).is_none() {
+            return Some(i);
+        }
+    }
+    None
+}
