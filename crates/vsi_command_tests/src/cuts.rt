@@ -84,7 +84,10 @@ fn writes_walks_as_they_are_made(rt: HostRuntime) -> Result<(), Fail> {
     assert!(rt; whole.output.as_slice().ends_with(b"by ASSIGN at 1:460\n"));
     for bytes in &[0_usize, 1, 65_000, 66_000, 100_000] {
         let cut = show(rt.alloc(), line, Room::only(Device::Output, *bytes))?;
-        assert!(rt; is_cut(&cut, &whole, Device::Output, *bytes, 4), "at {bytes}");
+        assert!(rt;
+            is_cut(&cut, &whole, Device::Output, *bytes, 4),
+            "at {bytes}"
+        );
         assert!(rt; cut.error.as_slice() == STREAM, "at {bytes}");
     }
     Ok(())

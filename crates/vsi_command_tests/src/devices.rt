@@ -21,7 +21,8 @@ const IMAGE: &[u8] = b"VSI\x02\x00\x01\x00\x01\x00\x01\x00\x00\x00\x03\x01x\x01L
 pub(super) const LEAK: &[u8] = b"var h : H; var l : L; l := h";
 
 /// A text of 25 variables, each of which gets its word from the one before it.
-const CHAIN: &[u8] = b"var a : L; var b : L; var c : L; var d : L; var e : L; var f : L; var g : L; \
+const CHAIN: &[u8] =
+    b"var a : L; var b : L; var c : L; var d : L; var e : L; var f : L; var g : L; \
     var h : L; var i : L; var j : L; var k : L; var l : L; var m : L; var n : L; \
     var o : L; var p : L; var q : L; var r : L; var s : L; var t : L; var u : L; \
     var v : L; var w : L; var x : L; var y : L; b := a; c := b; d := c; e := d; \
