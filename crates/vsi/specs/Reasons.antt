@@ -11,6 +11,8 @@ use Rattle.vsi_image.specs.Fields.{globals}
 use Rattle.vsi_store.specs.declared.comparison.Comparison as found
 use Rattle.vsi_compiler.specs.Headline.{IsImageOf}
 use Rattle.vsi_compiler.specs.Readable.{HasProgram}
+use Rattle.vsi_drive.specs.Boundary.{Boundary}
+use Rattle.vsi_drive.specs.Control.{controlled}
 use Rattle.vsi_drive.specs.Views.{view_of}
 use Rattle.vsi_audit.specs.Refusal as audited
 use Rattle.vsi_audit.specs.Telling.{IsAuditText}
@@ -49,19 +51,18 @@ use Rattle.vsi_arguments.specs.declared.request.Request.{Request}
 use Rattle.vsi_arguments.specs.declared.request.Request.TheVariants as request
 use Rattle.vsi.specs.declared.failure.Failure.{Failure}
 use Rattle.vsi.specs.declared.failure.Failure.TheVariants as fails
-use Rattle.vsi.specs.Boundaries.{requested}
 use Rattle.vsi.specs.Holding.{Holding, IsImageAt, IsLatticeAt, IsReadAt}
 use Rattle.vsi.specs.Laying.{OtherLayout}
 use Rattle.vsi.specs.Raises.{ToldUnserved}
 use Rattle.vsi.specs.Input.{two_classes}
 use Rattle.vsi.specs.Served.{Serves, unended_line}
 use Rattle.vsi.specs.Supplied.{begins_image}
-use Rattle.vsi.specs.Viewing.{viewing_control, viewing_lists}
+use Rattle.vsi.specs.Steering.{IsViewed}
 use Rattle.vsi.specs.Tried.{AreTried, BeginsSet, IsMade, IsTriedUnder, RunsMade, policy_path}
 use Rattle.vsi.specs.Files.{BeginsAt, IsBudgetOf, LooksAt, OfFiles, Writes}
 use Rattle.vsi.specs.Performed.{BoundsFile, ComparesFiles, ConformsFiles, DocumentOf, LooksFor, compilation_of, judgement_of, profile_of, wanted_of}
 use Rattle.vsi.specs.Refusals.{AsksCanonical, AsksCheck, AsksClasses, AsksFlows, AsksImage, AsksMend, IsDifference, LacksBoundAt, LacksClass, LacksClassAt, LacksEither, NoOther, RefusesFile, RefusesFiles, RefusesImage, RefusesLattice, RefusesSource, RefusesStart, RefusesStore, FailsBy}
-use Rattle.vsi.specs.Undriven.{IsUnusable, LacksDrive, RefusesAsked, RefusesControl, SaysLine, WhyDrive}
+use Rattle.vsi.specs.Undriven.{IsUnusable, LacksDrive, LacksView, RefusesAsked, RefusesControl, RefusesSteering, SaysLine, WhyDrive}
 
 -- ---- why each subcommand has failed.
 
@@ -281,24 +282,27 @@ WhyPolicy holds lattice None reason = RefusesLattice holds lattice reason
 WhyPolicy holds lattice (Some old) reason =
     RefusesLattice holds lattice reason ⊎ RefusesLattice holds old.now reason
 
--- `view` with lists: the lattice lacks the class of a global, the boundary has a fault, or the run is out of budget.
+-- `view` within a boundary: the lattice lacks the class of a global, the boundary has a fault, or the run is out of
+-- budget.
 pub record RefusesViewWithin (holds : Holding) (asked : Viewing) (reason : Unanswered) : Type 0 where
   pub lattice : Lattice
   pub viewer : ℕ
-  pub looks : LooksAt holds asked.lattice.now asked.class.now lattice viewer
   pub image : Image
+  pub boundary : Boundary
+  pub viewed : IsViewed holds asked lattice viewer image boundary
   pub words : List ℤ
   pub begins : BeginsAt holds asked.execution asked.initial_store image words
   pub budget : ℕ
   pub within : IsBudgetOf asked.execution.budget image budget
-  pub is : RefusesControl (requested (viewing_lists asked)) lattice viewer image budget reason
+  pub is : RefusesControl boundary lattice viewer image budget reason
       ⊎ ((reason ≡ unanswered.OutOfBudget)
-      × (view_of (viewing_control asked lattice viewer image budget) budget words ≡ None))
+      × (view_of (controlled lattice viewer image budget boundary) budget words ≡ None))
 
--- `view` with lists: the lattice is refused, or the image, or the words that it begins with, or the run has no answer.
+-- `view` within a boundary: the lattice is refused, or the image, or the words that it begins with, or the run has no
+-- answer.
 abbrev pub WhyViewWithin : Holding → Viewing → Unanswered → Type 0
 WhyViewWithin holds asked reason =
-    RefusesLattice holds asked.lattice.now reason ⊎ RefusesImage holds asked.execution.image.now reason
+    RefusesSteering holds asked.policy reason ⊎ RefusesImage holds asked.execution.image.now reason
     ⊎ RefusesStart holds asked.execution asked.initial_store reason ⊎ RefusesViewWithin holds asked reason
 
 -- `try`: the file of the lattice that a text names is refused.
@@ -379,9 +383,7 @@ Why holds (request.Run e o has_trace has_count) old new =
 Why holds (request.View lattice class e o) old new =
     FailsBy (WhyView holds lattice.now class.now e o)
     (LacksEither holds lattice.now class.now e.image.now e.budget)
-Why holds (request.ViewWithin asked) old new =
-    FailsBy (WhyViewWithin holds asked)
-    (LacksEither holds asked.lattice.now asked.class.now asked.execution.image.now asked.execution.budget)
+Why holds (request.ViewWithin asked) old new = FailsBy (WhyViewWithin holds asked) (LacksView holds asked)
 Why holds (request.Drive driving) old new =
     FailsBy (WhyDrive holds driving) (LacksDrive holds driving)
 Why holds (request.Compare comparison) old new =

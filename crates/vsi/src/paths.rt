@@ -38,7 +38,7 @@ pub(crate) fn paths_of<'a>(request: &Request<'a>) -> [Option<&'a str>; MOST_READ
             ..
         } => [Some(*lattice), Some(execution.image), execution.store, None],
         Request::ViewWithin(asked) => [
-            Some(asked.lattice),
+            Some(policy_path(asked.policy)),
             Some(asked.execution.image),
             asked.execution.store,
             None,
@@ -63,7 +63,7 @@ pub(crate) fn paths_of<'a>(request: &Request<'a>) -> [Option<&'a str>; MOST_READ
     }
 }
 
-/// The path of the file with the policy of a drive.
+/// The path of the file with the policy of a drive or of a view.
 fn policy_path<'a>(policy: DrivePolicy<'a>) -> &'a str {
     match policy {
         DrivePolicy::Lattice(path, _) | DrivePolicy::Interface(path) => path,

@@ -27,10 +27,12 @@ pub(crate) enum Mistake {
     WalksAndJson,
     /// Evidence is to be written as JSON.
     EvidenceAndJson,
-    /// An interface has the lattice of its drive.
+    /// An interface has the lattice of its drive or view.
     LatticeAndInterface,
     /// An interface has the boundary of its drive.
     ListsAndInterface,
+    /// An interface has the outputs of its view.
+    OutputsAndInterface,
     /// It is said how often the store is saved, but not where.
     EveryAlone,
     NoSubcommand,
@@ -50,7 +52,8 @@ impl Mistake {
             | Mistake::WalksAndJson
             | Mistake::EvidenceAndJson
             | Mistake::LatticeAndInterface
-            | Mistake::ListsAndInterface => ErrorKind::ArgumentConflict,
+            | Mistake::ListsAndInterface
+            | Mistake::OutputsAndInterface => ErrorKind::ArgumentConflict,
             Mistake::FlowsOfNothing => ErrorKind::MissingRequiredArgument,
             Mistake::NoTwoStores => ErrorKind::WrongNumberOfValues,
             Mistake::EveryAlone => ErrorKind::MissingRequiredArgument,
@@ -81,6 +84,9 @@ impl Mistake {
             Mistake::ListsAndInterface => {
                 "`--interface` names the inputs and outputs, so it doesn't go with `--inputs`, \
                 `--outputs` and `--release`"
+            }
+            Mistake::OutputsAndInterface => {
+                "`--interface` names the outputs, so it doesn't go with `--outputs` and `--release`"
             }
             Mistake::EveryAlone => "`--save-every` needs `--save`, which says where",
             Mistake::NoSubcommand => "a subcommand is needed",

@@ -1,7 +1,7 @@
 //! Reads a request from the arguments of a command line.
 
 use crate::documents::{audit_request, bound_request, classes_request, listed_flows};
-use crate::drives::drive_request;
+use crate::drives::{drive_request, view_request};
 use crate::error::ArgumentsError;
 use crate::escaped::escaped;
 use crate::mistake::Mistake;
@@ -121,7 +121,7 @@ fn named<'a>(
     match name {
         "try" => Ok(Ok(try_request(alloc, inner)?)),
         "run" => Ok(Ok(run_request(alloc, inner)?)),
-        "view" => Ok(Ok(view_request(alloc, inner)?)),
+        "view" => Ok(view_request(alloc, inner)?),
         "drive" => Ok(drive_request(inner)),
         "compare" => Ok(compare_request(inner)),
         "lattice" => Ok(Ok(Request::Lattice(texts(alloc, inner, "SHAPE")?))),
@@ -233,31 +233,6 @@ fn run_request<'a>(alloc: Global, matches: &ArgMatches<'a>) -> Result<Request<'a
     })
 }
 
-/// With one of the lists the view is bounded by them.
-fn view_request<'a>(alloc: Global, matches: &ArgMatches<'a>) -> Result<Request<'a>, AllocError> {
-    let viewing = viewing_in(alloc, matches)?;
-    if viewing.outputs.is_some() || viewing.released.is_some() {
-        return Ok(Request::ViewWithin(viewing));
-    }
-    Ok(Request::View {
-        lattice: viewing.lattice,
-        class: viewing.class,
-        execution: viewing.execution,
-        initial_store: viewing.initial_store,
-    })
-}
-
-fn viewing_in<'a>(alloc: Global, matches: &ArgMatches<'a>) -> Result<Viewing<'a>, AllocError> {
-    Ok(Viewing {
-        lattice: text(matches, "LATTICE"),
-        class: text(matches, "class"),
-        execution: execution_in(matches),
-        initial_store: initial_store_in(alloc, matches)?,
-        outputs: matches.get_str("outputs"),
-        released: matches.get_str("release"),
-    })
-}
-
 fn compare_request<'a>(matches: &ArgMatches<'a>) -> Result<Request<'a>, Mistake> {
     match matches.get_strs("store") {
         Some([first, second]) => Ok(Request::Compare(Comparison {
@@ -304,7 +279,8 @@ fn format_request<'a>(matches: &ArgMatches<'a>) -> Result<Request<'a>, Mistake> 
     }))
 }
 
-fn initial_store_in<'a>(
+/// The rest of the input and output of a run or of a view.
+pub(crate) fn initial_store_in<'a>(
     alloc: Global,
     matches: &ArgMatches<'a>,
 ) -> Result<InitialStore<'a>, AllocError> {

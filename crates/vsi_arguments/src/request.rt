@@ -45,7 +45,7 @@ pub struct NameLists<'a> {
     pub released: Option<&'a str>,
 }
 
-/// The policy of a drive: who sees what, and what bounds the controller.
+/// The policy of a drive or of a view: who sees what, and what bounds the controller.
 #[derive(Clone, Copy)]
 pub enum DrivePolicy<'a> {
     /// The path of a lattice file, and lists of the command line.
@@ -69,16 +69,15 @@ pub struct Driving<'a> {
     pub is_unbounded: bool,
 }
 
-/// A view with lists: the path of a lattice file, the class that sees the outputs, the run, the rest
-/// of its input and output, and the lists of outputs and of released outputs, one of which is given.
+/// A view within a boundary: its policy, the class that sees the outputs, the run, and the rest of its
+/// input and output. With a lattice file, the list of outputs or that of released outputs is given,
+/// and that of inputs isn't.
 #[derive(Drop)]
 pub struct Viewing<'a> {
-    pub lattice: &'a str,
+    pub policy: DrivePolicy<'a>,
     pub class: &'a str,
     pub execution: Execution<'a>,
     pub initial_store: InitialStore<'a>,
-    pub outputs: Option<&'a str>,
-    pub released: Option<&'a str>,
 }
 
 /// A comparison: the paths of a lattice file, of an image and of two store files, the class of the

@@ -30,7 +30,7 @@ const OWNERS: [(&str, &str); 38] = [
     ("'--full-store'", "run, view and drive"),
     ("'--header'", "emit-c"),
     ("'--inputs'", "drive"),
-    ("'--interface'", "drive"),
+    ("'--interface'", "view and drive"),
     (
         "'--json'",
         "check, conform, classes, flows, mend, audit and bound",

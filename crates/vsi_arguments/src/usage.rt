@@ -128,7 +128,18 @@ const SUBCOMMANDS: [Subcommand; 21] = [
         whole: run_help::VIEW,
         example: run_help::VIEW_EXAMPLE,
         arguments: &[
-            LATTICE, CLASS, IMAGE, BUDGET, STORE, SET, FULL_STORE, OUT, FORCE, OUTPUTS, RELEASE,
+            DRIVE_LATTICE,
+            CLASS,
+            DRIVEN_IMAGE,
+            VIEW_INTERFACE,
+            BUDGET,
+            STORE,
+            SET,
+            FULL_STORE,
+            OUT,
+            FORCE,
+            OUTPUTS,
+            RELEASE,
         ],
     },
     Subcommand {
@@ -227,9 +238,22 @@ const UNREFUSED: [Subcommand; 3] = [
 /// The arguments that say how a refusal is reported.
 const MANNER: [Argument; 2] = [EXPLAIN, COLOR];
 
+/// The usage of `view`, which has two forms.
+const VIEW_USAGE: &str = "vsi view [OPTIONS] --class <C> --budget <N> <LATTICE> <IMAGE>
+       vsi view [OPTIONS] --class <C> --budget <N> --interface <FILE> <IMAGE>";
+
 /// The usage of `drive`, which has two forms.
 const DRIVE_USAGE: &str = "vsi drive [OPTIONS] --class <C> <LATTICE> <IMAGE>
        vsi drive [OPTIONS] --class <C> --interface <FILE> <IMAGE>";
+
+/// The usage of a subcommand that has two forms.
+fn usage_of(name: &str) -> Option<&'static str> {
+    match name {
+        "view" => Some(VIEW_USAGE),
+        "drive" => Some(DRIVE_USAGE),
+        _ => None,
+    }
+}
 
 impl Subcommand {
     /// Builds the subcommand for the command-line parser.
@@ -238,9 +262,10 @@ impl Subcommand {
             .about(self.line)
             .long_about(self.whole)
             .after_help(self.example);
-        if self.name == "drive" {
-            return taking(alloc, command.override_usage(DRIVE_USAGE), self.arguments);
-        }
+        let command = match usage_of(self.name) {
+            Some(usage) => command.override_usage(usage),
+            None => command,
+        };
         taking(alloc, command, self.arguments)
     }
 }

@@ -392,7 +392,7 @@ empty is replaced only if it is of the kind that is written, an image
 or a store. A file that is read is never replaced, except for a store
 by the one that follows it.";
 
-/// The lattice file of a drive.
+/// The lattice file of a drive or of a view.
 pub(crate) const DRIVE_LATTICE: &str = "\
 The path of the lattice file, a TOML document of at most 1048576 bytes
 with two keys: `classes`, an array of 1 to 64 names, and `below`, an
@@ -400,7 +400,7 @@ array of pairs [low, high] of them. Every two classes must have a
 least class above both and a greatest class below both. With
 --interface it is left out, and IMAGE is the only operand.";
 
-/// `--interface`.
+/// `--interface` of `drive`.
 pub(crate) const DRIVE_INTERFACE: &str = "\
 The path of an interface file, in place of LATTICE, --inputs,
 --outputs and --release. The lattice is that of the interface, and an
@@ -408,6 +408,15 @@ image that doesn't conform to it, as `vsi conform` judges, isn't
 driven. A table `[[cycle]]` with the name of the class lists the
 inputs, outputs and released names. If there are such tables, a class
 without one drives nothing.";
+
+/// `--interface` of `view`.
+pub(crate) const VIEW_INTERFACE: &str = "\
+The path of an interface file, in place of LATTICE, --outputs and
+--release. The lattice is that of the interface, and an image that
+doesn't conform to it, as `vsi conform` judges, isn't run. A table
+`[[cycle]]` with the name of the class lists the outputs and released
+names; its inputs are judged, but they don't change the view. If there
+are such tables, a class without one views nothing.";
 
 /// `--inputs`.
 pub(crate) const INPUTS: &str = "\

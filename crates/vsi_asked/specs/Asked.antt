@@ -71,17 +71,17 @@ name_of (Explain page) = codes "explain"
 abbrev pub given : Option (Bor (List ℕ)) → List (List ℕ)
 given path = option_to_list (option_map (λ p. p.now) path)
 
--- The lattice file of a drive, which has none with an interface.
+-- The lattice file of a drive or of a view, which has none with an interface.
 abbrev pub lattice_of : DrivePolicy → Option (Bor (List ℕ))
 lattice_of (policy.Lattice path lists) = Some path
 lattice_of (policy.Interface path) = None
 
--- The interface file of a drive, if it has one.
+-- The interface file of a drive or of a view, if it has one.
 abbrev pub interface_of : DrivePolicy → Option (Bor (List ℕ))
 interface_of (policy.Lattice path lists) = None
 interface_of (policy.Interface path) = Some path
 
--- The lists of a drive, which aren't given with an interface.
+-- The lists of a drive or of a view, which aren't given with an interface.
 abbrev pub lists_of : DrivePolicy → NameLists
 lists_of (policy.Lattice path lists) = lists
 lists_of (policy.Interface path) = record { inputs = None; outputs = None; released = None }
@@ -124,7 +124,7 @@ operands_of (EmitC emission) = emission.file.now ∷ []
 operands_of (Bound bounding) = searched bounding
 operands_of (Run execution initial_store has_trace has_count) = execution.image.now ∷ []
 operands_of (View lattice class execution initial_store) = lattice.now ∷ execution.image.now ∷ []
-operands_of (ViewWithin viewing) = viewing.lattice.now ∷ viewing.execution.image.now ∷ []
+operands_of (ViewWithin viewing) = given (lattice_of viewing.policy) ++ viewing.execution.image.now ∷ []
 operands_of (Drive driving) = given (lattice_of driving.policy) ++ driving.execution.image.now ∷ []
 operands_of (Compare comparison) = comparison.lattice.now ∷ comparison.image.now ∷ []
 operands_of (Leak search) = search.lattice.now ∷ search.source.now ∷ []
@@ -227,8 +227,17 @@ drive_options driving interface lists =
     ∷ (codes "--save", given driving.save) ∷ (codes "--interface", given interface) ∷ bounding lists
 
 -- The options that bound a view, each with its values.
-abbrev pub listing : Option (Bor (List ℕ)) → Option (Bor (List ℕ)) → List (List ℕ × List (List ℕ))
-listing outputs released = (codes "--outputs", given outputs) ∷ (codes "--release", given released) ∷ []
+abbrev pub listing : Option (Bor (List ℕ)) → Option (Bor (List ℕ)) → Option (Bor (List ℕ)) →
+    List (List ℕ × List (List ℕ))
+listing interface outputs released =
+    (codes "--interface", given interface) ∷ (codes "--outputs", given outputs)
+    ∷ (codes "--release", given released) ∷ []
+
+-- The options of a view by this interface, if there is one, or by these lists, each with its values.
+abbrev pub view_options : Viewing → Option (Bor (List ℕ)) → NameLists → List (List ℕ × List (List ℕ))
+view_options viewing interface lists =
+    (codes "--class", viewing.class.now ∷ [])
+    ∷ starting viewing.execution viewing.initial_store ++ listing interface lists.outputs lists.released
 
 -- The options of a request, each with its values; `numbers_of` has the options that take numbers.
 abbrev pub options_of : Request → List (List ℕ × List (List ℕ))
@@ -239,9 +248,7 @@ options_of (EmitC emission) =
     (codes "--lattice", given emission.lattice) ∷ (codes "--name", given emission.name) ∷ []
 options_of (Run execution initial_store has_trace has_count) = starting execution initial_store
 options_of (View lattice class execution initial_store) = (codes "--class", class.now ∷ []) ∷ starting execution initial_store
-options_of (ViewWithin viewing) =
-    (codes "--class", viewing.class.now ∷ [])
-    ∷ starting viewing.execution viewing.initial_store ++ listing viewing.outputs viewing.released
+options_of (ViewWithin viewing) = view_options viewing (interface_of viewing.policy) (lists_of viewing.policy)
 options_of (Drive driving) = drive_options driving (interface_of driving.policy) (lists_of driving.policy)
 options_of (Compare comparison) =
     (codes "--class", comparison.class.now ∷ [])
@@ -323,16 +330,23 @@ pub record AsksRaises (words : List (String Global)) (mending : Mending) : Type 
   pub asks : Asks words (codes "mend") (compiled mending.compilation) (flags_of (Mend mending)) [] []
   pub apart : (mending.is_applied && mending.is_json) ≡ false
 
--- The options of a view without lists: it gives neither.
+-- The options of a view without a boundary: it gives no interface and no list.
 abbrev pub unlisted : Bor (List ℕ) → Execution → InitialStore → List (List ℕ × List (List ℕ))
 unlisted class execution initial_store =
-    (codes "--class", class.now ∷ []) ∷ starting execution initial_store ++ listing None None
+    (codes "--class", class.now ∷ []) ∷ starting execution initial_store ++ listing None None None
 
--- The arguments are `view` with its operands, flags, options and numbers, and at least one list.
+-- A view is bounded by an interface, or by a list of outputs or of released outputs.
+abbrev pub is_bounding : DrivePolicy → Bool
+is_bounding (policy.Lattice path lists) = is_some lists.outputs || is_some lists.released
+is_bounding (policy.Interface path) = true
+
+-- The arguments are `view` with its operands, flags, options and numbers, and with an interface or at least one list; a
+-- view has no list of inputs.
 pub record AsksViewWithin (words : List (String Global)) (viewing : Viewing) : Type 0 where
   pub asks : Asks words (codes "view") (operands_of (ViewWithin viewing)) (flags_of (ViewWithin viewing))
       (options_of (ViewWithin viewing)) (numbers_of (ViewWithin viewing))
-  pub listed : (is_some viewing.outputs || is_some viewing.released) ≡ true
+  pub unfed : (lists_of viewing.policy).inputs ≡ None
+  pub listed : is_bounding viewing.policy ≡ true
 
 -- The arguments spell the request: its subcommand, then its operands, flags, options and numbers or, for `explain`, an
 -- operand that names its page.

@@ -171,7 +171,7 @@ fn asks_view(
     };
     has_value(rest, "--class", Some(class))
         && has_initial_store(rest, execution, initial_store)
-        && has_listing(rest, None, None)
+        && has_listing(rest, None, None, None)
         && has_budget(rest, execution.budget)
 }
 

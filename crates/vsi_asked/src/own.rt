@@ -98,12 +98,13 @@ const VIEW_OPTIONS: [&[u8]; 6] = [
     b"--color",
 ];
 
-/// The options of `view` with lists.
-const VIEW_WITHIN_OPTIONS: [&[u8]; 8] = [
+/// The options of `view` with an interface or with lists.
+const VIEW_WITHIN_OPTIONS: [&[u8]; 9] = [
     b"--class",
     b"--store",
     b"--out",
     b"--set",
+    b"--interface",
     b"--outputs",
     b"--release",
     b"--budget",
