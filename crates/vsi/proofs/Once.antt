@@ -80,6 +80,15 @@ one_build words c i asks (Document (document.Audit audit)) asked =
 one_build words c i asks (Document (document.Bound bounding)) asked =
     absurd (other_name (texts words) (codes "build") (codes "bound") asks.spelled.rest asked.spelled.rest
     asks.spelled.named asked.spelled.named refl refl)
+one_build words c i asks (Document (document.Run execution initial_store)) asked =
+    absurd (other_name (texts words) (codes "build") (codes "run") asks.spelled.rest asked.spelled.rest
+    asks.spelled.named asked.spelled.named refl refl)
+one_build words c i asks (Document (document.Compare comparison)) asked =
+    absurd (other_name (texts words) (codes "build") (codes "compare") asks.spelled.rest asked.spelled.rest
+    asks.spelled.named asked.spelled.named refl refl)
+one_build words c i asks (Document (document.Leak search)) asked =
+    absurd (other_name (texts words) (codes "build") (codes "leak") asks.spelled.rest asked.spelled.rest
+    asks.spelled.named asked.spelled.named refl refl)
 one_build words c i asks (Explain page) asked =
     absurd (other_name (texts words) (codes "build") (codes "explain") asks.spelled.rest asked.spelled.asks.rest
     asks.spelled.named asked.spelled.asks.named refl refl)
@@ -182,6 +191,15 @@ one_view words l x e o asks (Document (document.Audit audit)) asked =
     asks.spelled.named asked.spelled.named refl refl)
 one_view words l x e o asks (Document (document.Bound bounding)) asked =
     absurd (other_name (texts words) (codes "view") (codes "bound") asks.spelled.rest asked.spelled.rest
+    asks.spelled.named asked.spelled.named refl refl)
+one_view words l x e o asks (Document (document.Run execution initial_store)) asked =
+    absurd (other_name (texts words) (codes "view") (codes "run") asks.spelled.rest asked.spelled.rest
+    asks.spelled.named asked.spelled.named refl refl)
+one_view words l x e o asks (Document (document.Compare comparison)) asked =
+    absurd (other_name (texts words) (codes "view") (codes "compare") asks.spelled.rest asked.spelled.rest
+    asks.spelled.named asked.spelled.named refl refl)
+one_view words l x e o asks (Document (document.Leak search)) asked =
+    absurd (other_name (texts words) (codes "view") (codes "leak") asks.spelled.rest asked.spelled.rest
     asks.spelled.named asked.spelled.named refl refl)
 one_view words l x e o asks (Explain page) asked =
     absurd (other_name (texts words) (codes "view") (codes "explain") asks.spelled.rest asked.spelled.asks.rest

@@ -16,8 +16,8 @@ pub mod Admitted
 pub mod Boundaries
 pub mod Interfaces
 pub mod Steering
-pub mod Documents
 pub mod Files
+pub mod Documents
 pub mod State
 pub mod Viewing
 pub mod Supplied

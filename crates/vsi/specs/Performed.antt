@@ -21,6 +21,7 @@ use Rattle.vsi_drive.specs.Boundary.{Boundary}
 use Rattle.vsi_drive.specs.BoundaryFaults.{boundary_fault}
 use Rattle.vsi_drive.specs.Control.{controlled}
 use Rattle.vsi_devices.specs.Running.{RunsApart}
+use Rattle.vsi_documents.specs.Leaks.{TellsSearch}
 use Rattle.vsi_leak.specs.declared.whole.Wanted.{Wanted}
 use Rattle.vsi_audit.specs.Standing.{HasKnownClasses}
 use Rattle.vsi_audit.specs.Text.{IsSourceText}
@@ -63,7 +64,7 @@ use Rattle.vsi_arguments.specs.declared.request.Search.{Search}
 use Rattle.vsi_arguments.specs.declared.request.Request.{Request}
 use Rattle.vsi_arguments.specs.declared.request.Request.TheVariants as request
 use Rattle.vsi.specs.Admitted.{IsAdmitted}
-use Rattle.vsi.specs.Documents.{AuditsJson, BoundsJson, ToldClassesJson, ToldFlowsJson, ToldSarif}
+use Rattle.vsi.specs.Documents.{AuditsJson, BoundsJson, ComparesJson, RunsJson, ToldClassesJson, ToldFlowsJson, ToldSarif}
 use Rattle.vsi.specs.Driven.{DrivesInput}
 use Rattle.vsi.specs.Holding.{Delivers, Fills, Holding, IsImageAt, IsLatticeAt, IsReadAt}
 use Rattle.vsi.specs.Interfaces.{IsAskedAt, IsPolicyAt}
@@ -250,6 +251,16 @@ pub record SearchesFiles (holds : Holding) (s : Search) (text : Vec ℕ) : Type 
   pub pairs : ℕ
   pub line : text.items ≡ codes "no leak in " ++ decimal pairs ++ codes " pairs of runs\n"
 
+-- The line of JSON for a search of a source text, which found no leak or found one.
+pub record SearchesJson (holds : Holding) (s : Search) (good : Bool) (text : Vec ℕ) : Type 0 where
+  pub lattice : Lattice
+  pub declared : IsLatticeAt holds s.lattice.now lattice
+  pub source : List ℕ
+  pub read : IsReadAt holds s.source.now source
+  pub viewer : Option ℕ
+  pub looks : LooksFor lattice s.class viewer
+  pub is : TellsSearch lattice source (wanted_of s viewer) good text.items
+
 -- A source text and the lattice that it is compiled with, under the base profile.
 abbrev pub compilation_of : Bor (List ℕ) → Bor (List ℕ) → Compilation
 compilation_of lattice source = record { lattice = lattice; source = source; is_strict = false }
@@ -352,6 +363,9 @@ DocumentOf holds (document.Classes asked) good = OfFiles holds asked (ToldClasse
 DocumentOf holds (document.Flows asked) good = OfFiles holds asked (ToldFlowsJson (profile_of asked.is_strict) good)
 DocumentOf holds (document.Audit asked) good = AuditsJson holds asked (profile_of asked.is_strict) good
 DocumentOf holds (document.Bound asked) good = BoundsJson (IsEmittedFrom holds asked.lattice asked.file) good
+DocumentOf holds (document.Run e o) good = RunsJson holds e o good
+DocumentOf holds (document.Compare comparison) good = ComparesJson holds comparison good
+DocumentOf holds (document.Leak search) good = SearchesJson holds search good
 
 -- ---- what each subcommand has done.
 

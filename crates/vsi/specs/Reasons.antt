@@ -50,6 +50,7 @@ use Rattle.vsi_arguments.specs.declared.request.Request.TheVariants as request
 use Rattle.vsi.specs.declared.failure.Failure.{Failure}
 use Rattle.vsi.specs.declared.failure.Failure.TheVariants as fails
 use Rattle.vsi.specs.Boundaries.{requested}
+use Rattle.vsi.specs.Documents.{RunsJson}
 use Rattle.vsi.specs.Holding.{Holding, IsImageAt, IsLatticeAt, IsReadAt}
 use Rattle.vsi.specs.Laying.{OtherLayout}
 use Rattle.vsi.specs.Raises.{ToldUnserved}
@@ -241,14 +242,58 @@ abbrev pub WhyEmit : Holding → Option (Bor (List ℕ)) → Bor (List ℕ) → 
 WhyEmit holds None file = RefusesImage holds file.now
 WhyEmit holds (Some lattice) file = RefusesFiles holds (compilation_of lattice file) (AsksImage false)
 
--- A request for a document has none: a lattice is refused, or an image, or the text from which an image is made.
-abbrev pub WhyDocument : Holding → Document → Unanswered → Type 0
-WhyDocument holds (document.Sarif asked) reason = RefusesLattice holds asked.compilation.lattice.now reason
-WhyDocument holds (document.Classes asked) reason = RefusesLattice holds asked.lattice.now reason
-WhyDocument holds (document.Flows asked) reason = RefusesLattice holds asked.lattice.now reason
-WhyDocument holds (document.Audit asked) reason =
+-- `leak`: the lattice is refused, or a source text without a program.
+abbrev pub RefusesSearch : Holding → Search → Unanswered → Type 0
+RefusesSearch holds s reason =
+    RefusesLattice holds s.lattice.now reason ⊎ RefusesSource holds s.lattice.now s.source.now reason
+
+-- A request for a document has none: a lattice is refused, or an image, the words that it begins with, a store, or the
+-- text from which an image is made.
+abbrev pub RefusesDocument : Holding → Document → Unanswered → Type 0
+RefusesDocument holds (document.Sarif asked) reason = RefusesLattice holds asked.compilation.lattice.now reason
+RefusesDocument holds (document.Classes asked) reason = RefusesLattice holds asked.lattice.now reason
+RefusesDocument holds (document.Flows asked) reason = RefusesLattice holds asked.lattice.now reason
+RefusesDocument holds (document.Audit asked) reason =
     RefusesLattice holds asked.lattice.now reason ⊎ RefusesImage holds asked.image.now reason
-WhyDocument holds (document.Bound asked) reason = WhyEmit holds asked.lattice asked.file reason
+RefusesDocument holds (document.Bound asked) reason = WhyEmit holds asked.lattice asked.file reason
+RefusesDocument holds (document.Run e o) reason = RefusesImage holds e.image.now reason ⊎ RefusesStart holds e o reason
+RefusesDocument holds (document.Compare comparison) reason = WhyCompare holds comparison reason
+RefusesDocument holds (document.Leak search) reason = RefusesSearch holds search reason
+
+-- A run is out of budget, and the document that says so has been written.
+abbrev pub SpendsDocument : Holding → Document → Option (List ℕ) → Option (List ℕ) → Unanswered → Type 0
+SpendsDocument holds (document.Run e o) old new reason =
+    (reason ≡ unanswered.OutOfBudget) × Writes (RunsJson holds e o false) old new
+SpendsDocument holds asked old new reason = ⊥
+
+-- A request for a document has none, or the document says that a run is out of budget.
+abbrev pub WhyDocument : Holding → Document → Option (List ℕ) → Option (List ℕ) → Unanswered → Type 0
+WhyDocument holds asked old new reason =
+    RefusesDocument holds asked reason ⊎ SpendsDocument holds asked old new reason
+
+-- A request for a document lacks a class or a bound.
+abbrev pub LacksDocument : Holding → Document → Failure → Type 0
+LacksDocument holds (document.Run e o) = LacksBoundAt holds e.image.now e.budget
+LacksDocument holds (document.Compare comparison) = LacksCompare holds comparison
+LacksDocument holds (document.Leak search) = λ failure.
+    IsSomeAnd search.class (λ class. LacksClassAt holds search.lattice.now class.now failure)
+LacksDocument holds asked = NoOther
+
+-- A document says that something is wrong, and has been written; that of a run says so by the budget.
+abbrev pub DiffersDocument : Holding → Document → Option (List ℕ) → Option (List ℕ) → Failure → Type 0
+DiffersDocument holds (document.Run e o) old new failure = ⊥
+DiffersDocument holds asked old new failure =
+    IsDifference (Writes (DocumentOf holds asked false) old new) failure
+
+-- A request for a document lacks something, or its document says that something is wrong.
+abbrev pub OtherDocument : Holding → Document → Option (List ℕ) → Option (List ℕ) → Failure → Type 0
+OtherDocument holds asked old new failure =
+    LacksDocument holds asked failure ⊎ DiffersDocument holds asked old new failure
+
+-- How the program fails if a document says that something is wrong.
+abbrev pub failure_of_document : Document → Failure
+failure_of_document (document.Run e o) = fails.OutOfBudget
+failure_of_document asked = fails.Differs
 
 -- The request of `bound` about the image of an emission.
 abbrev pub bounding_of : Emission → Bounding
@@ -358,7 +403,7 @@ abbrev pub Why : Holding → Request → Option (List ℕ) → Option (List ℕ)
 Why holds (request.Try attempt) old new = FailsBy (WhyTry holds attempt) (LacksTried holds attempt)
 Why holds (request.Check asked) old new = WhyCheck asked.is_json holds asked old new
 Why holds (request.Document asked) old new =
-    FailsBy (WhyDocument holds asked) (IsDifference (Writes (DocumentOf holds asked false) old new))
+    FailsBy (WhyDocument holds asked old new) (OtherDocument holds asked old new)
 Why holds (request.Conform asked) old new =
     FailsBy (RefusesConform holds asked) (DiffersConform holds asked old new)
 Why holds (request.Classes c) old new = FailsBy (RefusesFiles holds c (AsksClasses c.is_strict)) NoOther

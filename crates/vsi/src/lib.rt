@@ -45,6 +45,7 @@ mod performing;
 mod policies;
 mod raising;
 mod reading;
+mod run_documents;
 mod running;
 mod saving;
 mod screen;

@@ -31,7 +31,9 @@ pub(crate) fn paths_of<'a>(request: &Request<'a>) -> [Option<&'a str>; MOST_READ
         Request::Bound(asked) | Request::Document(Document::Bound(asked)) => {
             [asked.lattice, Some(asked.file), None, None]
         }
-        Request::Run { execution, .. } => [execution.store, Some(execution.image), None, None],
+        Request::Run { execution, .. } | Request::Document(Document::Run { execution, .. }) => {
+            [execution.store, Some(execution.image), None, None]
+        }
         Request::View {
             lattice,
             execution,
@@ -49,13 +51,15 @@ pub(crate) fn paths_of<'a>(request: &Request<'a>) -> [Option<&'a str>; MOST_READ
             asked.execution.store,
             None,
         ],
-        Request::Compare(asked) => [
+        Request::Compare(asked) | Request::Document(Document::Compare(asked)) => [
             Some(asked.lattice),
             Some(asked.image),
             Some(asked.stores.0),
             Some(asked.stores.1),
         ],
-        Request::Leak(asked) => two(asked.lattice, asked.source),
+        Request::Leak(asked) | Request::Document(Document::Leak(asked)) => {
+            two(asked.lattice, asked.source)
+        }
         Request::Draw(asked) => [Some(asked.lattice), asked.source, None, None],
         Request::Policy(asked) => [Some(asked.lattice), asked.old, None, None],
         Request::Try(asked) => [Some(asked.source), asked.lattice, None, None],

@@ -255,6 +255,27 @@ pub(crate) const BOUND_JSON: Argument = Argument {
     whole: word_help::BOUND_JSON,
 };
 
+pub(crate) const RUN_JSON: Argument = Argument {
+    name: "json",
+    form: Form::Flag,
+    line: "Writes the answer as JSON",
+    whole: word_help::RUN_JSON,
+};
+
+pub(crate) const COMPARE_JSON: Argument = Argument {
+    name: "json",
+    form: Form::Flag,
+    line: "Writes the answer as JSON",
+    whole: word_help::COMPARE_JSON,
+};
+
+pub(crate) const LEAK_JSON: Argument = Argument {
+    name: "json",
+    form: Form::Flag,
+    line: "Writes the answer as JSON",
+    whole: word_help::LEAK_JSON,
+};
+
 pub(crate) const FLOWS_ALONE: Argument = Argument {
     name: "flows",
     form: Form::Flag,

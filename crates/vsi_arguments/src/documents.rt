@@ -1,6 +1,8 @@
 //! The requests whose answers are written as lines or as a document.
 
-use crate::request::{Audit, Bounding, Compilation, Document, Request};
+use crate::request::{
+    Audit, Bounding, Comparison, Compilation, Document, Execution, InitialStore, Request, Search,
+};
 
 /// The request of `classes`.
 pub(crate) fn classes_request<'a>(compilation: Compilation<'a>, is_json: bool) -> Request<'a> {
@@ -39,4 +41,42 @@ pub(crate) fn bound_request<'a>(bounding: Bounding<'a>, is_json: bool) -> Reques
         return Request::Document(Document::Bound(bounding));
     }
     Request::Bound(bounding)
+}
+
+/// The request of `run`. Neither a trace nor a count is written as JSON.
+pub(crate) fn requested_run<'a>(
+    execution: Execution<'a>,
+    initial_store: InitialStore<'a>,
+    has_trace: bool,
+    has_count: bool,
+    is_json: bool,
+) -> Request<'a> {
+    if is_json {
+        return Request::Document(Document::Run {
+            execution,
+            initial_store,
+        });
+    }
+    Request::Run {
+        execution,
+        initial_store,
+        has_trace,
+        has_count,
+    }
+}
+
+/// The request of `compare`.
+pub(crate) fn requested_comparison<'a>(comparison: Comparison<'a>, is_json: bool) -> Request<'a> {
+    if is_json {
+        return Request::Document(Document::Compare(comparison));
+    }
+    Request::Compare(comparison)
+}
+
+/// The request of `leak`.
+pub(crate) fn requested_search<'a>(search: Search<'a>, is_json: bool) -> Request<'a> {
+    if is_json {
+        return Request::Document(Document::Leak(search));
+    }
+    Request::Leak(search)
 }

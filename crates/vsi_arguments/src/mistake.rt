@@ -27,6 +27,8 @@ pub(crate) enum Mistake {
     WalksAndJson,
     /// Evidence is to be written as JSON.
     EvidenceAndJson,
+    /// A trace or a count is to be written as JSON, or JSON to a file.
+    RunAndJson,
     /// An interface has the lattice of its drive.
     LatticeAndInterface,
     /// An interface has the boundary of its drive.
@@ -49,6 +51,7 @@ impl Mistake {
             | Mistake::JsonAndSarif
             | Mistake::WalksAndJson
             | Mistake::EvidenceAndJson
+            | Mistake::RunAndJson
             | Mistake::LatticeAndInterface
             | Mistake::ListsAndInterface => ErrorKind::ArgumentConflict,
             Mistake::FlowsOfNothing => ErrorKind::MissingRequiredArgument,
@@ -75,6 +78,9 @@ impl Mistake {
             Mistake::JsonAndSarif => "`--json` and `--sarif` don't go together",
             Mistake::WalksAndJson => "`--walks` and `--json` don't go together",
             Mistake::EvidenceAndJson => "`--evidence` and `--json` don't go together",
+            Mistake::RunAndJson => {
+                "`--json` of `run` doesn't go with `--trace`, `--count` and `--out`"
+            }
             Mistake::LatticeAndInterface => {
                 "`--interface` names the lattice, so it goes with one operand, the IMAGE"
             }

@@ -1,6 +1,9 @@
 //! Reads a request from the arguments of a command line.
 
-use crate::documents::{audit_request, bound_request, classes_request, listed_flows};
+use crate::documents::{
+    audit_request, bound_request, classes_request, listed_flows, requested_comparison,
+    requested_run, requested_search,
+};
 use crate::drives::drive_request;
 use crate::error::ArgumentsError;
 use crate::escaped::escaped;
@@ -120,7 +123,7 @@ fn named<'a>(
 ) -> Result<Result<Request<'a>, Mistake>, Error> {
     match name {
         "try" => Ok(Ok(try_request(alloc, inner)?)),
-        "run" => Ok(Ok(run_request(alloc, inner)?)),
+        "run" => Ok(run_request(alloc, inner)?),
         "view" => Ok(Ok(view_request(alloc, inner)?)),
         "drive" => Ok(drive_request(inner)),
         "compare" => Ok(compare_request(inner)),
@@ -146,7 +149,7 @@ fn requested<'a>(name: &str, inner: &ArgMatches<'a>) -> Request<'a> {
         "list" => Request::List(text(inner, "IMAGE")),
         "source" => Request::Source(text(inner, "IMAGE")),
         "bound" => bound_request(bounding_in(inner), inner.get_flag("json")),
-        "leak" => Request::Leak(search_in(inner)),
+        "leak" => requested_search(search_in(inner), inner.get_flag("json")),
         "lsp" => Request::Lsp(serving_in(inner)),
         "report" => Request::Report(compilation_in(inner)),
         _ => Request::Policy(looking_in(inner)),
@@ -224,13 +227,19 @@ fn try_request<'a>(alloc: Global, matches: &ArgMatches<'a>) -> Result<Request<'a
     }))
 }
 
-fn run_request<'a>(alloc: Global, matches: &ArgMatches<'a>) -> Result<Request<'a>, AllocError> {
-    Ok(Request::Run {
-        execution: execution_in(matches),
-        initial_store: initial_store_in(alloc, matches)?,
-        has_trace: matches.get_flag("trace"),
-        has_count: matches.get_flag("count"),
-    })
+/// JSON has neither a trace nor a count, and goes to standard output.
+fn run_request<'a>(
+    alloc: Global,
+    matches: &ArgMatches<'a>,
+) -> Result<Result<Request<'a>, Mistake>, AllocError> {
+    let initial_store = initial_store_in(alloc, matches)?;
+    let (has_trace, has_count) = (matches.get_flag("trace"), matches.get_flag("count"));
+    let is_json = matches.get_flag("json");
+    if is_json && (has_trace || has_count || initial_store.out.is_some()) {
+        return Ok(Err(Mistake::RunAndJson));
+    }
+    let execution = execution_in(matches);
+    Ok(Ok(requested_run(execution, initial_store, has_trace, has_count, is_json)))
 }
 
 /// With one of the lists the view is bounded by them.
@@ -260,13 +269,16 @@ fn viewing_in<'a>(alloc: Global, matches: &ArgMatches<'a>) -> Result<Viewing<'a>
 
 fn compare_request<'a>(matches: &ArgMatches<'a>) -> Result<Request<'a>, Mistake> {
     match matches.get_strs("store") {
-        Some([first, second]) => Ok(Request::Compare(Comparison {
-            lattice: text(matches, "LATTICE"),
-            image: text(matches, "IMAGE"),
-            class: text(matches, "class"),
-            budget: budget_of(matches),
-            stores: (*first, *second),
-        })),
+        Some([first, second]) => {
+            let comparison = Comparison {
+                lattice: text(matches, "LATTICE"),
+                image: text(matches, "IMAGE"),
+                class: text(matches, "class"),
+                budget: budget_of(matches),
+                stores: (*first, *second),
+            };
+            Ok(requested_comparison(comparison, matches.get_flag("json")))
+        }
         _ => Err(Mistake::NoTwoStores),
     }
 }

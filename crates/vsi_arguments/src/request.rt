@@ -214,7 +214,7 @@ pub struct Layout<'a> {
 }
 
 /// A request whose answer is one document, which a program reads.
-#[derive(Clone, Copy)]
+#[derive(Drop)]
 pub enum Document<'a> {
     /// The answer of `check` as SARIF.
     Sarif(Judging<'a>),
@@ -226,6 +226,15 @@ pub enum Document<'a> {
     Audit(Audit<'a>),
     /// The answer of `bound` as JSON.
     Bound(Bounding<'a>),
+    /// The answer of `run` as JSON, which goes to standard output.
+    Run {
+        execution: Execution<'a>,
+        initial_store: InitialStore<'a>,
+    },
+    /// The answer of `compare` as JSON.
+    Compare(Comparison<'a>),
+    /// The answer of `leak` as JSON.
+    Leak(Search<'a>),
 }
 
 /// Whether an explanation is coloured.

@@ -33,7 +33,7 @@ const OWNERS: [(&str, &str); 38] = [
     ("'--interface'", "drive"),
     (
         "'--json'",
-        "check, conform, classes, flows, mend, audit and bound",
+        "check, conform, classes, flows, mend, audit, bound, run, compare and leak",
     ),
     ("'--keep-comments'", "fmt"),
     ("'--lattice'", "try, emit-c and lsp"),

@@ -119,7 +119,7 @@ const SUBCOMMANDS: [Subcommand; 21] = [
         whole: run_help::RUN,
         example: run_help::RUN_EXAMPLE,
         arguments: &[
-            IMAGE, BUDGET, STORE, SET, FULL_STORE, OUT, FORCE, TRACE, COUNT,
+            IMAGE, BUDGET, STORE, SET, FULL_STORE, OUT, FORCE, TRACE, COUNT, RUN_JSON,
         ],
     },
     Subcommand {
@@ -158,7 +158,7 @@ const SUBCOMMANDS: [Subcommand; 21] = [
         line: "Runs an image from two stores and prints what a class sees of both",
         whole: run_help::COMPARE,
         example: run_help::COMPARE_EXAMPLE,
-        arguments: &[LATTICE, IMAGE, CLASS, BUDGET, STORES],
+        arguments: &[LATTICE, IMAGE, CLASS, BUDGET, STORES, COMPARE_JSON],
     },
     Subcommand {
         name: "leak",
@@ -166,7 +166,7 @@ const SUBCOMMANDS: [Subcommand; 21] = [
         whole: run_help::LEAK,
         example: run_help::LEAK_EXAMPLE,
         arguments: &[
-            LATTICE, SOURCE, LOOKING, RUN_BUDGET, TRIES, SEED, ENDINGS, STEPS,
+            LATTICE, SOURCE, LOOKING, RUN_BUDGET, TRIES, SEED, ENDINGS, STEPS, LEAK_JSON,
         ],
     },
     Subcommand {

@@ -360,6 +360,25 @@ Writes the answer as a line of JSON: an object with `bounded`, `text`,
 and the two numbers between which the number of instructions of every
 run lies, or the instruction for which there is no bound.";
 
+/// The answer of `run` as JSON.
+pub(crate) const RUN_JSON: &str = "\
+Writes the answer as a line of JSON: an object with `halted`, the
+number of `instructions` and, if the run halts, `globals`, an array
+with an object for each global. It doesn't go with `--trace`,
+`--count` and `--out`.";
+
+/// The answer of `compare` as JSON.
+pub(crate) const COMPARE_JSON: &str = "\
+Writes the answer as a line of JSON: an object with `class`, `same`,
+the words that the class sees `before` and `after` both runs, and how
+the `first` and the `second` run end.";
+
+/// The answer of `leak` as JSON.
+pub(crate) const LEAK_JSON: &str = "\
+Writes the answer as a line of JSON: an object with `found`. For a
+leak it also has its `class`, the words `before` and `after` both
+runs, and how they end; otherwise the number of `pairs` of runs.";
+
 /// `--keep-comments`.
 pub(crate) const KEEP_COMMENTS: &str = "\
 Keeps each comment, between the same two tokens as before. One at the

@@ -5,16 +5,17 @@ ghost use Rattle.vsi_arguments.specs.declared.request.Request.TheVariants as req
 ghost use Rattle.vsi_asked.specs.Asked as spec;
 ghost use Rattle.vsi_asked.specs.Words.{operands_in, shown, texts, values_in};
 
-use crate::documents::{asks_audit, asks_bound, asks_classes, asks_document, asks_flows};
+use crate::documents::{
+    asks_audit, asks_bound, asks_classes, asks_compare, asks_document, asks_flows, asks_leak,
+};
 use crate::drives::asks_drive;
 use crate::numbers::{has_budget, has_number, number_in, only_operand};
 use crate::own::has_own_alone;
 use crate::reading::{has_flag, has_operands, has_values};
 use crate::viewing::{asks_view_within, has_listing};
 use vsi_arguments::{
-    Attempt, Audit, Bounding, Comparison, Compilation, Conformance, Document, Drawing, Emission,
-    Execution, InitialStore, Judging, Layout, Looking, Mending, RUNS_BUDGET, Request, SEARCH,
-    Search, Serving, TRY_BUDGET,
+    Attempt, Audit, Bounding, Compilation, Conformance, Document, Drawing, Emission, Execution,
+    InitialStore, Judging, Layout, Looking, Mending, RUNS_BUDGET, Request, Serving, TRY_BUDGET,
 };
 use vsi_explain::{page, subject_page};
 
@@ -146,6 +147,7 @@ fn asks_run(
         ("--full-store", initial_store.is_full),
         ("--trace", has_trace),
         ("--count", has_count),
+        ("--json", false),
     ];
     let Some(rest) = behind(words, "run", operands.as_slice(), flags.as_slice()) else {
         return false;
@@ -173,39 +175,6 @@ fn asks_view(
         && has_initial_store(rest, execution, initial_store)
         && has_listing(rest, None, None)
         && has_budget(rest, execution.budget)
-}
-
-/// Whether the arguments request a comparison.
-fn asks_compare(words: &[String], comparison: &Comparison<'_>) -> bool
-    ensures { result ≡ true → spec.Spells words.now (request.Compare comparison.now) }
-{
-    let operands = [comparison.lattice.as_bytes(), comparison.image.as_bytes()];
-    let Some(rest) = behind(words, "compare", operands.as_slice(), &[]) else {
-        return false;
-    };
-    let (first, second) = comparison.stores;
-    let stores = [first.as_bytes(), second.as_bytes()];
-    has_value(rest, "--class", Some(comparison.class))
-        && has_values(rest, b"--store", stores.as_slice())
-        && has_budget(rest, comparison.budget)
-}
-
-/// Whether the arguments request a search for a leak.
-fn asks_leak(words: &[String], search: &Search<'_>) -> bool
-    ensures { result ≡ true → spec.Spells words.now (request.Leak search.now) }
-{
-    let operands = [search.lattice.as_bytes(), search.source.as_bytes()];
-    let flags = [
-        ("--endings", search.has_endings),
-        ("--steps", search.has_steps),
-    ];
-    let Some(rest) = behind(words, "leak", operands.as_slice(), flags.as_slice()) else {
-        return false;
-    };
-    has_value(rest, "--class", search.class)
-        && has_number(rest, "--budget", Some(SEARCH), search.budget)
-        && has_number(rest, "--tries", Some(SEARCH), search.tries)
-        && has_number(rest, "--seed", Some(0), search.seed)
 }
 
 /// Whether the arguments request a language server.
@@ -436,8 +405,8 @@ fn spells(words: &[String], request: &Request<'_>) -> bool
         } => asks_view(words, lattice, class, execution, initial_store),
         Request::ViewWithin(viewing) => asks_view_within(words, viewing),
         Request::Drive(driving) => asks_drive(words, driving),
-        Request::Compare(comparison) => asks_compare(words, comparison),
-        Request::Leak(search) => asks_leak(words, search),
+        Request::Compare(comparison) => asks_compare(words, comparison, false),
+        Request::Leak(search) => asks_leak(words, search, false),
         Request::Report(compilation) => asks_judged(words, "report", compilation),
         Request::Draw(drawing) => asks_draw(words, drawing),
         Request::Policy(looking) => asks_policy(words, looking),

@@ -74,10 +74,11 @@ const EMIT_C: [&[u8]; 3] = [b"--header", b"--bounded", b"--explain"];
 const EMIT_C_OPTIONS: [&[u8]; 3] = [b"--lattice", b"--name", b"--color"];
 
 /// The flags of `run`.
-const RUN: [&[u8]; 5] = [
+const RUN: [&[u8]; 6] = [
     b"--full-store",
     b"--trace",
     b"--count",
+    b"--json",
     b"--explain",
     b"--force",
 ];
@@ -127,11 +128,14 @@ const DRIVE_OPTIONS: [&[u8]; 10] = [
     b"--color",
 ];
 
+/// The flags of `compare`.
+const COMPARE: [&[u8]; 2] = [b"--json", b"--explain"];
+
 /// The options of `compare`.
 const COMPARE_OPTIONS: [&[u8]; 4] = [b"--class", b"--store", b"--budget", b"--color"];
 
 /// The flags of `leak`.
-const LEAK: [&[u8]; 3] = [b"--endings", b"--steps", b"--explain"];
+const LEAK: [&[u8]; 4] = [b"--endings", b"--steps", b"--json", b"--explain"];
 
 /// The options of `leak`.
 const LEAK_OPTIONS: [&[u8]; 5] = [b"--class", b"--budget", b"--tries", b"--seed", b"--color"];
@@ -205,6 +209,9 @@ fn has_own_document(words: &[String], document: &Document<'_>) -> bool
         Document::Flows(_) => are_own(words, FLOWS.as_slice(), NO_OPTIONS.as_slice()),
         Document::Audit(_) => are_own(words, AUDIT.as_slice(), NO_OPTIONS.as_slice()),
         Document::Bound(_) => are_own(words, BOUND.as_slice(), NO_OPTIONS.as_slice()),
+        Document::Run { .. } => are_own(words, RUN.as_slice(), RUN_OPTIONS.as_slice()),
+        Document::Compare(_) => are_own(words, COMPARE.as_slice(), COMPARE_OPTIONS.as_slice()),
+        Document::Leak(_) => are_own(words, LEAK.as_slice(), LEAK_OPTIONS.as_slice()),
     }
 }
 
@@ -236,7 +243,7 @@ pub(crate) fn has_own_alone(words: &[String], request: &Request<'_>) -> bool
         Request::View { .. } => are_own(words, VIEW.as_slice(), VIEW_OPTIONS.as_slice()),
         Request::ViewWithin(_) => are_own(words, VIEW.as_slice(), VIEW_WITHIN_OPTIONS.as_slice()),
         Request::Drive(_) => are_own(words, DRIVE.as_slice(), DRIVE_OPTIONS.as_slice()),
-        Request::Compare(_) => are_own(words, NO_FLAGS.as_slice(), COMPARE_OPTIONS.as_slice()),
+        Request::Compare(_) => are_own(words, COMPARE.as_slice(), COMPARE_OPTIONS.as_slice()),
         Request::Leak(_) => are_own(words, LEAK.as_slice(), LEAK_OPTIONS.as_slice()),
         Request::Try(_) => are_own(words, NO_FLAGS.as_slice(), TRY_OPTIONS.as_slice()),
         Request::Lsp(_) => are_own(words, LSP.as_slice(), LSP_OPTIONS.as_slice()),

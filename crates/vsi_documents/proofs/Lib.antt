@@ -1,2 +1,4 @@
 pub mod Plain
 pub mod Made
+pub mod Worded
+pub mod Sides

@@ -3,3 +3,7 @@ pub mod Classes
 pub mod Flows
 pub mod Bounds
 pub mod Audits
+pub mod Words
+pub mod Runs
+pub mod Comparisons
+pub mod Leaks
