@@ -1,26 +1,15 @@
--- Walks over loops and letvars, each with an answer of its own.
+-- Walks over letvars, each with an answer of its own.
 use Rattle.std.proofs.Common.{◌≡◌, ℕ, zero, suc, ◌+◌, ◌<◌, ◌≤◌, Bool, List, [], ◌∷◌, ◌++◌, length, get_or, Vec, Global, sym, ap, ◌∙◌, arith}
 use Rattle.std.specs.Prelude.{not}
 use Rattle.vsi_scope.specs.declared.program.Ex.{Ex}
 use Rattle.vsi_scope.specs.declared.program.Cmd.{Cmd}
 use Rattle.vsi_scope.specs.declared.program.Cmd.TheViews as view
 use Rattle.vsi_scope.specs.Language.{letvars}
-use Rattle.vsi_scope.specs.View.{expression, command, sequence}
-use Rattle.vsi_scope.proofs.Views.{command_While, command_Letvar}
+use Rattle.vsi_scope.specs.View.{command, sequence}
+use Rattle.vsi_scope.proofs.Views.{command_Letvar}
 use Rattle.vsi_opt.specs.Liveness.{all_reads}
-use Rattle.vsi_warnings.specs.Warned.{reads_assigned, unchanged, unread}
+use Rattle.vsi_warnings.specs.Warned.{unread}
 use Rattle.vsi_warnings.proofs.Flags.{passed_first}
-
--- A walk over a loop.
-pub passed_loop : (c : Cmd) (e : Ex) (b : Vec Cmd Global) (cs ds : List Cmd) (xs us ws : List Bool) (r : Bool) →
-    c ≡ view.While e b → cs ≡ b.items → ds ≡ b.items → r ≡ reads_assigned (sequence cs) (expression e) →
-    us ≡ xs ++ not r ∷ [] → ws ≡ us ++ unchanged (sequence ds) → ws ≡ xs ++ unchanged (command c)
-passed_loop c e b cs ds xs us ws r is ic id er p q =
-    passed_first xs us ws (unchanged (command c)) (not r) (unchanged (sequence ds)) (unchanged (sequence b.items)) p q
-    (ap (λ l. unchanged (sequence l)) id)
-    (ap (λ x. unchanged (command x)) is ∙ ap unchanged (command_While e b)
-    ∙ ap (λ x. not x ∷ unchanged (sequence b.items))
-    (sym (er ∙ ap (λ l. reads_assigned (sequence l) (expression e)) ic)))
 
 -- A walk over a letvar.
 pub passed_letvar : (k : ℕ) (c : Cmd) (e : Ex) (b : Vec Cmd Global) (cs ds : List Cmd) (xs us ws : List Bool)

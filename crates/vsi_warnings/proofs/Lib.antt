@@ -1,3 +1,5 @@
 mod Cases
 mod Finds
 mod Flags
+mod Marks
+mod Walks

@@ -5,7 +5,7 @@
 //! `unchanged_guards`, `unread_letvars` and `is_unused_global` decide which loops, letvars and
 //! globals are warned of (clauses `exact`). Their places, and the other warnings, are only tested.
 //!
-//! To be believed: `specs/Warned`.
+//! To be believed: `specs/Warned`. The other file of `specs/` only supports proofs.
 #![tactic(auto)]
 
 mod chained;
@@ -14,6 +14,7 @@ mod hiding;
 mod indented;
 mod loops;
 mod removed;
+mod stamps;
 mod unread;
 mod uses;
 mod warning;

@@ -1,42 +1,50 @@
 //! The loops whose guard nothing in their body changes.
+//!
+//! One walk finds them all: an assignment stamps its location with the number of loops that have
+//! begun, and the guard of a loop is changed if, at the end of its body, it reads a location with
+//! a stamp above the number of loops that began before it.
 
-ghost use Rattle.std.specs.Prelude.{◌≡◌, ◌++◌, IfOk, OnOk};
+ghost use Rattle.std.specs.Prelude.{◌≡◌, IfOk, OnOk};
 ghost use Rattle.vsi_scope.specs.View.{command, sequence};
+ghost use Rattle.vsi_warnings.specs.Stamps.{IsWalked};
 ghost use Rattle.vsi_warnings.specs.Warned.{unchanged};
 
-use crate::uses::reads_assigned;
+use crate::stamps::{put_stamp, reads_above};
 use std::alloc::{AllocError, Global};
 use vsi_scope::{Cmd, Resolved};
 
 /// Adds an answer for each loop of these commands.
 #[cycle(loops)]
-fn put_all(body: &[Cmd], found: &mut Vec<bool>) -> Result<(), AllocError>
-    ensures { OnOk result
-        (found.new.items ≡ found.old.items ++ unchanged (sequence body.now)) }
+fn put_all(body: &[Cmd], found: &mut Vec<bool>, stamps: &mut Vec<usize>) -> Result<(), AllocError>
+    ensures { OnOk result (IsWalked (sequence body.now) found.old.items stamps.old.items
+        found.new.items stamps.new.items) }
 {
     for c in body {
-        put_one(c, found)?;
+        put_one(c, found, stamps)?;
     }
     Ok(())
 }
 
 /// Adds an answer for each loop of a command.
 #[cycle(loops)]
-fn put_one(c: &Cmd, found: &mut Vec<bool>) -> Result<(), AllocError>
-    ensures { OnOk result
-        (found.new.items ≡ found.old.items ++ unchanged (command c.now)) }
+fn put_one(c: &Cmd, found: &mut Vec<bool>, stamps: &mut Vec<usize>) -> Result<(), AllocError>
+    ensures { OnOk result (IsWalked (command c.now) found.old.items stamps.old.items
+        found.new.items stamps.new.items) }
 {
     match c {
-        Cmd::Assign { .. } => Ok(()),
+        Cmd::Assign { loc, .. } => put_stamp(stamps, *loc, found.len()),
         Cmd::If { yes, no, .. } => {
-            put_all(yes, found)?;
-            put_all(no, found)
+            put_all(yes, found, stamps)?;
+            put_all(no, found, stamps)
         }
         Cmd::While { guard, body } => {
-            found.push(!reads_assigned(guard, body))?;
-            put_all(body, found)
+            let begun = found.len();
+            found.push(false)?;
+            put_all(body, found, stamps)?;
+            found[begun] = !reads_above(guard, stamps, begun);
+            Ok(())
         }
-        Cmd::Letvar { body, .. } => put_all(body, found),
+        Cmd::Letvar { body, .. } => put_all(body, found, stamps),
     }
 }
 
@@ -46,6 +54,7 @@ pub fn unchanged_guards(alloc: Global, program: &Resolved<'_>) -> Result<Vec<boo
     ensures exact { IfOk result (λ v. v.items ≡ unchanged (sequence program.now.body)) }
 {
     let mut found = Vec::new(alloc);
-    put_all(program.body(), &mut found)?;
+    let mut stamps = Vec::new(alloc);
+    put_all(program.body(), &mut found, &mut stamps)?;
     Ok(found)
 }

@@ -3,7 +3,7 @@
 ghost use Rattle.std.specs.Prelude.{◌≡◌};
 ghost use Rattle.vsi_scope.specs.View.{command, expression, sequence};
 ghost use Rattle.vsi_opt.specs.Liveness.{all_reads, reads};
-ghost use Rattle.vsi_warnings.specs.Warned.{assigned, reads_assigned};
+ghost use Rattle.vsi_warnings.specs.Warned.{assigned};
 
 use vsi_scope::{Cmd, Ex};
 
@@ -69,16 +69,5 @@ fn is_assigning(c: &Cmd, location: u16) -> bool
         Cmd::If { yes, no, .. } => are_assigning(yes, location) | are_assigning(no, location),
         Cmd::While { body, .. } => are_assigning(body, location),
         Cmd::Letvar { body, .. } => are_assigning(body, location),
-    }
-}
-
-/// Whether an expression reads a location that one of these commands assigns.
-pub(crate) fn reads_assigned(e: &Ex, body: &[Cmd]) -> bool
-    ensures { result ≡ reads_assigned (sequence body.now) (expression e.now) }
-{
-    match e {
-        Ex::Num(_) => false,
-        Ex::Loc(read, _) => are_assigning(body, *read),
-        Ex::Op(_, a, b) => reads_assigned(a, body) || reads_assigned(b, body),
     }
 }
