@@ -97,6 +97,8 @@ DONE = {command: re.compile(form) for command, form in {
     "list": rb"globals \d+\nslots \d+\nstack \d+\n(?:\w+ : \w+\n)*(?:\d+: [A-Z]+(?: -?\d+)?\n)+"}.items()}
 UNFINISHED = re.compile(TRACE)
 NOTHING = re.compile(b"")
+# The line of JSON of a refused file, which has a text on standard error too.
+REFUSED_FILE = re.compile(rb'\{"accepted":false,[^\n]*\}\n')
 
 # The options that add output, for each subcommand that takes them.
 FURTHER = {command: ("--explain",) for command in DONE if command not in ("", "?", "explain", "lsp")}
@@ -207,6 +209,8 @@ def faults_of(given, answer):
         form = DONE["?"]
     if form and {"--apply", "--json", "--keep-comments"} & {*given.words} and given.command != "conform":
         form = DONE["?"]
+    if answer.status == 1 and answer.error and "--json" in given.words and answer.output:
+        form = REFUSED_FILE
     if "--check" in given.words and answer.status == 0 and given.command != "?":
         form = NOTHING
     if given.command == "lsp" and answer.status in (1, 4):
@@ -230,7 +234,9 @@ def json_fault(plain, answer):
         line = json.loads(answer.output)
     except ValueError:
         return "no JSON"
-    if answer.error or answer.output.count(b"\n") != 1 or line["accepted"] != (plain.status == 0):
+    if answer.error not in (b"", plain.error) or answer.output.count(b"\n") != 1:
+        return "JSON of another form"
+    if line["accepted"] != (plain.status == 0):
         return "JSON of another answer"
     is_told = line["accepted"] or line["text"].encode() + b"\n" == plain.error
     return None if is_told else "JSON of another refusal"

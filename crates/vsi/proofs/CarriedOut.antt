@@ -48,7 +48,7 @@ memory_mend true holds asked old new = tt
 memory_mend false holds asked old new = tt
 
 -- Lack of memory claims no reason for any request.
-memory_why : (holds : Holding) (asked : Request) (old new : Option (List ℕ)) → Why holds asked old new Memory
+pub memory_why : (holds : Holding) (asked : Request) (old new : Option (List ℕ)) → Why holds asked old new Memory
 memory_why holds (request.Check asked) old new = memory_check asked.is_json holds asked old new
 memory_why holds (request.Document asked) old new = tt
 memory_why holds (request.Conform asked) old new = tt
@@ -70,6 +70,7 @@ memory_why holds (request.Leak search) old new = tt
 memory_why holds (request.Report c) old new = tt
 memory_why holds (request.Draw drawing) old new = tt
 memory_why holds (request.Policy looking) old new = tt
+memory_why holds (request.Visible visibility) old new = tt
 memory_why holds (request.Format source) old new = tt
 memory_why holds (request.Layout asked) old new = tt
 memory_why holds (request.Try attempt) old new = tt

@@ -15,6 +15,8 @@ use Rattle.vsi_devices.specs.declared.error.EngineError.{EngineError}
 use Rattle.vsi_devices.specs.declared.error.EngineError.TheVariants as engine
 use Rattle.vsi_devices.proofs.Outputs.{longer_text, text_then}
 use Rattle.vsi_devices.proofs.Traces.{trace_rest}
+use Rattle.vsi_arguments.specs.declared.request.Document.{Document}
+use Rattle.vsi_arguments.specs.declared.request.Document.TheVariants as document
 use Rattle.vsi_arguments.specs.declared.request.Driving.{Driving}
 use Rattle.vsi_arguments.specs.declared.request.Execution.{Execution}
 use Rattle.vsi_arguments.specs.declared.request.Judging.{Judging}
@@ -25,7 +27,7 @@ use Rattle.vsi.specs.declared.failure.Failure.{Failure}
 use Rattle.vsi.specs.declared.failure.Failure.TheVariants.{Memory}
 use Rattle.vsi.specs.Admitted.{IsAdmitted}
 use Rattle.vsi.specs.Holding.{Holding, IsImageAt}
-use Rattle.vsi.specs.Partly.{AnswersCheck, AnswersDrive, AnswersRun, DrivenText, Leaves, Partly, WritesPart, cut_from}
+use Rattle.vsi.specs.Partly.{AnswersCheck, AnswersDrive, AnswersRun, DrivenText, Leaves, Partly, WritesPart, cut_from, document_cut_from}
 use Rattle.vsi.specs.Files.{BeginsAt, IsBudgetOf, IsStoredAt, OfFiles, shown}
 use Rattle.vsi.specs.Performed.{ToldJson, judgement_of}
 use Rattle.vsi.specs.Reasons.{ToldRefusal}
@@ -41,10 +43,22 @@ pub check_answer : (holds : Holding) (asked : Judging) (accepted : Bool) (line :
 check_answer holds asked true line told refused = inl (told refl)
 check_answer holds asked false line told refused = inr (refused refl)
 
+-- No request for a document writes a part of it at a lower status than that of a file fault, but for a run.
+document_cut_within : (asked : Document) → document_cut_from asked ≤ 4
+document_cut_within (document.Sarif asked) = omega arith
+document_cut_within (document.Classes asked) = omega arith
+document_cut_within (document.Flows asked) = omega arith
+document_cut_within (document.Audit asked) = omega arith
+document_cut_within (document.AuditSarif asked) = omega arith
+document_cut_within (document.Bound asked) = omega arith
+document_cut_within (document.Run e o) = omega arith
+document_cut_within (document.Compare comparison) = omega arith
+document_cut_within (document.Leak search) = omega arith
+
 -- No request writes a part of an answer at a lower status than that of a file fault, but for a run and a server.
 pub cut_within : (asked : Request) → cut_from asked ≤ 4
 cut_within (request.Check asked) = omega arith
-cut_within (request.Document asked) = omega arith
+cut_within (request.Document asked) = document_cut_within asked
 cut_within (request.Conform asked) = omega arith
 cut_within (request.Classes c) = omega arith
 cut_within (request.Flows c has_walks) = omega arith
@@ -64,6 +78,7 @@ cut_within (request.Leak search) = omega arith
 cut_within (request.Report c) = omega arith
 cut_within (request.Draw drawing) = omega arith
 cut_within (request.Policy looking) = omega arith
+cut_within (request.Visible visibility) = omega arith
 cut_within (request.Format source) = omega arith
 cut_within (request.Layout asked) = omega arith
 cut_within (request.Try attempt) = omega arith

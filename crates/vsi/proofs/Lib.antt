@@ -18,6 +18,7 @@ pub mod Mended
 pub mod Documented
 pub mod CarriedOut
 pub mod Refused
+pub mod Sought
 pub mod Unrun
 pub mod Unbounded
 pub mod Conforming
@@ -30,3 +31,5 @@ pub mod Left
 pub mod Loading
 pub mod Looked
 pub mod Viewed
+pub mod Wrong
+pub mod Faulted

@@ -4,13 +4,15 @@ use Rattle.std.specs.Prelude.{◌||◌, Option, Some, None, bytes_eq, codes, is_
 use Rattle.std.specs.Borrow.{Bor}
 use Rattle.std.specs.declared.alloc.Global.{Global}
 use Rattle.vsi_arguments.specs.declared.request.Compilation.{Compilation}
+use Rattle.vsi_arguments.specs.declared.request.DrivePolicy.{DrivePolicy}
+use Rattle.vsi_arguments.specs.declared.request.DrivePolicy.TheVariants as policy
 use Rattle.vsi_arguments.specs.declared.request.Execution.{Execution}
 use Rattle.vsi_arguments.specs.declared.request.InitialStore.{InitialStore}
 use Rattle.vsi_arguments.specs.declared.request.Request.{Request}
 use Rattle.vsi_arguments.specs.declared.request.Viewing.{Viewing}
 use Rattle.vsi_arguments.specs.declared.request.Document.TheVariants as document
 use Rattle.vsi_arguments.specs.declared.request.Request.TheVariants.{Build, Document, Explain, Layout, Mend, View, ViewWithin}
-use Rattle.vsi_asked.specs.Asked.{AsksFor, Spells, given, name_of}
+use Rattle.vsi_asked.specs.Asked.{AsksFor, Spells, given, interface_of, is_bounding, lists_of, name_of}
 use Rattle.vsi_asked.specs.Words.{has_flag, operands_in, shown, texts, values_in}
 
 -- The arguments after the same first one are the same.
@@ -77,8 +79,20 @@ one_build words c i asks (Document (document.Flows compilation)) asked =
 one_build words c i asks (Document (document.Audit audit)) asked =
     absurd (other_name (texts words) (codes "build") (codes "audit") asks.spelled.rest asked.spelled.rest
     asks.spelled.named asked.spelled.named refl refl)
+one_build words c i asks (Document (document.AuditSarif audit)) asked =
+    absurd (other_name (texts words) (codes "build") (codes "audit") asks.spelled.rest asked.spelled.rest
+    asks.spelled.named asked.spelled.named refl refl)
 one_build words c i asks (Document (document.Bound bounding)) asked =
     absurd (other_name (texts words) (codes "build") (codes "bound") asks.spelled.rest asked.spelled.rest
+    asks.spelled.named asked.spelled.named refl refl)
+one_build words c i asks (Document (document.Run execution initial_store)) asked =
+    absurd (other_name (texts words) (codes "build") (codes "run") asks.spelled.rest asked.spelled.rest
+    asks.spelled.named asked.spelled.named refl refl)
+one_build words c i asks (Document (document.Compare comparison)) asked =
+    absurd (other_name (texts words) (codes "build") (codes "compare") asks.spelled.rest asked.spelled.rest
+    asks.spelled.named asked.spelled.named refl refl)
+one_build words c i asks (Document (document.Leak search)) asked =
+    absurd (other_name (texts words) (codes "build") (codes "leak") asks.spelled.rest asked.spelled.rest
     asks.spelled.named asked.spelled.named refl refl)
 one_build words c i asks (Explain page) asked =
     absurd (other_name (texts words) (codes "build") (codes "explain") asks.spelled.rest asked.spelled.asks.rest
@@ -131,20 +145,31 @@ ungiven : (list : Option (Bor (List ℕ))) → given list ≡ [] → is_some lis
 ungiven None none = refl
 ungiven (Some text) none = absurd (cc)
 
--- Arguments don't request a view without lists and one with lists.
+-- A policy whose interface and lists have no values bounds nothing.
+unbounding : (p : DrivePolicy) → given (interface_of p) ≡ [] → given (lists_of p).outputs ≡ [] →
+    given (lists_of p).released ≡ [] → is_bounding p ≡ false
+unbounding (policy.Lattice path lists) interface outputs released =
+    let none : (is_some lists.outputs || is_some lists.released) ≡ false =
+    rw (ungiven lists.outputs outputs, ungiven lists.released released) refl in
+    none
+unbounding (policy.Interface path) interface outputs released = absurd (cc)
+
+-- Arguments don't request a view without a boundary and one within a boundary.
 apart_lists : (words : List (String Global)) (l x : Bor (List ℕ)) (e : Execution) (o : InitialStore)
     (viewing : Viewing) → Spells words (View l x e o) → Spells words (ViewWithin viewing) → ⊥
 apart_lists words l x e o viewing first second =
     let rest : second.asks.rest ≡ first.rest =
     behind (texts words) (codes "view") first.rest second.asks.rest first.named second.asks.named in
-    let outputs : given viewing.outputs ≡ [] =
-    sym second.asks.has_options.1.1.1.1.0 ∙ ap (values_in (codes "--outputs") false) rest
+    let interface : given (interface_of viewing.policy) ≡ [] =
+    sym second.asks.has_options.1.1.1.1.0 ∙ ap (values_in (codes "--interface") false) rest
     ∙ first.has_options.1.1.1.1.0 in
-    let released : given viewing.released ≡ [] =
-    sym second.asks.has_options.1.1.1.1.1.0 ∙ ap (values_in (codes "--release") false) rest
+    let outputs : given (lists_of viewing.policy).outputs ≡ [] =
+    sym second.asks.has_options.1.1.1.1.1.0 ∙ ap (values_in (codes "--outputs") false) rest
     ∙ first.has_options.1.1.1.1.1.0 in
-    let none : (is_some viewing.outputs || is_some viewing.released) ≡ false =
-    rw (ungiven viewing.outputs outputs, ungiven viewing.released released) refl in
+    let released : given (lists_of viewing.policy).released ≡ [] =
+    sym second.asks.has_options.1.1.1.1.1.1.0 ∙ ap (values_in (codes "--release") false) rest
+    ∙ first.has_options.1.1.1.1.1.1.0 in
+    let none : is_bounding viewing.policy ≡ false = unbounding viewing.policy interface outputs released in
     let turned : true ≡ false = sym second.listed ∙ none in absurd cc
 
 -- Arguments that request a view request only that view.
@@ -180,8 +205,20 @@ one_view words l x e o asks (Document (document.Flows compilation)) asked =
 one_view words l x e o asks (Document (document.Audit audit)) asked =
     absurd (other_name (texts words) (codes "view") (codes "audit") asks.spelled.rest asked.spelled.rest
     asks.spelled.named asked.spelled.named refl refl)
+one_view words l x e o asks (Document (document.AuditSarif audit)) asked =
+    absurd (other_name (texts words) (codes "view") (codes "audit") asks.spelled.rest asked.spelled.rest
+    asks.spelled.named asked.spelled.named refl refl)
 one_view words l x e o asks (Document (document.Bound bounding)) asked =
     absurd (other_name (texts words) (codes "view") (codes "bound") asks.spelled.rest asked.spelled.rest
+    asks.spelled.named asked.spelled.named refl refl)
+one_view words l x e o asks (Document (document.Run execution initial_store)) asked =
+    absurd (other_name (texts words) (codes "view") (codes "run") asks.spelled.rest asked.spelled.rest
+    asks.spelled.named asked.spelled.named refl refl)
+one_view words l x e o asks (Document (document.Compare comparison)) asked =
+    absurd (other_name (texts words) (codes "view") (codes "compare") asks.spelled.rest asked.spelled.rest
+    asks.spelled.named asked.spelled.named refl refl)
+one_view words l x e o asks (Document (document.Leak search)) asked =
+    absurd (other_name (texts words) (codes "view") (codes "leak") asks.spelled.rest asked.spelled.rest
     asks.spelled.named asked.spelled.named refl refl)
 one_view words l x e o asks (Explain page) asked =
     absurd (other_name (texts words) (codes "view") (codes "explain") asks.spelled.rest asked.spelled.asks.rest

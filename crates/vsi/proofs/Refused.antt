@@ -148,7 +148,7 @@ leak_lattice holds s result failure is told =
     result failure is told
 
 -- A class that the lattice lacks is missing in that of the file.
-lacks_named : (holds : Holding) (path : List ℕ) (l : Lattice) (name : Option (Bor (List ℕ))) (failure : Failure) →
+pub lacks_named : (holds : Holding) (path : List ℕ) (l : Lattice) (name : Option (Bor (List ℕ))) (failure : Failure) →
     IsLatticeAt holds path l → IsSomeAnd name (λ n. LacksClass l n.now failure) →
     IsSomeAnd name (λ n. LacksClassAt holds path n.now failure)
 lacks_named holds path l None failure at lacks = lacks

@@ -1,4 +1,4 @@
--- The class that drives an image, the reasons why none does, and the tables of classes.
+-- The class that drives or views an image, the reasons why none does, and the tables of classes.
 use Rattle.std.proofs.Common.{◌≡◌, ◌<◌, ◌⊎◌, ℕ, List, [], ◌∷◌, Result, true, false, Some, None, length, map, refl, sym, ap, subst, arith}
 use Rattle.std.specs.Prelude.{Option, IfErr, IfOk, bytes_eq, option_map}
 use Rattle.std.specs.Borrow.{Bor}
@@ -9,7 +9,6 @@ use Rattle.vsi_drive.specs.Boundary.{no_boundary}
 use Rattle.vsi_answers.specs.declared.unanswered.Unanswered.{Unanswered}
 use Rattle.vsi_arguments.specs.declared.request.DrivePolicy.{DrivePolicy}
 use Rattle.vsi_arguments.specs.declared.request.DrivePolicy.TheVariants as policy
-use Rattle.vsi_arguments.specs.declared.request.Driving.{Driving}
 use Rattle.vsi_arguments.specs.declared.request.NameLists.{NameLists}
 use Rattle.vsi.specs.declared.failure.Failure.{Failure}
 use Rattle.vsi.specs.declared.steering.Steering.{Steering}
@@ -68,53 +67,49 @@ pub lacking_at : (bs : List ClassBoundary) (class : List ℕ) → 0 < length bs 
 lacking_at [] class some is = absurd (omega arith)
 lacking_at (first ∷ bs) class some is = ap (option_map (λ found. bound_by (Some found))) (sym is)
 
--- ---- the class of a drive.
+-- ---- the class of a drive or of a view.
 
 -- The class that a lattice file gives drives by the policy that names the file.
-pub steered_listed : (holds : Holding) (d : Driving) (p : DrivePolicy) (path : Bor (List ℕ)) (lists : NameLists)
+pub steered_listed : (holds : Holding) (class : List ℕ) (p : DrivePolicy) (path : Bor (List ℕ)) (lists : NameLists)
     (result : Result Steering Failure) → p ≡ policy.Lattice path lists →
-    IfOk result (λ s. LooksAt holds path.now d.class.now s.lattice s.driver) →
-    IfOk result (λ s. IsSteeredBy holds d p s.lattice s.driver s.verified (boundary_for p s.cycle))
-steered_listed holds d p path lists result is looks =
-    subst (λ q. IfOk result (λ s. IsSteeredBy holds d q s.lattice s.driver s.verified (boundary_for q s.cycle)))
+    IfOk result (λ s. LooksAt holds path.now class s.lattice s.driver) →
+    IfOk result (λ s. IsSteeredBy holds class p s.lattice s.driver s.verified (boundary_for p s.cycle))
+steered_listed holds class p path lists result is looks =
+    subst (λ q. IfOk result (λ s. IsSteeredBy holds class q s.lattice s.driver s.verified (boundary_for q s.cycle)))
     (sym is)
-    (IfOk-weaker result (λ s. LooksAt holds path.now d.class.now s.lattice s.driver)
-    (λ s. IsListed holds d path.now (requested lists) s.lattice s.driver (requested lists))
+    (IfOk-weaker result (λ s. LooksAt holds path.now class s.lattice s.driver)
+    (λ s. IsListed holds path.now class (requested lists) s.lattice s.driver (requested lists))
     (λ s seen. record { looks = seen; same = refl }) looks)
 
 -- The class that an interface gives drives by the policy that names the interface.
-pub steered_governed : (holds : Holding) (d : Driving) (p : DrivePolicy) (path : Bor (List ℕ))
+pub steered_governed : (holds : Holding) (class : List ℕ) (p : DrivePolicy) (path : Bor (List ℕ))
     (result : Result Steering Failure) → p ≡ policy.Interface path →
-    IfOk result (λ s. IsGoverned holds path.now d.class.now s.lattice s.driver s.verified
+    IfOk result (λ s. IsGoverned holds path.now class s.lattice s.driver s.verified
     (bound_by (option_map cycle s.cycle))) →
-    IfOk result (λ s. IsSteeredBy holds d p s.lattice s.driver s.verified (boundary_for p s.cycle))
-steered_governed holds d p path result is governed =
-    subst (λ q. IfOk result (λ s. IsSteeredBy holds d q s.lattice s.driver s.verified (boundary_for q s.cycle)))
+    IfOk result (λ s. IsSteeredBy holds class p s.lattice s.driver s.verified (boundary_for p s.cycle))
+steered_governed holds class p path result is governed =
+    subst (λ q. IfOk result (λ s. IsSteeredBy holds class q s.lattice s.driver s.verified (boundary_for q s.cycle)))
     (sym is) governed
 
 -- Why no class drives by a lattice file is why none drives by the policy that names the file.
-pub unsteered_listed : (holds : Holding) (d : Driving) (p : DrivePolicy) (path : Bor (List ℕ)) (lists : NameLists)
-    (result : Result Steering Failure) → p ≡ policy.Lattice path lists →
-    IfErr result (FailsBy
-    (λ reason. RefusesLattice holds path.now reason ⊎ RefusesImage holds d.execution.image.now reason)
-    (LacksClassAt holds path.now d.class.now)) →
-    IfErr result (FailsBy
-    (λ reason. RefusesSteering holds p reason ⊎ RefusesImage holds d.execution.image.now reason) (LacksPolicy holds d p))
-unsteered_listed holds d p path lists result is failed =
-    subst (λ q. IfErr result (FailsBy
-    (λ reason. RefusesSteering holds q reason ⊎ RefusesImage holds d.execution.image.now reason)
-    (LacksPolicy holds d q)))
+pub unsteered_listed : (holds : Holding) (class image : List ℕ) (p : DrivePolicy) (path : Bor (List ℕ))
+    (lists : NameLists) (result : Result Steering Failure) → p ≡ policy.Lattice path lists →
+    IfErr result (FailsBy (λ reason. RefusesLattice holds path.now reason ⊎ RefusesImage holds image reason)
+    (LacksClassAt holds path.now class)) →
+    IfErr result (FailsBy (λ reason. RefusesSteering holds p reason ⊎ RefusesImage holds image reason)
+    (LacksPolicy holds class image p))
+unsteered_listed holds class image p path lists result is failed =
+    subst (λ q. IfErr result (FailsBy (λ reason. RefusesSteering holds q reason ⊎ RefusesImage holds image reason)
+    (LacksPolicy holds class image q)))
     (sym is) failed
 
 -- Why no class drives by an interface is why none drives by the policy that names the interface.
-pub unsteered_governed : (holds : Holding) (d : Driving) (p : DrivePolicy) (path : Bor (List ℕ))
+pub unsteered_governed : (holds : Holding) (class image : List ℕ) (p : DrivePolicy) (path : Bor (List ℕ))
     (result : Result Steering Failure) → p ≡ policy.Interface path →
-    IfErr result (FailsBy (WhyGoverned holds path.now d.execution.image.now)
-    (LacksGoverned holds path.now d.class.now d.execution.image.now)) →
-    IfErr result (FailsBy
-    (λ reason. RefusesSteering holds p reason ⊎ RefusesImage holds d.execution.image.now reason) (LacksPolicy holds d p))
-unsteered_governed holds d p path result is failed =
-    subst (λ q. IfErr result (FailsBy
-    (λ reason. RefusesSteering holds q reason ⊎ RefusesImage holds d.execution.image.now reason)
-    (LacksPolicy holds d q)))
+    IfErr result (FailsBy (WhyGoverned holds path.now image) (LacksGoverned holds path.now class image)) →
+    IfErr result (FailsBy (λ reason. RefusesSteering holds p reason ⊎ RefusesImage holds image reason)
+    (LacksPolicy holds class image p))
+unsteered_governed holds class image p path result is failed =
+    subst (λ q. IfErr result (FailsBy (λ reason. RefusesSteering holds q reason ⊎ RefusesImage holds image reason)
+    (LacksPolicy holds class image q)))
     (sym is) failed

@@ -163,10 +163,10 @@ control_failed holds d l driver image b budget result failure steered held withi
     result failure is told
 
 -- The lattice by which a class drives an image is that of the drive.
-steered_lattice : (holds : Holding) (d : Driving) (p : DrivePolicy) (l : Lattice) (driver : ℕ) (image : Image)
-    (b : Boundary) → IsSteeredBy holds d p l driver image b → IsLatticeOf holds p l
-steered_lattice holds d (policy.Lattice path lists) l driver image b steered = steered.looks.lattice
-steered_lattice holds d (policy.Interface path) l driver image b steered = (steered.asked, steered.force)
+steered_lattice : (holds : Holding) (class : List ℕ) (p : DrivePolicy) (l : Lattice) (driver : ℕ) (image : Image)
+    (b : Boundary) → IsSteeredBy holds class p l driver image b → IsLatticeOf holds p l
+steered_lattice holds class (policy.Lattice path lists) l driver image b steered = steered.looks.lattice
+steered_lattice holds class (policy.Interface path) l driver image b steered = (steered.asked, steered.force)
 
 -- A drive that nobody steers fails for that reason, or because something is missing.
 pub unsteered_failed : {T : Type 0} (holds : Holding) (d : Driving) (result : Result T Failure) (failure : Failure) →
@@ -200,7 +200,7 @@ short_failed holds d why l driver image b budget result failure steered held wit
     (λ s short. inr (record {
       bounded = short.0;
       lattice = l;
-      declared = steered_lattice holds d d.policy l driver image b steered;
+      declared = steered_lattice holds d.class.now d.policy l driver image b steered;
       image = image;
       held = held;
       budget = budget;

@@ -1,4 +1,4 @@
--- The boundary that a request gives a controller.
+-- The boundary that a request gives a controller or a view.
 use Rattle.std.specs.Prelude.{ℕ, List, [], ◌∷◌, Option, Some, None, if◌then◌else◌, bytes_eq, option_map, unwrap_or}
 use Rattle.std.specs.Borrow.{Bor}
 use Rattle.std.specs.Global.{Vec}
@@ -39,7 +39,7 @@ abbrev pub boundary_at : List ClassBoundary → List ℕ → Option Boundary
 boundary_at [] class = Some no_boundary
 boundary_at (b ∷ bs) class = option_map (λ found. bound_by (Some found)) (table_of (b ∷ bs) class)
 
--- The boundary of a drive: that of the lists or, with an interface, of this table.
+-- The boundary of a drive or of a view: that of the lists or, with an interface, of this table.
 abbrev pub boundary_for : DrivePolicy → Option Cycle → Boundary
 boundary_for (policy.Lattice path lists) found = requested lists
 boundary_for (policy.Interface path) found = bound_by (option_map cycle found)

@@ -1,10 +1,11 @@
 -- The effect of arguments that are carried out to the end, and the reason if they aren't.
-use Rattle.std.specs.Prelude.{◌≡◌, ◌<◌, ℕ, ◌⊎◌, List, [], ◌∷◌, Option, String}
+use Rattle.std.specs.Prelude.{◌≡◌, ◌<◌, ℕ, ◌⊎◌, true, false, List, [], ◌∷◌, Option, String}
 use Rattle.std.specs.Io.KnownBytes.{Keeps}
 use Rattle.std.specs.declared.alloc.Global.{Global}
 use Rattle.vsi_arguments.specs.declared.request.Request.{Request}
 use Rattle.vsi_asked.specs.Asked.{AsksFor}
 use Rattle.vsi_asked.specs.Help.{AsksHelp}
+use Rattle.vsi.specs.FaultyFiles.{WritesRefusal, answers_json, has_line}
 use Rattle.vsi.specs.Holding.{Holding}
 use Rattle.vsi.specs.Partly.{Answers, Leaves, cut_from}
 use Rattle.vsi.specs.Performed.{Performs}
@@ -26,6 +27,23 @@ pub record IsFailureOf (holds : Holding) (given : Option (List ℕ)) (request : 
   pub why : Why holds request old new failure
   pub leaves : Leaves (Answers holds given request) (cut_from request) old new failure
 
+-- A request with `--json` has failed because a file is refused: nothing was on the output, and it has got the line of
+-- that refusal.
+pub record IsFaultyFile (holds : Holding) (given : Option (List ℕ)) (request : Request) (old new : Option (List ℕ))
+    (failure : Failure) : Type 0 where
+  pub first : Failure
+  pub has : has_line (answers_json request) first ≡ true
+  pub between : Option (List ℕ)
+  pub fails : IsFailureOf holds given request old between first
+  pub kept : Keeps old between
+  pub told : WritesRefusal first between new failure
+
+-- A request has failed: without a line of JSON, or, for a refused file where the request answers with JSON, with it.
+abbrev pub EndsEarly : Holding → Option (List ℕ) → Request → Option (List ℕ) → Option (List ℕ) → Failure → Type 0
+EndsEarly holds given request old new failure =
+    ((has_line (answers_json request) failure ≡ false) × IsFailureOf holds given request old new failure)
+    ⊎ IsFaultyFile holds given request old new failure
+
 -- The failure says that the arguments are mistaken.
 abbrev pub IsMistake : Failure → Type 0
 IsMistake (Usage text) = Unit {0}
@@ -41,7 +59,7 @@ Unread words old new failure =
 abbrev pub Failed : Holding → Option (List ℕ) → List (String Global) → Option (List ℕ) → Option (List ℕ) → Failure →
     Type 0
 Failed holds given words old new failure =
-    ((request : Request) × AsksFor words request × IsFailureOf holds given request old new failure)
+    ((request : Request) × AsksFor words request × EndsEarly holds given request old new failure)
     ⊎ Unread words old new failure
 
 -- The same if there are arguments.

@@ -15,9 +15,10 @@ pub mod Raises
 pub mod Admitted
 pub mod Boundaries
 pub mod Interfaces
+pub mod Visible
 pub mod Steering
-pub mod Documents
 pub mod Files
+pub mod Documents
 pub mod State
 pub mod Viewing
 pub mod Supplied
@@ -28,6 +29,7 @@ pub mod Reasons
 pub mod Partly
 pub mod Walked
 pub mod Saved
+pub mod FaultyFiles
 pub mod Done
 pub mod Noted
 pub mod Laws

@@ -29,6 +29,7 @@ noting (request.Run e o has_trace has_count) = Count e o has_count
 noting (request.Check asked) = Sentences
 noting (request.Drive driving) = Sentences
 noting (request.Policy looking) = Sentences
+noting (request.Visible visibility) = Sentences
 noting (request.Lsp serving) = Sentences
 noting asked = Nothing
 

@@ -16,6 +16,8 @@ use Rattle.vsi_answers.specs.declared.bounds.BoundAnswer.{BoundAnswer}
 use Rattle.vsi_arguments.specs.declared.request.Bounding.{Bounding}
 use Rattle.vsi_arguments.specs.declared.request.Comparison.{Comparison}
 use Rattle.vsi_arguments.specs.declared.request.Compilation.{Compilation}
+use Rattle.vsi_arguments.specs.declared.request.Document.{Document}
+use Rattle.vsi_arguments.specs.declared.request.Document.TheVariants as document
 use Rattle.vsi_arguments.specs.declared.request.Driving.{Driving}
 use Rattle.vsi_arguments.specs.declared.request.Execution.{Execution}
 use Rattle.vsi_arguments.specs.declared.request.Judging.{Judging}
@@ -34,6 +36,7 @@ use Rattle.vsi.specs.Performed.{AuditsTo, BoundsFile, ComparesFiles, ConformsFil
 use Rattle.vsi.specs.Raises.{ToldUnserved}
 use Rattle.vsi.specs.Reasons.{ToldRefusal}
 use Rattle.vsi.specs.Seeing.{SeesFiles}
+use Rattle.vsi.specs.Visible.{ShowsFiles}
 use Rattle.vsi.specs.Shaping.{ShapedText}
 use Rattle.vsi.specs.Steering.{IsSteered}
 use Rattle.vsi.specs.Failures.{status_of}
@@ -163,6 +166,7 @@ Answers holds given (request.Leak search) = BytesOf (SearchesFiles holds search)
 Answers holds given (request.Report c) = BytesOf (OfFiles holds c ToldPage)
 Answers holds given (request.Draw drawing) = BytesOf (DrawsFiles holds drawing)
 Answers holds given (request.Policy looking) = BytesOf (SeesFiles holds looking)
+Answers holds given (request.Visible visibility) = BytesOf (ShowsFiles holds visibility)
 Answers holds given (request.Format source) = BytesOf (OfFile holds source.now ToldCanonical)
 Answers holds given (request.Layout asked) = AnswersLayout asked.is_checked asked.is_written holds asked.source.now
 Answers holds given (request.Lattice arguments) = BytesOf (ShapedText arguments.items)
@@ -171,11 +175,18 @@ Answers holds given (request.Explain page) = λ bytes. bytes ≡ page.now
 
 -- ---- what a failure leaves.
 
+-- The least status at which a request for a document may have written a part of it: a run that is out of budget has
+-- written the document that says so.
+abbrev pub document_cut_from : Document → ℕ
+document_cut_from (document.Run e o) = 3
+document_cut_from asked = 4
+
 -- The least status at which a request may have written a part of an answer: a run that is out of budget has written its
 -- trace, a server whose client goes away has written messages, and any other request is cut short by a fault or by lack
 -- of memory.
 abbrev pub cut_from : Request → ℕ
 cut_from (request.Run e o has_trace has_count) = 3
+cut_from (request.Document asked) = document_cut_from asked
 cut_from (request.Lsp serving) = 1
 cut_from asked = 4
 

@@ -21,6 +21,7 @@ use Rattle.vsi_drive.specs.Boundary.{Boundary}
 use Rattle.vsi_drive.specs.BoundaryFaults.{boundary_fault}
 use Rattle.vsi_drive.specs.Control.{controlled}
 use Rattle.vsi_devices.specs.Running.{RunsApart}
+use Rattle.vsi_documents.specs.Leaks.{TellsSearch}
 use Rattle.vsi_leak.specs.declared.whole.Wanted.{Wanted}
 use Rattle.vsi_audit.specs.Standing.{HasKnownClasses}
 use Rattle.vsi_audit.specs.Text.{IsSourceText}
@@ -33,6 +34,7 @@ use Rattle.vsi_report.specs.Page.{HasPanel}
 use Rattle.vsi_conform.specs.Conforms.{Conforms, IsUnbounded, Tells as TellsPoints}
 use Rattle.vsi_conform.specs.Json.{IsConformJson}
 use Rattle.vsi_conform.specs.Lines.{IsConformText}
+use Rattle.vsi_sarif.specs.Conforming.{IsConformSarif}
 use Rattle.vsi_conform.specs.Points.{is_conforming}
 use Rattle.vsi_conform.specs.Totals.{total_of}
 use Rattle.vsi_conform.specs.declared.point.Answer.{Answer}
@@ -45,6 +47,8 @@ use Rattle.vsi_answers.specs.Bounds.{IsBound, TellsBound}
 use Rattle.vsi_answers.specs.Judged.{AreImage}
 use Rattle.vsi_answers.specs.Requests.{BuildsTo, ChecksSteadyTo, ChecksTo, ClassesTo, ComparesTo, FlowsTo, ListsTo, ViewsTo, WalksTo}
 use Rattle.vsi_answers.specs.declared.bounds.BoundAnswer.{BoundAnswer}
+use Rattle.vsi_arguments.specs.declared.request.AnswerForm.{AnswerForm}
+use Rattle.vsi_arguments.specs.declared.request.AnswerForm.TheVariants.{Lines, Json, Sarif}
 use Rattle.vsi_arguments.specs.declared.request.Audit.{Audit}
 use Rattle.vsi_arguments.specs.declared.request.Bounding.{Bounding}
 use Rattle.vsi_arguments.specs.declared.request.Comparison.{Comparison}
@@ -63,7 +67,7 @@ use Rattle.vsi_arguments.specs.declared.request.Search.{Search}
 use Rattle.vsi_arguments.specs.declared.request.Request.{Request}
 use Rattle.vsi_arguments.specs.declared.request.Request.TheVariants as request
 use Rattle.vsi.specs.Admitted.{IsAdmitted}
-use Rattle.vsi.specs.Documents.{AuditsJson, BoundsJson, ToldClassesJson, ToldFlowsJson, ToldSarif}
+use Rattle.vsi.specs.Documents.{AuditsJson, AuditsSarif, BoundsJson, ComparesJson, RunsJson, ToldClassesJson, ToldFlowsJson, ToldSarif}
 use Rattle.vsi.specs.Driven.{DrivesInput}
 use Rattle.vsi.specs.Holding.{Delivers, Fills, Holding, IsImageAt, IsLatticeAt, IsReadAt}
 use Rattle.vsi.specs.Interfaces.{IsAskedAt, IsPolicyAt}
@@ -71,6 +75,7 @@ use Rattle.vsi.specs.Laying.{PerformsLayout, ToldCanonical}
 use Rattle.vsi.specs.Naming.{function_name}
 use Rattle.vsi.specs.Raises.{ToldMended}
 use Rattle.vsi.specs.Seeing.{SeesFiles}
+use Rattle.vsi.specs.Visible.{ShowsFiles}
 use Rattle.vsi.specs.Served.{Serves}
 use Rattle.vsi.specs.Shaping.{ShapedText}
 use Rattle.vsi.specs.Steering.{IsSteered}
@@ -250,6 +255,16 @@ pub record SearchesFiles (holds : Holding) (s : Search) (text : Vec ℕ) : Type 
   pub pairs : ℕ
   pub line : text.items ≡ codes "no leak in " ++ decimal pairs ++ codes " pairs of runs\n"
 
+-- The line of JSON for a search of a source text, which found no leak or found one.
+pub record SearchesJson (holds : Holding) (s : Search) (good : Bool) (text : Vec ℕ) : Type 0 where
+  pub lattice : Lattice
+  pub declared : IsLatticeAt holds s.lattice.now lattice
+  pub source : List ℕ
+  pub read : IsReadAt holds s.source.now source
+  pub viewer : Option ℕ
+  pub looks : LooksFor lattice s.class viewer
+  pub is : TellsSearch lattice source (wanted_of s viewer) good text.items
+
 -- A source text and the lattice that it is compiled with, under the base profile.
 abbrev pub compilation_of : Bor (List ℕ) → Bor (List ℕ) → Compilation
 compilation_of lattice source = record { lattice = lattice; source = source; is_strict = false }
@@ -308,10 +323,11 @@ pub record AreAsked (holds : Holding) (c : Conformance) (asked : Asked) (l : Lat
   pub lattice : IsPolicyAt holds c.interface.now asked.policy l
   pub read : IsReadAt holds c.source.now source
 
--- How an answer is written, as a line of JSON or as lines.
-abbrev pub IsWrittenAs : Bool → Lattice → List ℕ → Interface → Answer → List ℕ → Type 0
-IsWrittenAs true = IsConformJson
-IsWrittenAs false = IsConformText
+-- How an answer about the text of the file at a path is written: as lines, as a line of JSON or as a document of SARIF.
+abbrev pub IsWrittenAs : AnswerForm → List ℕ → Lattice → List ℕ → Interface → Answer → List ℕ → Type 0
+IsWrittenAs Lines path l source i answer out = IsConformText l source i answer out
+IsWrittenAs Json path l source i answer out = IsConformJson l source i answer out
+IsWrittenAs Sarif path l source i answer out = IsConformSarif l path source i answer out
 
 -- The source text conforms to the interface; or it doesn't; or a bound is required, and this line is about the bound of
 -- its image, for which there is no number.
@@ -321,16 +337,16 @@ IsVerdict false None l source i = ¬ (Conforms l source i)
 IsVerdict false (Some line) l source i = IsUnbounded l source i line.items
 
 -- A text that says whether a source text conforms to an interface, and where it differs.
-pub record TellsConforming (is_json conforms : Bool) (l : Lattice) (source : List ℕ) (i : Interface) (text : List ℕ)
-    : Type 0 where
+pub record TellsConforming (form : AnswerForm) (path : List ℕ) (conforms : Bool) (l : Lattice) (source : List ℕ)
+    (i : Interface) (text : List ℕ) : Type 0 where
   pub answer : Answer
   pub tells : TellsPoints l source i answer
   pub verdict : is_conforming answer ≡ conforms
   pub is : IsVerdict conforms answer.unbounded l source i
-  pub written : IsWrittenAs is_json l source i answer text
+  pub written : IsWrittenAs form path l source i answer text
 
 -- What is said of the bytes of a file: of an image, if they begin as one, and otherwise of a source text.
-abbrev pub TellsBytes : Bool → Bool → Bool → Lattice → List ℕ → Interface → List ℕ → Type 0
+abbrev pub TellsBytes : Bool → AnswerForm → List ℕ → Bool → Lattice → List ℕ → Interface → List ℕ → Type 0
 TellsBytes true = TellsSupplied
 TellsBytes false = TellsConforming
 
@@ -342,7 +358,7 @@ pub record ConformsFiles (holds : Holding) (c : Conformance) (conforms : Bool) (
   pub source : List ℕ
   pub files : AreAsked holds c asked lattice source
   pub within : total_of asked.interface ≤ c.budget
-  pub tells : TellsBytes (begins_image source) c.is_json conforms lattice source asked.interface text.items
+  pub tells : TellsBytes (begins_image source) c.form c.source.now conforms lattice source asked.interface text.items
 
 -- The document that answers a request, and that says of its files that all is well or that something is wrong.
 abbrev pub DocumentOf : Holding → Document → Bool → Vec ℕ → Type 0
@@ -351,7 +367,11 @@ DocumentOf holds (document.Sarif asked) accepted =
 DocumentOf holds (document.Classes asked) good = OfFiles holds asked (ToldClassesJson (profile_of asked.is_strict) good)
 DocumentOf holds (document.Flows asked) good = OfFiles holds asked (ToldFlowsJson (profile_of asked.is_strict) good)
 DocumentOf holds (document.Audit asked) good = AuditsJson holds asked (profile_of asked.is_strict) good
+DocumentOf holds (document.AuditSarif asked) good = AuditsSarif holds asked (profile_of asked.is_strict) good
 DocumentOf holds (document.Bound asked) good = BoundsJson (IsEmittedFrom holds asked.lattice asked.file) good
+DocumentOf holds (document.Run e o) good = RunsJson holds e o good
+DocumentOf holds (document.Compare comparison) good = ComparesJson holds comparison good
+DocumentOf holds (document.Leak search) good = SearchesJson holds search good
 
 -- ---- what each subcommand has done.
 
@@ -461,6 +481,7 @@ Performs holds given (request.Leak search) left = Alone (Writes (SearchesFiles h
 Performs holds given (request.Report c) left = Alone (Writes (OfFiles holds c ToldPage)) holds left
 Performs holds given (request.Draw drawing) left = Alone (Writes (DrawsFiles holds drawing)) holds left
 Performs holds given (request.Policy looking) left = Alone (Writes (SeesFiles holds looking)) holds left
+Performs holds given (request.Visible visibility) left = Alone (Writes (ShowsFiles holds visibility)) holds left
 Performs holds given (request.Format source) left = Alone (Writes (OfFile holds source.now ToldCanonical)) holds left
 Performs holds given (request.Layout asked) left =
     PerformsLayout asked.is_checked asked.is_written holds asked.source.now left

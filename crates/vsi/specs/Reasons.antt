@@ -11,6 +11,8 @@ use Rattle.vsi_image.specs.Fields.{globals}
 use Rattle.vsi_store.specs.declared.comparison.Comparison as found
 use Rattle.vsi_compiler.specs.Headline.{IsImageOf}
 use Rattle.vsi_compiler.specs.Readable.{HasProgram}
+use Rattle.vsi_drive.specs.Boundary.{Boundary}
+use Rattle.vsi_drive.specs.Control.{controlled}
 use Rattle.vsi_drive.specs.Views.{view_of}
 use Rattle.vsi_audit.specs.Refusal as audited
 use Rattle.vsi_audit.specs.Telling.{IsAuditText}
@@ -49,19 +51,19 @@ use Rattle.vsi_arguments.specs.declared.request.Request.{Request}
 use Rattle.vsi_arguments.specs.declared.request.Request.TheVariants as request
 use Rattle.vsi.specs.declared.failure.Failure.{Failure}
 use Rattle.vsi.specs.declared.failure.Failure.TheVariants as fails
-use Rattle.vsi.specs.Boundaries.{requested}
+use Rattle.vsi.specs.Documents.{RunsJson}
 use Rattle.vsi.specs.Holding.{Holding, IsImageAt, IsLatticeAt, IsReadAt}
 use Rattle.vsi.specs.Laying.{OtherLayout}
 use Rattle.vsi.specs.Raises.{ToldUnserved}
 use Rattle.vsi.specs.Input.{two_classes}
 use Rattle.vsi.specs.Served.{Serves, unended_line}
 use Rattle.vsi.specs.Supplied.{begins_image}
-use Rattle.vsi.specs.Viewing.{viewing_control, viewing_lists}
+use Rattle.vsi.specs.Steering.{IsViewed}
 use Rattle.vsi.specs.Tried.{AreTried, BeginsSet, IsMade, IsTriedUnder, RunsMade, policy_path}
 use Rattle.vsi.specs.Files.{BeginsAt, IsBudgetOf, LooksAt, OfFiles, Writes}
 use Rattle.vsi.specs.Performed.{BoundsFile, ComparesFiles, ConformsFiles, DocumentOf, LooksFor, compilation_of, judgement_of, profile_of, wanted_of}
 use Rattle.vsi.specs.Refusals.{AsksCanonical, AsksCheck, AsksClasses, AsksFlows, AsksImage, AsksMend, IsDifference, LacksBoundAt, LacksClass, LacksClassAt, LacksEither, NoOther, RefusesFile, RefusesFiles, RefusesImage, RefusesLattice, RefusesSource, RefusesStart, RefusesStore, FailsBy}
-use Rattle.vsi.specs.Undriven.{IsUnusable, LacksDrive, RefusesAsked, RefusesControl, SaysLine, WhyDrive}
+use Rattle.vsi.specs.Undriven.{IsUnusable, LacksDrive, LacksView, RefusesAsked, RefusesControl, RefusesSteering, SaysLine, WhyDrive}
 
 -- ---- why each subcommand has failed.
 
@@ -241,14 +243,60 @@ abbrev pub WhyEmit : Holding → Option (Bor (List ℕ)) → Bor (List ℕ) → 
 WhyEmit holds None file = RefusesImage holds file.now
 WhyEmit holds (Some lattice) file = RefusesFiles holds (compilation_of lattice file) (AsksImage false)
 
--- A request for a document has none: a lattice is refused, or an image, or the text from which an image is made.
-abbrev pub WhyDocument : Holding → Document → Unanswered → Type 0
-WhyDocument holds (document.Sarif asked) reason = RefusesLattice holds asked.compilation.lattice.now reason
-WhyDocument holds (document.Classes asked) reason = RefusesLattice holds asked.lattice.now reason
-WhyDocument holds (document.Flows asked) reason = RefusesLattice holds asked.lattice.now reason
-WhyDocument holds (document.Audit asked) reason =
+-- `leak`: the lattice is refused, or a source text without a program.
+abbrev pub RefusesSearch : Holding → Search → Unanswered → Type 0
+RefusesSearch holds s reason =
+    RefusesLattice holds s.lattice.now reason ⊎ RefusesSource holds s.lattice.now s.source.now reason
+
+-- A request for a document has none: a lattice is refused, or an image, the words that it begins with, a store, or the
+-- text from which an image is made.
+abbrev pub RefusesDocument : Holding → Document → Unanswered → Type 0
+RefusesDocument holds (document.Sarif asked) reason = RefusesLattice holds asked.compilation.lattice.now reason
+RefusesDocument holds (document.Classes asked) reason = RefusesLattice holds asked.lattice.now reason
+RefusesDocument holds (document.Flows asked) reason = RefusesLattice holds asked.lattice.now reason
+RefusesDocument holds (document.Audit asked) reason =
     RefusesLattice holds asked.lattice.now reason ⊎ RefusesImage holds asked.image.now reason
-WhyDocument holds (document.Bound asked) reason = WhyEmit holds asked.lattice asked.file reason
+RefusesDocument holds (document.AuditSarif asked) reason =
+    RefusesLattice holds asked.lattice.now reason ⊎ RefusesImage holds asked.image.now reason
+RefusesDocument holds (document.Bound asked) reason = WhyEmit holds asked.lattice asked.file reason
+RefusesDocument holds (document.Run e o) reason = RefusesImage holds e.image.now reason ⊎ RefusesStart holds e o reason
+RefusesDocument holds (document.Compare comparison) reason = WhyCompare holds comparison reason
+RefusesDocument holds (document.Leak search) reason = RefusesSearch holds search reason
+
+-- A run is out of budget, and the document that says so has been written.
+abbrev pub SpendsDocument : Holding → Document → Option (List ℕ) → Option (List ℕ) → Unanswered → Type 0
+SpendsDocument holds (document.Run e o) old new reason =
+    (reason ≡ unanswered.OutOfBudget) × Writes (RunsJson holds e o false) old new
+SpendsDocument holds asked old new reason = ⊥
+
+-- A request for a document has none, or the document says that a run is out of budget.
+abbrev pub WhyDocument : Holding → Document → Option (List ℕ) → Option (List ℕ) → Unanswered → Type 0
+WhyDocument holds asked old new reason =
+    RefusesDocument holds asked reason ⊎ SpendsDocument holds asked old new reason
+
+-- A request for a document lacks a class or a bound.
+abbrev pub LacksDocument : Holding → Document → Failure → Type 0
+LacksDocument holds (document.Run e o) = LacksBoundAt holds e.image.now e.budget
+LacksDocument holds (document.Compare comparison) = LacksCompare holds comparison
+LacksDocument holds (document.Leak search) = λ failure.
+    IsSomeAnd search.class (λ class. LacksClassAt holds search.lattice.now class.now failure)
+LacksDocument holds asked = NoOther
+
+-- A document says that something is wrong, and has been written; that of a run says so by the budget.
+abbrev pub DiffersDocument : Holding → Document → Option (List ℕ) → Option (List ℕ) → Failure → Type 0
+DiffersDocument holds (document.Run e o) old new failure = ⊥
+DiffersDocument holds asked old new failure =
+    IsDifference (Writes (DocumentOf holds asked false) old new) failure
+
+-- A request for a document lacks something, or its document says that something is wrong.
+abbrev pub OtherDocument : Holding → Document → Option (List ℕ) → Option (List ℕ) → Failure → Type 0
+OtherDocument holds asked old new failure =
+    LacksDocument holds asked failure ⊎ DiffersDocument holds asked old new failure
+
+-- How the program fails if a document says that something is wrong.
+abbrev pub failure_of_document : Document → Failure
+failure_of_document (document.Run e o) = fails.OutOfBudget
+failure_of_document asked = fails.Differs
 
 -- The request of `bound` about the image of an emission.
 abbrev pub bounding_of : Emission → Bounding
@@ -281,24 +329,33 @@ WhyPolicy holds lattice None reason = RefusesLattice holds lattice reason
 WhyPolicy holds lattice (Some old) reason =
     RefusesLattice holds lattice reason ⊎ RefusesLattice holds old.now reason
 
--- `view` with lists: the lattice lacks the class of a global, the boundary has a fault, or the run is out of budget.
+-- `policy --interface`: the lattice of the interface is refused, or that of the older one.
+abbrev pub WhyVisible : Holding → List ℕ → Option (Bor (List ℕ)) → Unanswered → Type 0
+WhyVisible holds interface None reason = RefusesAsked holds interface reason
+WhyVisible holds interface (Some old) reason =
+    RefusesAsked holds interface reason ⊎ RefusesAsked holds old.now reason
+
+-- `view` within a boundary: the lattice lacks the class of a global, the boundary has a fault, or the run is out of
+-- budget.
 pub record RefusesViewWithin (holds : Holding) (asked : Viewing) (reason : Unanswered) : Type 0 where
   pub lattice : Lattice
   pub viewer : ℕ
-  pub looks : LooksAt holds asked.lattice.now asked.class.now lattice viewer
   pub image : Image
+  pub boundary : Boundary
+  pub viewed : IsViewed holds asked lattice viewer image boundary
   pub words : List ℤ
   pub begins : BeginsAt holds asked.execution asked.initial_store image words
   pub budget : ℕ
   pub within : IsBudgetOf asked.execution.budget image budget
-  pub is : RefusesControl (requested (viewing_lists asked)) lattice viewer image budget reason
+  pub is : RefusesControl boundary lattice viewer image budget reason
       ⊎ ((reason ≡ unanswered.OutOfBudget)
-      × (view_of (viewing_control asked lattice viewer image budget) budget words ≡ None))
+      × (view_of (controlled lattice viewer image budget boundary) budget words ≡ None))
 
--- `view` with lists: the lattice is refused, or the image, or the words that it begins with, or the run has no answer.
+-- `view` within a boundary: the lattice is refused, or the image, or the words that it begins with, or the run has no
+-- answer.
 abbrev pub WhyViewWithin : Holding → Viewing → Unanswered → Type 0
 WhyViewWithin holds asked reason =
-    RefusesLattice holds asked.lattice.now reason ⊎ RefusesImage holds asked.execution.image.now reason
+    RefusesSteering holds asked.policy reason ⊎ RefusesImage holds asked.execution.image.now reason
     ⊎ RefusesStart holds asked.execution asked.initial_store reason ⊎ RefusesViewWithin holds asked reason
 
 -- `try`: the file of the lattice that a text names is refused.
@@ -358,7 +415,7 @@ abbrev pub Why : Holding → Request → Option (List ℕ) → Option (List ℕ)
 Why holds (request.Try attempt) old new = FailsBy (WhyTry holds attempt) (LacksTried holds attempt)
 Why holds (request.Check asked) old new = WhyCheck asked.is_json holds asked old new
 Why holds (request.Document asked) old new =
-    FailsBy (WhyDocument holds asked) (IsDifference (Writes (DocumentOf holds asked false) old new))
+    FailsBy (WhyDocument holds asked old new) (OtherDocument holds asked old new)
 Why holds (request.Conform asked) old new =
     FailsBy (RefusesConform holds asked) (DiffersConform holds asked old new)
 Why holds (request.Classes c) old new = FailsBy (RefusesFiles holds c (AsksClasses c.is_strict)) NoOther
@@ -379,9 +436,7 @@ Why holds (request.Run e o has_trace has_count) old new =
 Why holds (request.View lattice class e o) old new =
     FailsBy (WhyView holds lattice.now class.now e o)
     (LacksEither holds lattice.now class.now e.image.now e.budget)
-Why holds (request.ViewWithin asked) old new =
-    FailsBy (WhyViewWithin holds asked)
-    (LacksEither holds asked.lattice.now asked.class.now asked.execution.image.now asked.execution.budget)
+Why holds (request.ViewWithin asked) old new = FailsBy (WhyViewWithin holds asked) (LacksView holds asked)
 Why holds (request.Drive driving) old new =
     FailsBy (WhyDrive holds driving) (LacksDrive holds driving)
 Why holds (request.Compare comparison) old new =
@@ -394,6 +449,8 @@ Why holds (request.Leak search) old new =
 Why holds (request.Report c) old new = FailsBy (RefusesLattice holds c.lattice.now) NoOther
 Why holds (request.Draw drawing) old new = FailsBy (WhyDraw holds drawing.lattice.now drawing.source) NoOther
 Why holds (request.Policy looking) old new = FailsBy (WhyPolicy holds looking.lattice.now looking.old) NoOther
+Why holds (request.Visible visibility) old new =
+    FailsBy (WhyVisible holds visibility.interface.now visibility.old) IsUnusable
 Why holds (request.Format source) old new = FailsBy (RefusesFile holds source.now AsksCanonical) NoOther
 Why holds (request.Layout asked) old new =
     FailsBy (RefusesFile holds asked.source.now AsksCanonical) (OtherLayout asked.is_checked holds asked.source.now old new)

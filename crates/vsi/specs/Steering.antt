@@ -1,4 +1,4 @@
--- The class that drives an image, its lattice and its boundary.
+-- The class that drives an image or views its run, its lattice and its boundary.
 use Rattle.std.specs.Prelude.{◌≡◌, ◌≤◌, ℕ, ◌++◌, List, Some, codes, map}
 use Rattle.vsi_lattice.specs.LatticeView.{class_named, order}
 use Rattle.vsi_lattice.specs.Order.{IsClass}
@@ -13,6 +13,7 @@ use Rattle.vsi_arguments.specs.declared.request.DrivePolicy.{DrivePolicy}
 use Rattle.vsi_arguments.specs.declared.request.DrivePolicy.TheVariants as policy
 use Rattle.vsi_arguments.specs.declared.request.Driving.{Driving}
 use Rattle.vsi_arguments.specs.declared.request.TheConstants.{RUNS_BUDGET}
+use Rattle.vsi_arguments.specs.declared.request.Viewing.{Viewing}
 use Rattle.vsi.specs.Boundaries.{boundary_at, requested}
 use Rattle.vsi.specs.Files.{LooksAt}
 use Rattle.vsi.specs.Holding.{Holding, IsLatticeAt}
@@ -24,8 +25,9 @@ pub record IsInForce (holds : Holding) (interface : List ℕ) (asked : Asked) (l
   pub declared : IsPolicyAt holds interface asked.policy l
   pub within : total_of asked.interface ≤ RUNS_BUDGET
 
--- By the interface of a file, a class drives an image within a boundary: the image conforms to the interface under the
--- lattice of the interface, the lattice has the class, and the boundary is the one that the interface has for it.
+-- By the interface of a file, a class drives or views an image within a boundary: the image conforms to the interface
+-- under the lattice of the interface, the lattice has the class, and the boundary is the one that the interface has for
+-- it.
 pub record IsGoverned (holds : Holding) (interface class : List ℕ) (l : Lattice) (driver : ℕ) (im : Image)
     (b : Boundary) : Type 0 where
   pub asked : Asked
@@ -35,20 +37,25 @@ pub record IsGoverned (holds : Holding) (interface class : List ℕ) (l : Lattic
   pub conforms : Conforms l im asked.interface
   pub bounded : boundary_at (map cycle asked.cycles.items) class ≡ Some b
 
--- By a lattice file, a class drives an image within the boundary that lists give.
-pub record IsListed (holds : Holding) (d : Driving) (path : List ℕ) (listed : Boundary) (l : Lattice) (driver : ℕ)
+-- By a lattice file, a class drives or views an image within the boundary that lists give.
+pub record IsListed (holds : Holding) (path class : List ℕ) (listed : Boundary) (l : Lattice) (driver : ℕ)
     (b : Boundary) : Type 0 where
-  pub looks : LooksAt holds path d.class.now l driver
+  pub looks : LooksAt holds path class l driver
   pub same : b ≡ listed
 
--- The class of a drive, under a lattice and with an image, and its boundary.
-abbrev pub IsSteeredBy : Holding → Driving → DrivePolicy → Lattice → ℕ → Image → Boundary → Type 0
-IsSteeredBy holds d (policy.Lattice path lists) l driver im b = IsListed holds d path.now (requested lists) l driver b
-IsSteeredBy holds d (policy.Interface path) l driver im b = IsGoverned holds path.now d.class.now l driver im b
+-- By a policy, the class of this name, under a lattice and with an image, and its boundary.
+abbrev pub IsSteeredBy : Holding → List ℕ → DrivePolicy → Lattice → ℕ → Image → Boundary → Type 0
+IsSteeredBy holds class (policy.Lattice path lists) l driver im b =
+    IsListed holds path.now class (requested lists) l driver b
+IsSteeredBy holds class (policy.Interface path) l driver im b = IsGoverned holds path.now class l driver im b
 
--- The same by the policy of the drive.
+-- The same by the policy of a drive.
 abbrev pub IsSteered : Holding → Driving → Lattice → ℕ → Image → Boundary → Type 0
-IsSteered holds d = IsSteeredBy holds d d.policy
+IsSteered holds d = IsSteeredBy holds d.class.now d.policy
+
+-- The same by the policy of a view.
+abbrev pub IsViewed : Holding → Viewing → Lattice → ℕ → Image → Boundary → Type 0
+IsViewed holds v = IsSteeredBy holds v.class.now v.policy
 
 -- The lattice of a drive.
 abbrev pub IsLatticeOf : Holding → DrivePolicy → Lattice → Type 0

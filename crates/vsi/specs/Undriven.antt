@@ -1,4 +1,4 @@
--- Why an image isn't driven.
+-- Why an image isn't driven, or why no class views it.
 use Rattle.std.specs.Prelude.{◌≡◌, ◌⊎◌, ℕ, false, List, map, Some, None, Err}
 use Rattle.vsi_lattice.specs.declared.lattice.Lattice.{Lattice}
 use Rattle.vsi_image.specs.declared.instr.Image.{Image}
@@ -9,6 +9,7 @@ use Rattle.vsi_drive.specs.declared.boundary.BoundaryFault.{BoundaryFault}
 use Rattle.vsi_drive.specs.declared.starts.StartFault.{StartFault}
 use Rattle.vsi_drive.specs.declared.starts.StartFault.TheVariants as start
 use Rattle.vsi_conform.specs.Faulty.{interface_line}
+use Rattle.vsi_conform_image.specs.Lines.{IsConformText}
 use Rattle.vsi_conform.specs.Reading.{ClassBoundary, cycle}
 use Rattle.vsi_conform.specs.declared.interface.Interface.{Interface}
 use Rattle.vsi_conform.specs.declared.reader.Asked.{Asked}
@@ -21,6 +22,7 @@ use Rattle.vsi_answers.specs.declared.unanswered.Unanswered.{Unanswered}
 use Rattle.vsi_arguments.specs.declared.request.DrivePolicy.{DrivePolicy}
 use Rattle.vsi_arguments.specs.declared.request.DrivePolicy.TheVariants as policy
 use Rattle.vsi_arguments.specs.declared.request.Driving.{Driving}
+use Rattle.vsi_arguments.specs.declared.request.Viewing.{Viewing}
 use Rattle.vsi.specs.declared.failure.Failure.{Failure}
 use Rattle.vsi.specs.declared.failure.Failure.TheVariants as fails
 use Rattle.vsi.specs.Admitted.{IsShort}
@@ -85,7 +87,7 @@ pub record RefusesBoundary (holds : Holding) (d : Driving) (reason : Unanswered)
   pub within : IsBudgetOf d.execution.budget image budget
   pub is : Because (TellsStartFault (IsBoundaryStart (controlled lattice driver image budget boundary))) ⊥ reason
 
--- The lattice of a drive is refused: that of a file, or of an interface.
+-- The lattice of a drive or of a view is refused: that of a file, or of an interface.
 abbrev pub RefusesSteering : Holding → DrivePolicy → Unanswered → Type 0
 RefusesSteering holds (policy.Lattice path lists) reason = RefusesLattice holds path.now reason
 RefusesSteering holds (policy.Interface path) reason = RefusesAsked holds path.now reason
@@ -116,10 +118,10 @@ pub record FallsShort (holds : Holding) (d : Driving) (failure : Failure) : Type
 
 -- The text of the failure has the lines that `conform` writes of an image that doesn't conform to an interface.
 abbrev pub SaysDiffering : Lattice → Image → Interface → Failure → Type 0
-SaysDiffering l image i (fails.Refused text None) = TellsImage false false l image i text.items
+SaysDiffering l image i (fails.Refused text None) = TellsImage IsConformText false l image i text.items
 SaysDiffering l image i failure = ⊥
 
--- `drive` by an interface: the image of a file doesn't conform to it.
+-- By an interface: the image of a file doesn't conform to it.
 pub record DiffersGoverned (holds : Holding) (interface path : List ℕ) (failure : Failure) : Type 0 where
   pub asked : Asked
   pub lattice : Lattice
@@ -132,27 +134,32 @@ pub record DiffersGoverned (holds : Holding) (interface path : List ℕ) (failur
 abbrev pub LacksCycle : List ClassBoundary → List ℕ → Failure → Type 0
 LacksCycle bs class failure = (boundary_at bs class ≡ None) × SaysLine (no_cycle_line class) failure
 
--- `drive` by an interface: its lattice has no class of the name, or its tables leave out the class.
+-- By an interface: its lattice has no class of the name, or its tables leave out the class.
 pub record LacksGovernedClass (holds : Holding) (interface class : List ℕ) (failure : Failure) : Type 0 where
   pub asked : Asked
   pub lattice : Lattice
   pub force : IsInForce holds interface asked lattice
   pub is : LacksClass lattice class failure ⊎ LacksCycle (map cycle asked.cycles.items) class failure
 
--- `drive` by an interface: it is refused, or it lacks the class, or the image doesn't conform to it.
+-- By an interface: it is refused, or it lacks the class, or the image doesn't conform to it.
 abbrev pub LacksGoverned : Holding → List ℕ → List ℕ → List ℕ → Failure → Type 0
 LacksGoverned holds interface class path failure =
     IsUnusable failure ⊎ LacksGovernedClass holds interface class failure ⊎ DiffersGoverned holds interface path failure
 
--- `drive`: the lattice of a file has no class of the name, or an interface doesn't let the class drive the image.
-abbrev pub LacksPolicy : Holding → Driving → DrivePolicy → Failure → Type 0
-LacksPolicy holds d (policy.Lattice path lists) failure = LacksClassAt holds path.now d.class.now failure
-LacksPolicy holds d (policy.Interface path) failure =
-    LacksGoverned holds path.now d.class.now d.execution.image.now failure
+-- The lattice of a file has no class of this name, or an interface doesn't let the class drive or view the image.
+abbrev pub LacksPolicy : Holding → List ℕ → List ℕ → DrivePolicy → Failure → Type 0
+LacksPolicy holds class image (policy.Lattice path lists) failure = LacksClassAt holds path.now class failure
+LacksPolicy holds class image (policy.Interface path) failure = LacksGoverned holds path.now class image failure
 
--- The same by the policy of the drive.
+-- The same by the policy of a drive.
 abbrev pub LacksSteering : Holding → Driving → Failure → Type 0
-LacksSteering holds d = LacksPolicy holds d d.policy
+LacksSteering holds d = LacksPolicy holds d.class.now d.execution.image.now d.policy
+
+-- `view` within a boundary: the class doesn't view the image, or no bound was found for the image.
+abbrev pub LacksView : Holding → Viewing → Failure → Type 0
+LacksView holds v failure =
+    LacksPolicy holds v.class.now v.execution.image.now v.policy failure
+    ⊎ LacksBoundAt holds v.execution.image.now v.execution.budget failure
 
 -- `drive`: the class doesn't drive the image, no bound was found for the image, or the budget isn't enough.
 abbrev pub LacksDrive : Holding → Driving → Failure → Type 0

@@ -1,4 +1,4 @@
-//! The controller of a drive, with the boundary that the request gives it.
+//! The controller of a drive or of a view, with the boundary that the request gives it.
 
 ghost use Rattle.std.specs.Prelude.{◌≡◌, [], None, Some, IfOk, IfErr, option_map, unwrap_or};
 ghost use Rattle.vsi_conform.specs.Reading as spec;
@@ -127,7 +127,7 @@ fn governed_names<'c>(alloc: Global, cycle: &'c Option<Cycle>) -> Result<Names<'
     }
 }
 
-/// The names that bound a drive.
+/// The names that bound a drive or a view.
 pub(crate) fn names_in<'c>(
     alloc: Global,
     policy: DrivePolicy<'c>,
@@ -210,7 +210,7 @@ fn boundary_failure<'a>(
     Failure::from(refused_start(cache.alloc, StartFault::Boundary(fault)))
 }
 
-/// A controller of an image with the boundary of its drive.
+/// A controller of an image with the boundary of its drive or of its view.
 pub(crate) fn controller_of<'a, 'c>(
     cache: &mut InputCache,
     policy: DrivePolicy<'a>,

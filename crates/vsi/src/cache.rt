@@ -1,4 +1,4 @@
-//! The files read by a request, kept for the explanation of its refusal.
+//! The files read by a request, kept for the explanation of its refusal and for its line of JSON.
 
 use std::alloc::{AllocError, Global};
 
@@ -34,11 +34,11 @@ pub(crate) struct Kept {
     pub(crate) bytes: Vec<u8>,
 }
 
-/// The files that were read, if refusals are explained.
+/// The files that were read, if refusals are explained or answered with JSON.
 #[derive(Drop)]
 pub(crate) struct InputCache {
     pub(crate) alloc: Global,
-    /// Whether a refusal is explained.
+    /// Whether files are kept.
     pub(crate) is_explained: bool,
     /// Whether a store file was read whose checksum isn't that of the rest.
     pub(crate) is_broken: bool,
@@ -75,12 +75,15 @@ impl InputCache {
         Ok(())
     }
 
-    /// The last file of this kind that was read.
+    /// The last file of this kind that was read. A lattice file that was read before an interface is
+    /// that of an older interface, and doesn't count.
     pub(crate) fn last(&self, kind: InputKind) -> Option<&Kept> {
         let mut found = None;
         for kept in &self.kept {
             if kept.kind == kind {
                 found = Some(kept);
+            } else if kind == InputKind::Lattice && kept.kind == InputKind::Interface {
+                found = None;
             }
         }
         found

@@ -2,7 +2,7 @@
 
 ghost use Rattle.std.specs.Prelude.{◌≡◌, ◌<◌, ◌⊎◌, [], IfErr, OnOk};
 ghost use Rattle.std.specs.Io.KnownBytes.{Keeps};
-ghost use Rattle.vsi.specs.Done.{Done, IsMistake, IsFailureOf, Failed, Unread};
+ghost use Rattle.vsi.specs.Done.{Done, EndsEarly, IsMistake, Failed, Unread};
 ghost use Rattle.vsi.specs.Noted.{IsNote, NotesOf, noting};
 ghost use Rattle.vsi.specs.Performed.{Performs};
 ghost use Rattle.vsi.specs.Saved.{KeepsState, KeepsStateOf};
@@ -14,6 +14,7 @@ ghost use Rattle.vsi_devices.specs.Counted.{device_of, faults_of};
 use crate::cache::InputCache;
 use crate::explaining::{Explaining, explained, objection};
 use crate::failure::{Failure, write};
+use crate::faulty_files::{answers_json, tell_refusal};
 use crate::files::Files;
 use crate::performing::perform;
 use crate::telling::ErrorText;
@@ -64,7 +65,8 @@ pub(crate) fn carry_out<'a, F: Files, R: Read, W: Write>(
     }
 }
 
-/// Performs the request with the requested explanations.
+/// Performs the request with the requested explanations, and writes the line of JSON of a refused
+/// file.
 fn carry_out_asked<'a, F: Files, R: Read, W: Write>(
     alloc: Global,
     asked: Asked<'a>,
@@ -88,16 +90,25 @@ fn carry_out_asked<'a, F: Files, R: Read, W: Write>(
     ensures state { IfErr result (λ _. KeepsState (F.holds files.old)
         (R.remaining (device_of input.old)) asked.entry.request (F.holds files.new)
         (W.contents (device_of output.old)) (W.contents (device_of output.new))) }
-    ensures failed { IfErr result (IsFailureOf (F.holds files.old)
+    ensures failed { IfErr result (EndsEarly (F.holds files.old)
         (R.remaining (device_of input.old)) asked.entry.request
         (W.contents (device_of output.old)) (W.contents (device_of output.new))) }
 {
     let explaining = explaining_of(&asked, files);
-    let mut cache = InputCache::new(alloc, explaining.is_some());
+    let is_json = answers_json(&asked.request);
+    let mut cache = cache_for(alloc, &explaining, is_json);
     match perform(&mut cache, asked.request, files, input, output, error_text) {
         Ok(()) => Ok(()),
-        Err(failure) => Err(explain_failure(&cache, explaining, files, failure, error_text)),
+        Err(failure) => {
+            let explained = explain_failure(&cache, explaining, files, failure, error_text);
+            Err(tell_refusal(&cache, is_json, explained, output))
+        }
     }
+}
+
+/// An empty cache, which keeps files for an explanation or for the position in a line of JSON.
+fn cache_for(alloc: Global, explaining: &Option<Explaining>, is_json: bool) -> InputCache {
+    InputCache::new(alloc, explaining.is_some() || is_json)
 }
 
 /// The settings for explaining a refusal, if explanations are requested.

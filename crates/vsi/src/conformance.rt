@@ -26,7 +26,7 @@ use crate::reading::{bytes_in, declared_lattice, whole_in};
 use std::alloc::{AllocError, Global};
 use std::io::Write;
 use vsi_answers::judged_image;
-use vsi_arguments::Conformance;
+use vsi_arguments::{AnswerForm, Conformance};
 use vsi_conform::{
     Answer, Asked, Cycle, Interface, InterfaceError, Policy, interface_text, is_within,
     path_beside, points_json, points_text, read_interface, unknown_class, unknown_cycle,
@@ -35,6 +35,7 @@ use vsi_conform_image::conform_image;
 use vsi_devices::Counted;
 use vsi_image::Image;
 use vsi_lattice::Lattice;
+use vsi_sarif::{image_sarif, points_sarif};
 
 /// The failure for a refused interface file.
 fn unusable<'a>(alloc: Global, error: InterfaceError) -> Failure<'a>
@@ -74,7 +75,7 @@ pub(crate) fn named_bytes<'a, F: Files>(
 }
 
 /// The lattice of an interface.
-fn lattice_of<'a, F: Files>(
+pub(crate) fn lattice_of<'a, F: Files>(
     cache: &mut InputCache,
     interface: &str,
     policy: &Policy,
@@ -95,7 +96,7 @@ fn lattice_of<'a, F: Files>(
 }
 
 /// The interface of a file.
-fn interface_in<'a, F: Files>(
+pub(crate) fn interface_in<'a, F: Files>(
     cache: &mut InputCache,
     path: &'a str,
     files: &mut F,
@@ -112,7 +113,11 @@ fn interface_in<'a, F: Files>(
 }
 
 /// Judges the classes of the boundaries of an interface.
-fn know_cycles<'a>(alloc: Global, lattice: &Lattice, cycles: &[Cycle]) -> Result<(), Failure<'a>>
+pub(crate) fn know_cycles<'a>(
+    alloc: Global,
+    lattice: &Lattice,
+    cycles: &[Cycle],
+) -> Result<(), Failure<'a>>
     ensures { IfErr result (FailsBy (λ reason. ⊥) IsUnusable) }
 {
     let Some(place) = unknown_cycle(lattice, cycles) else {
@@ -127,7 +132,7 @@ fn know_cycles<'a>(alloc: Global, lattice: &Lattice, cycles: &[Cycle]) -> Result
 }
 
 /// Judges the classes of an interface's globals.
-fn know_classes<'a>(
+pub(crate) fn know_classes<'a>(
     alloc: Global,
     lattice: &Lattice,
     interface: &Interface,
@@ -158,36 +163,38 @@ fn know_budgets<'a>(alloc: Global, interface: &Interface, budget: u64) -> Result
 /// An answer as it is written.
 fn answer_text(
     alloc: Global,
-    is_json: bool,
+    form: AnswerForm,
+    path: &str,
     lattice: &Lattice,
     text: &[u8],
     interface: &Interface,
     answer: &Answer,
 ) -> Result<Vec<u8>, AllocError>
     ensures { IfOk result (λ out.
-        IsWrittenAs is_json lattice.now text.now interface.now answer.now out.items) }
+        IsWrittenAs form path.now lattice.now text.now interface.now answer.now out.items) }
 {
-    if is_json {
-        points_json(alloc, lattice, text, interface, answer)
-    } else {
-        points_text(alloc, lattice, text, interface, answer)
+    match form {
+        AnswerForm::Lines => points_text(alloc, lattice, text, interface, answer),
+        AnswerForm::Json => points_json(alloc, lattice, text, interface, answer),
+        AnswerForm::Sarif => points_sarif(alloc, lattice, path, text, interface, answer),
     }
 }
 
 /// The answer of a text as it is written, and whether it conforms.
 fn answer_of<'a>(
     alloc: Global,
-    is_json: bool,
+    form: AnswerForm,
+    path: &str,
     lattice: &Lattice,
     text: &[u8],
     interface: &Interface,
 ) -> Result<(bool, Vec<u8>), Failure<'a>>
     ensures told { IfOk result (λ pair.
-        TellsConforming is_json pair.0 lattice.now text.now interface.now pair.1.items) }
+        TellsConforming form path.now pair.0 lattice.now text.now interface.now pair.1.items) }
     ensures failed { IfErr result (λ failure. 3 < status_of failure) }
 {
     let answer = vsi_conform::conform(alloc, lattice, text, interface)?;
-    let written = answer_text(alloc, is_json, lattice, text, interface, &answer)?;
+    let written = answer_text(alloc, form, path, lattice, text, interface, &answer)?;
     Ok((answer.conforms(), written))
 }
 
@@ -223,31 +230,38 @@ fn operand_in<'a, F: Files>(
 /// An answer about an image as it is written.
 fn image_text(
     alloc: Global,
-    is_json: bool,
+    form: AnswerForm,
+    path: &str,
     lattice: &Lattice,
     image: &Image,
     interface: &Interface,
     answer: &vsi_conform_image::Answer,
 ) -> Result<Vec<u8>, AllocError>
     ensures { IfOk result (λ out.
-        IsSuppliedAs is_json lattice.now image.now interface.now answer.now out.items) }
+        IsSuppliedAs form path.now lattice.now image.now interface.now answer.now out.items) }
 {
-    if !is_json {
-        return vsi_conform_image::points_text(alloc, lattice, image, interface, answer);
+    match form {
+        AnswerForm::Lines => {
+            vsi_conform_image::points_text(alloc, lattice, image, interface, answer)
+        }
+        AnswerForm::Json => {
+            vsi_conform_image::points_json(alloc, lattice, image, interface, answer)
+        }
+        AnswerForm::Sarif => image_sarif(alloc, lattice, path, image, interface, answer),
     }
-    vsi_conform_image::points_json(alloc, lattice, image, interface, answer)
 }
 
 /// The answer of an image as it is written, and whether it conforms.
 fn image_answer<'a>(
     alloc: Global,
-    is_json: bool,
+    form: AnswerForm,
+    path: &str,
     lattice: &Lattice,
     bytes: &[u8],
     interface: &Interface,
 ) -> Result<(bool, Vec<u8>), Failure<'a>>
     ensures told { IfOk result (λ pair.
-        TellsSupplied is_json pair.0 lattice.now bytes.now interface.now pair.1.items) }
+        TellsSupplied form path.now pair.0 lattice.now bytes.now interface.now pair.1.items) }
     ensures failed { IfErr result
         (FailsBy (λ reason. ReadsImage bytes.now (Err reason)) NoOther) }
 {
@@ -255,7 +269,8 @@ fn image_answer<'a>(
     let answer = conform_image(alloc, lattice, &verified, interface)?;
     let written = image_text(
         alloc,
-        is_json,
+        form,
+        path,
         lattice,
         verified.image(),
         interface,
@@ -269,20 +284,21 @@ fn image_answer<'a>(
 /// if they begin as one, and otherwise of a source text.
 fn bytes_answer<'a>(
     alloc: Global,
-    is_json: bool,
+    form: AnswerForm,
+    path: &str,
     lattice: &Lattice,
     bytes: &[u8],
     interface: &Interface,
 ) -> Result<(bool, Vec<u8>), Failure<'a>>
-    ensures told { IfOk result (λ pair. TellsBytes (supplied.begins_image bytes.now) is_json
+    ensures told { IfOk result (λ pair. TellsBytes (supplied.begins_image bytes.now) form path.now
         pair.0 lattice.now bytes.now interface.now pair.1.items) }
     ensures failed { IfErr result (FailsBy (RefusesBytes bytes.now) NoOther) }
 {
     let is_image = begins_image(bytes);
     if is_image {
-        image_answer(alloc, is_json, lattice, bytes, interface)
+        image_answer(alloc, form, path, lattice, bytes, interface)
     } else {
-        answer_of(alloc, is_json, lattice, bytes, interface)
+        answer_of(alloc, form, path, lattice, bytes, interface)
     }
 }
 
@@ -326,7 +342,8 @@ fn judged<'a, F: Files>(
     let bytes = operand_in(cache, asked.source, files)?;
     bytes_answer(
         cache.alloc,
-        asked.is_json,
+        asked.form,
+        asked.source,
         &lattice,
         &bytes,
         &found.interface,

@@ -1,7 +1,8 @@
 //! The refusal of a failure as a value.
 
-ghost use Rattle.std.specs.Prelude.{◌≡◌, option_map};
+ghost use Rattle.std.specs.Prelude.{◌≡◌, option_map, IfSome};
 ghost use Rattle.vsi.specs.Diagnosing as spec;
+ghost use Rattle.vsi.specs.FaultyFiles.{IsRefusalBy};
 ghost use Rattle.vsi_diagnostics.specs.View.{diagnostic_of};
 
 use crate::failure::Failure;
@@ -74,7 +75,9 @@ fn audit_diagnostic(error: &AuditError) -> Option<Diagnostic<'static>>
 }
 
 /// The refusal with this cause, if the source text that was read is this one.
-fn cause_diagnostic<'s>(source: &[u8], cause: &'s Cause) -> Option<Diagnostic<'s>> {
+pub(crate) fn cause_diagnostic<'s>(source: &[u8], cause: &'s Cause) -> Option<Diagnostic<'s>>
+    ensures { IfSome result (λ d. IsRefusalBy cause.now (diagnostic_of d)) }
+{
     match cause {
         Cause::Source(error) => refusal_diagnostic(source, error),
         Cause::Steady(error) => unsteady_diagnostic(source, error),

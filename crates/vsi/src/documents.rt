@@ -4,17 +4,19 @@ ghost use Rattle.std.specs.Prelude.{◌≡◌, ◌<◌, ◌⊎◌, Bool, false, 
 ghost use Rattle.vsi.specs.Documents.{AuditsJson, BoundsJson, ToldAuditJson, ToldClassesJson, ToldFlowsJson, ToldSarif};
 ghost use Rattle.vsi.specs.Files.{OfFiles, Writes};
 ghost use Rattle.vsi.specs.Holding.{IsImageAt};
-ghost use Rattle.vsi.specs.Partly.{BytesOf, Leaves};
+ghost use Rattle.vsi.specs.Partly.{BytesOf, Leaves, document_cut_from};
 ghost use Rattle.vsi.specs.Performed.{DocumentOf, IsBuiltAt, IsEmittedFrom, compilation_of, judgement_of, profile_of};
-ghost use Rattle.vsi.specs.Reasons.{WhyDocument, WhyEmit};
-ghost use Rattle.vsi.specs.Refusals.{AsksImage, IsDifference, NoOther, RefusesFiles, RefusesImage, RefusesLattice, FailsBy};
+ghost use Rattle.vsi.specs.Reasons.{LacksDocument, OtherDocument, RefusesDocument, WhyDocument, WhyEmit, failure_of_document};
+ghost use Rattle.vsi.specs.Refusals.{AsksImage, NoOther, RefusesFiles, RefusesImage, RefusesLattice, FailsBy};
 ghost use Rattle.vsi.specs.Failures.{TellsFault};
 ghost use Rattle.vsi_devices.specs.Counted.{device_of, faults_of};
 
 use crate::cache::InputCache;
-use crate::failure::{Failure, write_answer};
+use crate::failure::{Failure, write_document};
 use crate::files::Files;
 use crate::reading::{image_in, lattice_in};
+use crate::run_documents::{comparison_line, run_line, search_line};
+use crate::sarif_documents::audited_sarif;
 use crate::subcommands::{judgement, policy_and_text, profile};
 use crate::trying::made_image;
 use std::alloc::{AllocError, Global};
@@ -192,14 +194,35 @@ fn document<'a, F: Files>(
     ensures told { IfOk result
         (λ pair. DocumentOf (F.holds files.old) asked.entry pair.0 pair.1) }
     ensures failed { IfErr result
-        (FailsBy (WhyDocument (F.holds files.old) asked.entry) NoOther) }
+        (FailsBy (RefusesDocument (F.holds files.old) asked.entry)
+        (LacksDocument (F.holds files.old) asked.entry)) }
 {
     match asked {
         Document::Sarif(judging) => checked_sarif(cache, judging, files),
         Document::Classes(compilation) => classes_line(cache, compilation, files),
         Document::Flows(compilation) => flows_line(cache, compilation, files),
         Document::Audit(audit) => audit_line(cache, audit, files),
+        Document::AuditSarif(audit) => audited_sarif(cache, audit, files),
         Document::Bound(bounding) => bound_line(cache, bounding, files),
+        Document::Run {
+            execution,
+            initial_store,
+        } => run_line(cache, execution, &initial_store, files),
+        Document::Compare(comparison) => comparison_line(cache, comparison, files),
+        Document::Leak(search) => search_line(cache, search, files),
+    }
+}
+
+/// How the program fails if the document says that something is wrong: the budget of a run is spent,
+/// or there is a difference.
+fn failure_of<'a>(asked: &Document<'_>) -> Failure<'a>
+    ensures { result ≡ failure_of_document asked.now }
+{
+    match asked {
+        Document::Run { .. } => Failure::OutOfBudget,
+        Document::Sarif(_) | Document::Classes(_) | Document::Flows(_) => Failure::Differs,
+        Document::Audit(_) | Document::AuditSarif(_) | Document::Bound(_) => Failure::Differs,
+        Document::Compare(_) | Document::Leak(_) => Failure::Differs,
     }
 }
 
@@ -214,14 +237,17 @@ pub(crate) fn put_document<'a, F: Files, W: Write>(
     ensures kept { F.holds files.new ≡ F.holds files.old }
     ensures fault { TellsFault (faults_of output.old) (faults_of output.new) result }
     ensures left { IfErr result (Leaves (BytesOf (λ text. (good : Bool)
-        × DocumentOf (F.holds files.old) asked.entry good text)) 4
+        × DocumentOf (F.holds files.old) asked.entry good text)) (document_cut_from asked.entry)
         (W.contents (device_of output.old)) (W.contents (device_of output.new))) }
     ensures performed { OnOk result (Writes (DocumentOf (F.holds files.old) asked.entry true)
         (W.contents (device_of output.old)) (W.contents (device_of output.new))) }
-    ensures failed { IfErr result (FailsBy (WhyDocument (F.holds files.old) asked.entry)
-        (IsDifference (Writes (DocumentOf (F.holds files.old) asked.entry false)
-        (W.contents (device_of output.old)) (W.contents (device_of output.new))))) }
+    ensures failed { IfErr result (FailsBy
+        (WhyDocument (F.holds files.old) asked.entry
+        (W.contents (device_of output.old)) (W.contents (device_of output.new)))
+        (OtherDocument (F.holds files.old) asked.entry
+        (W.contents (device_of output.old)) (W.contents (device_of output.new)))) }
 {
+    let failure = failure_of(&asked);
     let (good, text) = document(cache, asked, files)?;
-    write_answer(&text, good, output)
+    write_document(&text, good, failure, output)
 }

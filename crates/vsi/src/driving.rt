@@ -69,7 +69,8 @@ pub(crate) fn drive<'a, F: Files, R: Read, W: Write>(
     ensures failed { IfErr result (FailsBy (WhyDrive (F.holds files.old) driving.entry)
         (LacksDrive (F.holds files.old) driving.entry)) }
 {
-    let steering = steered(cache, driving, files)?;
+    let image = driving.execution.image;
+    let steering = steered(cache, driving.policy, driving.class, image, files)?;
     let mut words = first_store(
         cache,
         &steering.verified,

@@ -114,7 +114,7 @@ pub(crate) fn explained<F: Files>(
 }
 
 /// The source text that was read, or an empty one if none was.
-fn source_of(cache: &InputCache) -> &[u8] {
+pub(crate) fn source_of(cache: &InputCache) -> &[u8] {
     match cache.last(InputKind::Source) {
         Some(kept) => kept.bytes.as_slice(),
         None => b"",

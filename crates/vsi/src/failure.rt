@@ -186,6 +186,27 @@ pub(crate) fn write_answer<'a, W: Write>(
     }
 }
 
+/// Writes an answer, and then fails in this way if it isn't good.
+pub(crate) fn write_document<'a, W: Write>(
+    text: &[u8],
+    is_good: bool,
+    otherwise: Failure<'a>,
+    output: &mut Counted<W>,
+) -> Result<(), Failure<'a>>
+    requires { faults_of output.old < u64.MAX }
+    ensures fault { TellsFault (faults_of output.old) (faults_of output.new) result }
+    ensures part { WritesPart text.now
+        (W.contents (device_of output.old)) (W.contents (device_of output.new)) }
+    ensures whole { OnOk result ((is_good ≡ true)
+        × Appends (W.contents (device_of output.old)) (W.contents (device_of output.new)) text.now) }
+    ensures failed { IfErr result (λ failure. ((failure ≡ otherwise.entry) × ((is_good ≡ false)
+        × Appends (W.contents (device_of output.old)) (W.contents (device_of output.new)) text.now))
+        ⊎ (status_of failure ≡ 4)) }
+{
+    write(text, output)?;
+    if is_good { Ok(()) } else { Err(otherwise) }
+}
+
 /// Writes the start and the name on a line.
 fn tell_line<E: Write>(start: &[u8], word: &str, error: &mut Counted<E>) -> Result<(), EngineError>
     requires { faults_of error.old < u64.MAX }

@@ -17,7 +17,10 @@ use vsi_lattice::{Class, Lattice};
 use vsi_leak::{Effort, Finding, Wanted, leak_of_text, leak_text};
 
 /// The class of the viewer, if one is named.
-fn looking<'a>(lattice: &Lattice, name: Option<&'a str>) -> Result<Option<Class>, Failure<'a>>
+pub(crate) fn looking<'a>(
+    lattice: &Lattice,
+    name: Option<&'a str>,
+) -> Result<Option<Class>, Failure<'a>>
     ensures within { IfOk result (λ class. IfSome class (IsClass (order lattice.now))) }
     ensures looks { IfOk result (LooksFor lattice.now name.entry) }
     ensures failed { IfErr result (FailsBy (λ reason. ⊥)

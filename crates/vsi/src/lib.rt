@@ -9,10 +9,10 @@
 //!
 //! To be believed: of `specs/` `Words`, `Holding`, `Loading`, `Driven`, `State`, `Tried`, `Shaping`,
 //! `Seeing`, `Laying`, `Raises`, `Documents`, `Admitted`, `Served`, `Files`, `Interfaces`,
-//! `Boundaries`, `Steering`, `Viewing`, `Performed`, `Refusals`, `Undriven`, `Reasons`, `Partly`,
-//! `Done`, `Screen`, `Input` and `Laws`, of `Failures` all but `FailsFor`, of `Noted` all but `Notes`,
-//! and of `Saved` its second part; its first part, `Diagnosing` and `Walked` are stepping stones of
-//! proofs.
+//! `Visible`, `Boundaries`, `Steering`, `Viewing`, `Performed`, `Refusals`, `Undriven`, `Reasons`,
+//! `Partly`, `FaultyFiles`, `Diagnosing`, `Done`, `Screen`, `Input` and `Laws`, of `Failures` all but
+//! `FailsFor`, of `Noted` all but `Notes`, and of `Saved` its second part; its first part and `Walked`
+//! are stepping stones of proofs.
 #![tactic(auto)]
 
 mod admitting;
@@ -33,8 +33,10 @@ mod driving;
 mod emitting;
 mod explaining;
 mod failure;
+mod faulty_files;
 mod files;
 mod filling;
+mod interface_policies;
 pub mod laws;
 mod laying;
 mod leaking;
@@ -45,7 +47,9 @@ mod performing;
 mod policies;
 mod raising;
 mod reading;
+mod run_documents;
 mod running;
+mod sarif_documents;
 mod saving;
 mod screen;
 mod serving;

@@ -24,21 +24,23 @@ pub(crate) fn paths_of<'a>(request: &Request<'a>) -> [Option<&'a str>; MOST_READ
         Request::List(image) | Request::Source(image) => one(image),
         Request::Format(source) => one(source),
         Request::Layout(asked) => one(asked.source),
-        Request::Audit(asked) | Request::Document(Document::Audit(asked)) => {
-            two(asked.lattice, asked.image)
-        }
+        Request::Audit(asked)
+        | Request::Document(Document::Audit(asked))
+        | Request::Document(Document::AuditSarif(asked)) => two(asked.lattice, asked.image),
         Request::EmitC(asked) => [asked.lattice, Some(asked.file), None, None],
         Request::Bound(asked) | Request::Document(Document::Bound(asked)) => {
             [asked.lattice, Some(asked.file), None, None]
         }
-        Request::Run { execution, .. } => [execution.store, Some(execution.image), None, None],
+        Request::Run { execution, .. } | Request::Document(Document::Run { execution, .. }) => {
+            [execution.store, Some(execution.image), None, None]
+        }
         Request::View {
             lattice,
             execution,
             ..
         } => [Some(*lattice), Some(execution.image), execution.store, None],
         Request::ViewWithin(asked) => [
-            Some(asked.lattice),
+            Some(policy_path(asked.policy)),
             Some(asked.execution.image),
             asked.execution.store,
             None,
@@ -49,21 +51,24 @@ pub(crate) fn paths_of<'a>(request: &Request<'a>) -> [Option<&'a str>; MOST_READ
             asked.execution.store,
             None,
         ],
-        Request::Compare(asked) => [
+        Request::Compare(asked) | Request::Document(Document::Compare(asked)) => [
             Some(asked.lattice),
             Some(asked.image),
             Some(asked.stores.0),
             Some(asked.stores.1),
         ],
-        Request::Leak(asked) => two(asked.lattice, asked.source),
+        Request::Leak(asked) | Request::Document(Document::Leak(asked)) => {
+            two(asked.lattice, asked.source)
+        }
         Request::Draw(asked) => [Some(asked.lattice), asked.source, None, None],
         Request::Policy(asked) => [Some(asked.lattice), asked.old, None, None],
+        Request::Visible(asked) => [Some(asked.interface), asked.old, None, None],
         Request::Try(asked) => [Some(asked.source), asked.lattice, None, None],
         Request::Lattice(_) | Request::Lsp(_) | Request::Explain(_) => [None; MOST_READ],
     }
 }
 
-/// The path of the file with the policy of a drive.
+/// The path of the file with the policy of a drive or of a view.
 fn policy_path<'a>(policy: DrivePolicy<'a>) -> &'a str {
     match policy {
         DrivePolicy::Lattice(path, _) | DrivePolicy::Interface(path) => path,

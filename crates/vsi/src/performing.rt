@@ -21,6 +21,7 @@ use crate::driving::drive;
 use crate::emitting::emit;
 use crate::failure::{Failure, write};
 use crate::files::Files;
+use crate::interface_policies::visible;
 use crate::laying::lay_out;
 use crate::leaking::leak;
 use crate::policies::policy;
@@ -200,6 +201,12 @@ pub(crate) fn perform<'a, F: Files, R: Read, W: Write>(
         Request::Draw(drawing) => put(draw(cache, drawing, files), output),
         Request::Policy(looking) => {
             put(policy(cache, looking, files, &mut error_text.lines), output)
+        }
+        Request::Visible(visibility) => {
+            put(
+                visible(cache, visibility, files, &mut error_text.lines),
+                output,
+            )
         }
         Request::Format(source) => put(format(cache, source, files), output),
         Request::Layout(asked) => lay_out(cache, asked, files, output),

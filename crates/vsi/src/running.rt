@@ -66,7 +66,7 @@ pub(crate) fn words_in<'a>(
 
 /// The image to run and the words that it begins with. The store file is read before the image and
 /// judged after it.
-fn image_and_words<'a, F: Files>(
+pub(crate) fn image_and_words<'a, F: Files>(
     cache: &mut InputCache,
     execution: Execution<'a>,
     initial_store: &InitialStore<'a>,

@@ -1,4 +1,4 @@
-//! The class that drives an image, by a lattice file or by an interface with boundaries.
+//! The class that drives or views an image, by a lattice file or by an interface with boundaries.
 
 ghost use Rattle.std.specs.Prelude.{◌≡◌, ◌⊎◌, Some, map, option_map, IfErr, IfOk, OnOk};
 ghost use Rattle.vsi_conform.specs.Reading as reading;
@@ -8,25 +8,25 @@ ghost use Rattle.vsi_lattice.specs.LatticeView.{order};
 ghost use Rattle.vsi.specs.Boundaries.{boundary_at, boundary_for, bound_by, table_of};
 ghost use Rattle.vsi.specs.Files.{LooksAt};
 ghost use Rattle.vsi.specs.Holding.{IsImageAt};
-ghost use Rattle.vsi.specs.Undriven.{LacksCycle, LacksGoverned, LacksSteering, RefusesAsked, RefusesSteering, SaysDiffering};
+ghost use Rattle.vsi.specs.Undriven.{LacksCycle, LacksGoverned, LacksPolicy, RefusesAsked, RefusesSteering, SaysDiffering};
 ghost use Rattle.vsi.specs.Refusals.{LacksClassAt, RefusesImage, RefusesLattice, FailsBy};
-ghost use Rattle.vsi.specs.Steering.{IsGoverned, IsSteered, no_cycle_line};
+ghost use Rattle.vsi.specs.Steering.{IsGoverned, IsSteeredBy, no_cycle_line};
 
 use crate::cache::InputCache;
 use crate::conformance::asked_in;
 use crate::failure::Failure;
 use crate::files::Files;
 use crate::ordering::policy_before_image;
-use crate::reading::{class_in, image_in};
+use crate::reading::{class_in, image_in, policy_and_image};
 use std::alloc::{AllocError, Global};
-use vsi_arguments::{DrivePolicy, Driving, RUNS_BUDGET};
+use vsi_arguments::{DrivePolicy, RUNS_BUDGET};
 use vsi_conform::{Cycle, Interface};
 use vsi_conform_image::{conform_image, points_text};
 use vsi_image::Verified;
 use vsi_lattice::{Class, Lattice};
 
-/// The class that drives an image by a lattice, and the table with its boundary, if an interface has
-/// one.
+/// The class that drives or views an image by a lattice, and the table with its boundary, if an
+/// interface has one.
 #[derive(Drop)]
 pub(crate) struct Steering {
     pub(crate) lattice: Lattice,
@@ -129,7 +129,34 @@ fn by_lattice<'a, F: Files>(
     })
 }
 
-/// The class that drives an image by an interface, to which the image conforms.
+/// The class that views an image by a lattice file.
+fn views_by_lattice<'a, F: Files>(
+    cache: &mut InputCache,
+    lattice: &'a str,
+    class: &'a str,
+    image: &'a str,
+    files: &mut F,
+) -> Result<Steering, Failure<'a>>
+    ensures kept { F.holds files.new ≡ F.holds files.old }
+    ensures looks { IfOk result (λ steering.
+        LooksAt (F.holds files.old) lattice.now class.now steering.lattice steering.driver) }
+    ensures held { IfOk result
+        (λ steering. IsImageAt (F.holds files.old) image.now steering.verified) }
+    ensures failed { IfErr result (FailsBy (λ reason.
+        RefusesLattice (F.holds files.old) lattice.now reason
+        ⊎ RefusesImage (F.holds files.old) image.now reason)
+        (LacksClassAt (F.holds files.old) lattice.now class.now)) }
+{
+    let (lattice, driver, verified) = policy_and_image(cache, lattice, class, image, files)?;
+    Ok(Steering {
+        lattice,
+        driver,
+        verified,
+        cycle: None,
+    })
+}
+
+/// The class that drives or views an image by an interface, to which the image conforms.
 fn by_interface<'a, F: Files>(
     cache: &mut InputCache,
     interface: &'a str,
@@ -161,27 +188,54 @@ fn by_interface<'a, F: Files>(
     })
 }
 
-/// The class that drives the image of a drive, its lattice and its boundary.
+/// The class that drives an image by a policy, its lattice and its boundary.
 pub(crate) fn steered<'a, F: Files>(
     cache: &mut InputCache,
-    driving: Driving<'a>,
+    policy: DrivePolicy<'a>,
+    class: &'a str,
+    image: &'a str,
     files: &mut F,
 ) -> Result<Steering, Failure<'a>>
     ensures kept { F.holds files.new ≡ F.holds files.old }
     ensures class { IfOk result (λ steering. IsClass (order steering.lattice) steering.driver) }
-    ensures steered { IfOk result (λ steering. IsSteered (F.holds files.old) driving.entry
+    ensures steered { IfOk result (λ steering. IsSteeredBy (F.holds files.old) class.now policy.entry
         steering.lattice steering.driver steering.verified
-        (boundary_for driving.entry.policy steering.cycle)) }
-    ensures held { IfOk result (λ steering.
-        IsImageAt (F.holds files.old) driving.entry.execution.image.now steering.verified) }
+        (boundary_for policy.entry steering.cycle)) }
+    ensures held { IfOk result
+        (λ steering. IsImageAt (F.holds files.old) image.now steering.verified) }
     ensures failed { IfErr result (FailsBy (λ reason.
-        RefusesSteering (F.holds files.old) driving.entry.policy reason
-        ⊎ RefusesImage (F.holds files.old) driving.entry.execution.image.now reason)
-        (LacksSteering (F.holds files.old) driving.entry)) }
+        RefusesSteering (F.holds files.old) policy.entry reason
+        ⊎ RefusesImage (F.holds files.old) image.now reason)
+        (LacksPolicy (F.holds files.old) class.now image.now policy.entry)) }
 {
-    let image = driving.execution.image;
-    match driving.policy {
-        DrivePolicy::Lattice(path, _) => by_lattice(cache, path, driving.class, image, files),
-        DrivePolicy::Interface(path) => by_interface(cache, path, driving.class, image, files),
+    match policy {
+        DrivePolicy::Lattice(path, _) => by_lattice(cache, path, class, image, files),
+        DrivePolicy::Interface(path) => by_interface(cache, path, class, image, files),
+    }
+}
+
+/// The class that views an image by a policy, its lattice and its boundary.
+pub(crate) fn viewed<'a, F: Files>(
+    cache: &mut InputCache,
+    policy: DrivePolicy<'a>,
+    class: &'a str,
+    image: &'a str,
+    files: &mut F,
+) -> Result<Steering, Failure<'a>>
+    ensures kept { F.holds files.new ≡ F.holds files.old }
+    ensures class { IfOk result (λ steering. IsClass (order steering.lattice) steering.driver) }
+    ensures steered { IfOk result (λ steering. IsSteeredBy (F.holds files.old) class.now policy.entry
+        steering.lattice steering.driver steering.verified
+        (boundary_for policy.entry steering.cycle)) }
+    ensures held { IfOk result
+        (λ steering. IsImageAt (F.holds files.old) image.now steering.verified) }
+    ensures failed { IfErr result (FailsBy (λ reason.
+        RefusesSteering (F.holds files.old) policy.entry reason
+        ⊎ RefusesImage (F.holds files.old) image.now reason)
+        (LacksPolicy (F.holds files.old) class.now image.now policy.entry)) }
+{
+    match policy {
+        DrivePolicy::Lattice(path, _) => views_by_lattice(cache, path, class, image, files),
+        DrivePolicy::Interface(path) => by_interface(cache, path, class, image, files),
     }
 }

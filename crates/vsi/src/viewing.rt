@@ -1,10 +1,11 @@
-//! A view of an image's run within lists.
+//! A view of an image's run within a boundary.
 
 ghost use Rattle.std.specs.Prelude.{◌≡◌, ◌<◌, Some, None, length, IfOk, IfErr, OnOk};
-ghost use Rattle.vsi.specs.Viewing.{AnswersViewWithin, PerformsViewWithin, ViewsWithin, viewing_lists};
+ghost use Rattle.vsi.specs.Viewing.{AnswersViewWithin, PerformsViewWithin, ViewsWithin};
 ghost use Rattle.vsi.specs.Partly.{Leaves};
 ghost use Rattle.vsi.specs.Failures.{TellsFault, status_of};
-ghost use Rattle.vsi.specs.Refusals.{LacksEither, NoOther, FailsBy};
+ghost use Rattle.vsi.specs.Refusals.{NoOther, FailsBy};
+ghost use Rattle.vsi.specs.Undriven.{LacksView};
 ghost use Rattle.vsi.specs.Reasons.{WhyViewWithin};
 ghost use Rattle.vsi_answers.specs.declared.unanswered.Unanswered.TheVariants as unanswered;
 ghost use Rattle.vsi_devices.specs.Counted.{device_of, faults_of};
@@ -17,25 +18,14 @@ use crate::cache::InputCache;
 use crate::failure::Failure;
 use crate::files::Files;
 use crate::filling::deliver;
-use crate::reading::{policy_and_image, store_in};
+use crate::reading::store_in;
 use crate::running::words_in;
-use crate::steering::Steering;
+use crate::steering::viewed;
 use std::alloc::Global;
 use std::io::Write;
-use vsi_arguments::{DrivePolicy, NameLists, Viewing};
+use vsi_arguments::Viewing;
 use vsi_devices::Counted;
 use vsi_drive::Controller;
-
-/// The lists of a view, which has no inputs.
-fn lists_of<'a>(asked: &Viewing<'a>) -> NameLists<'a>
-    ensures { result ≡ viewing_lists asked.now }
-{
-    NameLists {
-        inputs: None,
-        outputs: asked.outputs,
-        released: asked.released,
-    }
-}
 
 /// The lines that a controller writes of the final store of the run from these words.
 fn written_lines<'a>(
@@ -56,7 +46,7 @@ fn written_lines<'a>(
     }
 }
 
-/// The lines of the final store of a run of an image file that are written within the lists.
+/// The lines of the final store of a run of an image file that are written within its boundary.
 fn seen_within<'a, F: Files>(
     cache: &mut InputCache,
     asked: &Viewing<'a>,
@@ -65,33 +55,20 @@ fn seen_within<'a, F: Files>(
     ensures kept { F.holds files.new ≡ F.holds files.old }
     ensures told { IfOk result (ViewsWithin (F.holds files.old) asked.now) }
     ensures failed { IfErr result (FailsBy (WhyViewWithin (F.holds files.old) asked.now)
-        (LacksEither (F.holds files.old) asked.now.lattice.now asked.now.class.now
-        asked.now.execution.image.now asked.now.execution.budget)) }
+        (LacksView (F.holds files.old) asked.now)) }
 {
-    let (lattice, driver, verified) = policy_and_image(
-        cache,
-        asked.lattice,
-        asked.class,
-        asked.execution.image,
-        files,
-    )?;
-    let steering = Steering {
-        lattice,
-        driver,
-        verified,
-        cycle: None,
-    };
+    let image = asked.execution.image;
+    let steering = viewed(cache, asked.policy, asked.class, image, files)?;
     let file = store_in(cache, asked.execution.store, files)?;
     let words = words_in(cache, &steering.verified, &file, &asked.initial_store)?;
     let budget = budget_of(cache.alloc, asked.execution.budget, &steering.verified)?;
-    let policy = DrivePolicy::Lattice(asked.lattice, lists_of(asked));
-    let names = names_in(cache.alloc, policy, &steering.cycle)?;
-    let controller = controller_of(cache, policy, &names, &steering, budget)?;
+    let names = names_in(cache.alloc, asked.policy, &steering.cycle)?;
+    let controller = controller_of(cache, asked.policy, &names, &steering, budget)?;
     let text = written_lines(cache.alloc, &controller, &words)?;
     Ok(text)
 }
 
-/// Runs an image file and writes the lines of the store that its lists admit.
+/// Runs an image file and writes the lines of the store that its boundary admits.
 pub(crate) fn view_within<'a, F: Files, W: Write>(
     cache: &mut InputCache,
     asked: &Viewing<'a>,
@@ -107,8 +84,7 @@ pub(crate) fn view_within<'a, F: Files, W: Write>(
     ensures performed { OnOk result (PerformsViewWithin (F.holds files.old) asked.now
         (F.holds files.new) (W.contents (device_of output.old)) (W.contents (device_of output.new))) }
     ensures failed { IfErr result (FailsBy (WhyViewWithin (F.holds files.old) asked.now)
-        (LacksEither (F.holds files.old) asked.now.lattice.now asked.now.class.now
-        asked.now.execution.image.now asked.now.execution.budget)) }
+        (LacksView (F.holds files.old) asked.now)) }
 {
     let text = seen_within(cache, asked, files)?;
     deliver(cache.alloc, &text, asked.initial_store.out, files, output)

@@ -24,13 +24,6 @@ pub(crate) const DRAWN_SOURCE: Argument = Argument {
     whole: word_help::SOURCE,
 };
 
-pub(crate) const OLD_LATTICE: Argument = Argument {
-    name: "OLD",
-    form: Form::FreePlace,
-    line: "An older lattice file, to show what changed",
-    whole: word_help::OLD_LATTICE,
-};
-
 pub(crate) const TRIED: Argument = Argument {
     name: "SOURCE",
     form: Form::Place,
@@ -213,6 +206,20 @@ pub(crate) const SARIF: Argument = Argument {
     whole: word_help::SARIF,
 };
 
+pub(crate) const CONFORM_SARIF: Argument = Argument {
+    name: "sarif",
+    form: Form::Flag,
+    line: "Writes the answer as SARIF",
+    whole: word_help::CONFORM_SARIF,
+};
+
+pub(crate) const AUDIT_SARIF: Argument = Argument {
+    name: "sarif",
+    form: Form::Flag,
+    line: "Writes the answer as SARIF",
+    whole: word_help::AUDIT_SARIF,
+};
+
 pub(crate) const WARNINGS: Argument = Argument {
     name: "warnings",
     form: Form::Flag,
@@ -253,6 +260,27 @@ pub(crate) const BOUND_JSON: Argument = Argument {
     form: Form::Flag,
     line: "Writes the answer as JSON",
     whole: word_help::BOUND_JSON,
+};
+
+pub(crate) const RUN_JSON: Argument = Argument {
+    name: "json",
+    form: Form::Flag,
+    line: "Writes the answer as JSON",
+    whole: word_help::RUN_JSON,
+};
+
+pub(crate) const COMPARE_JSON: Argument = Argument {
+    name: "json",
+    form: Form::Flag,
+    line: "Writes the answer as JSON",
+    whole: word_help::COMPARE_JSON,
+};
+
+pub(crate) const LEAK_JSON: Argument = Argument {
+    name: "json",
+    form: Form::Flag,
+    line: "Writes the answer as JSON",
+    whole: word_help::LEAK_JSON,
 };
 
 pub(crate) const FLOWS_ALONE: Argument = Argument {

@@ -1,4 +1,4 @@
-//! The arguments that only `drive` has, each with its help.
+//! The arguments that only `drive` and `view` have, each with its help.
 
 use crate::argument::{Argument, Form};
 use crate::word_help;
@@ -22,6 +22,13 @@ pub(crate) const DRIVE_INTERFACE: Argument = Argument {
     form: Form::Value("FILE"),
     line: "The interface that bounds the controller",
     whole: word_help::DRIVE_INTERFACE,
+};
+
+pub(crate) const VIEW_INTERFACE: Argument = Argument {
+    name: "interface",
+    form: Form::Value("FILE"),
+    line: "The interface that bounds the view",
+    whole: word_help::VIEW_INTERFACE,
 };
 
 pub(crate) const DRIVE_BUDGET: Argument = Argument {

@@ -375,6 +375,11 @@ then one for each that it no longer sees, by their names. Standard error has a
 warning if there is only one class, if two classes have names that look alike,
 or if a class with a name for secrets is below one with a name for the public.
 
+With --interface, prints the globals of an interface instead: for each class of
+its lattice those whose class is at or below it, or what an edit of the file
+made visible, and to whom. Standard error then also has a warning for each class
+that no global has.
+
 Statuses: 0 printed, 1 refused, 2 usage, 4 file fault, 5 out of memory.";
 
 /// An example of `policy`.
@@ -382,7 +387,18 @@ pub(crate) const POLICY_EXAMPLE: &str = "\
 Example:
   $ vsi policy two.toml
   L sees L
-  H sees L H";
+  H sees L H
+  $ cat lock.toml
+  lattice = \"two.toml\"
+  profile = \"strict\"
+  globals = [[\"key\", \"H\"], [\"out\", \"L\"]]
+  $ vsi policy --interface lock.toml
+  L sees out
+  H sees key out
+  $ sed 's/\"H\"/\"L\"/' lock.toml > open.toml
+  $ vsi policy --interface open.toml lock.toml
+  L now sees key
+  warning: no global has the class H";
 
 /// The long help of `fmt`.
 pub(crate) const FORMAT: &str = "\

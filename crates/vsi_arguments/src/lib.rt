@@ -12,6 +12,8 @@ mod escaped;
 mod help;
 mod mistake;
 mod numbers;
+mod policies;
+mod policy_arguments;
 mod reader;
 mod request;
 mod run_help;
@@ -22,8 +24,8 @@ mod word_help;
 pub use error::ArgumentsError;
 pub use reader::request_of;
 pub use request::{
-    Asked, Attempt, Audit, Bounding, Budget, Colour, Comparison, Compilation, Conformance,
-    Document, Drawing, DrivePolicy, Driving, EVERY, Emission, Execution, InitialStore, Judging,
-    Layout, Looking, Mending, NameLists, RUNS_BUDGET, Reporting, Request, SEARCH, Search, Serving,
-    TRY_BUDGET, Viewing,
+    AnswerForm, Asked, Attempt, Audit, Bounding, Budget, Colour, Comparison, Compilation,
+    Conformance, Document, Drawing, DrivePolicy, Driving, EVERY, Emission, Execution, InitialStore,
+    Judging, Layout, Looking, Mending, NameLists, RUNS_BUDGET, Reporting, Request, SEARCH, Search,
+    Serving, TRY_BUDGET, Viewing, Visibility,
 };

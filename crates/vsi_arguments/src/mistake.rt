@@ -27,10 +27,18 @@ pub(crate) enum Mistake {
     WalksAndJson,
     /// Evidence is to be written as JSON.
     EvidenceAndJson,
-    /// An interface has the lattice of its drive.
+    /// Evidence is to be written as SARIF.
+    EvidenceAndSarif,
+    /// A trace or a count is to be written as JSON, or JSON to a file.
+    RunAndJson,
+    /// An interface has the lattice of its drive or view.
     LatticeAndInterface,
     /// An interface has the boundary of its drive.
     ListsAndInterface,
+    /// An interface has the outputs of its view.
+    OutputsAndInterface,
+    /// An interface has the lattice of its table.
+    PolicyAndInterface,
     /// It is said how often the store is saved, but not where.
     EveryAlone,
     NoSubcommand,
@@ -49,8 +57,12 @@ impl Mistake {
             | Mistake::JsonAndSarif
             | Mistake::WalksAndJson
             | Mistake::EvidenceAndJson
+            | Mistake::EvidenceAndSarif
+            | Mistake::RunAndJson
             | Mistake::LatticeAndInterface
-            | Mistake::ListsAndInterface => ErrorKind::ArgumentConflict,
+            | Mistake::ListsAndInterface
+            | Mistake::OutputsAndInterface
+            | Mistake::PolicyAndInterface => ErrorKind::ArgumentConflict,
             Mistake::FlowsOfNothing => ErrorKind::MissingRequiredArgument,
             Mistake::NoTwoStores => ErrorKind::WrongNumberOfValues,
             Mistake::EveryAlone => ErrorKind::MissingRequiredArgument,
@@ -75,12 +87,23 @@ impl Mistake {
             Mistake::JsonAndSarif => "`--json` and `--sarif` don't go together",
             Mistake::WalksAndJson => "`--walks` and `--json` don't go together",
             Mistake::EvidenceAndJson => "`--evidence` and `--json` don't go together",
+            Mistake::EvidenceAndSarif => "`--evidence` and `--sarif` don't go together",
+            Mistake::RunAndJson => {
+                "`--json` of `run` doesn't go with `--trace`, `--count` and `--out`"
+            }
             Mistake::LatticeAndInterface => {
                 "`--interface` names the lattice, so it goes with one operand, the IMAGE"
             }
             Mistake::ListsAndInterface => {
                 "`--interface` names the inputs and outputs, so it doesn't go with `--inputs`, \
                 `--outputs` and `--release`"
+            }
+            Mistake::OutputsAndInterface => {
+                "`--interface` names the outputs, so it doesn't go with `--outputs` and `--release`"
+            }
+            Mistake::PolicyAndInterface => {
+                "`--interface` names the lattice, so it goes with at most one operand, an older \
+                interface"
             }
             Mistake::EveryAlone => "`--save-every` needs `--save`, which says where",
             Mistake::NoSubcommand => "a subcommand is needed",

@@ -1,11 +1,15 @@
 //! Reads a request from the arguments of a command line.
 
-use crate::documents::{audit_request, bound_request, classes_request, listed_flows};
-use crate::drives::drive_request;
+use crate::documents::{
+    audit_request, bound_request, classes_request, listed_flows, requested_comparison,
+    requested_run, requested_search,
+};
+use crate::drives::{drive_request, view_request};
 use crate::error::ArgumentsError;
 use crate::escaped::escaped;
 use crate::mistake::Mistake;
 use crate::numbers::{budget_of, number_of, wrong_number};
+use crate::policies::policy_request;
 use crate::request::*;
 use crate::tips::retold;
 use crate::usage::program;
@@ -120,8 +124,8 @@ fn named<'a>(
 ) -> Result<Result<Request<'a>, Mistake>, Error> {
     match name {
         "try" => Ok(Ok(try_request(alloc, inner)?)),
-        "run" => Ok(Ok(run_request(alloc, inner)?)),
-        "view" => Ok(Ok(view_request(alloc, inner)?)),
+        "run" => Ok(run_request(alloc, inner)?),
+        "view" => Ok(view_request(alloc, inner)?),
         "drive" => Ok(drive_request(inner)),
         "compare" => Ok(compare_request(inner)),
         "lattice" => Ok(Ok(Request::Lattice(texts(alloc, inner, "SHAPE")?))),
@@ -134,6 +138,8 @@ fn named<'a>(
         "draw" => Ok(draw_request(inner)),
         "flows" => Ok(flows_request(inner)),
         "audit" => Ok(judged_image(inner)),
+        "conform" => Ok(conform_request(inner)),
+        "policy" => Ok(policy_request(inner)),
         _ => Ok(Ok(requested(name, inner))),
     }
 }
@@ -141,15 +147,13 @@ fn named<'a>(
 /// The request of a subcommand that takes no list of arguments.
 fn requested<'a>(name: &str, inner: &ArgMatches<'a>) -> Request<'a> {
     match name {
-        "conform" => Request::Conform(conformance_in(inner)),
         "classes" => classes_request(compilation_in(inner), inner.get_flag("json")),
         "list" => Request::List(text(inner, "IMAGE")),
         "source" => Request::Source(text(inner, "IMAGE")),
         "bound" => bound_request(bounding_in(inner), inner.get_flag("json")),
-        "leak" => Request::Leak(search_in(inner)),
+        "leak" => requested_search(search_in(inner), inner.get_flag("json")),
         "lsp" => Request::Lsp(serving_in(inner)),
-        "report" => Request::Report(compilation_in(inner)),
-        _ => Request::Policy(looking_in(inner)),
+        _ => Request::Report(compilation_in(inner)),
     }
 }
 
@@ -185,13 +189,23 @@ fn plain(path: &str) -> &str {
     }
 }
 
-fn conformance_in<'a>(matches: &ArgMatches<'a>) -> Conformance<'a> {
-    Conformance {
+/// How an answer is written, which is either as JSON of its own or as SARIF.
+fn form_in<'a>(matches: &ArgMatches<'a>) -> Result<AnswerForm, Mistake> {
+    match (matches.get_flag("json"), matches.get_flag("sarif")) {
+        (false, false) => Ok(AnswerForm::Lines),
+        (true, false) => Ok(AnswerForm::Json),
+        (false, true) => Ok(AnswerForm::Sarif),
+        (true, true) => Err(Mistake::JsonAndSarif),
+    }
+}
+
+fn conform_request<'a>(matches: &ArgMatches<'a>) -> Result<Request<'a>, Mistake> {
+    Ok(Request::Conform(Conformance {
         interface: text(matches, "INTERFACE"),
         source: text(matches, "SOURCE"),
         budget: number_of(matches, "budget").unwrap_or(RUNS_BUDGET),
-        is_json: matches.get_flag("json"),
-    }
+        form: form_in(matches)?,
+    }))
 }
 
 fn flows_request<'a>(matches: &ArgMatches<'a>) -> Result<Request<'a>, Mistake> {
@@ -224,49 +238,33 @@ fn try_request<'a>(alloc: Global, matches: &ArgMatches<'a>) -> Result<Request<'a
     }))
 }
 
-fn run_request<'a>(alloc: Global, matches: &ArgMatches<'a>) -> Result<Request<'a>, AllocError> {
-    Ok(Request::Run {
-        execution: execution_in(matches),
-        initial_store: initial_store_in(alloc, matches)?,
-        has_trace: matches.get_flag("trace"),
-        has_count: matches.get_flag("count"),
-    })
-}
-
-/// With one of the lists the view is bounded by them.
-fn view_request<'a>(alloc: Global, matches: &ArgMatches<'a>) -> Result<Request<'a>, AllocError> {
-    let viewing = viewing_in(alloc, matches)?;
-    if viewing.outputs.is_some() || viewing.released.is_some() {
-        return Ok(Request::ViewWithin(viewing));
+/// JSON has neither a trace nor a count, and goes to standard output.
+fn run_request<'a>(
+    alloc: Global,
+    matches: &ArgMatches<'a>,
+) -> Result<Result<Request<'a>, Mistake>, AllocError> {
+    let initial_store = initial_store_in(alloc, matches)?;
+    let (has_trace, has_count) = (matches.get_flag("trace"), matches.get_flag("count"));
+    let is_json = matches.get_flag("json");
+    if is_json && (has_trace || has_count || initial_store.out.is_some()) {
+        return Ok(Err(Mistake::RunAndJson));
     }
-    Ok(Request::View {
-        lattice: viewing.lattice,
-        class: viewing.class,
-        execution: viewing.execution,
-        initial_store: viewing.initial_store,
-    })
-}
-
-fn viewing_in<'a>(alloc: Global, matches: &ArgMatches<'a>) -> Result<Viewing<'a>, AllocError> {
-    Ok(Viewing {
-        lattice: text(matches, "LATTICE"),
-        class: text(matches, "class"),
-        execution: execution_in(matches),
-        initial_store: initial_store_in(alloc, matches)?,
-        outputs: matches.get_str("outputs"),
-        released: matches.get_str("release"),
-    })
+    let execution = execution_in(matches);
+    Ok(Ok(requested_run(execution, initial_store, has_trace, has_count, is_json)))
 }
 
 fn compare_request<'a>(matches: &ArgMatches<'a>) -> Result<Request<'a>, Mistake> {
     match matches.get_strs("store") {
-        Some([first, second]) => Ok(Request::Compare(Comparison {
-            lattice: text(matches, "LATTICE"),
-            image: text(matches, "IMAGE"),
-            class: text(matches, "class"),
-            budget: budget_of(matches),
-            stores: (*first, *second),
-        })),
+        Some([first, second]) => {
+            let comparison = Comparison {
+                lattice: text(matches, "LATTICE"),
+                image: text(matches, "IMAGE"),
+                class: text(matches, "class"),
+                budget: budget_of(matches),
+                stores: (*first, *second),
+            };
+            Ok(requested_comparison(comparison, matches.get_flag("json")))
+        }
         _ => Err(Mistake::NoTwoStores),
     }
 }
@@ -304,7 +302,8 @@ fn format_request<'a>(matches: &ArgMatches<'a>) -> Result<Request<'a>, Mistake> 
     }))
 }
 
-fn initial_store_in<'a>(
+/// The rest of the input and output of a run or of a view.
+pub(crate) fn initial_store_in<'a>(
     alloc: Global,
     matches: &ArgMatches<'a>,
 ) -> Result<InitialStore<'a>, AllocError> {
@@ -337,13 +336,6 @@ fn draw_request<'a>(matches: &ArgMatches<'a>) -> Result<Request<'a>, Mistake> {
     }))
 }
 
-fn looking_in<'a>(matches: &ArgMatches<'a>) -> Looking<'a> {
-    Looking {
-        lattice: text(matches, "LATTICE"),
-        old: matches.get_str("OLD"),
-    }
-}
-
 fn serving_in<'a>(matches: &ArgMatches<'a>) -> Serving<'a> {
     Serving {
         lattice: matches.get_str("lattice"),
@@ -353,11 +345,13 @@ fn serving_in<'a>(matches: &ArgMatches<'a>) -> Serving<'a> {
 
 /// The request of `audit`.
 fn judged_image<'a>(matches: &ArgMatches<'a>) -> Result<Request<'a>, Mistake> {
-    let (audit, is_json) = (audit_in(matches), matches.get_flag("json"));
-    if audit.has_evidence && is_json {
-        return Err(Mistake::EvidenceAndJson);
+    let audit = audit_in(matches);
+    let form = form_in(matches)?;
+    match (audit.has_evidence, form) {
+        (true, AnswerForm::Json) => Err(Mistake::EvidenceAndJson),
+        (true, AnswerForm::Sarif) => Err(Mistake::EvidenceAndSarif),
+        (_, _) => Ok(audit_request(audit, form)),
     }
-    Ok(audit_request(audit, is_json))
 }
 
 fn audit_in<'a>(matches: &ArgMatches<'a>) -> Audit<'a> {

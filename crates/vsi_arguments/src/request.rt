@@ -45,7 +45,7 @@ pub struct NameLists<'a> {
     pub released: Option<&'a str>,
 }
 
-/// The policy of a drive: who sees what, and what bounds the controller.
+/// The policy of a drive or of a view: who sees what, and what bounds the controller.
 #[derive(Clone, Copy)]
 pub enum DrivePolicy<'a> {
     /// The path of a lattice file, and lists of the command line.
@@ -69,16 +69,15 @@ pub struct Driving<'a> {
     pub is_unbounded: bool,
 }
 
-/// A view with lists: the path of a lattice file, the class that sees the outputs, the run, the rest
-/// of its input and output, and the lists of outputs and of released outputs, one of which is given.
+/// A view within a boundary: its policy, the class that sees the outputs, the run, and the rest of its
+/// input and output. With a lattice file, the list of outputs or that of released outputs is given,
+/// and that of inputs isn't.
 #[derive(Drop)]
 pub struct Viewing<'a> {
-    pub lattice: &'a str,
+    pub policy: DrivePolicy<'a>,
     pub class: &'a str,
     pub execution: Execution<'a>,
     pub initial_store: InitialStore<'a>,
-    pub outputs: Option<&'a str>,
-    pub released: Option<&'a str>,
 }
 
 /// A comparison: the paths of a lattice file, of an image and of two store files, the class of the
@@ -118,14 +117,25 @@ pub struct Audit<'a> {
     pub has_evidence: bool,
 }
 
+/// How an answer is written.
+#[derive(Clone, Copy, Debug, PartialEq, Eq)]
+pub enum AnswerForm {
+    /// As lines, for a reader.
+    Lines,
+    /// As a line of JSON.
+    Json,
+    /// As a document of SARIF.
+    Sarif,
+}
+
 /// A judgement by an interface: the paths of the interface file and of a source text or an image,
-/// the budget of all its runs together, and whether the answer is written as JSON.
+/// the budget of all its runs together, and how the answer is written.
 #[derive(Clone, Copy)]
 pub struct Conformance<'a> {
     pub interface: &'a str,
     pub source: &'a str,
     pub budget: u64,
-    pub is_json: bool,
+    pub form: AnswerForm,
 }
 
 /// A drawing: the paths of a lattice file and, if flows are drawn too, of a source text; whether
@@ -142,6 +152,14 @@ pub struct Drawing<'a> {
 #[derive(Clone, Copy)]
 pub struct Looking<'a> {
     pub lattice: &'a str,
+    pub old: Option<&'a str>,
+}
+
+/// A look at who sees which globals: the paths of an interface file and, if it is compared with an
+/// older one, of that.
+#[derive(Clone, Copy)]
+pub struct Visibility<'a> {
+    pub interface: &'a str,
     pub old: Option<&'a str>,
 }
 
@@ -214,7 +232,7 @@ pub struct Layout<'a> {
 }
 
 /// A request whose answer is one document, which a program reads.
-#[derive(Clone, Copy)]
+#[derive(Drop)]
 pub enum Document<'a> {
     /// The answer of `check` as SARIF.
     Sarif(Judging<'a>),
@@ -224,8 +242,19 @@ pub enum Document<'a> {
     Flows(Compilation<'a>),
     /// The answer of `audit` as JSON.
     Audit(Audit<'a>),
+    /// The answer of `audit` as SARIF.
+    AuditSarif(Audit<'a>),
     /// The answer of `bound` as JSON.
     Bound(Bounding<'a>),
+    /// The answer of `run` as JSON, which goes to standard output.
+    Run {
+        execution: Execution<'a>,
+        initial_store: InitialStore<'a>,
+    },
+    /// The answer of `compare` as JSON.
+    Compare(Comparison<'a>),
+    /// The answer of `leak` as JSON.
+    Leak(Search<'a>),
 }
 
 /// Whether an explanation is coloured.
@@ -293,6 +322,7 @@ pub enum Request<'a> {
     Report(Compilation<'a>),
     Draw(Drawing<'a>),
     Policy(Looking<'a>),
+    Visible(Visibility<'a>),
     Format(&'a str),
     Layout(Layout<'a>),
     /// With the shape of a lattice and the names given for its classes.

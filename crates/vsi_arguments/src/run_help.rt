@@ -55,6 +55,8 @@ reads the store file, if one is given, sets globals, and runs the image. If it
 halts within its budget, a line `NAME = NUMBER` is printed, or written to a
 file, for each global whose class is at or below the observer's, or that
 --outputs and --release name instead. Otherwise nothing is printed or written.
+With --interface FILE the lattice and these lists are those of an interface, to
+which the image must conform, and IMAGE is the only operand.
 
 Statuses: 0 halted, 1 refused, 2 usage or no such class, 3 out of budget,
 4 file fault, 5 out of memory.";
@@ -72,7 +74,8 @@ Example:
   l = 2
   $ vsi view two.toml add.image --class L --budget 7 --release h
   h = 1
-  l = 1";
+  l = 1
+  $ vsi view --interface door.toml door.image --class user --budget auto";
 
 /// The long help of `drive`.
 pub(crate) const DRIVE: &str = "\

@@ -3,6 +3,7 @@
 use crate::argument::Argument;
 use crate::arguments::*;
 use crate::drive_arguments::*;
+use crate::policy_arguments::*;
 use crate::{help, run_help};
 use clap::{Arg, Command};
 use std::alloc::{AllocError, Global};
@@ -48,7 +49,7 @@ const SUBCOMMANDS: [Subcommand; 21] = [
         line: "Says whether a text or an image conforms to an interface",
         whole: help::CONFORM,
         example: help::CONFORM_EXAMPLE,
-        arguments: &[INTERFACE, JUDGED, RUNS_BUDGET, JSON],
+        arguments: &[INTERFACE, JUDGED, RUNS_BUDGET, JSON, CONFORM_SARIF],
     },
     Subcommand {
         name: "classes",
@@ -90,7 +91,15 @@ const SUBCOMMANDS: [Subcommand; 21] = [
         line: "Says whether an image is accepted, whoever made it",
         whole: help::AUDIT,
         example: help::AUDIT_EXAMPLE,
-        arguments: &[LATTICE, IMAGE, STRICT, STEADY, AUDIT_JSON, EVIDENCE],
+        arguments: &[
+            LATTICE,
+            IMAGE,
+            STRICT,
+            STEADY,
+            AUDIT_JSON,
+            AUDIT_SARIF,
+            EVIDENCE,
+        ],
     },
     Subcommand {
         name: "source",
@@ -119,7 +128,7 @@ const SUBCOMMANDS: [Subcommand; 21] = [
         whole: run_help::RUN,
         example: run_help::RUN_EXAMPLE,
         arguments: &[
-            IMAGE, BUDGET, STORE, SET, FULL_STORE, OUT, FORCE, TRACE, COUNT,
+            IMAGE, BUDGET, STORE, SET, FULL_STORE, OUT, FORCE, TRACE, COUNT, RUN_JSON,
         ],
     },
     Subcommand {
@@ -128,7 +137,18 @@ const SUBCOMMANDS: [Subcommand; 21] = [
         whole: run_help::VIEW,
         example: run_help::VIEW_EXAMPLE,
         arguments: &[
-            LATTICE, CLASS, IMAGE, BUDGET, STORE, SET, FULL_STORE, OUT, FORCE, OUTPUTS, RELEASE,
+            DRIVE_LATTICE,
+            CLASS,
+            DRIVEN_IMAGE,
+            VIEW_INTERFACE,
+            BUDGET,
+            STORE,
+            SET,
+            FULL_STORE,
+            OUT,
+            FORCE,
+            OUTPUTS,
+            RELEASE,
         ],
     },
     Subcommand {
@@ -158,7 +178,7 @@ const SUBCOMMANDS: [Subcommand; 21] = [
         line: "Runs an image from two stores and prints what a class sees of both",
         whole: run_help::COMPARE,
         example: run_help::COMPARE_EXAMPLE,
-        arguments: &[LATTICE, IMAGE, CLASS, BUDGET, STORES],
+        arguments: &[LATTICE, IMAGE, CLASS, BUDGET, STORES, COMPARE_JSON],
     },
     Subcommand {
         name: "leak",
@@ -166,7 +186,7 @@ const SUBCOMMANDS: [Subcommand; 21] = [
         whole: run_help::LEAK,
         example: run_help::LEAK_EXAMPLE,
         arguments: &[
-            LATTICE, SOURCE, LOOKING, RUN_BUDGET, TRIES, SEED, ENDINGS, STEPS,
+            LATTICE, SOURCE, LOOKING, RUN_BUDGET, TRIES, SEED, ENDINGS, STEPS, LEAK_JSON,
         ],
     },
     Subcommand {
@@ -188,7 +208,7 @@ const SUBCOMMANDS: [Subcommand; 21] = [
         line: "Prints who sees what under a lattice, or what changed",
         whole: help::POLICY,
         example: help::POLICY_EXAMPLE,
-        arguments: &[LATTICE, OLD_LATTICE],
+        arguments: &[POLICY_LATTICE, OLD_POLICY, POLICY_INTERFACE],
     },
     Subcommand {
         name: "fmt",
@@ -227,9 +247,27 @@ const UNREFUSED: [Subcommand; 3] = [
 /// The arguments that say how a refusal is reported.
 const MANNER: [Argument; 2] = [EXPLAIN, COLOR];
 
+/// The usage of `view`, which has two forms.
+const VIEW_USAGE: &str = "vsi view [OPTIONS] --class <C> --budget <N> <LATTICE> <IMAGE>
+       vsi view [OPTIONS] --class <C> --budget <N> --interface <FILE> <IMAGE>";
+
 /// The usage of `drive`, which has two forms.
 const DRIVE_USAGE: &str = "vsi drive [OPTIONS] --class <C> <LATTICE> <IMAGE>
        vsi drive [OPTIONS] --class <C> --interface <FILE> <IMAGE>";
+
+/// The usage of `policy`, which has two forms.
+const POLICY_USAGE: &str = "vsi policy [OPTIONS] <LATTICE> [OLD]
+       vsi policy [OPTIONS] --interface <FILE> [OLD]";
+
+/// The usage of a subcommand that has two forms.
+fn usage_of(name: &str) -> Option<&'static str> {
+    match name {
+        "view" => Some(VIEW_USAGE),
+        "drive" => Some(DRIVE_USAGE),
+        "policy" => Some(POLICY_USAGE),
+        _ => None,
+    }
+}
 
 impl Subcommand {
     /// Builds the subcommand for the command-line parser.
@@ -238,9 +276,10 @@ impl Subcommand {
             .about(self.line)
             .long_about(self.whole)
             .after_help(self.example);
-        if self.name == "drive" {
-            return taking(alloc, command.override_usage(DRIVE_USAGE), self.arguments);
-        }
+        let command = match usage_of(self.name) {
+            Some(usage) => command.override_usage(usage),
+            None => command,
+        };
         taking(alloc, command, self.arguments)
     }
 }

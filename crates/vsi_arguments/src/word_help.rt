@@ -7,11 +7,26 @@ with two keys: `classes`, an array of 1 to 64 names, and `below`, an
 array of pairs [low, high] of them. Every two classes must have a
 least class above both and a greatest class below both.";
 
-/// An older lattice file.
-pub(crate) const OLD_LATTICE: &str = "\
-The path of an older lattice file, of the same form. With it the
-answer has what each class sees now and didn't see then, and what it
-sees no longer.";
+/// The lattice file of `policy`.
+pub(crate) const POLICY_LATTICE: &str = "\
+The path of the lattice file, a TOML document of at most 1048576 bytes
+with two keys: `classes`, an array of 1 to 64 names, and `below`, an
+array of pairs [low, high] of them. Every two classes must have a
+least class above both and a greatest class below both. With
+--interface it is left out, and OLD is the only operand.";
+
+/// An older lattice file or interface file.
+pub(crate) const OLD_POLICY: &str = "\
+The path of an older lattice file or, with --interface, of an older
+interface file. With it the answer has what each class sees now and
+didn't see then, and what it sees no longer.";
+
+/// `--interface` of `policy`.
+pub(crate) const POLICY_INTERFACE: &str = "\
+The path of an interface file, in place of LATTICE. The lattice is
+that of the interface, and the answer has the globals that each class
+sees in place of the classes. A program isn't read: `vsi conform` says
+whether one has these globals.";
 
 /// A source text.
 pub(crate) const SOURCE: &str = "\
@@ -332,6 +347,12 @@ pub(crate) const JSON: &str = "\
 Writes the answer as a line of JSON: an object with `conforms` and
 `points`.";
 
+/// The answer of `conform` as SARIF.
+pub(crate) const CONFORM_SARIF: &str = "\
+Writes the answer as a document of SARIF 2.1.0, which services that
+check changes show on the lines of the text: a result for each point,
+whose rule is the kind of the point.";
+
 /// The answer of `mend` as JSON.
 pub(crate) const MEND_JSON: &str = "\
 Writes the answer as a line of JSON: an object with `accepted` and
@@ -354,11 +375,35 @@ pub(crate) const AUDIT_JSON: &str = "\
 Writes the answer as a line of JSON: an object with `accepted`, and
 for a refusal its number, its name and its text.";
 
+/// The answer of `audit` as SARIF.
+pub(crate) const AUDIT_SARIF: &str = "\
+Writes the answer as a document of SARIF 2.1.0 on standard output: a
+refusal is its one result, and an accepted image has none.";
+
 /// The answer of `bound` as JSON.
 pub(crate) const BOUND_JSON: &str = "\
 Writes the answer as a line of JSON: an object with `bounded`, `text`,
 and the two numbers between which the number of instructions of every
 run lies, or the instruction for which there is no bound.";
+
+/// The answer of `run` as JSON.
+pub(crate) const RUN_JSON: &str = "\
+Writes the answer as a line of JSON: an object with `halted`, the
+number of `instructions` and, if the run halts, `globals`, an array
+with an object for each global. It doesn't go with `--trace`,
+`--count` and `--out`.";
+
+/// The answer of `compare` as JSON.
+pub(crate) const COMPARE_JSON: &str = "\
+Writes the answer as a line of JSON: an object with `class`, `same`,
+the words that the class sees `before` and `after` both runs, and how
+the `first` and the `second` run end.";
+
+/// The answer of `leak` as JSON.
+pub(crate) const LEAK_JSON: &str = "\
+Writes the answer as a line of JSON: an object with `found`. For a
+leak it also has its `class`, the words `before` and `after` both
+runs, and how they end; otherwise the number of `pairs` of runs.";
 
 /// `--keep-comments`.
 pub(crate) const KEEP_COMMENTS: &str = "\
@@ -392,7 +437,7 @@ empty is replaced only if it is of the kind that is written, an image
 or a store. A file that is read is never replaced, except for a store
 by the one that follows it.";
 
-/// The lattice file of a drive.
+/// The lattice file of a drive or of a view.
 pub(crate) const DRIVE_LATTICE: &str = "\
 The path of the lattice file, a TOML document of at most 1048576 bytes
 with two keys: `classes`, an array of 1 to 64 names, and `below`, an
@@ -400,7 +445,7 @@ array of pairs [low, high] of them. Every two classes must have a
 least class above both and a greatest class below both. With
 --interface it is left out, and IMAGE is the only operand.";
 
-/// `--interface`.
+/// `--interface` of `drive`.
 pub(crate) const DRIVE_INTERFACE: &str = "\
 The path of an interface file, in place of LATTICE, --inputs,
 --outputs and --release. The lattice is that of the interface, and an
@@ -408,6 +453,15 @@ image that doesn't conform to it, as `vsi conform` judges, isn't
 driven. A table `[[cycle]]` with the name of the class lists the
 inputs, outputs and released names. If there are such tables, a class
 without one drives nothing.";
+
+/// `--interface` of `view`.
+pub(crate) const VIEW_INTERFACE: &str = "\
+The path of an interface file, in place of LATTICE, --outputs and
+--release. The lattice is that of the interface, and an image that
+doesn't conform to it, as `vsi conform` judges, isn't run. A table
+`[[cycle]]` with the name of the class lists the outputs and released
+names; its inputs are judged, but they don't change the view. If there
+are such tables, a class without one views nothing.";
 
 /// `--inputs`.
 pub(crate) const INPUTS: &str = "\

@@ -124,8 +124,16 @@ no_document (document.Flows compilation) words lattice source plain asks =
     unnamed (texts words) _ asks.rest (codes "flows") plain.are asks.named refl
 no_document (document.Audit audit) words lattice source plain asks =
     unnamed (texts words) _ asks.rest (codes "audit") plain.are asks.named refl
+no_document (document.AuditSarif audit) words lattice source plain asks =
+    unnamed (texts words) _ asks.rest (codes "audit") plain.are asks.named refl
 no_document (document.Bound bounding) words lattice source plain asks =
     unnamed (texts words) _ asks.rest (codes "bound") plain.are asks.named refl
+no_document (document.Run execution initial_store) words lattice source plain asks =
+    unnamed (texts words) _ asks.rest (codes "run") plain.are asks.named refl
+no_document (document.Compare comparison) words lattice source plain asks =
+    unnamed (texts words) _ asks.rest (codes "compare") plain.are asks.named refl
+no_document (document.Leak search) words lattice source plain asks =
+    unnamed (texts words) _ asks.rest (codes "leak") plain.are asks.named refl
 
 -- Every request that such arguments make is a judgement of the two files.
 pub one_request : (words : List (String Global)) (lattice source : List ℕ) → ArePlainCheck words lattice source →

@@ -5,16 +5,18 @@ ghost use Rattle.vsi_arguments.specs.declared.request.Request.TheVariants as req
 ghost use Rattle.vsi_asked.specs.Asked as spec;
 ghost use Rattle.vsi_asked.specs.Words.{operands_in, shown, texts, values_in};
 
-use crate::documents::{asks_audit, asks_bound, asks_classes, asks_document, asks_flows};
+use crate::documents::{
+    asks_audit, asks_bound, asks_classes, asks_compare, asks_document, asks_flows, asks_leak,
+};
 use crate::drives::asks_drive;
 use crate::numbers::{has_budget, has_number, number_in, only_operand};
 use crate::own::has_own_alone;
+use crate::policies::{asks_policy, asks_visible};
 use crate::reading::{has_flag, has_operands, has_values};
 use crate::viewing::{asks_view_within, has_listing};
 use vsi_arguments::{
-    Attempt, Audit, Bounding, Comparison, Compilation, Conformance, Document, Drawing, Emission,
-    Execution, InitialStore, Judging, Layout, Looking, Mending, RUNS_BUDGET, Request, SEARCH,
-    Search, Serving, TRY_BUDGET,
+    AnswerForm, Attempt, Audit, Bounding, Compilation, Conformance, Document, Drawing, Emission,
+    Execution, InitialStore, Judging, Layout, Mending, RUNS_BUDGET, Request, Serving, TRY_BUDGET,
 };
 use vsi_explain::{page, subject_page};
 
@@ -146,6 +148,7 @@ fn asks_run(
         ("--full-store", initial_store.is_full),
         ("--trace", has_trace),
         ("--count", has_count),
+        ("--json", false),
     ];
     let Some(rest) = behind(words, "run", operands.as_slice(), flags.as_slice()) else {
         return false;
@@ -171,41 +174,8 @@ fn asks_view(
     };
     has_value(rest, "--class", Some(class))
         && has_initial_store(rest, execution, initial_store)
-        && has_listing(rest, None, None)
+        && has_listing(rest, None, None, None)
         && has_budget(rest, execution.budget)
-}
-
-/// Whether the arguments request a comparison.
-fn asks_compare(words: &[String], comparison: &Comparison<'_>) -> bool
-    ensures { result ≡ true → spec.Spells words.now (request.Compare comparison.now) }
-{
-    let operands = [comparison.lattice.as_bytes(), comparison.image.as_bytes()];
-    let Some(rest) = behind(words, "compare", operands.as_slice(), &[]) else {
-        return false;
-    };
-    let (first, second) = comparison.stores;
-    let stores = [first.as_bytes(), second.as_bytes()];
-    has_value(rest, "--class", Some(comparison.class))
-        && has_values(rest, b"--store", stores.as_slice())
-        && has_budget(rest, comparison.budget)
-}
-
-/// Whether the arguments request a search for a leak.
-fn asks_leak(words: &[String], search: &Search<'_>) -> bool
-    ensures { result ≡ true → spec.Spells words.now (request.Leak search.now) }
-{
-    let operands = [search.lattice.as_bytes(), search.source.as_bytes()];
-    let flags = [
-        ("--endings", search.has_endings),
-        ("--steps", search.has_steps),
-    ];
-    let Some(rest) = behind(words, "leak", operands.as_slice(), flags.as_slice()) else {
-        return false;
-    };
-    has_value(rest, "--class", search.class)
-        && has_number(rest, "--budget", Some(SEARCH), search.budget)
-        && has_number(rest, "--tries", Some(SEARCH), search.tries)
-        && has_number(rest, "--seed", Some(0), search.seed)
 }
 
 /// Whether the arguments request a language server.
@@ -241,24 +211,6 @@ fn asks_draw(words: &[String], drawing: &Drawing<'_>) -> bool
     }
 }
 
-/// Whether the arguments request a look at a policy.
-fn asks_policy(words: &[String], looking: &Looking<'_>) -> bool
-    ensures { result ≡ true → spec.Spells words.now (request.Policy looking.now) }
-{
-    match looking.old {
-        Some(old) => {
-            let operands = [looking.lattice.as_bytes(), old.as_bytes()];
-            asks(words, "policy", operands.as_slice(), &[])
-        }
-        None => asks(
-            words,
-            "policy",
-            [looking.lattice.as_bytes()].as_slice(),
-            &[],
-        ),
-    }
-}
-
 /// Whether the arguments request a judgement of a source text, as SARIF or not.
 pub(crate) fn asks_check(words: &[String], judging: &Judging<'_>, is_sarif: bool) -> bool
     ensures { result ≡ true → spec.Asks words.now (codes "check")
@@ -274,6 +226,20 @@ pub(crate) fn asks_check(words: &[String], judging: &Judging<'_>, is_sarif: bool
     asks_compilation(words, "check", &judging.compilation, flags.as_slice())
 }
 
+/// Whether an answer is written as JSON.
+fn is_json(form: AnswerForm) -> bool
+    ensures { result ≡ spec.is_json form }
+{
+    matches!(form, AnswerForm::Json)
+}
+
+/// Whether an answer is written as SARIF.
+fn is_sarif(form: AnswerForm) -> bool
+    ensures { result ≡ spec.is_sarif form }
+{
+    matches!(form, AnswerForm::Sarif)
+}
+
 /// Whether the arguments request a judgement by an interface.
 fn asks_conform(words: &[String], conformance: &Conformance<'_>) -> bool
     ensures { result ≡ true → spec.Spells words.now (request.Conform conformance.now) }
@@ -282,7 +248,10 @@ fn asks_conform(words: &[String], conformance: &Conformance<'_>) -> bool
         conformance.interface.as_bytes(),
         conformance.source.as_bytes(),
     ];
-    let flags = [("--json", conformance.is_json)];
+    let flags = [
+        ("--json", is_json(conformance.form)),
+        ("--sarif", is_sarif(conformance.form)),
+    ];
     let Some(rest) = behind(words, "conform", operands.as_slice(), flags.as_slice()) else {
         return false;
     };
@@ -418,7 +387,7 @@ fn spells(words: &[String], request: &Request<'_>) -> bool
         Request::Mend(mending) => asks_mend(words, mending),
         Request::Build(compilation, image) => asks_build(words, compilation, image),
         Request::List(image) => asks_file(words, "list", image),
-        Request::Audit(audit) => asks_audit(words, audit, false),
+        Request::Audit(audit) => asks_audit(words, audit, false, false),
         Request::Source(image) => asks_file(words, "source", image),
         Request::EmitC(emission) => asks_emission(words, emission),
         Request::Bound(bounding) => asks_bound(words, bounding, false),
@@ -436,11 +405,12 @@ fn spells(words: &[String], request: &Request<'_>) -> bool
         } => asks_view(words, lattice, class, execution, initial_store),
         Request::ViewWithin(viewing) => asks_view_within(words, viewing),
         Request::Drive(driving) => asks_drive(words, driving),
-        Request::Compare(comparison) => asks_compare(words, comparison),
-        Request::Leak(search) => asks_leak(words, search),
+        Request::Compare(comparison) => asks_compare(words, comparison, false),
+        Request::Leak(search) => asks_leak(words, search, false),
         Request::Report(compilation) => asks_judged(words, "report", compilation),
         Request::Draw(drawing) => asks_draw(words, drawing),
         Request::Policy(looking) => asks_policy(words, looking),
+        Request::Visible(visibility) => asks_visible(words, visibility),
         Request::Format(source) => asks_file(words, "fmt", source),
         Request::Layout(layout) => asks_layout(words, layout),
         Request::Lattice(arguments) => asks(words, "lattice", arguments.as_slice(), &[]),

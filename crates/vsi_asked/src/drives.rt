@@ -60,8 +60,8 @@ fn has_drive(
         && has_number(rest, "--save-every", Some(EVERY), driving.every)
 }
 
-/// The lists of a drive, which aren't given with an interface.
-fn lists_of<'a>(policy: DrivePolicy<'a>) -> NameLists<'a>
+/// The lists of a drive or of a view, which aren't given with an interface.
+pub(crate) fn lists_of<'a>(policy: DrivePolicy<'a>) -> NameLists<'a>
     ensures { result ≡ spec.lists_of policy.entry }
 {
     match policy {

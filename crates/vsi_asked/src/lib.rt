@@ -15,6 +15,7 @@ mod help;
 pub mod laws;
 mod numbers;
 mod own;
+mod policies;
 mod reading;
 mod viewing;
 

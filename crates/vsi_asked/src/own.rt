@@ -35,7 +35,7 @@ const CHECK: [&[u8]; 6] = [
 ];
 
 /// The flags of `conform`.
-const CONFORM: [&[u8]; 2] = [b"--json", b"--explain"];
+const CONFORM: [&[u8]; 3] = [b"--json", b"--sarif", b"--explain"];
 
 /// The options of `conform`.
 const CONFORM_OPTIONS: [&[u8]; 2] = [b"--budget", b"--color"];
@@ -59,11 +59,12 @@ const MEND: [&[u8]; 4] = [b"--strict", b"--apply", b"--json", b"--explain"];
 const LAYOUT: [&[u8]; 4] = [b"--keep-comments", b"--check", b"--write", b"--explain"];
 
 /// The flags of `audit`.
-const AUDIT: [&[u8]; 5] = [
+const AUDIT: [&[u8]; 6] = [
     b"--strict",
     b"--steady",
     b"--evidence",
     b"--json",
+    b"--sarif",
     b"--explain",
 ];
 
@@ -74,10 +75,11 @@ const EMIT_C: [&[u8]; 3] = [b"--header", b"--bounded", b"--explain"];
 const EMIT_C_OPTIONS: [&[u8]; 3] = [b"--lattice", b"--name", b"--color"];
 
 /// The flags of `run`.
-const RUN: [&[u8]; 5] = [
+const RUN: [&[u8]; 6] = [
     b"--full-store",
     b"--trace",
     b"--count",
+    b"--json",
     b"--explain",
     b"--force",
 ];
@@ -98,12 +100,13 @@ const VIEW_OPTIONS: [&[u8]; 6] = [
     b"--color",
 ];
 
-/// The options of `view` with lists.
-const VIEW_WITHIN_OPTIONS: [&[u8]; 8] = [
+/// The options of `view` with an interface or with lists.
+const VIEW_WITHIN_OPTIONS: [&[u8]; 9] = [
     b"--class",
     b"--store",
     b"--out",
     b"--set",
+    b"--interface",
     b"--outputs",
     b"--release",
     b"--budget",
@@ -127,14 +130,20 @@ const DRIVE_OPTIONS: [&[u8]; 10] = [
     b"--color",
 ];
 
+/// The flags of `compare`.
+const COMPARE: [&[u8]; 2] = [b"--json", b"--explain"];
+
 /// The options of `compare`.
 const COMPARE_OPTIONS: [&[u8]; 4] = [b"--class", b"--store", b"--budget", b"--color"];
 
 /// The flags of `leak`.
-const LEAK: [&[u8]; 3] = [b"--endings", b"--steps", b"--explain"];
+const LEAK: [&[u8]; 4] = [b"--endings", b"--steps", b"--json", b"--explain"];
 
 /// The options of `leak`.
 const LEAK_OPTIONS: [&[u8]; 5] = [b"--class", b"--budget", b"--tries", b"--seed", b"--color"];
+
+/// The options of `policy`.
+const POLICY_OPTIONS: [&[u8]; 2] = [b"--interface", b"--color"];
 
 /// The flags of `lsp`.
 const LSP: [&[u8]; 1] = [b"--strict"];
@@ -204,7 +213,11 @@ fn has_own_document(words: &[String], document: &Document<'_>) -> bool
         Document::Classes(_) => are_own(words, CLASSES.as_slice(), NO_OPTIONS.as_slice()),
         Document::Flows(_) => are_own(words, FLOWS.as_slice(), NO_OPTIONS.as_slice()),
         Document::Audit(_) => are_own(words, AUDIT.as_slice(), NO_OPTIONS.as_slice()),
+        Document::AuditSarif(_) => are_own(words, AUDIT.as_slice(), NO_OPTIONS.as_slice()),
         Document::Bound(_) => are_own(words, BOUND.as_slice(), NO_OPTIONS.as_slice()),
+        Document::Run { .. } => are_own(words, RUN.as_slice(), RUN_OPTIONS.as_slice()),
+        Document::Compare(_) => are_own(words, COMPARE.as_slice(), COMPARE_OPTIONS.as_slice()),
+        Document::Leak(_) => are_own(words, LEAK.as_slice(), LEAK_OPTIONS.as_slice()),
     }
 }
 
@@ -228,7 +241,8 @@ pub(crate) fn has_own_alone(words: &[String], request: &Request<'_>) -> bool
         Request::List(_) => are_own(words, NO_FLAGS.as_slice(), NO_OPTIONS.as_slice()),
         Request::Source(_) => are_own(words, NO_FLAGS.as_slice(), NO_OPTIONS.as_slice()),
         Request::Format(_) => are_own(words, NO_FLAGS.as_slice(), NO_OPTIONS.as_slice()),
-        Request::Policy(_) => are_own(words, NO_FLAGS.as_slice(), NO_OPTIONS.as_slice()),
+        Request::Policy(_) => are_own(words, NO_FLAGS.as_slice(), POLICY_OPTIONS.as_slice()),
+        Request::Visible(_) => are_own(words, NO_FLAGS.as_slice(), POLICY_OPTIONS.as_slice()),
         Request::Layout(_) => are_own(words, LAYOUT.as_slice(), NO_OPTIONS.as_slice()),
         Request::EmitC(_) => are_own(words, EMIT_C.as_slice(), EMIT_C_OPTIONS.as_slice()),
         Request::Bound(_) => are_own(words, BOUND.as_slice(), NO_OPTIONS.as_slice()),
@@ -236,7 +250,7 @@ pub(crate) fn has_own_alone(words: &[String], request: &Request<'_>) -> bool
         Request::View { .. } => are_own(words, VIEW.as_slice(), VIEW_OPTIONS.as_slice()),
         Request::ViewWithin(_) => are_own(words, VIEW.as_slice(), VIEW_WITHIN_OPTIONS.as_slice()),
         Request::Drive(_) => are_own(words, DRIVE.as_slice(), DRIVE_OPTIONS.as_slice()),
-        Request::Compare(_) => are_own(words, NO_FLAGS.as_slice(), COMPARE_OPTIONS.as_slice()),
+        Request::Compare(_) => are_own(words, COMPARE.as_slice(), COMPARE_OPTIONS.as_slice()),
         Request::Leak(_) => are_own(words, LEAK.as_slice(), LEAK_OPTIONS.as_slice()),
         Request::Try(_) => are_own(words, NO_FLAGS.as_slice(), TRY_OPTIONS.as_slice()),
         Request::Lsp(_) => are_own(words, LSP.as_slice(), LSP_OPTIONS.as_slice()),

@@ -3,11 +3,12 @@
 //!
 //! `completion` offers the words and symbols with which some program goes on, and the names in scope
 //! or the classes where one may come. `layout_edits` writes the text of `laid_out`, which keeps the
-//! program and the comments (clause `laid`), and `fixes` the text of `repaired`, which is accepted
-//! (clause `accepted`); it also offers rewrites that hints offer, and a branch for an `if` without an
-//! `else`, with which the text is read on. `folds` lists the blocks of several lines.
+//! program and the comments (clause `laid`). `fixes` writes the text with the least raises, as
+//! `repaired` does, which is accepted (clause `accepted`), under a title that names these raises; it
+//! also offers rewrites that hints offer, and a branch for an `if` without an `else`, with which the
+//! text is read on. `folds` lists the blocks of several lines.
 //!
-//! To be believed: the definitions of the crates below that the clauses cite.
+//! To be believed: `specs/Titles`, and the definitions of the crates below that the clauses cite.
 #![tactic(auto)]
 
 mod branching;
@@ -18,6 +19,7 @@ mod objects;
 mod repairing;
 mod rewriting;
 mod scope;
+mod titles;
 
 pub use completing::completion;
 pub use folding::folds;

@@ -6,12 +6,13 @@ ghost use Rattle.vsi_compiler.specs.Acceptance.{IsAccepted};
 
 use crate::objects::{document_edits, text_value, whole_edits};
 use crate::rewriting::{Asked, put_rewrites};
+use crate::titles::raising_title;
 use serde_json::{Value, json};
 use std::alloc::{AllocError, Global};
 use vsi_client::Encoding;
-use vsi_compiler::CompileError;
+use vsi_compiler::{CompileError, Source, read_source};
 use vsi_lattice::Lattice;
-use vsi_raised::{RaisedError, raise_lines_in, raised_text_in};
+use vsi_raised::{RaisedError, raised_text_in, raised_text_of};
 use vsi_types::Profile;
 
 /// The number of a refused flow.
@@ -32,58 +33,6 @@ pub fn repaired(
         Err(RaisedError::Memory) => Err(AllocError),
         Err(_) => Ok(None),
     }
-}
-
-/// The lines of the least raises: none if no raise makes the text accepted, or it is accepted.
-fn lines_of(
-    alloc: Global,
-    profile: Profile,
-    lattice: &Lattice,
-    text: &[u8],
-) -> Result<Vec<u8>, AllocError> {
-    match raise_lines_in(alloc, profile, lattice, text) {
-        Ok(lines) => Ok(lines),
-        Err(CompileError::Memory) => Err(AllocError),
-        Err(_) => Ok(Vec::new(alloc)),
-    }
-}
-
-/// A word of a line, without the comma after it.
-fn word_at(line: &[u8], place: usize) -> &[u8] {
-    let word = match line.split(|byte| *byte == b' ').nth(place) {
-        Some(word) => word,
-        None => b"",
-    };
-    match word {
-        [rest @ .., b','] => rest,
-        _ => word,
-    }
-}
-
-/// Adds the raise of a line such as `1:16 l : L -> H, since h reaches it`: `l from L to H`.
-fn put_raise(title: &mut Vec<u8>, line: &[u8]) -> Result<(), AllocError> {
-    title.extend_from_slice(word_at(line, 1))?;
-    title.extend_from_slice(b" from ")?;
-    title.extend_from_slice(word_at(line, 3))?;
-    title.extend_from_slice(b" to ")?;
-    title.extend_from_slice(word_at(line, 5))
-}
-
-/// The title of a repair with the raises of these lines.
-fn title_of(alloc: Global, lines: &[u8]) -> Result<Vec<u8>, AllocError> {
-    let mut title = Vec::from_slice(alloc, b"Raise ")?;
-    let mut is_first = true;
-    for line in lines.split(|byte| *byte == b'\n') {
-        if line.is_empty() {
-            continue;
-        }
-        if !is_first {
-            title.extend_from_slice(b", ")?;
-        }
-        put_raise(&mut title, line)?;
-        is_first = false;
-    }
-    Ok(title)
 }
 
 /// Whether a request is about a refused flow: one of its errors has that number.
@@ -112,31 +61,46 @@ fn fix(alloc: Global, title: &[u8], changes: Value) -> Result<Value, AllocError>
     })
 }
 
-/// The repair that makes all raises at once.
-fn fixes_of(
+/// The repair that makes all raises of a source at once: none if no raise makes it accepted, or it
+/// is accepted as it is.
+fn raising_fix(
     alloc: Global,
     encoding: Encoding,
     profile: Profile,
-    lattice: &Lattice,
     uri: &[u8],
-    text: &[u8],
-) -> Result<Vec<Value>, AllocError> {
-    let mut list = Vec::new(alloc);
-    let lines = lines_of(alloc, profile, lattice, text)?;
-    if lines.is_empty() {
-        return Ok(list);
-    }
-    if let Some(new) = repaired(alloc, profile, lattice, text)? {
-        let title = title_of(alloc, &lines)?;
-        let edits = whole_edits(alloc, encoding, text, &new)?;
-        let changes = document_edits(alloc, uri, edits)?;
-        list.push(fix(alloc, &title, changes)?)?;
-    }
-    Ok(list)
+    source: &Source<'_>,
+) -> Result<Option<Value>, AllocError> {
+    let Some(title) = raising_title(alloc, profile, source)? else {
+        return Ok(None);
+    };
+    let new = match raised_text_of(alloc, profile, source) {
+        Ok(new) => new,
+        Err(RaisedError::Memory) => return Err(AllocError),
+        Err(_) => return Ok(None),
+    };
+    let edits = whole_edits(alloc, encoding, source.text(), &new)?;
+    let changes = document_edits(alloc, uri, edits)?;
+    Ok(Some(fix(alloc, &title, changes)?))
 }
 
-/// The repairs for a request: one that writes the text of `repaired`, if the request is about a
-/// refused flow, and the rewrites of the parts that its errors are about.
+/// The repair of a text, which may have no program.
+fn fix_of<'a>(
+    alloc: Global,
+    encoding: Encoding,
+    profile: Profile,
+    lattice: &'a Lattice,
+    uri: &[u8],
+    text: &'a [u8],
+) -> Result<Option<Value>, AllocError> {
+    match read_source(alloc, lattice, text) {
+        Ok(source) => raising_fix(alloc, encoding, profile, uri, &source),
+        Err(CompileError::Memory) => Err(AllocError),
+        Err(_) => Ok(None),
+    }
+}
+
+/// The repairs for a request: one that writes the text with the least raises, if the request is
+/// about a refused flow, and the rewrites of the parts that its errors are about.
 pub fn fixes(
     alloc: Global,
     encoding: Encoding,
@@ -148,7 +112,9 @@ pub fn fixes(
 ) -> Result<Value, AllocError> {
     let mut list = Vec::new(alloc);
     if is_of_flow(value) {
-        list = fixes_of(alloc, encoding, profile, lattice, uri, text)?;
+        if let Some(repair) = fix_of(alloc, encoding, profile, lattice, uri, text)? {
+            list.push(repair)?;
+        }
     }
     let asked = Asked {
         encoding,

@@ -1,2 +1,5 @@
 pub mod Plain
 pub mod Made
+pub mod Worded
+pub mod Sides
+pub mod Refusing

@@ -3,3 +3,8 @@ pub mod Classes
 pub mod Flows
 pub mod Bounds
 pub mod Audits
+pub mod Words
+pub mod Runs
+pub mod Comparisons
+pub mod Leaks
+pub mod Refused

@@ -49,7 +49,7 @@ fn put_bound(
 }
 
 /// A line without its line feed.
-fn without_end(line: &[u8]) -> &[u8]
+pub(crate) fn without_end(line: &[u8]) -> &[u8]
     ensures { result.now ≡ without_end_of line.now }
 {
     &line[..line.len().saturating_sub(1)]

@@ -3,6 +3,7 @@
 use crate::diagnostics::Page;
 use crate::objects::{location_object, place_at, text_at};
 use crate::reading::{Reading, reading_of};
+use crate::relations::put_relations;
 use crate::replies::Fault;
 use serde_json::{Value, json};
 use std::alloc::{AllocError, Global};
@@ -136,13 +137,15 @@ fn put_class(text: &mut Vec<u8>, reading: &Reading<'_>, variable: usize) -> Resu
     text.extend_from_slice(class)
 }
 
-/// The text about a name: the class of its variable.
+/// The text about a name: the class of its variable, and the declared variables that reach it or
+/// that it reaches.
 fn hover(alloc: Global, reading: &Reading<'_>, mention: Mention) -> Result<Value, AllocError> {
     let mut shown = Vec::from_slice(alloc, reading.text_of(mention.span))?;
     put_class(&mut shown, reading, mention.variable)?;
     if reading.is_inferred(mention.variable) {
         shown.extend_from_slice(b" (inferred)")?;
     }
+    put_relations(alloc, &mut shown, reading, mention.variable)?;
     let contents = text_value(alloc, &shown)?;
     let range = range_object(alloc, reading.page.range(mention.span))?;
     json!(in alloc; {"contents": contents, "range": range})

@@ -1,6 +1,7 @@
 //! Open documents, and the errors that are published for them.
 
 use crate::diagnostics::{Page, error_object, errors_in, only};
+use crate::interfaces::interface_errors;
 use crate::replies::notification;
 use crate::warned::put_others;
 use serde_json::{Value, json};
@@ -33,7 +34,8 @@ pub(crate) enum Policy {
 pub(crate) enum Kind {
     Source,
     Lattice,
-    /// A store, an interface, or another file that isn't judged.
+    Interface,
+    /// A store, or another file that isn't judged.
     Other,
 }
 
@@ -63,6 +65,7 @@ fn is_interface(text: &[u8]) -> bool {
         || has_key(text, b"order")
         || has_key(text, b"lattice")
         || has_key(text, b"[[runs")
+        || has_key(text, b"[[cycle")
 }
 
 impl Document {
@@ -87,14 +90,16 @@ impl Document {
         }
     }
 
-    /// The kind of the document: a TOML file that has a key of lattice files and none of interfaces is a
-    /// lattice file.
+    /// The kind of the document: a TOML file that has a key of interfaces is an interface, and
+    /// another one that has a key of lattice files is a lattice file.
     pub(crate) fn kind(&self) -> Kind {
         if !self.uri.ends_with(b".toml") {
             return Kind::Source;
         }
-        let has_classes = has_key(&self.text, b"classes") || has_key(&self.text, b"below");
-        if has_classes && !is_interface(&self.text) {
+        if is_interface(&self.text) {
+            return Kind::Interface;
+        }
+        if has_key(&self.text, b"classes") || has_key(&self.text, b"below") {
             return Kind::Lattice;
         }
         Kind::Other
@@ -102,7 +107,7 @@ impl Document {
 }
 
 /// The part of a text from a byte to the end of its line.
-fn line_span(text: &[u8], start: usize) -> Span {
+pub(crate) fn line_span(text: &[u8], start: usize) -> Span {
     let mut stop = start;
     for byte in text.get(start..).unwrap_or(b"") {
         if *byte == b'\n' || *byte == b'\r' {
@@ -125,14 +130,19 @@ fn naming_span(text: &[u8]) -> Span {
 }
 
 /// The error of a lattice file that can't be read.
-fn lost_object(alloc: Global, page: Page<'_>, path: &[u8]) -> Result<Value, AllocError> {
+pub(crate) fn lost_error(
+    alloc: Global,
+    page: Page<'_>,
+    span: Span,
+    path: &[u8],
+) -> Result<Value, AllocError> {
     let mut message = Vec::from_slice(alloc, b"file fault: ")?;
     message.extend_from_slice(path)?;
-    error_object(alloc, page, naming_span(page.text), 0, &message)
+    error_object(alloc, page, span, 0, &message)
 }
 
 /// The error of a lattice file that is refused.
-fn refused_object(
+pub(crate) fn refused_object(
     alloc: Global,
     page: Page<'_>,
     span: Span,
@@ -192,11 +202,15 @@ fn document_errors(
     let page = document.page(encoding);
     match document.kind() {
         Kind::Lattice => lattice_errors(alloc, page),
+        Kind::Interface => interface_errors(alloc, page, &document.policy),
         Kind::Other => Ok(Vec::new(alloc)),
         Kind::Source => match &document.policy {
             Policy::Two => source_errors(alloc, profile, page, TWO_CLASSES),
             Policy::File(bytes) => source_errors(alloc, profile, page, bytes),
-            Policy::Lost(path) => only(alloc, lost_object(alloc, page, path)?),
+            Policy::Lost(path) => {
+                let span = naming_span(page.text);
+                only(alloc, lost_error(alloc, page, span, path)?)
+            }
         },
     }
 }

@@ -12,10 +12,14 @@
 mod asking;
 mod diagnostics;
 mod documents;
+mod flows;
 mod frames;
 mod further;
+mod interfaces;
+mod marks;
 mod objects;
 mod reading;
+mod relations;
 mod replies;
 mod server;
 mod starting;

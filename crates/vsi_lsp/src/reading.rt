@@ -1,38 +1,57 @@
 //! A document as requests read it: its program, the names in it, and the classes of its variables.
 
+ghost use Rattle.std.specs.List.{All};
+ghost use Rattle.vsi_lattice.specs.LatticeView.{order};
+ghost use Rattle.vsi_lattice.specs.Order.{IsClass};
+
 use crate::diagnostics::Page;
 use crate::objects::place_at;
 use serde_json::Value;
 use std::alloc::{AllocError, Global};
 use vsi_client::offset_of;
-use vsi_compiler::{CompileError, Source, classes_text_of};
+use vsi_compiler::{CompileError, Source, judge};
+use vsi_lattice::{Class, Lattice};
 use vsi_names::{Mention, mention_at, mentions_of};
 use vsi_syntax::Span;
 use vsi_types::Profile;
 
-/// A document whose text has a program, the names in it, and the lines of the classes of its
-/// variables, which are none if a flow is refused.
+/// A document whose text has a program, the names in it, and the names of the classes of its
+/// letvars, which are none if a flow is refused.
 #[derive(Drop)]
 pub(crate) struct Reading<'a> {
     pub(crate) page: Page<'a>,
+    pub(crate) profile: Profile,
     pub(crate) source: Source<'a>,
     pub(crate) mentions: Vec<Mention>,
-    classes: Vec<u8>,
+    classes: Vec<&'a [u8]>,
 }
 
-/// The lines of the classes of the variables; none if a flow is refused.
-fn classes_of(alloc: Global, profile: Profile, source: &Source<'_>) -> Result<Vec<u8>, AllocError> {
-    match classes_text_of(alloc, profile, source) {
-        Ok(lines) => Ok(lines),
+/// The names of classes.
+fn names_of<'a>(
+    alloc: Global,
+    lattice: &'a Lattice,
+    classes: &[Class],
+) -> Result<Vec<&'a [u8]>, AllocError>
+    requires { All (IsClass (order lattice.now)) classes.now }
+{
+    let mut names = Vec::new(alloc);
+    for class in classes {
+        names.push(lattice.name(*class))?;
+    }
+    Ok(names)
+}
+
+/// The names of the least classes of the letvars; none if a flow is refused.
+fn classes_of<'a>(
+    alloc: Global,
+    profile: Profile,
+    source: &Source<'a>,
+) -> Result<Vec<&'a [u8]>, AllocError> {
+    match judge(alloc, profile, source) {
+        Ok(classes) => names_of(alloc, source.lattice(), &classes),
         Err(CompileError::Memory) => Err(AllocError),
         Err(_) => Ok(Vec::new(alloc)),
     }
-}
-
-/// The last word of the line at a place of a text of several lines.
-fn last_word(lines: &[u8], place: usize) -> Option<&[u8]> {
-    let line = lines.split(|byte| *byte == b'\n').nth(place)?;
-    line.rsplit(|byte| *byte == b' ').next()
 }
 
 /// A document as requests read it.
@@ -46,6 +65,7 @@ pub(crate) fn reading_of<'a>(
     let classes = classes_of(alloc, profile, &source)?;
     Ok(Reading {
         page,
+        profile,
         source,
         mentions,
         classes,
@@ -91,10 +111,9 @@ impl Reading<'_> {
         if let Some(global) = self.source.globals().get(variable) {
             return Some(global.class.text);
         }
-        let word = last_word(&self.classes, variable)?;
-        if word.is_empty() {
-            return None;
+        match self.classes.get(self.letvar_of(variable)?) {
+            Some(name) => Some(*name),
+            None => None,
         }
-        Some(word)
     }
 }

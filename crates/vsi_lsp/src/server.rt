@@ -6,6 +6,7 @@ ghost use Rattle.vsi_lsp.specs.Frames.{AreFrames};
 use crate::asking::{is_of_lattice, is_of_text, lattice_answer, text_answer};
 use crate::documents::{Document, Kind, Policy, cleared, published, said};
 use crate::frames::framed;
+use crate::interfaces::interface_path;
 use crate::objects::{range_at, text_at};
 use crate::replies::{Fault, failure, response};
 use crate::starting::{encoding_for, welcome};
@@ -335,6 +336,9 @@ impl Server {
 
     /// The path of the lattice file of a document, if it has one.
     fn policy_path(&self, document: &Document) -> Result<Option<String>, AllocError> {
+        if document.kind() == Kind::Interface {
+            return interface_path(self.alloc, &document.uri, &document.text);
+        }
         if document.kind() != Kind::Source {
             return Ok(None);
         }

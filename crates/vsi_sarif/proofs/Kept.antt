@@ -1,7 +1,7 @@
 -- The objects of steps, one after another.
 use Rattle.std.proofs.Common.{◌≡◌, ◌∙◌, ℕ, List, [], ◌∷◌, ◌++◌, map, ap, sym}
 use Rattle.std.proofs.lemmas.List.{append_assoc, map-append}
-use Rattle.serde_json.specs.Data.{Data, object}
+use Rattle.serde_json.specs.Data.{object}
 use Rattle.serde_json.specs.View.{view}
 use Rattle.serde_json.specs.declared.value.Value.{Value}
 use Rattle.vsi_scope.specs.Program.{Resolved}

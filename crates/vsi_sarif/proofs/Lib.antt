@@ -1,2 +1,4 @@
 pub mod Kept
 pub mod Plain
+pub mod Lines
+pub mod Written

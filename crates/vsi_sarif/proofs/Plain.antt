@@ -27,11 +27,11 @@ array_plain : (key : List ℕ) (items : List Data) (ms : Members) → items_have
 array_plain key items ms e f = put_plain key (array (items_of items)) ms e f
 
 -- An array of one such object has none.
-one_plain : (ms : Members) → members_have_float ms ≡ false → items_have_float (items_of (object ms ∷ [])) ≡ false
+pub one_plain : (ms : Members) → members_have_float ms ≡ false → items_have_float (items_of (object ms ∷ [])) ≡ false
 one_plain ms e = both (members_have_float ms) false e refl
 
 -- An object with one text has none.
-lone_plain : (key text : List ℕ) → members_have_float (text_members key text) ≡ false
+pub lone_plain : (key text : List ℕ) → members_have_float (text_members key text) ≡ false
 lone_plain key text = text_plain key text no_members refl
 
 -- A file.
@@ -52,7 +52,7 @@ physical_plain uri (Some place) =
     (file_plain uri)
 
 -- A location.
-location_plain : (uri : List ℕ) (place : Option (ℕ × ℕ)) →
+pub location_plain : (uri : List ℕ) (place : Option (ℕ × ℕ)) →
     members_have_float (location.location_members uri place) ≡ false
 location_plain uri place =
     object_plain (codes "physicalLocation") (location.physical_members uri place) no_members (physical_plain uri place)
@@ -105,6 +105,22 @@ rules_plain d =
     (text_plain (codes "name") d.name (text_members (codes "id") (decimal d.code))
     (lone_plain (codes "id") (decimal d.code)))
 
+-- A result.
+pub result_plain : (id : List ℕ) (index : ℕ) (at : Members) (objects : Option (List Data)) (lines : List ℕ) →
+    members_have_float at ≡ false → members_have_float (refusal.with_flow objects no_members) ≡ false →
+    members_have_float (refusal.result_members id index at objects lines) ≡ false
+result_plain id index at objects lines placed flowing =
+    let flow = refusal.with_flow objects no_members in
+    let levelled = with_text (codes "level") (codes "error") flow in
+    let located = with_array (codes "locations") (object at ∷ []) levelled in
+    let said = with_object (codes "message") (text_members (codes "text") (without_end lines)) located in
+    let ruled = with_text (codes "ruleId") id said in
+    natural_plain (codes "ruleIndex") index ruled (text_plain (codes "ruleId") id said
+    (object_plain (codes "message") (text_members (codes "text") (without_end lines)) located
+    (lone_plain (codes "text") (without_end lines))
+    (array_plain (codes "locations") (object at ∷ []) levelled (one_plain at placed)
+    (text_plain (codes "level") (codes "error") flow flowing))))
+
 -- The results of a refusal.
 results_plain : (l : Lattice) (uri source : List ℕ) (d : Diagnostic) (objects : Option (List Data)) (lines : List ℕ) →
     steps.LocatesFlow l uri source d.steps objects →
@@ -112,21 +128,12 @@ results_plain : (l : Lattice) (uri source : List ℕ) (d : Diagnostic) (objects 
 results_plain l uri source d objects lines found =
     let id = decimal d.code in
     let at = location.location_members uri (refusal.place_of source d) in
-    let flow = refusal.with_flow objects no_members in
-    let levelled = with_text (codes "level") (codes "error") flow in
-    let located = with_array (codes "locations") (object at ∷ []) levelled in
-    let said = with_object (codes "message") (text_members (codes "text") (without_end lines)) located in
-    let ruled = with_text (codes "ruleId") id said in
-    one_plain (refusal.result_members id at objects lines)
-    (natural_plain (codes "ruleIndex") 0 ruled (text_plain (codes "ruleId") id said
-    (object_plain (codes "message") (text_members (codes "text") (without_end lines)) located
-    (lone_plain (codes "text") (without_end lines))
-    (array_plain (codes "locations") (object at ∷ []) levelled
-    (one_plain at (location_plain uri (refusal.place_of source d)))
-    (text_plain (codes "level") (codes "error") flow (flow_plain l uri source d.steps objects found))))))
+    one_plain (refusal.result_members id 0 at objects lines)
+    (result_plain id 0 at objects lines (location_plain uri (refusal.place_of source d))
+    (flow_plain l uri source d.steps objects found))
 
 -- A document.
-document_plain : (rules results : List Data) → items_have_float (items_of rules) ≡ false →
+pub document_plain : (rules results : List Data) → items_have_float (items_of rules) ≡ false →
     items_have_float (items_of results) ≡ false → members_have_float (document.document_members rules results) ≡ false
 document_plain rules results e f =
     let named = with_text (codes "name") (codes "vsi") no_members in
@@ -160,7 +167,7 @@ accepted_is rules results out none nothing written =
 pub refusal_is : (l : Lattice) (uri source : List ℕ) (d : Diagnostic) (objects : Option (List Data))
     (lines id : List ℕ) (rules results : List Data) (out : List ℕ) → id ≡ decimal d.code →
     steps.LocatesFlow l uri source d.steps objects → rules ≡ object (refusal.rule_members id d) ∷ [] →
-    results ≡ object (refusal.result_members id (location.location_members uri (refusal.place_of source d)) objects lines)
+    results ≡ object (refusal.result_members id 0 (location.location_members uri (refusal.place_of source d)) objects lines)
     ∷ [] →
     (members_have_float (document.document_members rules results) ≡ false → out ≡ document.document_text rules results)
     → refusal.IsRefusalDocument l uri source d lines out
@@ -169,7 +176,7 @@ refusal_is l uri source d objects lines id rules results out same found ruled ma
     let rules_are : rules ≡ refusal.rules_of d =
     ruled ∙ ap (λ (i : List ℕ). object (refusal.rule_members i d) ∷ []) same in
     let results_are : results ≡ refusal.results_of uri source d objects lines =
-    made ∙ ap (λ (i : List ℕ). object (refusal.result_members i at objects lines) ∷ []) same in
+    made ∙ ap (λ (i : List ℕ). object (refusal.result_members i 0 at objects lines) ∷ []) same in
     record {
       steps = objects;
       locates = found;

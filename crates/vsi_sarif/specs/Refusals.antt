@@ -52,10 +52,11 @@ abbrev pub with_flow : Option (List Data) → Members → Members
 with_flow None ms = ms
 with_flow (Some objects) ms = with_array (codes "codeFlows") (object (flow_members objects) ∷ []) ms
 
--- The members of a result of a rule, at a location, with the steps of a flow and the lines that are printed.
-abbrev pub result_members : List ℕ → Members → Option (List Data) → List ℕ → Members
-result_members id location steps lines =
-    with_natural (codes "ruleIndex") 0 (with_text (codes "ruleId") id
+-- The members of a result of the rule with an identifier and an index, at a location, with the steps of a flow and the
+-- lines that are printed.
+abbrev pub result_members : List ℕ → ℕ → Members → Option (List Data) → List ℕ → Members
+result_members id index location steps lines =
+    with_natural (codes "ruleIndex") index (with_text (codes "ruleId") id
     (with_object (codes "message") (text_members (codes "text") (without_end lines))
     (with_array (codes "locations") (object location ∷ [])
     (with_text (codes "level") (codes "error") (with_flow steps no_members)))))
@@ -67,7 +68,7 @@ rules_of d = object (rule_members (decimal d.code) d) ∷ []
 -- The results of the document of a refusal.
 abbrev pub results_of : List ℕ → List ℕ → Diagnostic → Option (List Data) → List ℕ → List Data
 results_of uri source d steps lines =
-    object (result_members (decimal d.code) (location_members uri (place_of source d)) steps lines) ∷ []
+    object (result_members (decimal d.code) 0 (location_members uri (place_of source d)) steps lines) ∷ []
 
 -- The document of a refusal with these lines.
 pub record IsRefusalDocument (l : Lattice) (uri source : List ℕ) (d : Diagnostic) (lines out : List ℕ) : Type 0 where

@@ -23,7 +23,7 @@ pub struct Documented {
 }
 
 /// Whether a judgement demands a steady image.
-fn is_steady(judgement: Judgement) -> bool
+pub(crate) fn is_steady(judgement: Judgement) -> bool
     ensures { result ≡ is_steady_of judgement }
 {
     match judgement {
@@ -32,8 +32,8 @@ fn is_steady(judgement: Judgement) -> bool
     }
 }
 
-/// The document of an accepted text, which has no result.
-fn accepted(alloc: Global) -> Result<Vec<u8>, AllocError>
+/// The document of an accepted text or image, which has no result.
+pub(crate) fn accepted(alloc: Global) -> Result<Vec<u8>, AllocError>
     ensures { IfOk result (λ out. out.items ≡ document_text [] []) }
 {
     let rules = Vec::new(alloc);

@@ -1,20 +1,31 @@
-//! The answer of `vsi check` as a document of SARIF 2.1.0, which services that check changes show on
-//! the lines of a text.
+//! Answers of `vsi` as documents of SARIF 2.1.0, which services that check changes show on the lines
+//! of a text.
 //!
 //! `check_sarif` judges a source text as `vsi check` does. The document of an accepted text has no
 //! result. The document of a refused text has one: its rule is the number and the name of the
 //! refusal, its message the lines that `check` prints, its place that of the refusal, and for a
-//! refused flow it has a location for each step of the walk. `specs/Checking` says which answer is written,
-//! `specs/Refusals` and `specs/Document` define its text.
+//! refused flow it has a location for each step of the walk. `audit_sarif` and `steady_sarif` judge
+//! an image as `vsi audit` does, and their documents have the same form; a refusal of an image has
+//! no position. `points_sarif` and `image_sarif` write the answer about a text or an image beside an
+//! interface: a result for each point, whose rule is the kind of the point. `specs/Checking`,
+//! `specs/Auditing` and `specs/Conforming` say which answers are written, `specs/Refusals`,
+//! `specs/Findings` and `specs/Document` define their text.
 //!
 //! To be believed: all files of `specs/`.
 #![tactic(auto)]
 
+mod auditing;
 mod checking;
+mod conforming;
 mod document;
+mod findings;
+mod held;
+mod kinds;
 mod location;
 mod objects;
 mod refusal;
 mod steps;
 
+pub use auditing::{audit_sarif, steady_sarif};
 pub use checking::{Documented, check_sarif};
+pub use conforming::{image_sarif, points_sarif};

@@ -100,15 +100,16 @@ fn without_end(lines: &[u8]) -> &[u8]
     &lines[..lines.len().saturating_sub(1)]
 }
 
-/// The object of the result.
-fn result_object(
+/// The object of a result of the rule with an identifier and an index.
+pub(crate) fn result_object(
     alloc: Global,
     id: &[u8],
+    index: usize,
     location: Map<String, Value>,
     steps: Option<Vec<Value>>,
     lines: &[u8],
 ) -> Result<Map<String, Value>, AllocError>
-    ensures { IfOk result (λ made. members_view made.entries ≡ spec.result_members id.now
+    ensures { IfOk result (λ made. members_view made.entries ≡ spec.result_members id.now index
         (members_view location.entries) (option_map (λ v. map view v.items) steps) lines.now) }
 {
     let mut made = Map::new(alloc);
@@ -122,7 +123,7 @@ fn result_object(
         text_object(alloc, "text", without_end(lines))?,
     )?;
     put_text(alloc, &mut made, "ruleId", id)?;
-    put_natural(alloc, &mut made, "ruleIndex", 0)?;
+    put_natural(alloc, &mut made, "ruleIndex", index)?;
     Ok(made)
 }
 
@@ -144,7 +145,7 @@ fn identified(
     let ruled = rule(alloc, id, diagnostic)?;
     let rules = only(alloc, ruled)?;
     let place = location(alloc, uri, place_of(source, diagnostic))?;
-    let found = result_object(alloc, id, place, steps, lines)?;
+    let found = result_object(alloc, id, 0, place, steps, lines)?;
     let results = only(alloc, found)?;
     let text = document(alloc, rules, results)?;
     Ok(text)

@@ -174,7 +174,8 @@ function providers(server) {
           return null;
         }
         const text = typeof found.contents === 'string' ? found.contents : found.contents.value;
-        return new vscode.Hover(text, found.range && range(found.range));
+        // In Markdown a line ends only after two blanks.
+        return new vscode.Hover(text.replaceAll('\n', '  \n'), found.range && range(found.range));
       },
     },
     registerInlayHintsProvider: {

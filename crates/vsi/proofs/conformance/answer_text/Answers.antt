@@ -1,18 +1,10 @@
-use Rattle.std.proofs.Common.{sym, subst}
-use Rattle.std.specs.Prelude.{IfOk}
-use Rattle.vsi.specs.Performed.{IsWrittenAs}
 use Rattle.vsi.proofs.conformance.answer_text.Goals as goal
 
-pub returns-then-is_json : goal.returns-then-is_json
-returns-then-is_json c =
-    subst
-    (λ b. IfOk c.points_json.result (λ out. IsWrittenAs b c.args.lattice.now c.args.text.now c.args.interface.now
-    c.args.answer.now out.items))
-    (sym c.if-is_json.true) c.points_json.ensures.json
+pub returns-in-Lines : goal.returns-in-Lines
+returns-in-Lines c = rw c.in-Lines.is c.points_text.ensures.text
 
-pub returns-else-is_json : goal.returns-else-is_json
-returns-else-is_json c =
-    subst
-    (λ b. IfOk c.points_text.result (λ out. IsWrittenAs b c.args.lattice.now c.args.text.now c.args.interface.now
-    c.args.answer.now out.items))
-    (sym c.if-is_json.false) c.points_text.ensures.text
+pub returns-in-Json : goal.returns-in-Json
+returns-in-Json c = rw c.in-Json.is c.points_json.ensures.json
+
+pub returns-in-Sarif : goal.returns-in-Sarif
+returns-in-Sarif c = rw c.in-Sarif.is c.points_sarif.ensures.document

@@ -13,8 +13,8 @@ use Rattle.vsi.proofs.conformance.bytes_answer.Goals as goal
 pub returns-then-is_image-clause-told : goal.returns-then-is_image-clause-told
 returns-then-is_image-clause-told c =
     subst
-    (λ b. IfOk c.image_answer.result (λ pair. TellsBytes b c.args.is_json pair.0 c.args.lattice.now c.args.bytes.now
-    c.args.interface.now pair.1.items))
+    (λ b. IfOk c.image_answer.result (λ pair. TellsBytes b c.args.form c.args.path.now pair.0 c.args.lattice.now
+    c.args.bytes.now c.args.interface.now pair.1.items))
     (sym c.if-is_image.true ∙ c.begins_image-is_image.ensures) c.image_answer.ensures.told
 
 pub returns-then-is_image-clause-failed : goal.returns-then-is_image-clause-failed
@@ -28,8 +28,8 @@ returns-then-is_image-clause-failed c =
 pub returns-else-is_image-clause-told : goal.returns-else-is_image-clause-told
 returns-else-is_image-clause-told c =
     subst
-    (λ b. IfOk c.answer_of.result (λ pair. TellsBytes b c.args.is_json pair.0 c.args.lattice.now c.args.bytes.now
-    c.args.interface.now pair.1.items))
+    (λ b. IfOk c.answer_of.result (λ pair. TellsBytes b c.args.form c.args.path.now pair.0 c.args.lattice.now
+    c.args.bytes.now c.args.interface.now pair.1.items))
     (sym c.if-is_image.false ∙ c.begins_image-is_image.ensures) c.answer_of.ensures.told
 
 pub returns-else-is_image-clause-failed : goal.returns-else-is_image-clause-failed

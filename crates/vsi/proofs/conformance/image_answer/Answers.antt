@@ -14,7 +14,7 @@ returns-clause-told c = (
     tells = c.in_ok-answer.ensures.told;
     verdict = sym c.conforms-conforms.ensures;
     is = λ is. c.in_ok-answer.ensures.conforms (sym c.conforms-conforms.ensures ∙ is);
-    written = subst (λ im. IsSuppliedAs c.args.is_json c.args.lattice.now im c.args.interface.now
+    written = subst (λ im. IsSuppliedAs c.args.form c.args.path.now c.args.lattice.now im c.args.interface.now
         c.in_ok-answer.answer c.in_ok-written.written.items) c.image.ensures.same c.in_ok-written.ensures;
   },
 )

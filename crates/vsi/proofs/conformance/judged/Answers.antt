@@ -12,8 +12,8 @@ use Rattle.vsi.proofs.conformance.judged.Goals as goal
 pub returns-clause-told : goal.returns-clause-told
 returns-clause-told g c =
     IfOk-weaker c.bytes_answer.result
-    (λ pair. TellsBytes (begins_image c.deref.result.now) c.args.asked.is_json pair.0 c.in_ok-found.lattice
-    c.deref.result.now c.in_ok-found.found.interface pair.1.items)
+    (λ pair. TellsBytes (begins_image c.deref.result.now) c.args.asked.form c.args.asked.source.now pair.0
+    c.in_ok-found.lattice c.deref.result.now c.in_ok-found.found.interface pair.1.items)
     (λ pair. ConformsFiles (g.F.Files.holds c.args.files.now) c.args.asked pair.0 pair.1)
     (λ pair tells. record {
       asked = c.in_ok-found.found;

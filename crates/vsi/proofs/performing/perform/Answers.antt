@@ -5,7 +5,8 @@ use Rattle.vsi_devices.specs.Counted.{device_of}
 use Rattle.vsi_answers.specs.Requests.{ListsTo}
 use Rattle.vsi.specs.Shaping.{ShapedText}
 use Rattle.vsi.specs.Refusals.{AsksCanonical, AsksClasses, NoOther, RefusesFile, RefusesFiles, RefusesImage, RefusesLattice, RefusesSource}
-use Rattle.vsi.specs.Reasons.{HasNoText, LacksEmitBound, LacksTried, OtherLeak, RefusesAudit, WhyDraw, WhyEmit, WhyPolicy, WhyTry}
+use Rattle.vsi.specs.Reasons.{HasNoText, LacksEmitBound, LacksTried, OtherLeak, RefusesAudit, WhyDraw, WhyEmit, WhyPolicy, WhyTry, WhyVisible}
+use Rattle.vsi.specs.Undriven.{IsUnusable}
 use Rattle.vsi.proofs.Filled.{alone}
 use Rattle.vsi.proofs.CarriedOut.{put_fails}
 use Rattle.vsi.proofs.Unrun.{Unseen, fault_failed}
@@ -62,6 +63,11 @@ pub returns-in-Policy-clause-performed : goal.returns-in-Policy-clause-performed
 returns-in-Policy-clause-performed g c = rw c.in-Policy.is
     (put_alone _ _ _ _ _ c.policy.result c.put-in-Policy.result c.policy.ensures.kept c.policy.ensures.told
     c.put-in-Policy.ensures.done)
+
+pub returns-in-Visible-clause-performed : goal.returns-in-Visible-clause-performed
+returns-in-Visible-clause-performed g c = rw c.in-Visible.is
+    (put_alone _ _ _ _ _ c.visible.result c.put-in-Visible.result c.visible.ensures.kept c.visible.ensures.told
+    c.put-in-Visible.ensures.done)
 
 pub returns-in-Format-clause-performed : goal.returns-in-Format-clause-performed
 returns-in-Format-clause-performed g c = rw c.in-Format.is
@@ -176,6 +182,10 @@ pub returns-in-Policy-clause-left : goal.returns-in-Policy-clause-left
 returns-in-Policy-clause-left g c = rw c.in-Policy.is
     (put_leaves _ _ _ c.policy.result c.put-in-Policy.result c.policy.ensures.told c.put-in-Policy.ensures.left)
 
+pub returns-in-Visible-clause-left : goal.returns-in-Visible-clause-left
+returns-in-Visible-clause-left g c = rw c.in-Visible.is
+    (put_leaves _ _ _ c.visible.result c.put-in-Visible.result c.visible.ensures.told c.put-in-Visible.ensures.left)
+
 pub returns-in-Format-clause-left : goal.returns-in-Format-clause-left
 returns-in-Format-clause-left g c = rw c.in-Format.is
     (put_leaves _ _ _ c.format.result c.put-in-Format.result c.format.ensures.told c.put-in-Format.ensures.left)
@@ -267,6 +277,9 @@ returns-in-Draw-clause-state g c = rw c.in-Draw.is (any_failure _ _ tt)
 
 pub returns-in-Policy-clause-state : goal.returns-in-Policy-clause-state
 returns-in-Policy-clause-state g c = rw c.in-Policy.is (any_failure _ _ tt)
+
+pub returns-in-Visible-clause-state : goal.returns-in-Visible-clause-state
+returns-in-Visible-clause-state g c = rw c.in-Visible.is (any_failure _ _ tt)
 
 pub returns-in-Format-clause-state : goal.returns-in-Format-clause-state
 returns-in-Format-clause-state g c = rw c.in-Format.is (any_failure _ _ tt)
@@ -372,6 +385,12 @@ returns-in-Policy-clause-failed g c = rw c.in-Policy.is
     (put_fails (WhyPolicy (g.F.Files.holds c.args.files.now) c.in-Policy.looking.lattice.now c.in-Policy.looking.old)
     NoOther
     c.policy.result c.put-in-Policy.result c.policy.ensures.failed c.put-in-Policy.ensures.failed)
+
+pub returns-in-Visible-clause-failed : goal.returns-in-Visible-clause-failed
+returns-in-Visible-clause-failed g c = rw c.in-Visible.is
+    (put_fails
+    (WhyVisible (g.F.Files.holds c.args.files.now) c.in-Visible.visibility.interface.now c.in-Visible.visibility.old)
+    IsUnusable c.visible.result c.put-in-Visible.result c.visible.ensures.failed c.put-in-Visible.ensures.failed)
 
 pub returns-in-Format-clause-failed : goal.returns-in-Format-clause-failed
 returns-in-Format-clause-failed g c = rw c.in-Format.is

@@ -1,5 +1,5 @@
 use Rattle.std.proofs.Common.{◌∙◌, false, sym, subst}
-use Rattle.vsi.specs.Supplied.{IsSuppliedAs}
+use Rattle.vsi_conform_image.specs.Lines.{IsConformText}
 use Rattle.vsi.proofs.steering.know_image.Goals as goal
 
 pub returns-clause-failed : goal.returns-clause-failed
@@ -8,6 +8,6 @@ returns-clause-failed c = record {
   tells = c.in_ok-answer.ensures.told;
   verdict = sym c.conforms.ensures ∙ c.if-conforms.false;
   is = λ never. absurd cc;
-  written = subst (λ im. IsSuppliedAs false c.args.lattice.now im c.args.interface.now
+  written = subst (λ im. IsConformText c.args.lattice.now im c.args.interface.now
       c.in_ok-answer.answer c.in_ok-lines.lines.items) c.image.ensures.same c.in_ok-lines.ensures.text;
 }

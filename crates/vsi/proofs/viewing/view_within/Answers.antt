@@ -4,7 +4,8 @@ use Rattle.std.specs.Io.KnownBytes.{Appends}
 use Rattle.vsi_devices.specs.Counted.{device_of}
 use Rattle.vsi.specs.Viewing.{AnswersViewWithin}
 use Rattle.vsi.specs.Files.{shown}
-use Rattle.vsi.specs.Refusals.{LacksEither, FailsBy}
+use Rattle.vsi.specs.Refusals.{FailsBy}
+use Rattle.vsi.specs.Undriven.{LacksView}
 use Rattle.vsi.specs.Reasons.{WhyViewWithin}
 use Rattle.vsi.proofs.Filled.{both_done, delivered_of}
 use Rattle.vsi.proofs.Partly.{kept_leaves, late_leaves}
@@ -50,14 +51,11 @@ returns-in_err-text-clause-failed g c =
     let holds = g.F.Files.holds c.args.files.now in
     let asked = c.args.asked.now in
     handed
-    (FailsBy (WhyViewWithin holds asked)
-    (LacksEither holds asked.lattice.now asked.class.now asked.execution.image.now asked.execution.budget))
+    (FailsBy (WhyViewWithin holds asked) (LacksView holds asked))
     c.in_err-text.field-0.0 c.from_residual.result c.from_residual.ensures.1 c.in_err-text.ensures.failed
 
 pub returns-clause-failed : goal.returns-clause-failed
 returns-clause-failed g c =
     let holds = g.F.Files.holds c.args.files.now in
     let asked = c.args.asked.now in
-    handed_late (WhyViewWithin holds asked)
-    (LacksEither holds asked.lattice.now asked.class.now asked.execution.image.now asked.execution.budget)
-    c.deliver.result c.deliver.ensures.failure
+    handed_late (WhyViewWithin holds asked) (LacksView holds asked) c.deliver.result c.deliver.ensures.failure

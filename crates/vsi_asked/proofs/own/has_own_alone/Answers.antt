@@ -24,6 +24,10 @@ pub returns-in-Policy : goal.returns-in-Policy
 returns-in-Policy c =
     rw c.in-Policy.is (rw (c.as_slice-in-Policy.ensures, c.as_slice-in-Policy-2.ensures) at c.are_own-in-Policy.ensures)
 
+pub returns-in-Visible : goal.returns-in-Visible
+returns-in-Visible c =
+    rw c.in-Visible.is (rw (c.as_slice-in-Visible.ensures, c.as_slice-in-Visible-2.ensures) at c.are_own-in-Visible.ensures)
+
 pub returns-in-Flows : goal.returns-in-Flows
 returns-in-Flows c =
     rw c.in-Flows.is (rw (c.as_slice-in-Flows.ensures, c.as_slice-in-Flows-2.ensures) at c.are_own-in-Flows.ensures)

@@ -16,6 +16,23 @@ pub returns-in-Audit : goal.returns-in-Audit
 returns-in-Audit c =
     rw c.in-Audit.is (rw (c.as_slice-in-Audit.ensures, c.as_slice-in-Audit-2.ensures) at c.are_own-in-Audit.ensures)
 
+pub returns-in-AuditSarif : goal.returns-in-AuditSarif
+returns-in-AuditSarif c =
+    rw c.in-AuditSarif.is
+    (rw (c.as_slice-in-AuditSarif.ensures, c.as_slice-in-AuditSarif-2.ensures) at c.are_own-in-AuditSarif.ensures)
+
 pub returns-in-Bound : goal.returns-in-Bound
 returns-in-Bound c =
     rw c.in-Bound.is (rw (c.as_slice-in-Bound.ensures, c.as_slice-in-Bound-2.ensures) at c.are_own-in-Bound.ensures)
+
+pub returns-in-Run : goal.returns-in-Run
+returns-in-Run c =
+    rw c.in-Run.is (rw (c.as_slice-in-Run.ensures, c.as_slice-in-Run-2.ensures) at c.are_own-in-Run.ensures)
+
+pub returns-in-Compare : goal.returns-in-Compare
+returns-in-Compare c =
+    rw c.in-Compare.is (rw (c.as_slice-in-Compare.ensures, c.as_slice-in-Compare-2.ensures) at c.are_own-in-Compare.ensures)
+
+pub returns-in-Leak : goal.returns-in-Leak
+returns-in-Leak c =
+    rw c.in-Leak.is (rw (c.as_slice-in-Leak.ensures, c.as_slice-in-Leak-2.ensures) at c.are_own-in-Leak.ensures)

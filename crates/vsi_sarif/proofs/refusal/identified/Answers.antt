@@ -15,6 +15,6 @@ returns c =
     c.in_ok-text.text.items same c.in_ok-steps.ensures
     (c.in_ok-rules.ensures ∙ ap (λ (ms : Members). object ms ∷ []) c.in_ok-ruled.ensures)
     (c.in_ok-results.ensures ∙ ap (λ (ms : Members). object ms ∷ []) (c.in_ok-found.ensures
-    ∙ ap (λ (ms : Members). result_members c.args.id.now ms steps c.args.lines.now) (c.in_ok-place.ensures
+    ∙ ap (λ (ms : Members). result_members c.args.id.now 0 ms steps c.args.lines.now) (c.in_ok-place.ensures
     ∙ ap (location_members c.args.uri.now) c.place_of.ensures)))
     c.in_ok-text.ensures

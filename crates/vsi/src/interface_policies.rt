@@ -1,0 +1,116 @@
+//! The globals that each class sees under an interface.
+
+ghost use Rattle.std.specs.Prelude.{◌≡◌, Some, IfErr, IfOk, IsSomeAnd};
+ghost use Rattle.vsi.specs.Interfaces.{IsAskedAt, IsPolicyAt};
+ghost use Rattle.vsi.specs.Reasons.{WhyVisible};
+ghost use Rattle.vsi.specs.Refusals.{FailsBy};
+ghost use Rattle.vsi.specs.Undriven.{IsUnusable, RefusesAsked};
+ghost use Rattle.vsi.specs.Visible.{ShowsFiles, ToldVisible};
+
+use crate::cache::InputCache;
+use crate::conformance::{interface_in, know_classes, know_cycles, lattice_of};
+use crate::failure::Failure;
+use crate::files::Files;
+use std::alloc::{AllocError, Global};
+use vsi_arguments::Visibility;
+use vsi_conform::{Asked, Interface};
+use vsi_lattice::Lattice;
+use vsi_policy::policy_warnings;
+use vsi_visible::{unused_warnings, visible_changes, visible_table};
+
+/// The interface of a file and its lattice, which has all classes that the interface names. The
+/// budgets of its runs aren't judged, because none of them is run.
+fn known_in<'a, F: Files>(
+    cache: &mut InputCache,
+    path: &'a str,
+    files: &mut F,
+) -> Result<(Asked, Lattice), Failure<'a>>
+    ensures kept { F.holds files.new ≡ F.holds files.old }
+    ensures asked { IfOk result (λ pair. IsAskedAt (F.holds files.old) path.now pair.0) }
+    ensures declared { IfOk result
+        (λ pair. IsPolicyAt (F.holds files.old) path.now pair.0.policy pair.1) }
+    ensures failed { IfErr result
+        (FailsBy (RefusesAsked (F.holds files.old) path.now) IsUnusable) }
+{
+    let found = interface_in(cache, path, files)?;
+    let lattice = lattice_of(cache, path, &found.policy, files)?;
+    know_classes(cache.alloc, &lattice, &found.interface)?;
+    know_cycles(cache.alloc, &lattice, &found.cycles)?;
+    Ok((found, lattice))
+}
+
+/// The differences of an interface from that of an older file.
+fn changes<'a, F: Files>(
+    cache: &mut InputCache,
+    interface: &Interface,
+    lattice: &Lattice,
+    old: &'a str,
+    files: &mut F,
+) -> Result<Vec<u8>, Failure<'a>>
+    ensures kept { F.holds files.new ≡ F.holds files.old }
+    ensures told { IfOk result (λ text. ToldVisible (F.holds files.old) (Some old.entry)
+        interface.now lattice.now text.items) }
+    ensures failed { IfErr result
+        (FailsBy (RefusesAsked (F.holds files.old) old.now) IsUnusable) }
+{
+    let (before, old_lattice) = known_in(cache, old, files)?;
+    Ok(visible_changes(
+        cache.alloc,
+        lattice,
+        interface,
+        &old_lattice,
+        &before.interface,
+    )?)
+}
+
+/// The table of an interface, or its differences from that of an older file.
+fn answered<'a, F: Files>(
+    cache: &mut InputCache,
+    interface: &Interface,
+    lattice: &Lattice,
+    old: Option<&'a str>,
+    files: &mut F,
+) -> Result<Vec<u8>, Failure<'a>>
+    ensures kept { F.holds files.new ≡ F.holds files.old }
+    ensures told { IfOk result (λ text. ToldVisible (F.holds files.old) old.entry interface.now
+        lattice.now text.items) }
+    ensures failed { IfErr result (FailsBy (λ reason. IsSomeAnd old.entry
+        (λ path. RefusesAsked (F.holds files.old) path.now reason)) IsUnusable) }
+{
+    match old {
+        Some(old) => changes(cache, interface, lattice, old, files),
+        None => Ok(visible_table(cache.alloc, lattice, interface)?),
+    }
+}
+
+/// Adds the warnings about a lattice, and about its classes that no global of the interface has.
+fn put_warnings(
+    alloc: Global,
+    lattice: &Lattice,
+    interface: &Interface,
+    note: &mut Vec<u8>,
+) -> Result<(), AllocError> {
+    let warnings = policy_warnings(alloc, lattice)?;
+    note.extend_from_slice(&warnings)?;
+    let unused = unused_warnings(alloc, lattice, interface)?;
+    note.extend_from_slice(&unused)
+}
+
+/// The globals that each class sees under the interface of a file, or the differences from an older
+/// one. The note gets the warnings about the interface.
+pub(crate) fn visible<'a, F: Files>(
+    cache: &mut InputCache,
+    asked: Visibility<'a>,
+    files: &mut F,
+    note: &mut Vec<u8>,
+) -> Result<Vec<u8>, Failure<'a>>
+    ensures kept { F.holds files.new ≡ F.holds files.old }
+    ensures told { IfOk result (ShowsFiles (F.holds files.old) asked.entry) }
+    ensures failed { IfErr result (FailsBy
+        (WhyVisible (F.holds files.old) asked.entry.interface.now asked.entry.old) IsUnusable) }
+{
+    let (found, lattice) = known_in(cache, asked.interface, files)?;
+    let text = answered(cache, &found.interface, &lattice, asked.old, files)?;
+    put_warnings(cache.alloc, &lattice, &found.interface, note)?;
+    Ok(text)
+}

@@ -1,0 +1,195 @@
+//! A search for a leak as a line of JSON.
+
+ghost use Rattle.std.specs.Prelude.{◌≡◌, ℕ, List, slice_get, IfErr, IfOk, IfSome, OnOk, Some};
+ghost use Rattle.serde_json.specs.View.{members_view};
+ghost use Rattle.vsi_image.specs.Fields.{globals};
+ghost use Rattle.vsi_lattice.specs.LatticeView.{class_named, names, order};
+ghost use Rattle.vsi_lattice.specs.Order.{IsClass};
+ghost use Rattle.vsi_compiler.specs.Readable.{HasProgram};
+ghost use Rattle.vsi_compiler.specs.Refusal.{RefusesProgram};
+ghost use Rattle.vsi_compiler.specs.declared.error.CompileError.TheVariants.{Memory};
+ghost use Rattle.vsi_documents.specs.Leaks as spec;
+ghost use Rattle.vsi_documents.specs.Lines as lines;
+
+use crate::answer::{Documented, object_line};
+use crate::words::{put_end, put_pairs};
+use serde_json::{Map, Value, put};
+use std::alloc::{AllocError, Global};
+use vsi_compiler::CompileError;
+use vsi_diagnostics::members::{put_natural, put_text};
+use vsi_image::Image;
+use vsi_lattice::Lattice;
+use vsi_leak::{Ending, Finding, Leak, Wanted, leak_of_text};
+
+/// Puts the globals that the class sees at the ends of both runs, if both halt.
+fn put_after(
+    alloc: Global,
+    members: &mut Map<String, Value>,
+    lattice: &Lattice,
+    variables: &[(Vec<u8>, Vec<u8>)],
+    leak: &Leak,
+) -> Result<(), AllocError>
+    requires { IsClass (order lattice.now) leak.now.class }
+    ensures { OnOk result (members_view members.new.entries ≡ spec.with_after
+        (class_named lattice.now) (order lattice.now) leak.now.class (globals variables.now)
+        leak.now.first.ending leak.now.second.ending (members_view members.old.entries)) }
+{
+    match (&leak.first.ending, &leak.second.ending) {
+        (Ending::Halted { words, .. }, Ending::Halted { words: others, .. }) => put_pairs(
+            alloc,
+            members,
+            "after",
+            lattice,
+            &Some(leak.class),
+            variables,
+            (words.as_slice(), others.as_slice()),
+        ),
+        (Ending::Halted { .. }, Ending::OutOfBudget) => Ok(()),
+        (Ending::OutOfBudget, _) => Ok(()),
+    }
+}
+
+/// Puts how a run within a budget ends.
+fn put_ending(
+    alloc: Global,
+    members: &mut Map<String, Value>,
+    key: &str,
+    budget: u64,
+    ending: &Ending,
+) -> Result<(), AllocError>
+    ensures { OnOk result (members_view members.new.entries
+        ≡ spec.with_ending key.now budget ending.now (members_view members.old.entries)) }
+{
+    match ending {
+        Ending::Halted { instructions, .. } => { put_end(alloc, members, key, true, *instructions) }
+        Ending::OutOfBudget => put_end(alloc, members, key, false, budget),
+    }
+}
+
+/// The object of a leak at a class of this name, without its runs.
+fn found_object(alloc: Global, name: &[u8]) -> Result<Map<String, Value>, AllocError>
+    ensures { IfOk result
+        (λ members. members_view members.entries ≡ spec.found_members name.now) }
+{
+    let mut members = Map::new(alloc);
+    put(&mut members, alloc, "found", Value::Bool(true))?;
+    put_text(alloc, &mut members, "class", name)?;
+    Ok(members)
+}
+
+/// The object of a leak.
+fn leak_object(
+    alloc: Global,
+    lattice: &Lattice,
+    image: &Image,
+    budget: u64,
+    leak: &Leak,
+) -> Result<Map<String, Value>, AllocError>
+    requires { IsClass (order lattice.now) leak.now.class }
+    ensures { IfOk result (λ members. (name : List ℕ)
+        × (slice_get (names lattice.now) leak.now.class ≡ Some name)
+        × (members_view members.entries ≡ spec.leak_members (class_named lattice.now)
+        (order lattice.now) name budget (globals image.now.globals.items) leak.now)) }
+{
+    let variables = image.globals.as_slice();
+    let mut members = found_object(alloc, lattice.name(leak.class))?;
+    let stores = (leak.first.store.as_slice(), leak.second.store.as_slice());
+    put_pairs(
+        alloc,
+        &mut members,
+        "before",
+        lattice,
+        &None,
+        variables,
+        stores,
+    )?;
+    put_after(alloc, &mut members, lattice, variables, leak)?;
+    put_ending(alloc, &mut members, "first", budget, &leak.first.ending)?;
+    put_ending(alloc, &mut members, "second", budget, &leak.second.ending)?;
+    Ok(members)
+}
+
+/// The line of a leak.
+fn leak_line(
+    alloc: Global,
+    lattice: &Lattice,
+    image: &Image,
+    budget: u64,
+    leak: &Leak,
+) -> Result<Vec<u8>, AllocError>
+    requires { IsClass (order lattice.now) leak.now.class }
+    ensures { IfOk result (λ line. (name : List ℕ)
+        × (slice_get (names lattice.now) leak.now.class ≡ Some name)
+        × (line.items ≡ lines.object_line (spec.leak_members (class_named lattice.now)
+        (order lattice.now) name budget (globals image.now.globals.items) leak.now))) }
+{
+    let members = leak_object(alloc, lattice, image, budget, leak)?;
+    let line = object_line(alloc, members)?;
+    Ok(line)
+}
+
+/// The object of a search that found no leak in so many pairs of runs.
+fn nothing_object(alloc: Global, pairs: u64) -> Result<Map<String, Value>, AllocError>
+    ensures { IfOk result
+        (λ members. members_view members.entries ≡ spec.nothing_members pairs) }
+{
+    let mut members = Map::new(alloc);
+    put(&mut members, alloc, "found", Value::Bool(false))?;
+    put_natural(alloc, &mut members, "pairs", pairs as usize)?;
+    Ok(members)
+}
+
+/// The line of such a search.
+fn nothing_line(alloc: Global, pairs: u64) -> Result<Vec<u8>, AllocError>
+    ensures { IfOk result
+        (λ line. line.items ≡ lines.object_line (spec.nothing_members pairs)) }
+{
+    let members = nothing_object(alloc, pairs)?;
+    let line = object_line(alloc, members)?;
+    Ok(line)
+}
+
+/// The answer of `vsi leak` to a text as a line of JSON: an object with `found`, whether a leak was
+/// found. For a leak it has `class`, the name of its class, `before`, an array with an object for
+/// each global at the start of both runs, `after`, the same for each global that the class sees at
+/// their ends, if both halt, and `first` and `second`, how the runs end, as of `compare_json`.
+/// Otherwise it has `pairs`, the number of pairs of runs. The answer is good if no leak was found.
+///
+/// # Errors
+///
+/// The errors of `leak_of_text`: no flow is refused here.
+pub fn leak_json(
+    alloc: Global,
+    lattice: &Lattice,
+    text: &[u8],
+    wanted: &Wanted,
+) -> Result<Documented, CompileError>
+    requires { IfSome wanted.now.class (IsClass (order lattice.now)) }
+    ensures answer { IfOk result (λ answer. spec.TellsSearch lattice.now text.now wanted.now
+        answer.is_good answer.line.items) }
+    ensures refused { IfErr result (RefusesProgram (class_named lattice.now) text.now) }
+    ensures exact { HasProgram (class_named lattice.now) text.now
+        → IfErr result (λ e. e ≡ Memory) }
+{
+    let (verified, finding) = match leak_of_text(alloc, lattice, text, wanted) {
+        Ok(found) => found,
+        Err(error) => return Err(error),
+    };
+    match &finding {
+        Finding::Leak(leak) => {
+            let image = verified.image();
+            let line = leak_line(alloc, lattice, image, wanted.effort.budget, leak)?;
+            Ok(Documented {
+                is_good: false,
+                line,
+            })
+        }
+        Finding::Nothing { pairs } => {
+            let line = nothing_line(alloc, *pairs)?;
+            Ok(Documented {
+                is_good: true,
+                line,
+            })
+        }
+    }
+}

@@ -1,0 +1,249 @@
+-- The pairs of a table that are listed.
+use Rattle.std.proofs.Common.{◌≡◌, ℕ, zero, suc, ◌≤◌, ◌<◌, ◌+◌, ◌⊎◌, inl, inr, Bool, true, false, cond, List, [], ◌∷◌, ◌++◌, map, length, take, refl, sym, ap, ◌∙◌, subst, arith, eqb, eq-eqb, length-take-le}
+use Rattle.std.specs.Prelude.{if◌then◌else◌, ◌&&◌, min, Result, Ok, Err, IfOk}
+use Rattle.std.specs.List.{All, filter}
+use Rattle.std.proofs.lemmas.Bool.{false≢true, cases_lt}
+use Rattle.std.proofs.lemmas.List.{map_push, length-map}
+use Rattle.std.proofs.lemmas.List.Elements.{All-nil, All-cons, All-head, All-tail, All-take, All-push, All-filter, filter_passes}
+use Rattle.vsi_lattice.specs.Order.{Lattice}
+use Rattle.vsi_lattice.specs.declared.lattice.Lattice as policy
+use Rattle.vsi_lattice.specs.LatticeView.{order}
+use Rattle.vsi_types.specs.declared.rules.Profile.{Profile}
+use Rattle.vsi_types.specs.declared.rules.Step.{Step}
+use Rattle.vsi_scope.specs.Program.{Resolved}
+use Rattle.vsi_types.specs.Security.{Program, program, steps_of}
+use Rattle.vsi_infer.specs.Flowing.{size_of}
+use Rattle.vsi_compiler.specs.SourceView.{Source}
+use Rattle.vsi_flows.specs.declared.pair.Pair.{Pair}
+use Rattle.vsi_flows.specs.Table.{IsTold, IsTable, Precedes, AreSorted}
+use Rattle.vsi_flows.specs.Text.{IsWalkOf}
+use Rattle.vsi_blame.specs.Refused.{IsRefused}
+use Rattle.vsi_further_flows.specs.declared.flow.FurtherFlow.{FurtherFlow}
+use Rattle.vsi_further_flows.specs.Further.{has_ends, is_further, further_of, first_of, HaveWalks, IsRefusedFlow, HasOtherEnds, AreFurther, AreFirst, AreListed}
+
+-- A part of a sorted list is sorted.
+sorted_filter : (test : Pair → Bool) (pairs : List Pair) → AreSorted pairs → AreSorted (filter test pairs)
+sorted_filter test [] s = s
+sorted_filter test (r ∷ pairs) s = by (test r) (sorted_filter test pairs s.1)
+  where
+    by : (b : Bool) → AreSorted (filter test pairs) → AreSorted (cond b (r ∷ filter test pairs) (filter test pairs))
+    by true h = (All-filter test (Precedes r) pairs s.0, h)
+    by false h = h
+
+sorted_take : (n : ℕ) (pairs : List Pair) → AreSorted pairs → AreSorted (take n pairs)
+sorted_take zero pairs s = tt
+sorted_take (suc n) [] s = tt
+sorted_take (suc n) (r ∷ pairs) s = (All-take (Precedes r) n pairs s.0, sorted_take n pairs s.1)
+
+-- A property of the pairs of flows is a property of the flows.
+of_pairs : (Q : Pair → Type 0) (flows : List FurtherFlow) → All Q (map (λ f. f.pair) flows)
+    → All (λ f. Q f.pair) flows
+of_pairs Q [] h = All-nil (λ f. Q f.pair)
+of_pairs Q (f ∷ flows) h =
+    All-cons (λ g. Q g.pair) f flows (All-head Q f.pair (map (λ g. g.pair) flows) h)
+    (of_pairs Q flows (All-tail Q f.pair (map (λ g. g.pair) flows) h))
+
+-- Two properties of each element.
+both_all : {X : Type 0} (Q R S : X → Type 0) → ((x : X) → Q x → R x → S x) → (xs : List X) → All Q xs → All R xs
+    → All S xs
+both_all Q R S f [] q r = All-nil S
+both_all Q R S f (x ∷ xs) q r =
+    All-cons S x xs (f x (All-head Q x xs q) (All-head R x xs r))
+    (both_all Q R S f xs (All-tail Q x xs q) (All-tail R x xs r))
+
+-- The facts that the test of a listed pair finds.
+passed : (v e f : Bool) → (if v then false else if e then false else f) ≡ true → (v ≡ false) × (e ≡ false)
+passed true e f h = absurd (false≢true h)
+passed false true f h = absurd (false≢true h)
+passed false false f h = (refl, refl)
+
+-- A pair that doesn't lead from a to b has another source or another target.
+apart_ends : (a b : ℕ) (r : Pair) → has_ends a b r ≡ false → r.source ≡ a → r.target ≡ b → ⊥
+apart_ends a b r h s t =
+    false≢true (sym h ∙ ap (λ (x : Bool). x && eqb r.target b) (eq-eqb r.source a s) ∙ eq-eqb r.target b t)
+
+module _ (L : Lattice) (P : Profile) (p : Program) where
+  -- A pair of the table that isn't allowed is refused.
+  refused_told : (r : Pair) → IsTold L P p r → r.allowed ≡ false → IsRefused L P p r.source r.target
+  refused_told r t e = record {
+    joined = record {
+      apart = t.apart;
+      low = t.low;
+      high = t.high;
+      source = t.source;
+      target = t.target;
+      walk = t.steps.walk;
+      path = t.steps.path;
+    };
+    down = λ below. false≢true (sym (sym t.verdict ∙ e) ∙ below);
+  }
+
+-- The first pairs are at most 19.
+pub first_few : (pairs : List Pair) → length (first_of pairs) ≤ 19
+first_few pairs = omega (arith, length-take-le (min (length pairs) 19) pairs (omega arith))
+
+-- A property of each pair is a property of each of the first ones that are listed.
+pub all_first : (Q : Pair → Type 0) (a b : ℕ) (pairs : List Pair) → All Q pairs
+    → All Q (first_of (further_of a b pairs))
+all_first Q a b pairs h =
+    All-take Q (min (length (further_of a b pairs)) 19) (further_of a b pairs) (All-filter (is_further a b) Q pairs h)
+
+-- Each listed pair passes the test.
+first_pass : (a b : ℕ) (pairs : List Pair) → All (λ r. is_further a b r ≡ true) (first_of (further_of a b pairs))
+first_pass a b pairs =
+    All-take (λ r. is_further a b r ≡ true) (min (length (further_of a b pairs)) 19) (further_of a b pairs)
+    (filter_passes (is_further a b) pairs)
+
+module _ (s : Source) (P : Profile) (a b : ℕ) (flows : List FurtherFlow) (first : AreFirst s P a b flows) where
+  abbrev listed : List Pair
+  listed = first_of (further_of a b first.pairs)
+
+  -- A property of the listed pairs is a property of the flows.
+  of_listed : (Q : Pair → Type 0) → All Q listed → All (λ f. Q f.pair) flows
+  of_listed Q h = of_pairs Q flows (subst (All Q) (sym first.walks.kept) h)
+
+  -- They are at most 19.
+  pub are_few : length flows ≤ 19
+  are_few =
+      subst (λ (n : ℕ). n ≤ 19) (sym (ap length first.walks.kept) ∙ length-map flows (λ f. f.pair))
+      (first_few (further_of a b first.pairs))
+
+  -- Each is refused, and its steps are a walk.
+  pub are_refused_flows : All (IsRefusedFlow (order s.lattice) P (program s.resolved)) flows
+  are_refused_flows =
+      both_all (λ f. IsRefused (order s.lattice) P (program s.resolved) f.pair.source f.pair.target)
+      (λ f. IsWalkOf (steps_of P (program s.resolved)) f.pair f.steps.items)
+      (IsRefusedFlow (order s.lattice) P (program s.resolved))
+      (λ f r w. record { refused = r; walk = w }) flows
+      (of_listed (λ r. IsRefused (order s.lattice) P (program s.resolved) r.source r.target)
+      (both_all (IsTold (order s.lattice) P (program s.resolved)) (λ r. is_further a b r ≡ true)
+      (λ r. IsRefused (order s.lattice) P (program s.resolved) r.source r.target)
+      (λ r t e. refused_told (order s.lattice) P (program s.resolved) r t
+      (passed r.allowed (has_ends a b r) _ e).0)
+      listed (all_first (IsTold (order s.lattice) P (program s.resolved)) a b first.pairs first.table.told)
+      (first_pass a b first.pairs)))
+      first.walks.walks
+
+  -- None leads from a to b.
+  pub have_other_ends : All (HasOtherEnds a b) flows
+  have_other_ends =
+      of_listed (λ r. r.source ≡ a → r.target ≡ b → ⊥)
+      (both_all (λ r. is_further a b r ≡ true) (λ r. is_further a b r ≡ true) (λ r. r.source ≡ a → r.target ≡ b → ⊥)
+      (λ r e _. apart_ends a b r (passed r.allowed (has_ends a b r) _ e).1) listed (first_pass a b first.pairs)
+      (first_pass a b first.pairs))
+
+  -- They are sorted.
+  pub are_sorted : AreSorted (map (λ f. f.pair) flows)
+  are_sorted =
+      subst AreSorted (sym first.walks.kept)
+      (sorted_take (min (length (further_of a b first.pairs)) 19) (further_of a b first.pairs)
+      (sorted_filter (is_further a b) first.pairs first.table.sorted))
+
+-- The listed pairs of a table, where the parts of the source are given by equations.
+pub further_made : {V E : Type 0} (s : Source) (P : Profile) (a b : ℕ) (l : policy.Lattice) (r : Resolved)
+    → l ≡ s.lattice → r ≡ s.resolved → (pairs items : List Pair) → items ≡ pairs → IsTable (order l) P (program r) pairs
+    → (f : V → List Pair) (o : Result V E) → IfOk o (λ v. f v ≡ further_of a b items)
+    → IfOk o (λ v. AreFurther s P a b (f v))
+further_made s P a b l r same is pairs items read table f (Ok v) h = record {
+  pairs = pairs;
+  table =
+      subst (λ (m : policy.Lattice). IsTable (order m) P (program s.resolved) pairs) same
+      (subst (λ (q : Resolved). IsTable (order l) P (program q) pairs) is table);
+  same = h ∙ ap (further_of a b) read;
+}
+further_made s P a b l r same is pairs items read table f (Err e) h = tt
+
+-- The pairs of the table that are listed are true.
+pub further_told : (s : Source) (P : Profile) (a b : ℕ) (further : List Pair) → AreFurther s P a b further
+    → All (IsTold (order s.lattice) P (program s.resolved)) further
+further_told s P a b further x =
+    subst (All (IsTold (order s.lattice) P (program s.resolved))) (sym x.same)
+    (All-filter (is_further a b) (IsTold (order s.lattice) P (program s.resolved)) x.pairs x.table.told)
+
+-- The first of the pairs are true if all are.
+pub first_told : (Q : Pair → Type 0) (further items first : List Pair) → items ≡ further → first ≡ first_of items
+    → All Q further → All Q first
+first_told Q further items first same cut h =
+    subst (All Q) (sym cut) (All-take Q (min (length items) 19) items (subst (All Q) (sym same) h))
+
+-- The walks of the first pairs are those of the first listed ones.
+pub first_walks : {V E : Type 0} (s : Source) (P : Profile) (a b : ℕ) (r : Resolved) → r ≡ s.resolved
+    → (further items first : List Pair) → items ≡ further → first ≡ first_of items → AreFurther s P a b further
+    → (f : V → List FurtherFlow) (o : Result V E) → IfOk o (λ v. HaveWalks (steps_of P (program r)) first (f v))
+    → IfOk o (λ v. AreFirst s P a b (f v))
+first_walks s P a b r is further items first same cut x f (Ok v) h = record {
+  pairs = x.pairs;
+  table = x.table;
+  walks =
+      subst (λ (ps : List Pair). HaveWalks (steps_of P (program s.resolved)) ps (f v))
+      (cut ∙ ap first_of same ∙ ap first_of x.same)
+      (subst (λ (q : Resolved). HaveWalks (steps_of P (program q)) first (f v)) is h);
+}
+first_walks s P a b r is further items first same cut x f (Err e) h = tt
+
+-- If a property holds of no flow and of the first ones, it holds of the listed ones.
+of_listing : (Q : List FurtherFlow → Type 0) (s : Source) (P : Profile) (a b : ℕ) (flows : List FurtherFlow)
+    → AreListed s P a b flows → Q [] → (AreFirst s P a b flows → Q flows) → Q flows
+of_listing Q s P a b flows x none some = by (cases_lt 200 (size_of (program s.resolved)))
+  where
+    by : (200 < size_of (program s.resolved)) ⊎ (size_of (program s.resolved) ≤ 200) → Q flows
+    by (inl more) = subst Q (sym (x.large more)) none
+    by (inr less) = some (x.small less)
+
+-- The first flows are listed where the program is small.
+pub listed_first : {V E : Type 0} (s : Source) (P : Profile) (a b : ℕ) (r : Resolved) → r ≡ s.resolved
+    → size_of (program r) ≤ 200 → (f : V → List FurtherFlow) (o : Result V E) → IfOk o (λ v. AreFirst s P a b (f v))
+    → IfOk o (λ v. AreListed s P a b (f v))
+listed_first s P a b r is less f (Ok v) h =
+    let few : size_of (program s.resolved) ≤ 200 = subst (λ (q : Resolved). size_of (program q) ≤ 200) is less in
+    record { small = λ _. h; large = λ more. absurd (omega (arith, few, more)) }
+listed_first s P a b r is less f (Err e) h = tt
+
+-- None is where it is large.
+pub listed_none : (s : Source) (P : Profile) (a b : ℕ) (r : Resolved) → r ≡ s.resolved → 200 < size_of (program r)
+    → (flows : List FurtherFlow) → flows ≡ [] → AreListed s P a b flows
+listed_none s P a b r is more flows none =
+    let many : 200 < size_of (program s.resolved) = subst (λ (q : Resolved). 200 < size_of (program q)) is more in
+    record { small = λ less. absurd (omega (arith, many, less)); large = λ _. none }
+
+-- The four facts about the listed flows of an answer.
+pub listed_few : {V E : Type 0} (s : Source) (P : Profile) (a b : ℕ) (f : V → List FurtherFlow) (o : Result V E)
+    → IfOk o (λ v. AreListed s P a b (f v)) → IfOk o (λ v. length (f v) ≤ 19)
+listed_few s P a b f (Ok v) h =
+    of_listing (λ flows. length flows ≤ 19) s P a b (f v) h (omega arith) (are_few s P a b (f v))
+listed_few s P a b f (Err e) h = tt
+
+pub listed_refused : {V E : Type 0} (s : Source) (P : Profile) (a b : ℕ) (f : V → List FurtherFlow) (o : Result V E)
+    → IfOk o (λ v. AreListed s P a b (f v))
+    → IfOk o (λ v. All (IsRefusedFlow (order s.lattice) P (program s.resolved)) (f v))
+listed_refused s P a b f (Ok v) h =
+    of_listing (All (IsRefusedFlow (order s.lattice) P (program s.resolved))) s P a b (f v) h
+    (All-nil (IsRefusedFlow (order s.lattice) P (program s.resolved))) (are_refused_flows s P a b (f v))
+listed_refused s P a b f (Err e) h = tt
+
+pub listed_others : {V E : Type 0} (s : Source) (P : Profile) (a b : ℕ) (f : V → List FurtherFlow) (o : Result V E)
+    → IfOk o (λ v. AreListed s P a b (f v)) → IfOk o (λ v. All (HasOtherEnds a b) (f v))
+listed_others s P a b f (Ok v) h =
+    of_listing (All (HasOtherEnds a b)) s P a b (f v) h (All-nil (HasOtherEnds a b)) (have_other_ends s P a b (f v))
+listed_others s P a b f (Err e) h = tt
+
+pub listed_sorted : {V E : Type 0} (s : Source) (P : Profile) (a b : ℕ) (f : V → List FurtherFlow) (o : Result V E)
+    → IfOk o (λ v. AreListed s P a b (f v)) → IfOk o (λ v. AreSorted (map (λ g. g.pair) (f v)))
+listed_sorted s P a b f (Ok v) h =
+    of_listing (λ flows. AreSorted (map (λ g. g.pair) flows)) s P a b (f v) h tt (are_sorted s P a b (f v))
+listed_sorted s P a b f (Err e) h = tt
+
+-- One more pair has a walk.
+pub walked_more : (ss : List Step) (pairs : List Pair) (flows : List FurtherFlow) (f : FurtherFlow)
+    → HaveWalks ss pairs flows → IsWalkOf ss f.pair f.steps.items → HaveWalks ss (pairs ++ f.pair ∷ []) (flows ++ f ∷ [])
+walked_more ss pairs flows f a h = record {
+  kept = map_push (λ v. v.pair) flows f ∙ ap (λ l. l ++ f.pair ∷ []) a.kept;
+  walks = All-push (λ v. IsWalkOf ss v.pair v.steps.items) flows f a.walks h;
+}
+
+-- No pairs have no walks.
+pub walked_none : (ss : List Step) (flows : List FurtherFlow) → flows ≡ [] → HaveWalks ss [] flows
+walked_none ss flows e = subst (HaveWalks ss []) (sym e) (record {
+  kept = refl;
+  walks = All-nil (λ v. IsWalkOf ss v.pair v.steps.items);
+})

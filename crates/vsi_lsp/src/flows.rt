@@ -1,0 +1,144 @@
+//! The refused flows of a text, as objects.
+
+ghost use Rattle.std.specs.Prelude.{◌≢◌, [], IfOk};
+
+use crate::diagnostics::{Page, line_of, only, ranged_object, refusal_object};
+use crate::marks::{Marked, with_marks};
+use crate::objects::location_object;
+use serde_json::{Value, json, put};
+use std::alloc::{AllocError, Global};
+use vsi_choices::text_value;
+use vsi_compiler::{CompileError, Source};
+use vsi_diagnostics::refusal_diagnostic;
+use vsi_further_flows::{FurtherFlow, ends_text, further_flows, step_text};
+use vsi_scope::Var;
+use vsi_syntax::Span;
+use vsi_types::{Profile, Step};
+
+/// A source text that is refused for a flow, and the parts that all objects of its flows share.
+#[derive(Drop)]
+struct Refused<'p, 's, 'a> {
+    marked: Marked<'p>,
+    source: &'s Source<'a>,
+    code: usize,
+    line: Vec<u8>,
+}
+
+/// The object of a step of a walk: where it reads, and its message.
+fn step_object(
+    alloc: Global,
+    text: &Refused<'_, '_, '_>,
+    step: &Step,
+) -> Result<Value, AllocError> {
+    let marked = &text.marked;
+    let location = location_object(alloc, marked.uri(), marked.range(step.read))?;
+    let (line, column) = marked.line_column(step.written.start);
+    let message = step_text(alloc, text.source, step, line, column)?;
+    let message = text_value(alloc, &message)?;
+    json!(in alloc; {"location": location, "message": message})
+}
+
+/// The objects of the steps of a walk.
+fn step_objects(
+    alloc: Global,
+    text: &Refused<'_, '_, '_>,
+    steps: &[Step],
+) -> Result<Value, AllocError> {
+    let mut objects = Vec::new(alloc);
+    for step in steps {
+        objects.push(step_object(alloc, text, step)?)?;
+    }
+    Ok(Value::Array(objects))
+}
+
+/// An object of an error with the steps of a walk.
+fn with_related(alloc: Global, object: Value, related: Value) -> Result<Value, AllocError> {
+    let Value::Object(mut members) = object else {
+        return Ok(object);
+    };
+    put(&mut members, alloc, "relatedInformation", related)?;
+    Ok(Value::Object(members))
+}
+
+/// The object of a refused flow: its line, the classes of its ends, and the steps of its walk.
+fn flow_object(
+    alloc: Global,
+    text: &Refused<'_, '_, '_>,
+    span: Span,
+    from: Var,
+    to: Var,
+    steps: &[Step],
+) -> Result<Value, AllocError> {
+    let ends = ends_text(alloc, text.source, from, to)?;
+    let mut message = text.line.clone()?;
+    message.extend_from_slice(b"\n")?;
+    message.extend_from_slice(&ends)?;
+    let range = text.marked.range(span);
+    let object = ranged_object(alloc, range, text.code, &message)?;
+    let related = step_objects(alloc, text, steps)?;
+    with_related(alloc, object, related)
+}
+
+/// The objects of further flows, each at the place where the last step of its walk writes.
+fn further_objects(
+    alloc: Global,
+    text: &Refused<'_, '_, '_>,
+    flows: &[FurtherFlow],
+) -> Result<Vec<Value>, AllocError> {
+    let mut objects = Vec::new(alloc);
+    for flow in flows {
+        let Some(last) = flow.steps.last() else {
+            continue;
+        };
+        let (from, to) = (flow.pair.source, flow.pair.target);
+        let object = flow_object(alloc, text, last.written, from, to, &flow.steps)?;
+        objects.push(object)?;
+    }
+    Ok(objects)
+}
+
+/// The errors in a source text that is refused for a flow with these steps: that flow, at the place
+/// where its first step reads, and further ones.
+pub(crate) fn flow_errors(
+    alloc: Global,
+    page: Page<'_>,
+    profile: Profile,
+    source: &Source<'_>,
+    error: &CompileError,
+    steps: &[Step],
+) -> Result<Vec<Value>, AllocError>
+    ensures { IfOk result (λ errors. errors.items ≢ []) }
+{
+    let Some(first) = steps.first() else {
+        return only(alloc, refusal_object(alloc, page, error)?);
+    };
+    let Some(last) = steps.last() else {
+        return only(alloc, refusal_object(alloc, page, error)?);
+    };
+    let text = refused_source(alloc, page, source, error)?;
+    let (from, to) = (first.source, last.target);
+    let flows = further_flows(alloc, profile, source, from, to)?;
+    let mut errors = further_objects(alloc, &text, &flows)?;
+    let object = flow_object(alloc, &text, first.read, from, to, steps)?;
+    errors.insert(0, object)?;
+    Ok(errors)
+}
+
+/// A source text that is refused for a flow.
+fn refused_source<'p, 's, 'a>(
+    alloc: Global,
+    page: Page<'p>,
+    source: &'s Source<'a>,
+    error: &CompileError,
+) -> Result<Refused<'p, 's, 'a>, AllocError> {
+    let code = match refusal_diagnostic(page.text, error) {
+        Some(diagnostic) => diagnostic.code,
+        None => 0,
+    };
+    Ok(Refused {
+        marked: with_marks(alloc, page)?,
+        source,
+        code,
+        line: line_of(alloc, page, error)?,
+    })
+}

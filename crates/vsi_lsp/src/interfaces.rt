@@ -1,0 +1,121 @@
+//! Errors of interface files.
+
+use crate::diagnostics::{Page, error_object, only};
+use crate::documents::{Policy, line_span, lost_error, refused_object};
+use serde_json::Value;
+use std::alloc::{AllocError, Global};
+use vsi_client::path_beside;
+use vsi_conform::{
+    Asked, InterfaceError, Policy as Place, interface_text, read_interface, unknown_class,
+    unknown_cycle,
+};
+use vsi_lattice::{Lattice, read_lattice};
+
+/// The path of the lattice file that an interface names, if it does.
+pub(crate) fn interface_path(
+    alloc: Global,
+    uri: &[u8],
+    text: &[u8],
+) -> Result<Option<String>, AllocError> {
+    match read_interface(alloc, text) {
+        Ok(asked) => match &asked.policy {
+            Place::File(path) => Ok(Some(path_beside(alloc, uri, path)?)),
+            Place::Tables(_) => Ok(None),
+        },
+        Err(InterfaceError::Memory) => Err(AllocError),
+        Err(_) => Ok(None),
+    }
+}
+
+/// The errors of an interface file that is open, with the lattice file that was read for it.
+pub(crate) fn interface_errors(
+    alloc: Global,
+    page: Page<'_>,
+    policy: &Policy,
+) -> Result<Vec<Value>, AllocError> {
+    match read_interface(alloc, page.text) {
+        Ok(asked) => asked_errors(alloc, page, &asked, policy),
+        Err(error) => refused(alloc, page, &error),
+    }
+}
+
+/// The error of an interface that is refused.
+fn refused(
+    alloc: Global,
+    page: Page<'_>,
+    error: &InterfaceError,
+) -> Result<Vec<Value>, AllocError> {
+    if let InterfaceError::Memory = error {
+        return Err(AllocError);
+    }
+    let text = interface_text(alloc, error)?;
+    let line = match text.as_slice() {
+        [line @ .., b'\n'] => line,
+        line => line,
+    };
+    only(
+        alloc,
+        error_object(alloc, page, line_span(page.text, 0), 0, line)?,
+    )
+}
+
+/// The errors of an interface with the lattice file that was read for it. Without such a file only
+/// the interface itself is judged.
+fn asked_errors(
+    alloc: Global,
+    page: Page<'_>,
+    asked: &Asked,
+    policy: &Policy,
+) -> Result<Vec<Value>, AllocError> {
+    match &asked.policy {
+        Place::Tables(text) => errors_under(alloc, page, asked, text),
+        Place::File(_) => match policy {
+            Policy::File(bytes) => errors_under(alloc, page, asked, bytes),
+            Policy::Lost(path) => only(
+                alloc,
+                lost_error(alloc, page, line_span(page.text, 0), path)?,
+            ),
+            Policy::Two => Ok(Vec::new(alloc)),
+        },
+    }
+}
+
+/// The errors of an interface under a lattice file.
+fn errors_under(
+    alloc: Global,
+    page: Page<'_>,
+    asked: &Asked,
+    bytes: &[u8],
+) -> Result<Vec<Value>, AllocError> {
+    match read_lattice(alloc, bytes) {
+        Ok(lattice) => match unknown_name(alloc, &lattice, asked)? {
+            Some(error) => refused(alloc, page, &error),
+            None => Ok(Vec::new(alloc)),
+        },
+        Err(error) => {
+            let span = line_span(page.text, 0);
+            only(alloc, refused_object(alloc, page, span, error)?)
+        }
+    }
+}
+
+/// The first global whose class isn't in the lattice, or else the first such boundary.
+fn unknown_name(
+    alloc: Global,
+    lattice: &Lattice,
+    asked: &Asked,
+) -> Result<Option<InterfaceError>, AllocError> {
+    if let Some(place) = unknown_class(lattice, &asked.interface)
+        && let Some(entry) = asked.interface.globals.get(place)
+    {
+        let name = Vec::from_slice(alloc, &entry.0)?;
+        return Ok(Some(InterfaceError::UnknownClass(name)));
+    }
+    if let Some(place) = unknown_cycle(lattice, &asked.cycles)
+        && let Some(cycle) = asked.cycles.get(place)
+    {
+        let name = Vec::from_slice(alloc, &cycle.class)?;
+        return Ok(Some(InterfaceError::UnknownInCycle(place.saturating_add(1), name)));
+    }
+    Ok(None)
+}

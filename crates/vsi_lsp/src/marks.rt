@@ -1,0 +1,123 @@
+//! Positions of many places of one text. Each is counted from the last mark before it, and marks are
+//! close together.
+
+use crate::diagnostics::Page;
+use std::alloc::{AllocError, Global};
+use vsi_client::{Place, Range, range_of};
+use vsi_syntax::{Span, line_column};
+
+/// The distance between two marks of a text.
+const SPACE: usize = 1024;
+
+/// The beginning of a text.
+const ORIGIN: Place = Place {
+    line: 0,
+    character: 0,
+};
+
+/// A place of a text, the client's position for it, and its line and column, both from 0.
+#[derive(Clone, Copy)]
+struct Mark {
+    at: usize,
+    place: Place,
+    written: Place,
+}
+
+/// The mark of the beginning of a text.
+const START: Mark = Mark {
+    at: 0,
+    place: ORIGIN,
+    written: ORIGIN,
+};
+
+/// A text with marks.
+#[derive(Drop)]
+pub(crate) struct Marked<'p> {
+    page: Page<'p>,
+    marks: Vec<Mark>,
+}
+
+/// The position after a part of a text, from the position before the part and the one in it.
+fn joined(before: Place, inside: Place) -> Place {
+    if inside.line == 0 {
+        return Place {
+            line: before.line,
+            character: before.character.saturating_add(inside.character),
+        };
+    }
+    Place {
+        line: before.line.saturating_add(inside.line),
+        character: inside.character,
+    }
+}
+
+/// The mark of a place after a mark.
+fn moved(page: Page<'_>, mark: Mark, at: usize) -> Mark {
+    let part = page.text.get(mark.at..at).unwrap_or(b"");
+    let size = part.len();
+    let place = range_of(page.encoding, part, 0, size).stop;
+    let (line, column) = line_column(part, size);
+    let written = Place {
+        line: line.saturating_sub(1),
+        character: column.saturating_sub(1),
+    };
+    Mark {
+        at: mark.at.saturating_add(size),
+        place: joined(mark.place, place),
+        written: joined(mark.written, written),
+    }
+}
+
+/// The place itself, or the next one if the place is inside of a line's end.
+fn outside(text: &[u8], at: usize) -> usize {
+    match text.get(at.saturating_sub(1)..at.saturating_add(1)) {
+        Some([b'\r', b'\n']) => at.saturating_add(1),
+        _ => at,
+    }
+}
+
+/// A text with its marks.
+pub(crate) fn with_marks<'p>(alloc: Global, page: Page<'p>) -> Result<Marked<'p>, AllocError> {
+    let mut marks = Vec::new(alloc);
+    let mut mark = START;
+    marks.push(mark)?;
+    for number in 0..page.text.len() / SPACE {
+        let at = number.saturating_add(1).saturating_mul(SPACE);
+        mark = moved(page, mark, outside(page.text, at));
+        marks.push(mark)?;
+    }
+    Ok(Marked { page, marks })
+}
+
+impl Marked<'_> {
+    /// The name of the document.
+    pub(crate) fn uri(&self) -> &[u8] {
+        self.page.uri
+    }
+
+    /// The mark of a place.
+    fn mark(&self, at: usize) -> Mark {
+        let mark = match self.marks.get(at / SPACE) {
+            Some(mark) => *mark,
+            None => START,
+        };
+        moved(self.page, mark, at)
+    }
+
+    /// The positions of a part of the text.
+    pub(crate) fn range(&self, span: Span) -> Range {
+        Range {
+            start: self.mark(span.start).place,
+            stop: self.mark(span.stop).place,
+        }
+    }
+
+    /// The line and the column of a place, both from 1, as `line_column` counts them.
+    pub(crate) fn line_column(&self, at: usize) -> (usize, usize) {
+        let place = self.mark(at).written;
+        (
+            place.line.saturating_add(1),
+            place.character.saturating_add(1),
+        )
+    }
+}
