@@ -10,9 +10,9 @@ set cpo&vim
 
 CompilerSet makeprg=(printf\ 'checking\ \\%s\\n'\ %:S;\ vsi\ check\ $*\ %:S)
 
-" The name of the file, a refusal with a place, the first line of a refused flow, a step of a walk, another refusal, such
-" as that of a lattice file, and a file that can't be read. Other lines stay in the list as they are.
-CompilerSet errorformat=%-Pchecking\ %f,refused:\ %n\ %m\ %l:%c,%+Grefused:\ 25\ Refused,%l:%c\ %m,
+" The name of the file, a refusal with a place, the first line of a refused flow, which is left out, a step of a walk,
+" another refusal, such as that of a lattice file, and a file that can't be read. Other lines stay as they are.
+CompilerSet errorformat=%-Pchecking\ %f,refused:\ %n\ %m\ %l:%c,%-Grefused:\ 25\ Refused,%l:%c\ %m,
       \refused:\ %n\ %m,file\ fault:\ %m
 
 let &cpo = s:cpo
