@@ -135,7 +135,7 @@ impl Explaining {
             Failure::Refused(_, Some(cause)) => self.of_cause(cache, cause),
             Failure::Interface(_, error) => self.of_interface(cache, error),
             Failure::Audit(_, error) => self.of_audit(cache, error),
-            Failure::Unsteady(text, error) => self.of_unsteady(cache, text, error),
+            Failure::Unsteady(_, error) => self.of_unsteady(cache, error),
             Failure::FileFault(path) => of_fault(cache, files, path),
             Failure::LostFile(path) => of_fault(cache, files, path.as_str()),
             Failure::OutOfBudget => Vec::from_slice(cache.alloc, SPENT),
@@ -286,12 +286,7 @@ impl Explaining {
     }
 
     /// The explanation of a refused image that isn't steady.
-    fn of_unsteady(
-        self,
-        cache: &InputCache,
-        refusal: &[u8],
-        error: &SteadyError,
-    ) -> Result<Vec<u8>, AllocError> {
+    fn of_unsteady(self, cache: &InputCache, error: &SteadyError) -> Result<Vec<u8>, AllocError> {
         let (Some(kept), Some(image), Some(lattice)) = (
             cache.last(InputKind::Image),
             read_image(cache),
@@ -302,7 +297,6 @@ impl Explaining {
         let refused = vsi_advice::Refused::Steady {
             lattice: &lattice,
             image: &image,
-            refusal,
             error,
         };
         advice(cache.alloc, self.manner, &kept.path, refused)

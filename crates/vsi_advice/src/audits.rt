@@ -2,10 +2,10 @@
 
 use std::alloc::{AllocError, Global};
 use vsi_audit::AuditError;
-use vsi_image::{Image, Instr, listing};
+use vsi_image::{Image, Instr};
 use vsi_infer::Walk;
 use vsi_lattice::{Classes, Lattice};
-use vsi_steady::SteadyError;
+use vsi_steady::{SteadyError, chain_source};
 use vsi_telling::names::{Part, class_names, put_names_between, put_parts, put_word_between};
 
 /// A refused image, and the lattice by which it was judged.
@@ -14,16 +14,6 @@ pub(crate) struct Judged<'a> {
     pub(crate) alloc: Global,
     pub(crate) lattice: &'a Lattice,
     pub(crate) image: &'a Image,
-}
-
-/// The line of a listing that begins with this number and `: `.
-fn line_of<'l>(listing: &'l [u8], start: &[u8]) -> Option<&'l [u8]> {
-    for line in listing.split(|byte| *byte == b'\n') {
-        if line.starts_with(start) {
-            return Some(line);
-        }
-    }
-    None
 }
 
 /// The rule for an instruction in an image's commands.
@@ -53,22 +43,16 @@ fn rule_of(instruction: Option<&Instr>) -> &'static str {
     }
 }
 
-/// The beginning of an instruction's line in a listing.
-fn line_start(alloc: Global, number: usize) -> Result<Vec<u8>, AllocError> {
-    let mut start = Vec::new(alloc);
-    put_parts(&mut start, &[Part::Number(number), Part::Text(b": ")])?;
-    Ok(start)
-}
-
-/// Adds the line of a listing that has this beginning.
-fn put_line_of(words: &mut Vec<u8>, listing: &[u8], start: &[u8]) -> Result<(), AllocError> {
-    let Some(line) = line_of(listing, start) else {
-        return Ok(());
-    };
-    put_parts(
-        words,
-        &[Part::Text(b"  "), Part::Text(line), Part::Text(b"\n")],
-    )
+/// Adds an instruction with its number, as a listing has it.
+fn put_instruction(
+    words: &mut Vec<u8>,
+    number: usize,
+    instruction: Instr,
+) -> Result<(), AllocError> {
+    let start = [Part::Text(b"  "), Part::Number(number), Part::Text(b": ")];
+    put_parts(words, &start)?;
+    instruction.write_to(words)?;
+    words.extend_from_slice(b"\n")
 }
 
 /// Adds that a global of an image has a class that isn't one of these.
@@ -90,11 +74,12 @@ fn put_other_class(
 }
 
 impl Judged<'_> {
-    /// Adds the line of an instruction in the listing.
+    /// Adds the line of an instruction, if there is one with this number.
     fn put_line(&self, words: &mut Vec<u8>, number: usize) -> Result<(), AllocError> {
-        let start = line_start(self.alloc, number)?;
-        let text = listing(self.alloc, self.image)?;
-        put_line_of(words, &text, &start)
+        match self.image.code.get(number) {
+            Some(instruction) => put_instruction(words, number, *instruction),
+            None => Ok(()),
+        }
     }
 
     /// Adds the explanation of a global whose class the lattice lacks.
@@ -155,23 +140,37 @@ impl Judged<'_> {
         )
     }
 
+    /// The global from which a forbidden flow into an instruction comes, with its class.
+    fn source_of(&self, number: usize) -> Result<Vec<u8>, AllocError> {
+        let mut text = Vec::new(self.alloc);
+        let slot = chain_source(self.alloc, self.lattice, self.image, number)?;
+        let global = match slot {
+            Some(slot) => self.image.globals.get(slot as usize),
+            None => None,
+        };
+        match global {
+            Some((name, class)) => {
+                let parts = [Part::Text(name), Part::Text(b" : "), Part::Text(class)];
+                put_parts(&mut text, &parts)?;
+            }
+            None => text.extend_from_slice(b"(something)")?,
+        }
+        Ok(text)
+    }
+
     /// Adds the explanation of a jump or a global with a forbidden flow into it.
-    fn put_unsteady(
-        &self,
-        words: &mut Vec<u8>,
-        number: usize,
-        source: &[u8],
-    ) -> Result<(), AllocError> {
+    fn put_unsteady(&self, words: &mut Vec<u8>, number: usize) -> Result<(), AllocError> {
+        let source = self.source_of(number)?;
         if let Some(Instr::Store(_)) = self.image.code.get(number) {
             let before = b"This instruction writes a value that depends on ";
-            put_word_between(words, before, source, b":\n")?;
+            put_word_between(words, before, &source, b":\n")?;
             self.put_line(words, number)?;
             return words.extend_from_slice(
                 b"Hint: give the global that it writes a class at or above that one, or write a \
                 value there that doesn't depend on it.\n",
             );
         }
-        put_word_between(words, b"This jump depends on ", source, b":\n")?;
+        put_word_between(words, b"This jump depends on ", &source, b":\n")?;
         self.put_line(words, number)?;
         put_word_between(
             words,
@@ -182,20 +181,6 @@ impl Judged<'_> {
             again.\n",
         )
     }
-}
-
-/// The source that the last line of a refusal names before `may not flow to`.
-fn source_in(refusal: &[u8]) -> &[u8] {
-    let mut source: &[u8] = b"(something)";
-    for line in refusal.split(|byte| *byte == b'\n') {
-        for at in 0..line.len() {
-            if line[at..].starts_with(b" may not flow to ") {
-                source = &line[..at];
-                break;
-            }
-        }
-    }
-    source
 }
 
 /// Adds the explanation of an image whose commands are judged.
@@ -217,16 +202,15 @@ pub(crate) fn put_audit(
     }
 }
 
-/// Adds the explanation of an image that isn't steady, with the text of its refusal.
+/// Adds the explanation of an image that isn't steady.
 pub(crate) fn put_steady(
     judged: &Judged,
     words: &mut Vec<u8>,
-    refusal: &[u8],
     error: &SteadyError,
 ) -> Result<(), AllocError> {
     match error {
         SteadyError::Memory => Err(AllocError),
         SteadyError::UnknownClass(number) => judged.put_class(words, *number),
-        SteadyError::Flow(number) => judged.put_unsteady(words, *number, source_in(refusal)),
+        SteadyError::Flow(number) => judged.put_unsteady(words, *number),
     }
 }

@@ -53,11 +53,10 @@ pub enum Refused<'a> {
         image: &'a Image,
         error: &'a AuditError,
     },
-    /// An image that should be steady, and the text of its refusal.
+    /// An image that should be steady.
     Steady {
         lattice: &'a Lattice,
         image: &'a Image,
-        refusal: &'a [u8],
         error: &'a SteadyError,
     },
 }
@@ -109,7 +108,6 @@ fn put_judged(alloc: Global, words: &mut Vec<u8>, refused: Refused) -> Result<()
         Refused::Steady {
             lattice,
             image,
-            refusal,
             error,
         } => {
             let judged = Judged {
@@ -117,7 +115,7 @@ fn put_judged(alloc: Global, words: &mut Vec<u8>, refused: Refused) -> Result<()
                 lattice,
                 image,
             };
-            put_steady(&judged, words, refusal, error)
+            put_steady(&judged, words, error)
         }
         Refused::Interface { .. } | Refused::Start { .. } => Ok(()),
     }

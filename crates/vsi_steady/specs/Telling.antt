@@ -98,6 +98,17 @@ IsChain known L image place (s ∷ steps) =
     LeadTo image.code.items (length gs) place (s ∷ steps)
     × MayNotFlow known L gs s.source (end_of s steps)
 
+-- The source of the first of these steps.
+abbrev pub first_source : List Step → Option ℕ
+first_source [] = None
+first_source (s ∷ steps) = Some s.source
+
+-- A chain to the place begins at the source, or has no steps and there is no source.
+pub record IsChainSource (known : Known) (L : Lattice) (image : Image) (place : ℕ) (source : Option ℕ) : Type 0 where
+  pub steps : List Step
+  pub chain : IsChain known L image place steps
+  pub first : source ≡ first_source steps
+
 -- ---- the text.
 
 -- The name of a global, or the number of any other slot.

@@ -1,8 +1,8 @@
 //! The chain of flows that brings something to an instruction.
 
-ghost use Rattle.std.specs.Prelude.{IfOk};
+ghost use Rattle.std.specs.Prelude.{◌≡◌, IfOk};
 ghost use Rattle.vsi_lattice.specs.LatticeView.{class_named, order};
-ghost use Rattle.vsi_steady.specs.Telling.{IsChain};
+ghost use Rattle.vsi_steady.specs.Telling.{IsChain, IsChainSource, first_source as first_source_of};
 
 use crate::step::{Step, is_bad, is_chain};
 use std::alloc::{AllocError, Global};
@@ -115,6 +115,31 @@ pub(crate) fn chain_to(
         return Ok(steps);
     }
     Ok(Vec::new(alloc))
+}
+
+/// The source of the first step.
+fn first_source(steps: &[Step]) -> Option<u16>
+    ensures { result ≡ first_source_of steps.now }
+{
+    match steps.first() {
+        Some(step) => Some(step.source),
+        None => None,
+    }
+}
+
+/// The global at the beginning of the chain that `steady_text` prints for a flow into the STORE or
+/// JZ at a place, if it prints one.
+pub fn chain_source(
+    alloc: Global,
+    lattice: &Lattice,
+    image: &Image,
+    place: usize,
+) -> Result<Option<u16>, AllocError>
+    ensures { IfOk result (IsChainSource (class_named lattice.now) (order lattice.now) image.now
+        place) }
+{
+    let steps = chain_to(alloc, lattice, image, place)?;
+    Ok(first_source(&steps))
 }
 
 /// The steps of that chain, found by a search backwards from the place.

@@ -6,7 +6,7 @@
 //! instructions, and a class sees nothing from above it. If an image is refused for a flow, there
 //! are no classes of its slots with which its code passes. `laws` states the properties of accepted
 //! images for the definition of steady images. `steady_text` writes why an image is refused: for a
-//! flow, a chain of steps of its code.
+//! flow, a chain of steps of its code, whose first global `chain_source` returns.
 //!
 //! `steady_image_of` makes such an image of a source text, or answers a shortest walk from a secret
 //! to a guard; `steady_explanation_of` writes the lines of the walk. `compile_steady` and
@@ -28,6 +28,7 @@ mod text;
 mod unsteady;
 mod watched;
 
+pub use chain::chain_source;
 pub use error::SteadyError;
 pub use source::{compile_steady, steady_explanation, steady_explanation_of, steady_image_of};
 pub use steady::steady_in;
