@@ -1,8 +1,8 @@
 -- The pairs of a table that are listed.
-use Rattle.std.proofs.Common.{◌≡◌, ℕ, zero, suc, ◌≤◌, ◌<◌, ◌+◌, ◌⊎◌, inl, inr, Bool, true, false, cond, List, [], ◌∷◌, ◌++◌, map, length, take, refl, sym, ap, ◌∙◌, subst, arith, eqb, eq-eqb, length-take-le}
-use Rattle.std.specs.Prelude.{if◌then◌else◌, ◌&&◌, min, Result, Ok, Err, IfOk}
+use Rattle.std.proofs.Common.{◌≡◌, ℕ, zero, suc, ◌≤◌, Bool, true, false, cond, List, [], ◌∷◌, ◌++◌, map, length, take, refl, sym, ap, ◌∙◌, subst, arith, eqb, eq-eqb, length-take-le}
+use Rattle.std.specs.Prelude.{if◌then◌else◌, ◌&&◌, nat_le, min, Result, Ok, Err, IfOk}
 use Rattle.std.specs.List.{All, filter}
-use Rattle.std.proofs.lemmas.Bool.{false≢true, cases_lt}
+use Rattle.std.proofs.lemmas.Bool.{false≢true}
 use Rattle.std.proofs.lemmas.List.{map_push, length-map}
 use Rattle.std.proofs.lemmas.List.Elements.{All-nil, All-cons, All-head, All-tail, All-take, All-push, All-filter, filter_passes}
 use Rattle.vsi_lattice.specs.Order.{Lattice}
@@ -12,14 +12,13 @@ use Rattle.vsi_types.specs.declared.rules.Profile.{Profile}
 use Rattle.vsi_types.specs.declared.rules.Step.{Step}
 use Rattle.vsi_scope.specs.Program.{Resolved}
 use Rattle.vsi_types.specs.Security.{Program, program, steps_of}
-use Rattle.vsi_infer.specs.Flowing.{size_of}
 use Rattle.vsi_compiler.specs.SourceView.{Source}
 use Rattle.vsi_flows.specs.declared.pair.Pair.{Pair}
 use Rattle.vsi_flows.specs.Table.{IsTold, IsTable, Precedes, AreSorted}
 use Rattle.vsi_flows.specs.Text.{IsWalkOf}
 use Rattle.vsi_blame.specs.Refused.{IsRefused}
 use Rattle.vsi_further_flows.specs.declared.flow.FurtherFlow.{FurtherFlow}
-use Rattle.vsi_further_flows.specs.Further.{has_ends, is_further, further_of, first_of, HaveWalks, IsRefusedFlow, HasOtherEnds, AreFurther, AreFirst, AreListed}
+use Rattle.vsi_further_flows.specs.Further.{has_ends, is_further, further_of, most_flows, first_of, is_small, HaveWalks, IsRefusedFlow, HasOtherEnds, AreFurther, AreFirst, AreListed}
 
 -- A part of a sorted list is sorted.
 sorted_filter : (test : Pair → Bool) (pairs : List Pair) → AreSorted pairs → AreSorted (filter test pairs)
@@ -78,25 +77,39 @@ module _ (L : Lattice) (P : Profile) (p : Program) where
     down = λ below. false≢true (sym (sym t.verdict ∙ e) ∙ below);
   }
 
+-- At most 19 flows are listed for any text.
+most_few : (n : ℕ) → most_flows n ≤ 19
+most_few n = by (nat_le n 32768)
+  where
+    by : (b : Bool) → (if b then 19 else 7) ≤ 19
+    by true = omega arith
+    by false = omega arith
+
 -- The first pairs are at most 19.
-pub first_few : (pairs : List Pair) → length (first_of pairs) ≤ 19
-first_few pairs = omega (arith, length-take-le (min (length pairs) 19) pairs (omega arith))
+pub first_few : (n : ℕ) (pairs : List Pair) → length (first_of n pairs) ≤ 19
+first_few n pairs =
+    by (min (length pairs) (most_flows n)) (omega arith) (omega arith) (most_few n)
+  where
+    by : (m : ℕ) → m ≤ length pairs → m ≤ most_flows n → most_flows n ≤ 19 → length (take m pairs) ≤ 19
+    by m within less few = omega (arith, length-take-le m pairs within, less, few)
 
 -- A property of each pair is a property of each of the first ones that are listed.
-pub all_first : (Q : Pair → Type 0) (a b : ℕ) (pairs : List Pair) → All Q pairs
-    → All Q (first_of (further_of a b pairs))
-all_first Q a b pairs h =
-    All-take Q (min (length (further_of a b pairs)) 19) (further_of a b pairs) (All-filter (is_further a b) Q pairs h)
+pub all_first : (Q : Pair → Type 0) (n a b : ℕ) (pairs : List Pair) → All Q pairs
+    → All Q (first_of n (further_of a b pairs))
+all_first Q n a b pairs h =
+    All-take Q (min (length (further_of a b pairs)) (most_flows n)) (further_of a b pairs)
+    (All-filter (is_further a b) Q pairs h)
 
 -- Each listed pair passes the test.
-first_pass : (a b : ℕ) (pairs : List Pair) → All (λ r. is_further a b r ≡ true) (first_of (further_of a b pairs))
-first_pass a b pairs =
-    All-take (λ r. is_further a b r ≡ true) (min (length (further_of a b pairs)) 19) (further_of a b pairs)
-    (filter_passes (is_further a b) pairs)
+first_pass : (n a b : ℕ) (pairs : List Pair)
+    → All (λ r. is_further a b r ≡ true) (first_of n (further_of a b pairs))
+first_pass n a b pairs =
+    All-take (λ r. is_further a b r ≡ true) (min (length (further_of a b pairs)) (most_flows n))
+    (further_of a b pairs) (filter_passes (is_further a b) pairs)
 
 module _ (s : Source) (P : Profile) (a b : ℕ) (flows : List FurtherFlow) (first : AreFirst s P a b flows) where
   abbrev listed : List Pair
-  listed = first_of (further_of a b first.pairs)
+  listed = first_of (length s.text) (further_of a b first.pairs)
 
   -- A property of the listed pairs is a property of the flows.
   of_listed : (Q : Pair → Type 0) → All Q listed → All (λ f. Q f.pair) flows
@@ -106,7 +119,7 @@ module _ (s : Source) (P : Profile) (a b : ℕ) (flows : List FurtherFlow) (firs
   pub are_few : length flows ≤ 19
   are_few =
       subst (λ (n : ℕ). n ≤ 19) (sym (ap length first.walks.kept) ∙ length-map flows (λ f. f.pair))
-      (first_few (further_of a b first.pairs))
+      (first_few (length s.text) (further_of a b first.pairs))
 
   -- Each is refused, and its steps are a walk.
   pub are_refused_flows : All (IsRefusedFlow (order s.lattice) P (program s.resolved)) flows
@@ -120,8 +133,8 @@ module _ (s : Source) (P : Profile) (a b : ℕ) (flows : List FurtherFlow) (firs
       (λ r. IsRefused (order s.lattice) P (program s.resolved) r.source r.target)
       (λ r t e. refused_told (order s.lattice) P (program s.resolved) r t
       (passed r.allowed (has_ends a b r) _ e).0)
-      listed (all_first (IsTold (order s.lattice) P (program s.resolved)) a b first.pairs first.table.told)
-      (first_pass a b first.pairs)))
+      listed (all_first (IsTold (order s.lattice) P (program s.resolved)) (length s.text) a b first.pairs first.table.told)
+      (first_pass (length s.text) a b first.pairs)))
       first.walks.walks
 
   -- None leads from a to b.
@@ -129,14 +142,14 @@ module _ (s : Source) (P : Profile) (a b : ℕ) (flows : List FurtherFlow) (firs
   have_other_ends =
       of_listed (λ r. r.source ≡ a → r.target ≡ b → ⊥)
       (both_all (λ r. is_further a b r ≡ true) (λ r. is_further a b r ≡ true) (λ r. r.source ≡ a → r.target ≡ b → ⊥)
-      (λ r e _. apart_ends a b r (passed r.allowed (has_ends a b r) _ e).1) listed (first_pass a b first.pairs)
-      (first_pass a b first.pairs))
+      (λ r e _. apart_ends a b r (passed r.allowed (has_ends a b r) _ e).1) listed
+      (first_pass (length s.text) a b first.pairs) (first_pass (length s.text) a b first.pairs))
 
   -- They are sorted.
   pub are_sorted : AreSorted (map (λ f. f.pair) flows)
   are_sorted =
       subst AreSorted (sym first.walks.kept)
-      (sorted_take (min (length (further_of a b first.pairs)) 19) (further_of a b first.pairs)
+      (sorted_take (min (length (further_of a b first.pairs)) (most_flows (length s.text))) (further_of a b first.pairs)
       (sorted_filter (is_further a b) first.pairs first.table.sorted))
 
 -- The listed pairs of a table, where the parts of the source are given by equations.
@@ -161,50 +174,62 @@ further_told s P a b further x =
     (All-filter (is_further a b) (IsTold (order s.lattice) P (program s.resolved)) x.pairs x.table.told)
 
 -- The first of the pairs are true if all are.
-pub first_told : (Q : Pair → Type 0) (further items first : List Pair) → items ≡ further → first ≡ first_of items
-    → All Q further → All Q first
-first_told Q further items first same cut h =
-    subst (All Q) (sym cut) (All-take Q (min (length items) 19) items (subst (All Q) (sym same) h))
+pub first_told : (Q : Pair → Type 0) (n : ℕ) (further items first : List Pair) → items ≡ further
+    → first ≡ first_of n items → All Q further → All Q first
+first_told Q n further items first same cut h =
+    subst (All Q) (sym cut) (All-take Q (min (length items) (most_flows n)) items (subst (All Q) (sym same) h))
 
 -- The walks of the first pairs are those of the first listed ones.
 pub first_walks : {V E : Type 0} (s : Source) (P : Profile) (a b : ℕ) (r : Resolved) → r ≡ s.resolved
-    → (further items first : List Pair) → items ≡ further → first ≡ first_of items → AreFurther s P a b further
-    → (f : V → List FurtherFlow) (o : Result V E) → IfOk o (λ v. HaveWalks (steps_of P (program r)) first (f v))
-    → IfOk o (λ v. AreFirst s P a b (f v))
-first_walks s P a b r is further items first same cut x f (Ok v) h = record {
+    → (text : List ℕ) → text ≡ s.text → (further items first : List Pair) → items ≡ further
+    → first ≡ first_of (length text) items → AreFurther s P a b further → (f : V → List FurtherFlow) (o : Result V E)
+    → IfOk o (λ v. HaveWalks (steps_of P (program r)) first (f v)) → IfOk o (λ v. AreFirst s P a b (f v))
+first_walks s P a b r is text read further items first same cut x f (Ok v) h = record {
   pairs = x.pairs;
   table = x.table;
   walks =
       subst (λ (ps : List Pair). HaveWalks (steps_of P (program s.resolved)) ps (f v))
-      (cut ∙ ap first_of same ∙ ap first_of x.same)
+      (cut ∙ ap (λ t. first_of (length t) items) read ∙ ap (first_of (length s.text)) same
+      ∙ ap (first_of (length s.text)) x.same)
       (subst (λ (q : Resolved). HaveWalks (steps_of P (program q)) first (f v)) is h);
 }
-first_walks s P a b r is further items first same cut x f (Err e) h = tt
+first_walks s P a b r is text read further items first same cut x f (Err e) h = tt
 
 -- If a property holds of no flow and of the first ones, it holds of the listed ones.
 of_listing : (Q : List FurtherFlow → Type 0) (s : Source) (P : Profile) (a b : ℕ) (flows : List FurtherFlow)
     → AreListed s P a b flows → Q [] → (AreFirst s P a b flows → Q flows) → Q flows
-of_listing Q s P a b flows x none some = by (cases_lt 200 (size_of (program s.resolved)))
+of_listing Q s P a b flows x none some = by (is_small (program s.resolved) (length s.text)) x.small x.large
   where
-    by : (200 < size_of (program s.resolved)) ⊎ (size_of (program s.resolved) ≤ 200) → Q flows
-    by (inl more) = subst Q (sym (x.large more)) none
-    by (inr less) = some (x.small less)
+    by : (b' : Bool) → (b' ≡ true → AreFirst s P a b flows) → (b' ≡ false → flows ≡ []) → Q flows
+    by true small large = some (small refl)
+    by false small large = subst Q (sym (large refl)) none
 
--- The first flows are listed where the program is small.
-pub listed_first : {V E : Type 0} (s : Source) (P : Profile) (a b : ℕ) (r : Resolved) → r ≡ s.resolved
-    → size_of (program r) ≤ 200 → (f : V → List FurtherFlow) (o : Result V E) → IfOk o (λ v. AreFirst s P a b (f v))
+-- The test of a source's program and text answers the same for parts that are equal to these.
+small_same : (s : Source) (r : Resolved) (text : List ℕ) (b : Bool) → r ≡ s.resolved → text ≡ s.text
+    → b ≡ is_small (program r) (length text) → is_small (program s.resolved) (length s.text) ≡ b
+small_same s r text b is read e =
+    sym (e ∙ ap (λ (q : Resolved). is_small (program q) (length text)) is
+    ∙ ap (λ (t : List ℕ). is_small (program s.resolved) (length t)) read)
+
+-- The first flows are listed where the program and its text are small.
+pub listed_first : {V E : Type 0} (s : Source) (P : Profile) (a b : ℕ) (r : Resolved) (text : List ℕ) (b' : Bool)
+    → r ≡ s.resolved → text ≡ s.text → b' ≡ is_small (program r) (length text) → b' ≡ true
+    → (f : V → List FurtherFlow) (o : Result V E) → IfOk o (λ v. AreFirst s P a b (f v))
     → IfOk o (λ v. AreListed s P a b (f v))
-listed_first s P a b r is less f (Ok v) h =
-    let few : size_of (program s.resolved) ≤ 200 = subst (λ (q : Resolved). size_of (program q) ≤ 200) is less in
-    record { small = λ _. h; large = λ more. absurd (omega (arith, few, more)) }
-listed_first s P a b r is less f (Err e) h = tt
+listed_first s P a b r text b' is read e holds f (Ok v) h = record {
+  small = λ _. h;
+  large = λ other. absurd (false≢true (sym other ∙ small_same s r text b' is read e ∙ holds));
+}
+listed_first s P a b r text b' is read e holds f (Err _) h = tt
 
--- None is where it is large.
-pub listed_none : (s : Source) (P : Profile) (a b : ℕ) (r : Resolved) → r ≡ s.resolved → 200 < size_of (program r)
-    → (flows : List FurtherFlow) → flows ≡ [] → AreListed s P a b flows
-listed_none s P a b r is more flows none =
-    let many : 200 < size_of (program s.resolved) = subst (λ (q : Resolved). 200 < size_of (program q)) is more in
-    record { small = λ less. absurd (omega (arith, many, less)); large = λ _. none }
+-- None is where one of them is large.
+pub listed_none : (s : Source) (P : Profile) (a b : ℕ) (r : Resolved) (text : List ℕ) (b' : Bool) → r ≡ s.resolved
+    → text ≡ s.text → b' ≡ is_small (program r) (length text) → b' ≡ false → (flows : List FurtherFlow)
+    → flows ≡ [] → AreListed s P a b flows
+listed_none s P a b r text b' is read e fails flows none = record {
+  small = λ other. absurd (false≢true (sym fails ∙ sym (small_same s r text b' is read e) ∙ other));
+  large = λ _. none;
+}
 
 -- The four facts about the listed flows of an answer.
 pub listed_few : {V E : Type 0} (s : Source) (P : Profile) (a b : ℕ) (f : V → List FurtherFlow) (o : Result V E)

@@ -1,5 +1,5 @@
 -- The refused flows of a source text after the one that is reported already.
-use Rattle.std.specs.Prelude.{◌≡◌, ℕ, ◌<◌, ◌≤◌, ◌==◌, ◌&&◌, Bool, false, not, if◌then◌else◌, nat_le, min, List, [], map, length, take}
+use Rattle.std.specs.Prelude.{◌≡◌, ℕ, ◌==◌, ◌&&◌, Bool, true, false, if◌then◌else◌, nat_le, min, List, [], map, length, take}
 use Rattle.std.specs.List.{All, filter}
 use Rattle.vsi_lattice.specs.Order.{Lattice}
 use Rattle.vsi_lattice.specs.LatticeView.{order}
@@ -26,9 +26,17 @@ is_further a b r = if r.allowed then false else if has_ends a b r then false els
 abbrev pub further_of : ℕ → ℕ → List Pair → List Pair
 further_of a b pairs = filter (is_further a b) pairs
 
--- The first 19 of the pairs.
-abbrev pub first_of : List Pair → List Pair
-first_of pairs = take (min (length pairs) 19) pairs
+-- The most flows that are listed for a text of n bytes.
+abbrev pub most_flows : ℕ → ℕ
+most_flows n = if nat_le n 32768 then 19 else 7
+
+-- The first of the pairs, at most as many as are listed for a text of n bytes.
+abbrev pub first_of : ℕ → List Pair → List Pair
+first_of n pairs = take (min (length pairs) (most_flows n)) pairs
+
+-- The program has at most 128 declarations, and its text of n bytes at most 131,072.
+abbrev pub is_small : Program → ℕ → Bool
+is_small p n = if nat_le (size_of p) 128 then nat_le n 131072 else false
 
 -- The pairs are the table of the source text's program under the profile.
 abbrev pub IsTableOf : Source → Profile → List Pair → Type 0
@@ -54,13 +62,13 @@ pub record AreFurther (s : Source) (P : Profile) (a b : ℕ) (further : List Pai
   pub table : IsTableOf s P pairs
   pub same : further ≡ further_of a b pairs
 
--- The flows are those of the first 19 of these pairs.
+-- The flows are those of the first of these pairs, at most as many as are listed for the text.
 pub record AreFirst (s : Source) (P : Profile) (a b : ℕ) (flows : List FurtherFlow) : Type 0 where
   pub pairs : List Pair
   pub table : IsTableOf s P pairs
-  pub walks : HaveWalks (steps_of P (program s.resolved)) (first_of (further_of a b pairs)) flows
+  pub walks : HaveWalks (steps_of P (program s.resolved)) (first_of (length s.text) (further_of a b pairs)) flows
 
--- The flows are the first 19 if the program has at most 200 declarations, and there are none if it has more.
+-- The flows are the first ones if the program and its text are small, and there are none if they are large.
 pub record AreListed (s : Source) (P : Profile) (a b : ℕ) (flows : List FurtherFlow) : Type 0 where
-  pub small : size_of (program s.resolved) ≤ 200 → AreFirst s P a b flows
-  pub large : 200 < size_of (program s.resolved) → flows ≡ []
+  pub small : is_small (program s.resolved) (length s.text) ≡ true → AreFirst s P a b flows
+  pub large : is_small (program s.resolved) (length s.text) ≡ false → flows ≡ []

@@ -1,10 +1,9 @@
 //! The further refused flows of a source text.
 
-ghost use Rattle.std.specs.Prelude.{◌≡◌, ◌≤◌, ◌<◌, true, false, length, map, IfOk};
+ghost use Rattle.std.specs.Prelude.{◌≡◌, ◌≤◌, length, map, IfOk};
 ghost use Rattle.std.specs.List.{All};
 ghost use Rattle.vsi_lattice.specs.LatticeView.{order};
 ghost use Rattle.vsi_types.specs.Security.{program as program_of};
-ghost use Rattle.vsi_infer.specs.Flowing.{size_of};
 ghost use Rattle.vsi_flows.specs.Table.{AreSorted};
 ghost use Rattle.vsi_further_flows.specs.Further as spec;
 
@@ -20,23 +19,47 @@ use vsi_types::Profile;
 /// The most flows that are listed.
 const MOST_FLOWS: usize = 19;
 
-/// The most declarations of a program whose further flows are listed.
-const MOST_DECLARATIONS: u16 = 200;
+/// The most bytes of a text for which so many flows are listed.
+const SHORT_LENGTH: usize = 32_768;
 
-/// Whether the further flows of a program are listed.
-fn has_few(program: &Resolved<'_>) -> bool
-    ensures few { result ≡ true → size_of (program_of program.now) ≤ 200 }
-    ensures many { result ≡ false → 200 < size_of (program_of program.now) }
+/// The most flows that are listed for a longer text.
+const FEWER_FLOWS: usize = 7;
+
+/// The most bytes of a text whose further flows are listed.
+const MOST_LENGTH: usize = 131_072;
+
+/// The most declarations of a program whose further flows are listed.
+const MOST_DECLARATIONS: u16 = 128;
+
+/// Whether the further flows of a program are listed, whose text has this many bytes.
+fn is_small(program: &Resolved<'_>, length: usize) -> bool
+    ensures { result ≡ spec.is_small (program_of program.now) length }
 {
     let count = declarations(program);
-    count <= MOST_DECLARATIONS
+    if count <= MOST_DECLARATIONS {
+        length <= MOST_LENGTH
+    } else {
+        false
+    }
 }
 
-/// The first pairs of a list.
-fn first_of(pairs: &[Pair]) -> &[Pair]
-    ensures { result.now ≡ spec.first_of pairs.now }
+/// The most flows that are listed for a text of this many bytes.
+fn most_flows(length: usize) -> usize
+    ensures { result ≡ spec.most_flows length }
 {
-    &pairs[..pairs.len().min(MOST_FLOWS)]
+    if length <= SHORT_LENGTH {
+        MOST_FLOWS
+    } else {
+        FEWER_FLOWS
+    }
+}
+
+/// The first pairs of a list, at most as many as are listed for a text of this many bytes.
+fn first_of(pairs: &[Pair], length: usize) -> &[Pair]
+    ensures { result.now ≡ spec.first_of length pairs.now }
+{
+    let most = most_flows(length);
+    &pairs[..pairs.len().min(most)]
 }
 
 /// The refused pairs of the table of a source text that have other ends than these.
@@ -70,11 +93,11 @@ fn first_flows(
     let lattice = source.lattice();
     let resolved = source.resolved();
     let pairs = further_in(alloc, profile, source, from, to)?;
-    let first = first_of(&pairs);
+    let first = first_of(&pairs, source.text().len());
     flows_of(alloc, profile, lattice, resolved, first)
 }
 
-/// The same, or nothing if the program has many declarations.
+/// The same, or nothing if the program or its text is large.
 fn listed_flows(
     alloc: Global,
     profile: Profile,
@@ -85,8 +108,8 @@ fn listed_flows(
     ensures { IfOk result (λ flows. spec.AreListed source.now profile from to flows.items) }
 {
     let resolved = source.resolved();
-    let is_small = has_few(resolved);
-    if is_small {
+    let is_short = is_small(resolved, source.text().len());
+    if is_short {
         first_flows(alloc, profile, source, from, to)
     } else {
         Ok(Vec::new(alloc))
@@ -95,8 +118,8 @@ fn listed_flows(
 
 /// Refused flows of a source text under a profile, other than the one between these two ends, which
 /// is reported already: at most 19, in the order of the table, each with a walk of its fewest steps.
-/// A flow whose walk has more than 32 steps isn't listed, and none is if the program has more than
-/// 200 declarations.
+/// A flow whose walk has more than 32 steps isn't listed. A text of more than 32,768 bytes has at
+/// most 7, and one of more than 131,072 bytes, or a program of more than 128 declarations, has none.
 pub fn further_flows(
     alloc: Global,
     profile: Profile,

@@ -1,7 +1,6 @@
 //! Answers to requests about a document.
 
-use crate::diagnostics::Page;
-use crate::objects::{location_object, place_at, text_at};
+use crate::objects::{place_at, text_at};
 use crate::reading::{Reading, reading_of};
 use crate::relations::put_relations;
 use crate::replies::Fault;
@@ -13,6 +12,7 @@ use vsi_choices::{
 };
 use vsi_client::{Change, Range};
 use vsi_compiler::{CompileError, read_source};
+use vsi_errors::{Page, location_object};
 use vsi_lattice::Lattice;
 use vsi_names::{Mention, rename};
 use vsi_syntax::Span;

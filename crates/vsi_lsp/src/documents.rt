@@ -1,14 +1,13 @@
 //! Open documents, and the errors that are published for them.
 
-use crate::diagnostics::{Page, error_object, errors_in, only};
 use crate::interfaces::interface_errors;
 use crate::replies::notification;
-use crate::warned::put_others;
 use serde_json::{Value, json};
 use std::alloc::{AllocError, Global};
 use vsi_choices::text_value;
 use vsi_client::Encoding;
 use vsi_diagnostics::{Fault, fault_diagnostic, fault_text};
+use vsi_errors::{Page, error_object, errors_in, one_error, put_others};
 use vsi_lattice::{LatticeError, read_lattice};
 use vsi_names::START;
 use vsi_policy::named_policy;
@@ -162,7 +161,7 @@ fn lattice_errors(alloc: Global, page: Page<'_>) -> Result<Vec<Value>, AllocErro
         return Ok(Vec::new(alloc));
     };
     let span = line_span(page.text, 0);
-    only(alloc, refused_object(alloc, page, span, error)?)
+    one_error(alloc, refused_object(alloc, page, span, error)?)
 }
 
 /// The errors and warnings of a source text under a lattice file.
@@ -187,7 +186,7 @@ fn source_errors(
         }
         Err(error) => {
             let span = naming_span(page.text);
-            only(alloc, refused_object(alloc, page, span, error)?)
+            one_error(alloc, refused_object(alloc, page, span, error)?)
         }
     }
 }
@@ -209,7 +208,7 @@ fn document_errors(
             Policy::File(bytes) => source_errors(alloc, profile, page, bytes),
             Policy::Lost(path) => {
                 let span = naming_span(page.text);
-                only(alloc, lost_error(alloc, page, span, path)?)
+                one_error(alloc, lost_error(alloc, page, span, path)?)
             }
         },
     }

@@ -1,6 +1,5 @@
 //! Errors of interface files.
 
-use crate::diagnostics::{Page, error_object, only};
 use crate::documents::{Policy, line_span, lost_error, refused_object};
 use serde_json::Value;
 use std::alloc::{AllocError, Global};
@@ -9,6 +8,7 @@ use vsi_conform::{
     Asked, InterfaceError, Policy as Place, interface_text, read_interface, unknown_class,
     unknown_cycle,
 };
+use vsi_errors::{Page, error_object, one_error};
 use vsi_lattice::{Lattice, read_lattice};
 
 /// The path of the lattice file that an interface names, if it does.
@@ -53,7 +53,7 @@ fn refused(
         [line @ .., b'\n'] => line,
         line => line,
     };
-    only(
+    one_error(
         alloc,
         error_object(alloc, page, line_span(page.text, 0), 0, line)?,
     )
@@ -71,7 +71,7 @@ fn asked_errors(
         Place::Tables(text) => errors_under(alloc, page, asked, text),
         Place::File(_) => match policy {
             Policy::File(bytes) => errors_under(alloc, page, asked, bytes),
-            Policy::Lost(path) => only(
+            Policy::Lost(path) => one_error(
                 alloc,
                 lost_error(alloc, page, line_span(page.text, 0), path)?,
             ),
@@ -94,7 +94,7 @@ fn errors_under(
         },
         Err(error) => {
             let span = line_span(page.text, 0);
-            only(alloc, refused_object(alloc, page, span, error)?)
+            one_error(alloc, refused_object(alloc, page, span, error)?)
         }
     }
 }

@@ -1,20 +1,7 @@
-//! JSON objects of parts of documents, and what is at a path of a client's object.
+//! The texts and positions at paths of a client's object.
 
-use serde_json::{Value, json};
-use std::alloc::{AllocError, Global};
-use vsi_choices::{range_object, text_value};
-use vsi_client::{Place, Range};
-
-/// The object of a part of a document.
-pub(crate) fn location_object(
-    alloc: Global,
-    uri: &[u8],
-    range: Range,
-) -> Result<Value, AllocError> {
-    let uri = text_value(alloc, uri)?;
-    let range = range_object(alloc, range)?;
-    json!(in alloc; {"uri": uri, "range": range})
-}
+use serde_json::Value;
+use vsi_client::Place;
 
 /// The text at a path of an object.
 pub(crate) fn text_at<'v>(value: &'v Value, path: &str) -> Option<&'v str> {

@@ -4,12 +4,12 @@ ghost use Rattle.std.specs.List.{All};
 ghost use Rattle.vsi_lattice.specs.LatticeView.{order};
 ghost use Rattle.vsi_lattice.specs.Order.{IsClass};
 
-use crate::diagnostics::Page;
 use crate::objects::place_at;
 use serde_json::Value;
 use std::alloc::{AllocError, Global};
 use vsi_client::offset_of;
 use vsi_compiler::{CompileError, Source, judge};
+use vsi_errors::Page;
 use vsi_lattice::{Class, Lattice};
 use vsi_names::{Mention, mention_at, mentions_of};
 use vsi_syntax::Span;

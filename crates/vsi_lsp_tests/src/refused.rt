@@ -4,8 +4,8 @@ use serde_json::Value;
 use std::alloc::{AllocError, Global};
 use std::test::Fail;
 use vsi_client::Encoding;
+use vsi_errors::errors_in;
 use vsi_lattice::read_lattice;
-use vsi_lsp::errors_in;
 use vsi_syntax::put_number;
 use vsi_types::Profile;
 
@@ -129,13 +129,28 @@ s := p; t := p";
 
 #[test]
 fn many_declarations(rt: HostRuntime) -> Result<(), Fail> {
-    // 200 declarations with two refused pairs, and 201.
-    for (others, flows) in [(198, 2), (199, 1)] {
+    // 128 declarations with two refused pairs, and 129.
+    for (others, flows) in [(126, 2), (127, 1)] {
         let mut text = Vec::from_slice(rt.alloc(), b"var h : H; var l : L; ")?;
         for number in 0..others {
             put_name(&mut text, b"var ", number, b" : L; ")?;
         }
         text.extend_from_slice(b"l := h; x0 := h")?;
+        assert!(rt; count(rt.alloc(), &text)? == flows);
+    }
+    Ok(())
+}
+
+#[test]
+fn long_texts(rt: HostRuntime) -> Result<(), Fail> {
+    // 20 pairs, before as many blanks as give the text these lengths.
+    for (length, flows) in [(32_768, 20), (32_769, 8), (131_072, 8), (131_073, 1)] {
+        let mut text = Vec::from_slice(
+            rt.alloc(),
+            b"var a : H; var b : H; var c : H; var d : H; var e : H; \
+var p : L; var q : L; var r : L; var s : L; p := a + b + c + d + e; q := p; r := p; s := p",
+        )?;
+        text.resize(length, b' ')?;
         assert!(rt; count(rt.alloc(), &text)? == flows);
     }
     Ok(())

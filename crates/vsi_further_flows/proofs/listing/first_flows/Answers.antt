@@ -19,12 +19,13 @@ pub flows_of-requires-clause-told : goal.flows_of-requires-clause-told
 flows_of-requires-clause-told c =
     let s = c.args.source.now in
     rw (c.lattice-lattice.ensures, c.resolved-resolved.ensures.value)
-    (first_told (IsTold (order s.lattice) c.args.profile (program s.resolved)) _ c.deref.result.now
+    (first_told (IsTold (order s.lattice) c.args.profile (program s.resolved)) _ _ c.deref.result.now
     c.first_of-first.result.now c.deref.ensures.value c.first_of-first.ensures
     (further_told s c.args.profile c.args.from c.args.to _ c.in_ok-pairs.ensures))
 
 pub returns : goal.returns
 returns c =
     first_walks c.args.source.now c.args.profile c.args.from c.args.to c.resolved-resolved.result.now
-    c.resolved-resolved.ensures.value _ c.deref.result.now c.first_of-first.result.now c.deref.ensures.value
+    c.resolved-resolved.ensures.value c.text.result.now c.text.ensures _ c.deref.result.now
+    c.first_of-first.result.now c.deref.ensures.value
     c.first_of-first.ensures c.in_ok-pairs.ensures (λ v. v.items) c.flows_of.result c.flows_of.ensures

@@ -1,4 +1,3 @@
-use Rattle.std.proofs.Common.{subst, sym, ap, ◌∙◌}
 use Rattle.vsi_compiler.proofs.Held.{globals_at, declared_at}
 use Rattle.vsi_further_flows.proofs.FurtherLemmas.{further_made}
 use Rattle.vsi_further_flows.proofs.listing.further_in.Goals as goal

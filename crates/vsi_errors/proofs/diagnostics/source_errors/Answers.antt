@@ -2,8 +2,8 @@ use Rattle.std.specs.Prelude.{◌≢◌}
 use Rattle.vsi_lattice.specs.LatticeView.{class_named, order}
 use Rattle.vsi_compiler.specs.Acceptance.{IsAccepted}
 use Rattle.vsi_compiler.specs.declared.error.CompileError.TheVariants.{Memory}
-use Rattle.vsi_lsp.proofs.Verdicts.{refused_verdict}
-use Rattle.vsi_lsp.proofs.diagnostics.source_errors.Goals as goal
+use Rattle.vsi_errors.proofs.Verdicts.{refused_verdict}
+use Rattle.vsi_errors.proofs.diagnostics.source_errors.Goals as goal
 
 pub returns-in-Err : goal.returns-in-Err
 returns-in-Err c =

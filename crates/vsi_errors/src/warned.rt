@@ -33,7 +33,7 @@ fn put_all(
 
 /// Adds the warnings about a text that has a program, or the faults of one that has none, after its
 /// first one.
-pub(crate) fn put_others(
+pub fn put_others(
     alloc: Global,
     page: Page<'_>,
     lattice: &Lattice,

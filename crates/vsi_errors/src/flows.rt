@@ -2,9 +2,9 @@
 
 ghost use Rattle.std.specs.Prelude.{◌≢◌, [], IfOk};
 
-use crate::diagnostics::{Page, line_of, only, ranged_object, refusal_object};
+use crate::diagnostics::{Page, line_of, one_error, ranged_object, refusal_object};
+use crate::location::location_object;
 use crate::marks::{Marked, with_marks};
-use crate::objects::location_object;
 use serde_json::{Value, json, put};
 use std::alloc::{AllocError, Global};
 use vsi_choices::text_value;
@@ -110,10 +110,10 @@ pub(crate) fn flow_errors(
     ensures { IfOk result (λ errors. errors.items ≢ []) }
 {
     let Some(first) = steps.first() else {
-        return only(alloc, refusal_object(alloc, page, error)?);
+        return one_error(alloc, refusal_object(alloc, page, error)?);
     };
     let Some(last) = steps.last() else {
-        return only(alloc, refusal_object(alloc, page, error)?);
+        return one_error(alloc, refusal_object(alloc, page, error)?);
     };
     let text = refused_source(alloc, page, source, error)?;
     let (from, to) = (first.source, last.target);

@@ -1,8 +1,8 @@
 //! Errors in a text, as objects.
 
-ghost use Rattle.std.specs.Prelude.{◌≢◌, [], IfOk};
+ghost use Rattle.std.specs.Prelude.{◌≡◌, ◌≢◌, [], ◌∷◌, IfOk};
 ghost use Rattle.vsi_compiler.specs.declared.error.CompileError.TheVariants.{Memory};
-ghost use Rattle.vsi_lsp.specs.Verdict as spec;
+ghost use Rattle.vsi_errors.specs.Verdict as spec;
 
 use crate::flows::flow_errors;
 use serde_json::{Value, json};
@@ -18,15 +18,15 @@ use vsi_types::Profile;
 
 /// A document that is judged: its name, its text and the code units of its positions.
 #[derive(Clone, Copy)]
-pub(crate) struct Page<'a> {
-    pub(crate) uri: &'a [u8],
-    pub(crate) text: &'a [u8],
-    pub(crate) encoding: Encoding,
+pub struct Page<'a> {
+    pub uri: &'a [u8],
+    pub text: &'a [u8],
+    pub encoding: Encoding,
 }
 
 impl Page<'_> {
     /// The positions of a part of the text.
-    pub(crate) fn range(&self, span: Span) -> Range {
+    pub fn range(&self, span: Span) -> Range {
         range_of(self.encoding, self.text, span.start, span.stop)
     }
 }
@@ -90,8 +90,9 @@ fn judged_errors(
 }
 
 /// A list of one error.
-pub(crate) fn only(alloc: Global, error: Value) -> Result<Vec<Value>, AllocError>
-    ensures { IfOk result (λ errors. errors.items ≢ []) }
+pub fn one_error(alloc: Global, error: Value) -> Result<Vec<Value>, AllocError>
+    ensures some { IfOk result (λ errors. errors.items ≢ []) }
+    ensures alone { IfOk result (λ errors. errors.items ≡ error ∷ []) }
 {
     let mut errors = Vec::new(alloc);
     errors.push(error)?;
@@ -109,7 +110,7 @@ fn refusal_errors(
 {
     match error {
         CompileError::Memory => Err(AllocError),
-        _ => only(alloc, refusal_object(alloc, page, error)?),
+        _ => one_error(alloc, refusal_object(alloc, page, error)?),
     }
 }
 
@@ -128,7 +129,7 @@ pub(crate) fn ranged_object(
 }
 
 /// The object of an error: its part, its number and its message.
-pub(crate) fn error_object(
+pub fn error_object(
     alloc: Global,
     page: Page<'_>,
     span: Span,
