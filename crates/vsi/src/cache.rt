@@ -38,8 +38,8 @@ pub(crate) struct Kept {
 #[derive(Drop)]
 pub(crate) struct InputCache {
     pub(crate) alloc: Global,
-    /// Whether files are kept.
-    pub(crate) is_explained: bool,
+    /// Whether files are kept: refusals are explained or answered with JSON.
+    pub(crate) keeps_files: bool,
     /// Whether a store file was read whose checksum isn't that of the rest.
     pub(crate) is_broken: bool,
     kept: Vec<Kept>,
@@ -47,10 +47,10 @@ pub(crate) struct InputCache {
 
 impl InputCache {
     /// An empty cache.
-    pub(crate) fn new(alloc: Global, is_explained: bool) -> InputCache {
+    pub(crate) fn new(alloc: Global, keeps_files: bool) -> InputCache {
         InputCache {
             alloc,
-            is_explained,
+            keeps_files,
             is_broken: false,
             kept: Vec::new(alloc),
         }
@@ -63,7 +63,7 @@ impl InputCache {
         path: &str,
         bytes: &[u8],
     ) -> Result<(), AllocError> {
-        if !self.is_explained {
+        if !self.keeps_files {
             return Ok(());
         }
         let kept = Kept {

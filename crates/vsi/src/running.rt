@@ -186,7 +186,7 @@ pub(crate) fn run<'a, F: Files, W: Write>(
         Ok(None) => {
             put_count(
                 cache.alloc,
-                cache.is_explained,
+                cache.keeps_files,
                 &verified,
                 &words,
                 budget,
