@@ -5,6 +5,8 @@ ghost use Rattle.vsi_compiler.specs.declared.error.CompileError.TheVariants.{Mem
 ghost use Rattle.vsi_errors.specs.Verdict as spec;
 
 use crate::flows::flow_errors;
+use crate::further::further_errors;
+use crate::warned::source_warnings;
 use serde_json::{Value, json};
 use std::alloc::{AllocError, Global};
 use vsi_choices::{range_object, text_value};
@@ -31,19 +33,28 @@ impl Page<'_> {
     }
 }
 
-/// The errors in a text, as objects for a client that counts in these code units: one for the
-/// refusal of the text, then further refused flows if it is refused for a flow, and none if the text
-/// is accepted under the profile.
-pub fn errors_in(
+/// The objects that an editor shows for a text.
+#[derive(Drop)]
+pub struct Shown {
+    /// One error for the refusal of the text, then further refused flows if it is refused for a
+    /// flow; none if the text is accepted.
+    pub errors: Vec<Value>,
+    /// The warnings about a text that has a program, or the further errors in one that has none.
+    pub others: Vec<Value>,
+}
+
+/// The errors in a text, and the other objects that are shown, for a client that counts in these
+/// code units. The text is read once.
+pub fn shown_in(
     alloc: Global,
     encoding: Encoding,
     profile: Profile,
     lattice: &Lattice,
     uri: &[u8],
     text: &[u8],
-) -> Result<Vec<Value>, AllocError>
+) -> Result<Shown, AllocError>
     ensures exact { IfOk result
-        (λ errors. spec.IsVerdict lattice.now profile text.now errors.items) }
+        (λ shown. spec.IsVerdict lattice.now profile text.now shown.errors.items) }
 {
     let page = Page {
         uri,
@@ -51,9 +62,39 @@ pub fn errors_in(
         encoding,
     };
     match read_source(alloc, lattice, text) {
-        Ok(source) => source_errors(alloc, page, profile, &source),
-        Err(error) => refusal_errors(alloc, page, &error),
+        Ok(source) => shown_of_source(alloc, page, profile, &source),
+        Err(error) => shown_of_refused(alloc, page, lattice, &error),
     }
+}
+
+/// The errors in a text that has a program, and the warnings about it.
+fn shown_of_source(
+    alloc: Global,
+    page: Page<'_>,
+    profile: Profile,
+    source: &Source<'_>,
+) -> Result<Shown, AllocError>
+    ensures { IfOk result (λ shown.
+        spec.IsVerdict source.now.lattice profile source.now.text shown.errors.items) }
+{
+    let errors = source_errors(alloc, page, profile, source)?;
+    let others = source_warnings(alloc, page, source)?;
+    Ok(Shown { errors, others })
+}
+
+/// The first error in a text that has no program, and the further ones.
+fn shown_of_refused(
+    alloc: Global,
+    page: Page<'_>,
+    lattice: &Lattice,
+    error: &CompileError,
+) -> Result<Shown, AllocError>
+    ensures some { IfOk result (λ shown. shown.errors.items ≢ []) }
+    ensures judged { IfOk result (λ shown. error.now ≢ Memory) }
+{
+    let errors = refusal_errors(alloc, page, error)?;
+    let others = further_errors(alloc, page, lattice, error)?;
+    Ok(Shown { errors, others })
 }
 
 /// The errors in a source text. No code is generated.

@@ -6,7 +6,11 @@ use std::alloc::{AllocError, Global};
 use vsi_compiler::CompileError;
 use vsi_lattice::Lattice;
 use vsi_recovery::{Cause, further_faults};
+use vsi_scope::ScopeError;
 use vsi_syntax::{ParseError, Span};
+
+/// The most tokens that are read again to find faults: those of a text of 64 KB some eight times.
+const MAX_READ: usize = 131_072;
 
 /// The refusal of a fault.
 fn refusal_of(cause: Cause, span: Span) -> CompileError {
@@ -17,16 +21,21 @@ fn refusal_of(cause: Cause, span: Span) -> CompileError {
     }
 }
 
-/// Adds the faults of a text that has no program, after its first one.
-pub(crate) fn put_further(
+/// The errors in a text that has no program, after its first one. A text that is too large has no
+/// other error, since its size is judged last.
+pub(crate) fn further_errors(
     alloc: Global,
     page: Page<'_>,
     lattice: &Lattice,
-    objects: &mut Vec<Value>,
-) -> Result<(), AllocError> {
-    for fault in &further_faults(alloc, lattice, page.text)? {
+    first: &CompileError,
+) -> Result<Vec<Value>, AllocError> {
+    let mut objects = Vec::new(alloc);
+    if matches!(first, CompileError::Scope(ScopeError::TooLarge)) {
+        return Ok(objects);
+    }
+    for fault in &further_faults(alloc, lattice, page.text, MAX_READ)? {
         let error = refusal_of(fault.cause, fault.span);
         objects.push(refusal_object(alloc, page, &error)?)?;
     }
-    Ok(())
+    Ok(objects)
 }

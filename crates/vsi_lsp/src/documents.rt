@@ -7,7 +7,7 @@ use std::alloc::{AllocError, Global};
 use vsi_choices::text_value;
 use vsi_client::Encoding;
 use vsi_diagnostics::{Fault, fault_diagnostic, fault_text};
-use vsi_errors::{Page, error_object, errors_in, one_error, put_others};
+use vsi_errors::{Page, Shown, error_object, one_error, shown_in};
 use vsi_lattice::{LatticeError, read_lattice};
 use vsi_names::START;
 use vsi_policy::named_policy;
@@ -164,6 +164,15 @@ fn lattice_errors(alloc: Global, page: Page<'_>) -> Result<Vec<Value>, AllocErro
     one_error(alloc, refused_object(alloc, page, span, error)?)
 }
 
+/// All that is shown of a text, the errors first.
+fn all_shown(shown: Shown) -> Result<Vec<Value>, AllocError> {
+    let Shown { mut errors, others } = shown;
+    for other in others {
+        errors.push(other)?;
+    }
+    Ok(errors)
+}
+
 /// The errors and warnings of a source text under a lattice file.
 fn source_errors(
     alloc: Global,
@@ -173,16 +182,9 @@ fn source_errors(
 ) -> Result<Vec<Value>, AllocError> {
     match read_lattice(alloc, bytes) {
         Ok(lattice) => {
-            let mut objects = errors_in(
-                alloc,
-                page.encoding,
-                profile,
-                &lattice,
-                page.uri,
-                page.text,
-            )?;
-            put_others(alloc, page, &lattice, &mut objects)?;
-            Ok(objects)
+            let (uri, text) = (page.uri, page.text);
+            let shown = shown_in(alloc, page.encoding, profile, &lattice, uri, text)?;
+            all_shown(shown)
         }
         Err(error) => {
             let span = naming_span(page.text);

@@ -4,7 +4,7 @@ use serde_json::Value;
 use std::alloc::{AllocError, Global};
 use std::test::Fail;
 use vsi_client::Encoding;
-use vsi_errors::errors_in;
+use vsi_errors::shown_in;
 use vsi_lattice::read_lattice;
 use vsi_syntax::put_number;
 use vsi_types::Profile;
@@ -15,7 +15,10 @@ const TWO: &[u8] = b"classes = [\"L\", \"H\"]\nbelow = [[\"L\", \"H\"]]\n";
 /// The errors in a text.
 fn found_in(alloc: Global, encoding: Encoding, text: &[u8]) -> Result<Vec<Value>, AllocError> {
     match read_lattice(alloc, TWO) {
-        Ok(lattice) => errors_in(alloc, encoding, Profile::Base, &lattice, b"a", text),
+        Ok(lattice) => {
+            let shown = shown_in(alloc, encoding, Profile::Base, &lattice, b"a", text)?;
+            Ok(shown.errors)
+        }
         Err(_) => Ok(Vec::new(alloc)),
     }
 }

@@ -183,10 +183,11 @@ fn all_faults<'a>(
     alloc: Global,
     lattice: &'a Lattice,
     text: &'a [u8],
+    room: usize,
 ) -> Result<Vec<Fault>, AllocError> {
     let stock = Stock::new(alloc)?;
     let mut faults = Vec::new(alloc);
-    let Some(mut tokens) = tokens_of(alloc, &stock, text, MAX_FAULTS, &mut faults)? else {
+    let Some(mut tokens) = tokens_of(alloc, &stock, text, MAX_FAULTS, room, &mut faults)? else {
         return Ok(faults);
     };
     let source = std::mem::replace(&mut tokens.list, Vec::new(alloc));
@@ -207,6 +208,9 @@ fn all_faults<'a>(
 /// The faults of a text after the one for which it is refused, in the order of their places; none
 /// of flows, and at most 19.
 ///
+/// `room` is the most tokens that are read again for repairs and for names, in all readings
+/// together: with less, fewer faults of a long text are found.
+///
 /// # Errors
 ///
 /// Only if memory runs out.
@@ -214,11 +218,12 @@ pub fn further_faults(
     alloc: Global,
     lattice: &Lattice,
     text: &[u8],
+    room: usize,
 ) -> Result<Vec<Fault>, AllocError>
     ensures few { IfOk result (λ faults. length faults.items ≤ 19) }
     // They begin in the text, each after the one before it.
     ensures listed { IfOk result (λ faults. AreListed 0 (length text.now) faults.items) }
 {
-    let faults = all_faults(alloc, lattice, text)?;
+    let faults = all_faults(alloc, lattice, text, room)?;
     listed(alloc, text, &faults)
 }

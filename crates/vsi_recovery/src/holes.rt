@@ -6,9 +6,6 @@ use std::alloc::{AllocError, Global};
 use vsi_repairs::{Part, Stock, is_landmark, put_at};
 use vsi_syntax::{LexError, Span, Token, lex};
 
-/// The most tokens that are read again for repairs and for names, in all readings together.
-const MAX_READ: usize = 1_000_000;
-
 /// A part of a text that has no token, and what takes its place.
 #[derive(Clone, Copy)]
 struct Hole {
@@ -239,12 +236,14 @@ fn stretch_of(list: &[Token<'_>], gap: Gap) -> Stretch {
     cut(first, from, stop)
 }
 
-/// The tokens of a text without those that are none, unless it has more such faults than this.
+/// The tokens of a text without those that are none, unless it has more such faults than `most`.
+/// `room` tokens may be read again.
 pub(crate) fn tokens_of<'a>(
     alloc: Global,
     stock: &Stock<'a>,
     text: &'a [u8],
     most: usize,
+    room: usize,
     faults: &mut Vec<Fault>,
 ) -> Result<Option<Tokens<'a>>, AllocError> {
     let mut pieces = Pieces {
@@ -272,6 +271,6 @@ pub(crate) fn tokens_of<'a>(
         stretches,
         is_mended: false,
         is_unclear: false,
-        left: MAX_READ,
+        left: room,
     }))
 }

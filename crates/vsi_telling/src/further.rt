@@ -9,6 +9,9 @@ use vsi_recovery::{Cause, Fault, further_faults};
 use vsi_scope::ScopeError;
 use vsi_syntax::{ParseError, put_number, put_place};
 
+/// The most tokens that are read again to find faults.
+const MAX_READ: usize = 1_000_000;
+
 /// Whether the explanation of a fault lists all undeclared names and unknown classes.
 fn lists_names(error: &CompileError) -> bool {
     matches!(
@@ -88,7 +91,7 @@ pub(crate) fn put_faults(
     at: usize,
 ) -> Result<(), AllocError> {
     let places = listed_places(alloc, source, at)?;
-    for fault in &further_faults(alloc, lattice, source)? {
+    for fault in &further_faults(alloc, lattice, source, MAX_READ)? {
         let is_name = lists_names(error) && is_of_name(fault.cause);
         if !is_name && !is_listed(source, &places, fault.span.start) {
             put_fault(words, source, *fault)?;
