@@ -26,8 +26,8 @@ use Rattle.vsi_leak.specs.declared.whole.Wanted.{Wanted}
 use Rattle.vsi_audit.specs.Standing.{HasKnownClasses}
 use Rattle.vsi_audit.specs.Text.{IsSourceText}
 use Rattle.vsi_evidence.specs.Evidence.{evidence_text}
-use Rattle.vsi_evidence.specs.declared.Manner.{Manner}
-use Rattle.vsi_evidence.specs.declared.Manner.TheVariants as manner
+use Rattle.vsi_evidence.specs.declared.AuditProfile.{AuditProfile}
+use Rattle.vsi_evidence.specs.declared.AuditProfile.TheVariants as by
 use Rattle.vsi_report.specs.FlowsGraph.{IsFlowsGraph, IsPolicyGraph}
 use Rattle.vsi_report.specs.Graph.{IsLatticeGraph}
 use Rattle.vsi_report.specs.Page.{HasPanel}
@@ -199,15 +199,15 @@ abbrev pub program_version : List ℕ
 program_version = codes "0.1.0"
 
 -- How an audit judges.
-abbrev pub manner_of : Audit → Manner
-manner_of a =
-    if a.is_steady then manner.Steady else if a.is_strict then manner.Strict else manner.Base
+abbrev pub audit_profile : Audit → AuditProfile
+audit_profile a =
+    if a.is_steady then by.Steady else if a.is_strict then by.Strict else by.Base
 
 -- The lines about the files of an audit, if evidence is requested.
 abbrev pub filed_text : Audit → List ℕ → List ℕ → List ℕ
 filed_text a lattice image =
     if a.has_evidence
-    then evidence_text program_version (manner_of a) ((a.lattice.now, lattice) ∷ (a.image.now, image) ∷ []) else []
+    then evidence_text program_version (audit_profile a) ((a.lattice.now, lattice) ∷ (a.image.now, image) ∷ []) else []
 
 -- The output of an audit that accepts an image: `accepted`, and the evidence for the bytes that were read.
 pub record AuditsTo (holds : Holding) (a : Audit) (text : Vec ℕ) : Type 0 where

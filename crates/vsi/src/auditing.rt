@@ -22,7 +22,7 @@ use std::alloc::{AllocError, Global};
 use vsi_answers::judged_image;
 use vsi_arguments::Audit;
 use vsi_audit::{AuditError, audit_in, audit_text, source_text};
-use vsi_evidence::{Filed, Manner, evidence};
+use vsi_evidence::{AuditProfile, Filed, evidence};
 use vsi_image::{Image, Verified};
 use vsi_lattice::Lattice;
 use vsi_steady::{SteadyError, steady_in, steady_text};
@@ -99,15 +99,15 @@ pub(crate) fn version() -> &'static [u8]
 }
 
 /// How an audit judges.
-fn manner_of(asked: Audit<'_>) -> Manner
-    ensures { result ≡ spec.manner_of asked.entry }
+fn audit_profile(asked: Audit<'_>) -> AuditProfile
+    ensures { result ≡ spec.audit_profile asked.entry }
 {
     if asked.is_steady {
-        Manner::Steady
+        AuditProfile::Steady
     } else if asked.is_strict {
-        Manner::Strict
+        AuditProfile::Strict
     } else {
-        Manner::Base
+        AuditProfile::Base
     }
 }
 
@@ -119,7 +119,7 @@ fn filed_files(
     image: &[u8],
 ) -> Result<Vec<u8>, AllocError>
     ensures { IfOk result (λ text. text.items ≡ evidence_text program_version
-        (spec.manner_of asked.entry) ((asked.entry.lattice.now, lattice.now)
+        (spec.audit_profile asked.entry) ((asked.entry.lattice.now, lattice.now)
         ∷ (asked.entry.image.now, image.now) ∷ [])) }
 {
     let files = [
@@ -132,7 +132,7 @@ fn filed_files(
             bytes: image,
         },
     ];
-    evidence(alloc, version(), manner_of(asked), &files)
+    evidence(alloc, version(), audit_profile(asked), &files)
 }
 
 /// The output of an audit that accepts an image, of the bytes that were read.

@@ -15,7 +15,7 @@ use vsi_answers::Cause;
 use vsi_arguments::{Colour, Document, Request};
 use vsi_audit::AuditError;
 use vsi_blame::refused_flows;
-use vsi_caret::{Manner, put_safe};
+use vsi_caret::{ColourMode, put_safe};
 use vsi_compiler::CompileError;
 use vsi_conform::InterfaceError;
 use vsi_diagnostics::{Diagnostic, Fault};
@@ -54,7 +54,7 @@ rest. To use it all the same, delete that line.";
 /// The settings of an explanation: its colours, and the profile that judges a source text.
 #[derive(Clone, Copy)]
 pub(crate) struct Explaining {
-    pub(crate) manner: Manner,
+    pub(crate) mode: ColourMode,
     pub(crate) profile: Profile,
 }
 
@@ -69,10 +69,10 @@ impl Explaining {
             Colour::Auto => files.wants_colour(),
         };
         Explaining {
-            manner: if is_coloured {
-                Manner::Coloured
+            mode: if is_coloured {
+                ColourMode::Coloured
             } else {
-                Manner::Plain
+                ColourMode::Plain
             },
             profile: profile(is_strict(request)),
         }
@@ -108,7 +108,7 @@ pub(crate) fn explained<F: Files>(
 {
     let mut lines = explaining.of_failure(cache, files, failure)?;
     if let Some(diagnostic) = failure_diagnostic(source_of(cache), failure) {
-        push_page(&mut lines, &diagnostic)?;
+        put_page(&mut lines, &diagnostic)?;
     }
     Ok(lines)
 }
@@ -180,7 +180,7 @@ impl Explaining {
             lattice: &lattice,
             error,
         };
-        explanation(cache.alloc, self.manner, &refused)
+        explanation(cache.alloc, self.mode, &refused)
     }
 
     /// The explanation of a refused store file.
@@ -197,7 +197,7 @@ impl Explaining {
             image: &image,
             error,
         };
-        explanation(cache.alloc, self.manner, &refused)
+        explanation(cache.alloc, self.mode, &refused)
     }
 
     /// The explanation of a refused lattice file or image.
@@ -215,7 +215,7 @@ impl Explaining {
             bytes: &kept.bytes,
             fault,
         };
-        explanation(cache.alloc, self.manner, &refused)
+        explanation(cache.alloc, self.mode, &refused)
     }
 
     /// The explanation of a refused interface.
@@ -249,7 +249,7 @@ impl Explaining {
             lattice,
             error,
         };
-        advice(alloc, self.manner, &kept.path, refused)
+        advice(alloc, self.mode, &kept.path, refused)
     }
 
     /// The explanation of a run that doesn't begin.
@@ -265,7 +265,7 @@ impl Explaining {
             image: &image,
             fault,
         };
-        advice(cache.alloc, self.manner, &kept.path, refused)
+        advice(cache.alloc, self.mode, &kept.path, refused)
     }
 
     /// The explanation of an image whose commands are refused.
@@ -282,7 +282,7 @@ impl Explaining {
             image: &image,
             error,
         };
-        advice(cache.alloc, self.manner, &kept.path, refused)
+        advice(cache.alloc, self.mode, &kept.path, refused)
     }
 
     /// The explanation of a refused image that isn't steady.
@@ -299,7 +299,7 @@ impl Explaining {
             image: &image,
             error,
         };
-        advice(cache.alloc, self.manner, &kept.path, refused)
+        advice(cache.alloc, self.mode, &kept.path, refused)
     }
 }
 
@@ -319,7 +319,7 @@ fn flow_lines(
 }
 
 /// Adds the line that names the page of a refusal.
-fn push_page(lines: &mut Vec<u8>, diagnostic: &Diagnostic) -> Result<(), AllocError> {
+fn put_page(lines: &mut Vec<u8>, diagnostic: &Diagnostic) -> Result<(), AllocError> {
     lines.extend_from_slice(b"More: vsi explain ")?;
     put_number(lines, diagnostic.code)?;
     lines.extend_from_slice(b"\n")

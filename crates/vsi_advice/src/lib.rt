@@ -6,7 +6,7 @@
 #![tactic(auto)]
 
 ghost use Rattle.std.specs.Prelude.{◌≡◌, IfOk, IfSome, true};
-ghost use Rattle.vsi_caret.specs.declared.manner.Manner.TheVariants.{Plain};
+ghost use Rattle.vsi_caret.specs.declared.colour_mode.ColourMode.TheVariants.{Plain};
 ghost use Rattle.vsi_caret.specs.Safe.{all_plain};
 
 mod audits;
@@ -22,7 +22,7 @@ use interfaces::put_interface;
 use settings::put_start;
 use std::alloc::{AllocError, Global};
 use vsi_audit::AuditError;
-use vsi_caret::Manner;
+use vsi_caret::ColourMode;
 use vsi_conform::InterfaceError;
 use vsi_drive::StartFault;
 use vsi_image::Image;
@@ -142,17 +142,17 @@ fn bytes_of<'a>(refused: Refused<'a>) -> &'a [u8] {
 /// wrong, what is expected, and what to do.
 pub fn advice(
     alloc: Global,
-    manner: Manner,
+    mode: ColourMode,
     path: &[u8],
     refused: Refused,
 ) -> Result<Vec<u8>, AllocError>
     // Without colours no byte controls a terminal.
-    ensures plain { manner ≡ Plain → IfOk result (λ text. all_plain text.items ≡ true) }
+    ensures plain { mode ≡ Plain → IfOk result (λ text. all_plain text.items ≡ true) }
 {
     let telling = telling_of(alloc, refused)?;
     shown(
         alloc,
-        manner,
+        mode,
         path,
         bytes_of(refused),
         telling.place,

@@ -25,7 +25,7 @@ use Rattle.vsi_compiler.specs.Source.{Reads}
 use Rattle.vsi_compiler.specs.declared.error.CompileError.{CompileError}
 use Rattle.vsi_compiler.specs.declared.error.CompileError.TheVariants as compiler
 use Rattle.vsi_types.specs.declared.rules.Step.{Step}
-use Rattle.vsi_steady.specs.Source.{ExplainsWatchedWalk}
+use Rattle.vsi_steady.specs.Source.{ExplainsLoopedWalk}
 use Rattle.vsi_steady.specs.Telling.{IsUnsteadyText}
 use Rattle.vsi_steady.specs.declared.error.SteadyError.{SteadyError}
 use Rattle.vsi_steady.specs.declared.unsteady.UnsteadyError.{UnsteadyError}
@@ -56,9 +56,9 @@ TellsFault Kind text (Steady e) = ⊥
 TellsFault Kind text (Raised e) = ⊥
 
 -- The text of a walk with a loop in place of each choice: its line, followed by the explanation of the walk.
-abbrev pub IsWatchedText : Lattice → List ℕ → List Step → List ℕ → Type 0
-IsWatchedText l source steps text =
-    (more : List ℕ) × ExplainsWatchedWalk l source steps more × (text ≡ codes "refused: 25 Refused\n" ++ more)
+abbrev pub IsLoopedText : Lattice → List ℕ → List Step → List ℕ → Type 0
+IsLoopedText l source steps text =
+    (more : List ℕ) × ExplainsLoopedWalk l source steps more × (text ≡ codes "refused: 25 Refused\n" ++ more)
 
 -- The text of the refusal of a text's image.
 pub record IsImageText (l : Lattice) (source : List ℕ) (e : SteadyError) (text : List ℕ) : Type 0 where
@@ -69,7 +69,7 @@ pub record IsImageText (l : Lattice) (source : List ℕ) (e : SteadyError) (text
 
 -- The text of a refusal when a steady image is required.
 abbrev pub IsSteadyText : Lattice → List ℕ → UnsteadyError → List ℕ → Type 0
-IsSteadyText l source (unsteady.Compile (compiler.Flow walk)) text = IsWatchedText l source walk.steps.items text
+IsSteadyText l source (unsteady.Compile (compiler.Flow walk)) text = IsLoopedText l source walk.steps.items text
 IsSteadyText l source (unsteady.Compile (compiler.Lex e)) text = IsRefusalText l source (compiler.Lex e) text
 IsSteadyText l source (unsteady.Compile (compiler.Parse e)) text = IsRefusalText l source (compiler.Parse e) text
 IsSteadyText l source (unsteady.Compile (compiler.Scope e)) text = IsRefusalText l source (compiler.Scope e) text

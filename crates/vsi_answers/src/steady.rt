@@ -2,7 +2,7 @@
 
 ghost use Rattle.std.specs.Prelude.{◌≡◌, IfOk};
 ghost use Rattle.vsi_answers.specs.Answers.{Because};
-ghost use Rattle.vsi_answers.specs.Judged.{IsImageText, IsSteadyText, IsWatchedText, TellsSteady};
+ghost use Rattle.vsi_answers.specs.Judged.{IsImageText, IsSteadyText, IsLoopedText, TellsSteady};
 ghost use Rattle.vsi_answers.specs.Requests.{ChecksSteadyTo};
 
 use crate::texts::ACCEPTED;
@@ -15,14 +15,14 @@ use vsi_lattice::Lattice;
 use vsi_steady::{SteadyError, UnsteadyError, compile_steady, steady_explanation, steady_text};
 
 /// The text of a walk with a loop in place of each choice.
-fn watched_text(
+fn looped_text(
     alloc: Global,
     lattice: &Lattice,
     source: &[u8],
     walk: &Walk,
 ) -> Result<Vec<u8>, AllocError>
     ensures { IfOk result
-        (λ text. IsWatchedText lattice.now source.now walk.now.steps.items text.items) }
+        (λ text. IsLoopedText lattice.now source.now walk.now.steps.items text.items) }
 {
     let mut text = Vec::from_slice(alloc, b"refused: 25 Refused\n")?;
     let lines = steady_explanation(alloc, lattice, source, walk)?;
@@ -60,7 +60,7 @@ fn unsteady_text(
 {
     match error {
         UnsteadyError::Compile(CompileError::Flow(walk)) => {
-            watched_text(alloc, lattice, source, walk)
+            looped_text(alloc, lattice, source, walk)
         }
         UnsteadyError::Compile(error) => refusal_text(alloc, lattice, source, error),
         UnsteadyError::Image(error) => image_text(alloc, lattice, source, error),

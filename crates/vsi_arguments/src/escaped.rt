@@ -14,18 +14,18 @@ fn digit(number: u32) -> char {
 }
 
 /// Adds `\x` and the two digits of a byte.
-fn push_code(told: &mut String, byte: u32) -> Result<(), AllocError> {
+fn put_code(told: &mut String, byte: u32) -> Result<(), AllocError> {
     told.push_str("\\x")?;
     told.push(digit(byte / 16))?;
     told.push(digit(byte))
 }
 
 /// Adds a control character by the numbers of its bytes.
-fn push_control(told: &mut String, number: u32) -> Result<(), AllocError> {
+fn put_control(told: &mut String, number: u32) -> Result<(), AllocError> {
     if number >= HIGH_CONTROL {
         told.push_str("\\xC2")?;
     }
-    push_code(told, number)
+    put_code(told, number)
 }
 
 /// The text with each control character in it, except for line feeds, as `\x` and two digits for
@@ -34,7 +34,7 @@ pub(crate) fn escaped(alloc: Global, text: &str) -> Result<String, AllocError> {
     let mut told = String::new(alloc);
     for character in text.chars() {
         if character.is_control() && character != '\n' {
-            push_control(&mut told, character as u32)?;
+            put_control(&mut told, character as u32)?;
         } else {
             told.push(character)?;
         }

@@ -11,7 +11,7 @@ use crate::mistake::Mistake;
 use crate::numbers::{budget_of, number_of, wrong_number};
 use crate::policies::policy_request;
 use crate::request::*;
-use crate::tips::retold;
+use crate::tips::reformatted;
 use crate::usage::program;
 use clap::error::ErrorKind;
 use clap::{ArgMatches, Command, Error};
@@ -50,7 +50,7 @@ fn told(alloc: Global, error: &Error) -> ArgumentsError {
 
 /// The message for a mistake, in which no argument controls a terminal.
 fn message(alloc: Global, text: &str) -> Result<String, AllocError> {
-    let told = retold(alloc, text)?;
+    let told = reformatted(alloc, text)?;
     escaped(alloc, told.as_str())
 }
 

@@ -92,29 +92,29 @@ const DASHES: &str = "  tip: to pass ";
 /// Rewrites a message of the command-line parser. If it names an option of other subcommands, its
 /// tip lists them. If arguments are missing or should be numbers, tips explain them. A tip to write
 /// `--` is left out.
-pub(crate) fn retold(alloc: Global, text: &str) -> Result<String, AllocError> {
+pub(crate) fn reformatted(alloc: Global, text: &str) -> Result<String, AllocError> {
     let mut told = String::new(alloc);
     let Some((mistake, rest)) = text.split_once(GAP) else {
         told.push_str(text)?;
         return Ok(told);
     };
     told.push_str(mistake)?;
-    push_tips(&mut told, mistake)?;
-    push_attempt(&mut told, mistake)?;
-    let is_owned = push_owners(&mut told, mistake)?;
+    put_tips(&mut told, mistake)?;
+    put_attempt(&mut told, mistake)?;
+    let is_owned = put_owners(&mut told, mistake)?;
     let Some((tip, behind)) = tip_of(rest) else {
-        push_paragraph(&mut told, rest)?;
+        put_paragraph(&mut told, rest)?;
         return Ok(told);
     };
     if !is_owned && !tip.starts_with(DASHES) {
-        push_paragraph(&mut told, tip)?;
+        put_paragraph(&mut told, tip)?;
     }
-    push_paragraph(&mut told, behind)?;
+    put_paragraph(&mut told, behind)?;
     Ok(told)
 }
 
 /// Adds a paragraph.
-fn push_paragraph(told: &mut String, paragraph: &str) -> Result<(), AllocError> {
+fn put_paragraph(told: &mut String, paragraph: &str) -> Result<(), AllocError> {
     told.push_str(GAP)?;
     told.push_str(paragraph)
 }
@@ -132,13 +132,13 @@ fn tip_of(rest: &str) -> Option<(&str, &str)> {
 }
 
 /// Adds a tip that lists the subcommands with the option of the mistake, if there are any.
-fn push_owners(told: &mut String, mistake: &str) -> Result<bool, AllocError> {
+fn put_owners(told: &mut String, mistake: &str) -> Result<bool, AllocError> {
     if !mistake.starts_with("error: unexpected argument ") {
         return Ok(false);
     }
     for (option, owners) in &OWNERS {
         if mistake.contains(*option) {
-            push_paragraph(told, TIP)?;
+            put_paragraph(told, TIP)?;
             told.push_str(option)?;
             told.push_str(" is an option of ")?;
             told.push_str(owners)?;
@@ -149,7 +149,7 @@ fn push_owners(told: &mut String, mistake: &str) -> Result<bool, AllocError> {
 }
 
 /// Adds a tip that shows `try`, if the path of a source text is given in place of a subcommand.
-fn push_attempt(told: &mut String, mistake: &str) -> Result<(), AllocError> {
+fn put_attempt(told: &mut String, mistake: &str) -> Result<(), AllocError> {
     let Some(rest) = mistake.strip_prefix(UNRECOGNIZED) else {
         return Ok(());
     };
@@ -157,18 +157,18 @@ fn push_attempt(told: &mut String, mistake: &str) -> Result<(), AllocError> {
     if !path.contains(".") && !path.contains("/") {
         return Ok(());
     }
-    push_paragraph(told, TIP)?;
+    put_paragraph(told, TIP)?;
     told.push_str("`vsi try ")?;
     told.push_str(path)?;
     told.push_str("` judges a source text and runs it")
 }
 
 /// Adds the tips for arguments that are missing or should be numbers.
-fn push_tips(told: &mut String, mistake: &str) -> Result<(), AllocError> {
+fn put_tips(told: &mut String, mistake: &str) -> Result<(), AllocError> {
     let mut is_first = true;
     for (part, tip) in &TIPS {
         if mistake.contains(*part) {
-            push_tip(told, tip, is_first)?;
+            put_tip(told, tip, is_first)?;
             is_first = false;
         }
     }
@@ -176,7 +176,7 @@ fn push_tips(told: &mut String, mistake: &str) -> Result<(), AllocError> {
 }
 
 /// Adds a tip. The first one begins a paragraph of its own.
-fn push_tip(told: &mut String, tip: &str, is_first: bool) -> Result<(), AllocError> {
+fn put_tip(told: &mut String, tip: &str, is_first: bool) -> Result<(), AllocError> {
     let gap = if is_first { GAP } else { "\n" };
     told.push_str(gap)?;
     told.push_str(TIP)?;

@@ -5,7 +5,7 @@ use Rattle.std.specs.List.{All, flat_map}
 use Rattle.std.proofs.lemmas.List.{map_push, append_assoc, append-nil}
 use Rattle.std.proofs.lemmas.List.Elements.{All-nil, All-push}
 use Rattle.std.proofs.lemmas.Grind.{flat_map-append}
-use Rattle.vsi_caret.specs.declared.manner.Manner.TheVariants.{Plain}
+use Rattle.vsi_caret.specs.declared.colour_mode.ColourMode.TheVariants.{Plain}
 use Rattle.vsi_caret.specs.declared.window.Window.{Window}
 use Rattle.vsi_caret.specs.Window.{IsWindow}
 use Rattle.vsi_caret.specs.Place.{placed}

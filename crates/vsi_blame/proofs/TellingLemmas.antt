@@ -11,7 +11,7 @@ use Rattle.vsi_scope.specs.Program.{Resolved}
 use Rattle.vsi_types.specs.declared.rules.Step.{Step}
 use Rattle.vsi_types.specs.Security.{program}
 use Rattle.vsi_blame.specs.declared.walking.Walked.{Walked}
-use Rattle.vsi_blame.specs.Odds.{odds}
+use Rattle.vsi_blame.specs.Violation.{violation}
 use Rattle.vsi_blame.specs.Steps.{near_ends, IsWalkText}
 use Rattle.vsi_blame.specs.Fixes.{IsBusiest, IsAdvised, fix_prose}
 use Rattle.vsi_blame.specs.Telling.{Paragraph, IsParagraph, paragraph_text, AreTold}
@@ -20,7 +20,7 @@ use Rattle.vsi_blame.proofs.PartLemmas.{four_parts}
 module _ (l : Lattice) (path source : List ℕ) (r : Resolved) (walks : List Walked) where
   -- The conflict, the steps and the fixes of a pair are added.
   pub paragraph_more : (w : Walked) (items near : List Step) (old m₁ m₂ m₃ new : List ℕ) → items ≡ w.steps.items
-      → near ≡ near_ends items → m₁ ≡ old ++ odds l r w.pair.source w.pair.target
+      → near ≡ near_ends items → m₁ ≡ old ++ violation l r w.pair.source w.pair.target
       → ((lines : List ℕ) × (IsWalkText l path source r w.pair.source items lines × (m₂ ≡ m₁ ++ lines)))
       → ((busiest : Option Step) × ((advised : Option ℕ) × (IsBusiest walks near busiest
       × (IsAdvised (order l) (program r) w.pair advised
@@ -39,7 +39,7 @@ module _ (l : Lattice) (path source : List ℕ) (r : Resolved) (walks : List Wal
           refl,
           (
             exact,
-            four_parts old (odds l r w.pair.source w.pair.target) p.0
+            four_parts old (violation l r w.pair.source w.pair.target) p.0
                 (fix_prose l path source r walks w.pair q.0 q.1.0) (codes "\n") m₁ m₂ m₃ new h₁ p.1.1 q.1.1.1.1 h,
           ),
         ),

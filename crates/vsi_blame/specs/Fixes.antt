@@ -12,7 +12,7 @@ use Rattle.vsi_types.specs.Security.{Program}
 use Rattle.vsi_flows.specs.declared.pair.Pair.{Pair}
 use Rattle.vsi_blame.specs.declared.walking.Walked.{Walked}
 use Rattle.vsi_blame.specs.Refused.{IsRaised}
-use Rattle.vsi_blame.specs.Odds.{variable_prose, class_name, class_prose}
+use Rattle.vsi_blame.specs.Violation.{variable_prose, class_name, class_prose}
 
 -- Whether two steps have the same variables.
 abbrev pub has_same_ends : Step → Step → Bool

@@ -1,5 +1,5 @@
 pub mod Refused
-pub mod Odds
+pub mod Violation
 pub mod Steps
 pub mod Fixes
 pub mod Telling

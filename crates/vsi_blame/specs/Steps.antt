@@ -1,7 +1,7 @@
 -- The steps of a walk as they are reported.
 use Rattle.std.specs.Prelude.{◌≡◌, ℕ, ◌-◌, ◌==◌, nat_le, if◌then◌else◌, Option, Some, None, List, [], ◌++◌, map, length, take, drop, codes, decimal}
 use Rattle.std.specs.List.{All, flat_map}
-use Rattle.vsi_caret.specs.declared.manner.Manner.TheVariants.{Plain}
+use Rattle.vsi_caret.specs.declared.colour_mode.ColourMode.TheVariants.{Plain}
 use Rattle.vsi_caret.specs.declared.window.Window.{Window}
 use Rattle.vsi_caret.specs.Safe.{shown}
 use Rattle.vsi_caret.specs.Window.{IsWindow}
@@ -14,7 +14,7 @@ use Rattle.vsi_types.specs.declared.rules.Rule.TheVariants.{Assign, If, While, L
 use Rattle.vsi_types.specs.declared.rules.Step.{Step}
 use Rattle.vsi_types.specs.Security.{program}
 use Rattle.vsi_types.specs.Walks.{declared_class}
-use Rattle.vsi_blame.specs.Odds.{variable_prose, class_name}
+use Rattle.vsi_blame.specs.Violation.{variable_prose, class_name}
 
 -- A step, and the parts of lines that show where its source is read and where its target is written.
 pub record Shown : Type 0 where

@@ -13,7 +13,7 @@ use Rattle.vsi_flows.specs.declared.pair.Pair.{Pair}
 use Rattle.vsi_flows.specs.Text.{IsWalkOf}
 use Rattle.vsi_blame.specs.declared.walking.Walked.{Walked}
 use Rattle.vsi_blame.specs.Refused.{AreRefused}
-use Rattle.vsi_blame.specs.Odds.{odds}
+use Rattle.vsi_blame.specs.Violation.{violation}
 use Rattle.vsi_blame.specs.Steps.{near_ends, IsWalkText}
 use Rattle.vsi_blame.specs.Fixes.{IsBusiest, IsAdvised, fix_prose}
 
@@ -39,7 +39,7 @@ pub record IsParagraph (l : Lattice) (path source : List ℕ) (r : Resolved) (wa
 -- The text about a pair: the conflict, the steps and the possible fixes.
 abbrev pub paragraph_text : Lattice → List ℕ → List ℕ → Resolved → List Walked → Paragraph → List ℕ
 paragraph_text l path source r walks p =
-    odds l r p.entry.pair.source p.entry.pair.target ++ p.lines
+    violation l r p.entry.pair.source p.entry.pair.target ++ p.lines
     ++ fix_prose l path source r walks p.entry.pair p.busiest p.advised ++ codes "\n"
 
 -- The text consists of the texts about these pairs, in their order.

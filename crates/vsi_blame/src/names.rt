@@ -7,7 +7,7 @@ ghost use Rattle.vsi_lattice.specs.LatticeView.{order};
 ghost use Rattle.vsi_types.specs.Security.{program as program_of};
 ghost use Rattle.vsi_infer.specs.Explanation.{name_of};
 ghost use Rattle.vsi_infer.specs.Inference.{AreClasses};
-ghost use Rattle.vsi_blame.specs.Odds as spec;
+ghost use Rattle.vsi_blame.specs.Violation as spec;
 
 use std::alloc::AllocError;
 use vsi_caret::put_safe;
@@ -134,7 +134,7 @@ fn put_order(
 }
 
 /// Adds the conflict of a pair.
-pub(crate) fn put_odds(
+pub(crate) fn put_violation(
     text: &mut Vec<u8>,
     lattice: &Lattice,
     program: &Resolved<'_>,
@@ -144,7 +144,7 @@ pub(crate) fn put_odds(
     requires globals { All (IsClass (order lattice.now)) (program_of program.now).globals }
     requires declared { AreClasses (order lattice.now) (program_of program.now).declared }
     ensures { OnOk result
-        (text.new.items ≡ text.old.items ++ spec.odds lattice.now program.now source target) }
+        (text.new.items ≡ text.old.items ++ spec.violation lattice.now program.now source target) }
 {
     put_flow(text, program, source, target)?;
     put_has(text, lattice, program, source)?;

@@ -10,7 +10,7 @@ ghost use Rattle.vsi_blame.specs.Steps.{near_ends};
 ghost use Rattle.vsi_blame.specs.Telling as spec;
 
 use crate::fixes::put_fixes;
-use crate::names::put_odds;
+use crate::names::put_violation;
 use crate::sentences::Page;
 use crate::steps::{near_end, near_start, put_walk};
 use crate::walking::Walked;
@@ -51,7 +51,7 @@ fn put_paragraph(
     let pair = entry.pair;
     let steps = entry.steps.as_slice();
     let near = near_ends_of(alloc, steps)?;
-    put_odds(text, lattice, program, pair.source, pair.target)?;
+    put_violation(text, lattice, program, pair.source, pair.target)?;
     put_walk(text, lattice, page, program, pair.source, steps)?;
     put_fixes(text, lattice, page, program, walks, entry, near.as_slice())?;
     text.extend_from_slice(b"\n")

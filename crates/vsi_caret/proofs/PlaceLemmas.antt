@@ -1,8 +1,8 @@
 -- The concatenation of parts, and the plainness of a position.
 use Rattle.std.proofs.Common.{◌≡◌, ℕ, Bool, true, ◌&&◌, List, [], ◌++◌, ap, ◌∙◌, refl, length, replicate, append_assoc, if◌then◌else◌, false, zero, suc, max}
 use Rattle.std.specs.Prelude.{codes, decimal, slice_range}
-use Rattle.vsi_caret.specs.declared.manner.Manner.TheVariants.{Plain}
-use Rattle.vsi_caret.specs.declared.manner.Manner.{Manner}
+use Rattle.vsi_caret.specs.declared.colour_mode.ColourMode.TheVariants.{Plain}
+use Rattle.vsi_caret.specs.declared.colour_mode.ColourMode.{ColourMode}
 use Rattle.vsi_caret.specs.declared.window.Window.{Window}
 use Rattle.vsi_caret.specs.Safe.{is_plain, all_plain, shown}
 use Rattle.vsi_caret.specs.Window.{begins_line, ends_line}
@@ -90,7 +90,7 @@ place_plain o path source w line column h =
     (both_plain o (heading_at path line column) h (heading_plain path line column)) (lines_plain source w line)
 
 -- The line of the carets depends only on three numbers.
-pub same_carets : (manner : Manner) (m m' n n' k k' : ℕ) → m ≡ m' → n ≡ n' → k ≡ k'
-    → carets manner m n k ≡ carets manner m' n' k'
-same_carets manner m m' n n' k k' hm hn hk =
-    ap (λ x. carets manner x n k) hm ∙ ap (λ x. carets manner m' x k) hn ∙ ap (λ x. carets manner m' n' x) hk
+pub same_carets : (mode : ColourMode) (m m' n n' k k' : ℕ) → m ≡ m' → n ≡ n' → k ≡ k'
+    → carets mode m n k ≡ carets mode m' n' k'
+same_carets mode m m' n n' k k' hm hn hk =
+    ap (λ x. carets mode x n k) hm ∙ ap (λ x. carets mode m' x k) hn ∙ ap (λ x. carets mode m' n' x) hk

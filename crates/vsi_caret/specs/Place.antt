@@ -1,7 +1,7 @@
 -- A position of a text as it is shown.
 use Rattle.std.specs.Prelude.{ℕ, ◌+◌, max, if◌then◌else◌, List, [], ◌++◌, length, take, replicate, slice_range, codes, decimal}
 use Rattle.vsi_syntax.specs.Lines.{breaks, last_line}
-use Rattle.vsi_caret.specs.declared.manner.Manner.{Manner}
+use Rattle.vsi_caret.specs.declared.colour_mode.ColourMode.{ColourMode}
 use Rattle.vsi_caret.specs.declared.window.Window.{Window}
 use Rattle.vsi_caret.specs.Safe.{shown}
 use Rattle.vsi_caret.specs.Colours.{turned_on, turned_off}
@@ -40,19 +40,19 @@ behind source w =
 
 -- The line of the carets: blanks below the part of the line before the position, and carets below the part there, at
 -- least one.
-abbrev pub carets : Manner → ℕ → ℕ → ℕ → List ℕ
-carets manner in_margin in_front there =
-    replicate in_margin 32 ++ codes " | " ++ replicate in_front 32 ++ turned_on manner ++ replicate (max there 1) 94
-    ++ turned_off manner ++ codes "\n"
+abbrev pub carets : ColourMode → ℕ → ℕ → ℕ → List ℕ
+carets mode in_margin in_front there =
+    replicate in_margin 32 ++ codes " | " ++ replicate in_front 32 ++ turned_on mode ++ replicate (max there 1) 94
+    ++ turned_off mode ++ codes "\n"
 
 -- The line with its number, and the carets below the part at the position.
-abbrev pub lines_at : Manner → List ℕ → Window → ℕ → List ℕ
-lines_at manner source w line =
+abbrev pub lines_at : ColourMode → List ℕ → Window → ℕ → List ℕ
+lines_at mode source w line =
     margin line ++ codes " | " ++ before source w ++ standing source w ++ behind source w ++ codes "\n"
-    ++ carets manner (length (margin line)) (length (before source w)) (length (standing source w))
+    ++ carets mode (length (margin line)) (length (before source w)) (length (standing source w))
 
 -- The heading, the line and the carets.
-abbrev pub placed : Manner → List ℕ → List ℕ → Window → List ℕ
-placed manner path source w =
+abbrev pub placed : ColourMode → List ℕ → List ℕ → Window → List ℕ
+placed mode path source w =
     heading_at path (line_of source w.start) (column_of source w.start)
-    ++ lines_at manner source w (line_of source w.start)
+    ++ lines_at mode source w (line_of source w.start)

@@ -8,12 +8,12 @@
 //! To be believed: all files of `specs/`.
 #![tactic(auto)]
 
-mod manner;
+mod colour_mode;
 mod place;
 mod safe;
 mod window;
 
-pub use manner::Manner;
+pub use colour_mode::ColourMode;
 pub use place::{put_place, put_place_in};
 pub use safe::{put_number, put_safe, put_text};
 pub use window::Window;

@@ -3,12 +3,12 @@
 ghost use Rattle.std.specs.Prelude.{◌≡◌, ◌++◌, ◌≤◌, ◌<◌, OnOk, IfOk, true, length, replicate, ℕ};
 ghost use Rattle.std.specs.Prelude.{max};
 ghost use Rattle.vsi_caret.specs.declared.window.Window.{Window};
-ghost use Rattle.vsi_caret.specs.declared.manner.Manner.TheVariants.{Plain};
+ghost use Rattle.vsi_caret.specs.declared.colour_mode.ColourMode.TheVariants.{Plain};
 ghost use Rattle.vsi_caret.specs.Safe.{all_plain};
 ghost use Rattle.vsi_caret.specs.Window.{IsWindow};
 ghost use Rattle.vsi_caret.specs.Place as spec;
 
-use crate::manner::{Manner, put_off, put_on};
+use crate::colour_mode::{ColourMode, put_off, put_on};
 use crate::safe::{put_number, put_safe};
 use crate::window::{Window, begins_line, ends_line, window_at};
 use std::alloc::AllocError;
@@ -97,20 +97,20 @@ fn put_behind(text: &mut Vec<u8>, source: &[u8], window: Window) -> Result<(), A
 /// Appends the line of the carets.
 fn put_carets(
     text: &mut Vec<u8>,
-    manner: Manner,
+    mode: ColourMode,
     margin: usize,
     before: usize,
     standing: usize,
 ) -> Result<(), AllocError>
     ensures { OnOk result
-        (text.new.items ≡ text.old.items ++ spec.carets manner margin before standing) }
+        (text.new.items ≡ text.old.items ++ spec.carets mode margin before standing) }
 {
     put_repeated(text, b' ', margin)?;
     text.extend_from_slice(b" | ")?;
     put_repeated(text, b' ', before)?;
-    put_on(text, manner)?;
+    put_on(text, mode)?;
     put_repeated(text, b'^', standing.max(1))?;
-    put_off(text, manner)?;
+    put_off(text, mode)?;
     text.extend_from_slice(b"\n")?;
     Ok(())
 }
@@ -118,7 +118,7 @@ fn put_carets(
 /// Appends the line of a window and the line of the carets.
 fn put_lines(
     text: &mut Vec<u8>,
-    manner: Manner,
+    mode: ColourMode,
     source: &[u8],
     window: Window,
     line: usize,
@@ -128,7 +128,7 @@ fn put_lines(
     requires behind { window.stop ≤ window.end }
     requires within { window.end ≤ length source.now }
     ensures { OnOk result
-        (text.new.items ≡ text.old.items ++ spec.lines_at manner source.now window line) }
+        (text.new.items ≡ text.old.items ++ spec.lines_at mode source.now window line) }
 {
     let margin = put_margin(text, line)?;
     text.extend_from_slice(b" | ")?;
@@ -136,31 +136,31 @@ fn put_lines(
     let standing = put_standing(text, source, window)?;
     put_behind(text, source, window)?;
     text.extend_from_slice(b"\n")?;
-    put_carets(text, manner, margin, before, standing)?;
+    put_carets(text, mode, margin, before, standing)?;
     Ok(())
 }
 
-/// Appends a position of a text in a manner: `PATH:LINE:COLUMN`, the line after a margin with its
+/// Appends a position of a text in a mode: `PATH:LINE:COLUMN`, the line after a margin with its
 /// number, and carets below the bytes from `start` up to but not including `stop`, at least one. If
 /// a line is long, only the part around the position is shown, with `..` where it is cut. A
 /// position beyond the text counts as its end.
 pub fn put_place_in(
     text: &mut Vec<u8>,
-    manner: Manner,
+    mode: ColourMode,
     path: &[u8],
     source: &[u8],
     start: usize,
     stop: usize,
 ) -> Result<(), AllocError>
     ensures placed { OnOk result ((w : Window) × (IsWindow source.now start w
-        × (text.new.items ≡ text.old.items ++ spec.placed manner path.now source.now w))) }
-    ensures plain { manner ≡ Plain → all_plain text.old.items ≡ true
+        × (text.new.items ≡ text.old.items ++ spec.placed mode path.now source.now w))) }
+    ensures plain { mode ≡ Plain → all_plain text.old.items ≡ true
         → OnOk result (all_plain text.new.items ≡ true) }
 {
     let window = window_at(source, start, stop);
     let (line, column) = line_column(source, window.start);
     put_heading(text, path, line, column)?;
-    put_lines(text, manner, source, window, line)?;
+    put_lines(text, mode, source, window, line)?;
     Ok(())
 }
 
@@ -177,5 +177,5 @@ pub fn put_place(
     ensures plain { all_plain text.old.items ≡ true
         → OnOk result (all_plain text.new.items ≡ true) }
 {
-    put_place_in(text, Manner::Plain, path, source, start, stop)
+    put_place_in(text, ColourMode::Plain, path, source, start, stop)
 }

@@ -40,7 +40,7 @@ pub fn format_text(alloc: Global, text: &[u8]) -> Result<Vec<u8>, CompileError>
 }
 
 /// Adds the line of a declaration.
-fn push_line(
+fn put_line(
     out: &mut Vec<u8>,
     text: &[u8],
     span: Span,
@@ -59,12 +59,12 @@ fn push_line(
 }
 
 /// Adds the lines of the globals.
-fn push_globals(out: &mut Vec<u8>, text: &[u8], globals: &[Declaration]) -> Result<(), AllocError>
+fn put_globals(out: &mut Vec<u8>, text: &[u8], globals: &[Declaration]) -> Result<(), AllocError>
     ensures { OnOk result
         (out.new.items ≡ out.old.items ++ global_lines text.now (map declared globals.now)) }
 {
     for global in globals {
-        push_line(
+        put_line(
             out,
             text,
             global.name.span,
@@ -76,7 +76,7 @@ fn push_globals(out: &mut Vec<u8>, text: &[u8], globals: &[Declaration]) -> Resu
 }
 
 /// Adds the lines of the letvars, with the classes chosen for them.
-fn push_letvars(
+fn put_letvars(
     out: &mut Vec<u8>,
     text: &[u8],
     lattice: &Lattice,
@@ -89,7 +89,7 @@ fn push_letvars(
         ++ letvar_lines text.now (names lattice.now) (map variable letvars.now) classes.now) }
 {
     for (i, entry) in letvars.iter().enumerate() {
-        push_line(out, text, entry.span, entry.name, lattice.name(classes[i]))?;
+        put_line(out, text, entry.span, entry.name, lattice.name(classes[i]))?;
     }
     Ok(())
 }
@@ -119,8 +119,8 @@ pub fn classes_text_of(
     let classes = judge(alloc, profile, source)?;
     let text = source.text();
     let mut out = Vec::new(alloc);
-    push_globals(&mut out, text, source.globals())?;
-    push_letvars(
+    put_globals(&mut out, text, source.globals())?;
+    put_letvars(
         &mut out,
         text,
         source.lattice(),

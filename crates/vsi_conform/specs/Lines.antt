@@ -13,7 +13,7 @@ use Rattle.vsi_compiler.specs.Headline.{IsImageOf}
 use Rattle.vsi_compiler.specs.declared.error.CompileError.{CompileError}
 use Rattle.vsi_compiler.specs.declared.error.CompileError.TheVariants as compiler
 use Rattle.vsi_compiler.specs.Readable.{HasProgram}
-use Rattle.vsi_steady.specs.Source.{ExplainsWatchedWalk}
+use Rattle.vsi_steady.specs.Source.{ExplainsLoopedWalk}
 use Rattle.vsi_steady.specs.Telling.{IsUnsteadyText}
 use Rattle.vsi_steady.specs.declared.error.SteadyError.{SteadyError}
 use Rattle.vsi_steady.specs.declared.unsteady.UnsteadyError.{UnsteadyError}
@@ -88,14 +88,14 @@ line_of_point p (NoWord run n) = word_line run (expected p.interface run n) None
 -- ---- the refusal.
 
 -- The line of a refused flow, followed by the explanation of the walk, where each choice is judged as a loop.
-abbrev pub IsWatchedText : Lattice → List ℕ → List Step → List ℕ → Type 0
-IsWatchedText l text steps out =
-    (more : List ℕ) × ExplainsWatchedWalk l text steps more × (out ≡ codes "refused: 25 Refused\n" ++ more)
+abbrev pub IsLoopedText : Lattice → List ℕ → List Step → List ℕ → Type 0
+IsLoopedText l text steps out =
+    (more : List ℕ) × ExplainsLoopedWalk l text steps more × (out ≡ codes "refused: 25 Refused\n" ++ more)
 
 -- The text of a refusal by the compiler, where choices are judged as loops or not.
 abbrev pub IsCompileText : Lattice → List ℕ → Bool → CompileError → List ℕ → Type 0
 IsCompileText l text false e out = IsRefusalText l text e out
-IsCompileText l text true (compiler.Flow walk) out = IsWatchedText l text walk.steps.items out
+IsCompileText l text true (compiler.Flow walk) out = IsLoopedText l text walk.steps.items out
 IsCompileText l text true (compiler.Lex e) out = IsRefusalText l text (compiler.Lex e) out
 IsCompileText l text true (compiler.Parse e) out = IsRefusalText l text (compiler.Parse e) out
 IsCompileText l text true (compiler.Scope e) out = IsRefusalText l text (compiler.Scope e) out

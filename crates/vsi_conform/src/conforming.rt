@@ -10,7 +10,7 @@ use crate::accepting::judged;
 use crate::globals::global_points;
 use crate::interface::Interface;
 use crate::point::{Answer, Point};
-use crate::trials::push_trials;
+use crate::trials::put_trials;
 use std::alloc::{AllocError, Global};
 use vsi_answers::bound_in;
 use vsi_compiler::{CompileError, unjudged_image};
@@ -28,7 +28,7 @@ pub fn image_points(
     let is_ordered = interface.is_ordered;
     let found = &verified.image().globals;
     let mut points = global_points(alloc, is_ordered, &interface.globals, found)?;
-    push_trials(alloc, &mut points, verified, &interface.trials)?;
+    put_trials(alloc, &mut points, verified, &interface.trials)?;
     Ok(points)
 }
 

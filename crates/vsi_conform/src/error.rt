@@ -5,7 +5,7 @@ ghost use Rattle.std.specs.Option.{option_copied};
 ghost use Rattle.vsi_conform.specs.Faulty as spec;
 ghost use Rattle.vsi_conform.specs.declared.error.InterfaceError.TheVariants.{Memory};
 
-use crate::texts::push_parts;
+use crate::texts::put_parts;
 use std::alloc::{AllocError, AllocFailed, Global};
 use thiserror::Error;
 use vsi_syntax::put_number;
@@ -152,14 +152,14 @@ pub fn interface_text(alloc: Global, error: &InterfaceError) -> Result<Vec<u8>, 
     ensures line { IfOk result (λ text. text.items ≡ spec.interface_line error.now) }
 {
     let mut text = Vec::new(alloc);
-    push_parts(&mut text, &[b"refused interface: ", fault_name(error)])?;
+    put_parts(&mut text, &[b"refused interface: ", fault_name(error)])?;
     let (run, word) = fault_fields(error);
     if let Some(run) = run {
         text.extend_from_slice(b" ")?;
         put_number(&mut text, run)?;
     }
     if let Some(word) = word {
-        push_parts(&mut text, &[b" ", word])?;
+        put_parts(&mut text, &[b" ", word])?;
     }
     text.extend_from_slice(b"\n")?;
     Ok(text)

@@ -4,7 +4,7 @@ ghost use Rattle.std.specs.Prelude.{◌≡◌, ◌++◌, IfOk, OnOk};
 ghost use Rattle.vsi_image.specs.Fields.{global, globals, is_taken};
 ghost use Rattle.vsi_conform.specs.Points as spec;
 
-use crate::point::{Point, push_told};
+use crate::point::{Point, put_told};
 use std::alloc::{AllocError, Global};
 
 /// The point of a global with a known name, by its class.
@@ -43,7 +43,7 @@ fn entry_point(
 }
 
 /// Adds the points of the required globals.
-fn push_entries(
+fn put_entries(
     points: &mut Vec<Point>,
     wanted: &[(Vec<u8>, Vec<u8>)],
     found: &[(Vec<u8>, Vec<u8>)],
@@ -52,7 +52,7 @@ fn push_entries(
         ≡ points.old.items ++ spec.entry_points 0 (globals wanted.now) (globals found.now)) }
 {
     for (number, entry) in wanted.iter().enumerate() {
-        push_told(points, entry_point(number, entry, found))?;
+        put_told(points, entry_point(number, entry, found))?;
     }
     Ok(())
 }
@@ -70,7 +70,7 @@ pub(crate) fn is_named(variables: &[(Vec<u8>, Vec<u8>)], name: &[u8]) -> bool
 }
 
 /// Adds the points of the globals that aren't required.
-fn push_unexpected(
+fn put_unexpected(
     points: &mut Vec<Point>,
     wanted: &[(Vec<u8>, Vec<u8>)],
     found: &[(Vec<u8>, Vec<u8>)],
@@ -96,8 +96,8 @@ fn set_points(
         ≡ spec.set_points (globals wanted.now) (globals found.now)) }
 {
     let mut points = Vec::new(alloc);
-    push_entries(&mut points, wanted, found)?;
-    push_unexpected(&mut points, wanted, found)?;
+    put_entries(&mut points, wanted, found)?;
+    put_unexpected(&mut points, wanted, found)?;
     Ok(points)
 }
 

@@ -203,7 +203,7 @@ fn refusal_objects(
 }
 
 /// Adds the objects of the points.
-fn push_objects(
+fn put_objects(
     alloc: Global,
     found: &mut Vec<Value>,
     pages: &Pages,
@@ -228,7 +228,7 @@ fn no_bound(alloc: Global, line: &[u8]) -> Result<Map<String, Value>, AllocError
 }
 
 /// Adds the object of a missing bound, if there is a line about it.
-pub fn push_bound(
+pub fn put_bound(
     alloc: Global,
     found: &mut Vec<Value>,
     unbounded: &Option<Vec<u8>>,
@@ -283,8 +283,8 @@ pub fn points_json(
         interface,
     };
     let mut objects = refusal_objects(alloc, lattice, &pages, &answer.refusal)?;
-    push_objects(alloc, &mut objects, &pages, &answer.points)?;
-    push_bound(alloc, &mut objects, &answer.unbounded)?;
+    put_objects(alloc, &mut objects, &pages, &answer.points)?;
+    put_bound(alloc, &mut objects, &answer.unbounded)?;
     let line = answer_line(alloc, answer.conforms(), objects)?;
     Ok(line)
 }

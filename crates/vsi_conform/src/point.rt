@@ -57,7 +57,7 @@ impl Answer {
 }
 
 /// Adds a point, if there is one.
-pub(crate) fn push_told(points: &mut Vec<Point>, point: Option<Point>) -> Result<(), AllocError>
+pub(crate) fn put_told(points: &mut Vec<Point>, point: Option<Point>) -> Result<(), AllocError>
     ensures { OnOk result (points.new.items ≡ points.old.items ++ told point) }
 {
     match point {

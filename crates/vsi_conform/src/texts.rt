@@ -26,7 +26,7 @@ pub(crate) struct Pages<'a> {
 }
 
 /// Adds some texts.
-pub fn push_parts(text: &mut Vec<u8>, parts: &[&[u8]]) -> Result<(), AllocError>
+pub fn put_parts(text: &mut Vec<u8>, parts: &[&[u8]]) -> Result<(), AllocError>
     ensures { OnOk result (text.new.items ≡ text.old.items ++ flat_map (λ p. p.now) parts.now) }
 {
     for part in parts {
@@ -36,13 +36,13 @@ pub fn push_parts(text: &mut Vec<u8>, parts: &[&[u8]]) -> Result<(), AllocError>
 }
 
 /// The lines of a refused flow, judged as for a steady image.
-fn watched_lines(
+fn looped_lines(
     alloc: Global,
     lattice: &Lattice,
     text: &[u8],
     walk: &Walk,
 ) -> Result<Vec<u8>, AllocError>
-    ensures { IfOk result (λ lines. spec.IsWatchedText lattice.now text.now
+    ensures { IfOk result (λ lines. spec.IsLoopedText lattice.now text.now
         walk.now.steps.items lines.items) }
 {
     let mut lines = Vec::from_slice(alloc, b"refused: 25 Refused\n")?;
@@ -62,7 +62,7 @@ fn steady_lines(
         error.now lines.items) }
 {
     match error {
-        CompileError::Flow(walk) => watched_lines(alloc, lattice, text, walk),
+        CompileError::Flow(walk) => looped_lines(alloc, lattice, text, walk),
         CompileError::Lex(_) => refusal_text(alloc, lattice, text, error),
         CompileError::Parse(_) => refusal_text(alloc, lattice, text, error),
         CompileError::Scope(_) => refusal_text(alloc, lattice, text, error),
@@ -115,7 +115,7 @@ pub fn refusal_lines(
 }
 
 /// Adds a line and a column.
-fn push_place(text: &mut Vec<u8>, shown: &Shown) -> Result<(), AllocError>
+fn put_place(text: &mut Vec<u8>, shown: &Shown) -> Result<(), AllocError>
     ensures { OnOk result (text.new.items ≡ text.old.items ++ spec.place (told.shown shown.now)) }
 {
     put_number(text, shown.line)?;
@@ -124,7 +124,7 @@ fn push_place(text: &mut Vec<u8>, shown: &Shown) -> Result<(), AllocError>
 }
 
 /// Adds the start of a run's line.
-fn push_run(text: &mut Vec<u8>, trial: usize) -> Result<(), AllocError>
+fn put_run(text: &mut Vec<u8>, trial: usize) -> Result<(), AllocError>
     ensures { OnOk result (text.new.items ≡ text.old.items ++ spec.run_text trial) }
 {
     text.extend_from_slice(b"run ")?;
@@ -162,20 +162,20 @@ fn expected_of(trial: &Trial, wanted: usize) -> (&[u8], i64)
 }
 
 /// Adds the line of a global that the text lacks.
-pub fn push_missing(text: &mut Vec<u8>, global: (&[u8], &[u8])) -> Result<(), AllocError>
+pub fn put_missing(text: &mut Vec<u8>, global: (&[u8], &[u8])) -> Result<(), AllocError>
     ensures { OnOk result (text.new.items
         ≡ text.old.items ++ spec.missing_line (global.entry.0.now, global.entry.1.now)) }
 {
-    push_parts(text, &[b"missing ", global.0, b" : ", global.1, b"\n"])
+    put_parts(text, &[b"missing ", global.0, b" : ", global.1, b"\n"])
 }
 
 /// Adds the line of a global with a class other than this one.
-fn push_class(text: &mut Vec<u8>, shown: &Shown, class: &[u8]) -> Result<(), AllocError>
+fn put_class(text: &mut Vec<u8>, shown: &Shown, class: &[u8]) -> Result<(), AllocError>
     ensures { OnOk result (text.new.items
         ≡ text.old.items ++ spec.class_line (told.shown shown.now) class.now) }
 {
-    push_place(text, shown)?;
-    push_parts(
+    put_place(text, shown)?;
+    put_parts(
         text,
         &[
             b" class ",
@@ -190,42 +190,42 @@ fn push_class(text: &mut Vec<u8>, shown: &Shown, class: &[u8]) -> Result<(), All
 }
 
 /// Adds the line of a global that isn't required.
-fn push_unexpected(text: &mut Vec<u8>, shown: &Shown) -> Result<(), AllocError>
+fn put_unexpected(text: &mut Vec<u8>, shown: &Shown) -> Result<(), AllocError>
     ensures { OnOk result (text.new.items
         ≡ text.old.items ++ spec.unexpected_line (told.shown shown.now)) }
 {
-    push_place(text, shown)?;
-    push_parts(
+    put_place(text, shown)?;
+    put_parts(
         text,
         &[b" unexpected ", shown.name, b" : ", shown.class, b"\n"],
     )
 }
 
 /// Adds the line of another order, where a global with this name is expected.
-fn push_order(text: &mut Vec<u8>, shown: &Shown, name: &[u8]) -> Result<(), AllocError>
+fn put_order(text: &mut Vec<u8>, shown: &Shown, name: &[u8]) -> Result<(), AllocError>
     ensures { OnOk result (text.new.items
         ≡ text.old.items ++ spec.order_line (told.shown shown.now) name.now) }
 {
-    push_place(text, shown)?;
-    push_parts(text, &[b" order ", shown.name, b", expected ", name, b"\n"])
+    put_place(text, shown)?;
+    put_parts(text, &[b" order ", shown.name, b", expected ", name, b"\n"])
 }
 
 /// Adds the word found, or that there is none.
-fn push_found(text: &mut Vec<u8>, name: &[u8], word: Option<i64>) -> Result<(), AllocError>
+fn put_found(text: &mut Vec<u8>, name: &[u8], word: Option<i64>) -> Result<(), AllocError>
     ensures { OnOk result (text.new.items
         ≡ text.old.items ++ spec.found_text name.now word) }
 {
     match word {
         Some(word) => {
-            push_parts(text, &[b" ", name, b" = "])?;
+            put_parts(text, &[b" ", name, b" = "])?;
             put_word(text, word)
         }
-        None => push_parts(text, &[b" no ", name]),
+        None => put_parts(text, &[b" no ", name]),
     }
 }
 
 /// Adds the line of a word that differs from the expected one.
-pub fn push_wrong(
+pub fn put_wrong(
     text: &mut Vec<u8>,
     trial: usize,
     wanted: (&[u8], i64),
@@ -234,15 +234,15 @@ pub fn push_wrong(
     ensures { OnOk result (text.new.items
         ≡ text.old.items ++ spec.word_line trial (wanted.entry.0.now, wanted.entry.1) word) }
 {
-    push_run(text, trial)?;
-    push_found(text, wanted.0, word)?;
+    put_run(text, trial)?;
+    put_found(text, wanted.0, word)?;
     text.extend_from_slice(b", expected ")?;
     put_word(text, wanted.1)?;
     text.extend_from_slice(b"\n")
 }
 
 /// Adds the budget of a run.
-fn push_budget(text: &mut Vec<u8>, trial: Option<&Trial>) -> Result<(), AllocError>
+fn put_budget(text: &mut Vec<u8>, trial: Option<&Trial>) -> Result<(), AllocError>
     ensures { OnOk result (text.new.items
         ≡ text.old.items ++ spec.budget_text (option_copied trial.entry)) }
 {
@@ -253,7 +253,7 @@ fn push_budget(text: &mut Vec<u8>, trial: Option<&Trial>) -> Result<(), AllocErr
 }
 
 /// Adds the line of a run that doesn't halt.
-pub fn push_endless(
+pub fn put_endless(
     text: &mut Vec<u8>,
     number: usize,
     trial: Option<&Trial>,
@@ -261,50 +261,50 @@ pub fn push_endless(
     ensures { OnOk result (text.new.items
         ≡ text.old.items ++ spec.budget_line number (option_copied trial.entry)) }
 {
-    push_run(text, number)?;
+    put_run(text, number)?;
     text.extend_from_slice(b" out of budget ")?;
-    push_budget(text, trial)?;
-    push_parts(text, &[b"\n"])
+    put_budget(text, trial)?;
+    put_parts(text, &[b"\n"])
 }
 
 /// Adds the line of a point.
-fn push_point(text: &mut Vec<u8>, pages: &Pages, point: Point) -> Result<(), AllocError>
+fn put_point(text: &mut Vec<u8>, pages: &Pages, point: Point) -> Result<(), AllocError>
     ensures { OnOk result (text.new.items
         ≡ text.old.items ++ spec.line_of_point (told.page pages.now) point) }
 {
     let interface = pages.interface;
     match point {
-        Point::Missing(number) => push_missing(text, asked(interface, number)),
+        Point::Missing(number) => put_missing(text, asked(interface, number)),
         Point::Unexpected(place) => {
-            push_unexpected(text, &global_at(pages.text, pages.found, place, false))
+            put_unexpected(text, &global_at(pages.text, pages.found, place, false))
         }
         Point::WrongClass { place, wanted } => {
             let shown = global_at(pages.text, pages.found, place, true);
-            push_class(text, &shown, asked(interface, wanted).1)
+            put_class(text, &shown, asked(interface, wanted).1)
         }
         Point::WrongOrder(place) => {
             let shown = global_at(pages.text, pages.found, place, false);
-            push_order(text, &shown, asked(interface, place).0)
+            put_order(text, &shown, asked(interface, place).0)
         }
-        Point::OutOfBudget(trial) => push_endless(text, trial, interface.trials.get(trial)),
+        Point::OutOfBudget(trial) => put_endless(text, trial, interface.trials.get(trial)),
         Point::WrongWord {
             trial,
             wanted,
             word,
-        } => push_wrong(text, trial, expected(interface, trial, wanted), Some(word)),
+        } => put_wrong(text, trial, expected(interface, trial, wanted), Some(word)),
         Point::NoWord { trial, wanted } => {
-            push_wrong(text, trial, expected(interface, trial, wanted), None)
+            put_wrong(text, trial, expected(interface, trial, wanted), None)
         }
     }
 }
 
 /// Adds the lines of points.
-fn push_points(text: &mut Vec<u8>, pages: &Pages, points: &[Point]) -> Result<(), AllocError>
+fn put_points(text: &mut Vec<u8>, pages: &Pages, points: &[Point]) -> Result<(), AllocError>
     ensures { OnOk result (text.new.items
         ≡ text.old.items ++ flat_map (spec.line_of_point (told.page pages.now)) points.now) }
 {
     for point in points {
-        push_point(text, pages, *point)?;
+        put_point(text, pages, *point)?;
     }
     Ok(())
 }
@@ -330,7 +330,7 @@ fn first_lines(
 }
 
 /// Adds the line about the bound, if there is one.
-pub fn push_bound(text: &mut Vec<u8>, unbounded: &Option<Vec<u8>>) -> Result<(), AllocError>
+pub fn put_bound(text: &mut Vec<u8>, unbounded: &Option<Vec<u8>>) -> Result<(), AllocError>
     ensures { OnOk result
         (text.new.items ≡ text.old.items ++ spec.bound_lines unbounded.now) }
 {
@@ -371,7 +371,7 @@ pub fn points_text(
         interface,
     };
     let mut lines = first_lines(alloc, lattice, text, interface, &answer.refusal)?;
-    push_points(&mut lines, &pages, &answer.points)?;
-    push_bound(&mut lines, &answer.unbounded)?;
+    put_points(&mut lines, &pages, &answer.points)?;
+    put_bound(&mut lines, &answer.unbounded)?;
     Ok(lines)
 }

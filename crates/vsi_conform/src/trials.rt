@@ -5,7 +5,7 @@ ghost use Rattle.vsi_image.specs.Fields.{global, globals};
 ghost use Rattle.vsi_conform.specs.Points as spec;
 
 use crate::interface::Trial;
-use crate::point::{Point, push_told};
+use crate::point::{Point, put_told};
 use std::alloc::{AllocError, Global};
 use vsi_image::Verified;
 use vsi_machine::{Machine, Outcome};
@@ -93,7 +93,7 @@ fn expected_point(
 }
 
 /// Adds the points of the expected words.
-fn push_words(
+fn put_words(
     points: &mut Vec<Point>,
     trial: usize,
     expect: &[(Vec<u8>, i64)],
@@ -104,7 +104,7 @@ fn push_words(
         ++ spec.word_points trial 0 (spec.entries expect.now) (globals variables.now) words.now) }
 {
     for (wanted, entry) in expect.iter().enumerate() {
-        push_told(
+        put_told(
             points,
             expected_point(trial, wanted, entry, variables, words),
         )?;
@@ -129,7 +129,7 @@ fn started<'a>(
 }
 
 /// Adds the points of one run.
-fn push_trial(
+fn put_trial(
     alloc: Global,
     points: &mut Vec<Point>,
     verified: &Verified,
@@ -141,7 +141,7 @@ fn push_trial(
 {
     let mut machine = started(alloc, verified, trial)?;
     match machine.run(trial.budget) {
-        Outcome::Halted => push_words(
+        Outcome::Halted => put_words(
             points,
             number,
             &trial.expect,
@@ -156,7 +156,7 @@ fn push_trial(
 }
 
 /// Adds the points of the runs.
-pub(crate) fn push_trials(
+pub(crate) fn put_trials(
     alloc: Global,
     points: &mut Vec<Point>,
     verified: &Verified,
@@ -166,7 +166,7 @@ pub(crate) fn push_trials(
         ++ spec.trials_points verified.now 0 trials.now) }
 {
     for (number, trial) in trials.iter().enumerate() {
-        push_trial(alloc, points, verified, number, trial)?;
+        put_trial(alloc, points, verified, number, trial)?;
     }
     Ok(())
 }

@@ -86,7 +86,7 @@ fn point_object(
 }
 
 /// Adds the objects of the points.
-fn push_objects(
+fn put_objects(
     alloc: Global,
     found: &mut Vec<Value>,
     image: &Image,
@@ -134,7 +134,7 @@ pub fn points_json(
         answer.now out.items) }
 {
     let mut objects = refusal_objects(alloc, lattice, image, &answer.refusal)?;
-    push_objects(alloc, &mut objects, image, interface, &answer.points)?;
+    put_objects(alloc, &mut objects, image, interface, &answer.points)?;
     push_bound_object(alloc, &mut objects, &answer.unbounded)?;
     let line = answer_line(alloc, answer.conforms(), objects)?;
     Ok(line)

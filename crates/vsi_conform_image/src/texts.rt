@@ -8,7 +8,7 @@ use crate::answer::{Answer, Refusal};
 use std::alloc::{AllocError, Global};
 use vsi_audit::audit_text;
 use vsi_conform::parts::{
-    asked, expected, push_bound, push_endless, push_missing, push_parts, push_wrong,
+    asked, expected, put_bound, put_endless, put_missing, put_parts, put_wrong,
 };
 use vsi_conform::{Interface, Point};
 use vsi_image::Image;
@@ -26,19 +26,19 @@ pub(crate) fn held(image: &Image, place: usize) -> (&[u8], &[u8])
 }
 
 /// Adds the line of a global that isn't required.
-fn push_unexpected(text: &mut Vec<u8>, global: (&[u8], &[u8])) -> Result<(), AllocError>
+fn put_unexpected(text: &mut Vec<u8>, global: (&[u8], &[u8])) -> Result<(), AllocError>
     ensures { OnOk result (text.new.items
         ≡ text.old.items ++ spec.unexpected_line (global.entry.0.now, global.entry.1.now)) }
 {
-    push_parts(text, &[b"unexpected ", global.0, b" : ", global.1, b"\n"])
+    put_parts(text, &[b"unexpected ", global.0, b" : ", global.1, b"\n"])
 }
 
 /// Adds the line of a global with a class other than this one.
-fn push_class(text: &mut Vec<u8>, global: (&[u8], &[u8]), class: &[u8]) -> Result<(), AllocError>
+fn put_class(text: &mut Vec<u8>, global: (&[u8], &[u8]), class: &[u8]) -> Result<(), AllocError>
     ensures { OnOk result (text.new.items ≡ text.old.items
         ++ spec.class_line (global.entry.0.now, global.entry.1.now) class.now) }
 {
-    push_parts(
+    put_parts(
         text,
         &[
             b"class ",
@@ -53,15 +53,15 @@ fn push_class(text: &mut Vec<u8>, global: (&[u8], &[u8]), class: &[u8]) -> Resul
 }
 
 /// Adds the line of another order, where a global with this name is expected.
-fn push_order(text: &mut Vec<u8>, global: (&[u8], &[u8]), name: &[u8]) -> Result<(), AllocError>
+fn put_order(text: &mut Vec<u8>, global: (&[u8], &[u8]), name: &[u8]) -> Result<(), AllocError>
     ensures { OnOk result (text.new.items ≡ text.old.items
         ++ spec.order_line (global.entry.0.now, global.entry.1.now) name.now) }
 {
-    push_parts(text, &[b"order ", global.0, b", expected ", name, b"\n"])
+    put_parts(text, &[b"order ", global.0, b", expected ", name, b"\n"])
 }
 
 /// Adds the line of a point.
-fn push_point(
+fn put_point(
     text: &mut Vec<u8>,
     image: &Image,
     interface: &Interface,
@@ -71,28 +71,28 @@ fn push_point(
         ≡ text.old.items ++ spec.line_of_point image.now interface.now point) }
 {
     match point {
-        Point::Missing(number) => push_missing(text, asked(interface, number)),
-        Point::Unexpected(place) => push_unexpected(text, held(image, place)),
+        Point::Missing(number) => put_missing(text, asked(interface, number)),
+        Point::Unexpected(place) => put_unexpected(text, held(image, place)),
         Point::WrongClass { place, wanted } => {
-            push_class(text, held(image, place), asked(interface, wanted).1)
+            put_class(text, held(image, place), asked(interface, wanted).1)
         }
         Point::WrongOrder(place) => {
-            push_order(text, held(image, place), asked(interface, place).0)
+            put_order(text, held(image, place), asked(interface, place).0)
         }
-        Point::OutOfBudget(trial) => push_endless(text, trial, interface.trials.get(trial)),
+        Point::OutOfBudget(trial) => put_endless(text, trial, interface.trials.get(trial)),
         Point::WrongWord {
             trial,
             wanted,
             word,
-        } => push_wrong(text, trial, expected(interface, trial, wanted), Some(word)),
+        } => put_wrong(text, trial, expected(interface, trial, wanted), Some(word)),
         Point::NoWord { trial, wanted } => {
-            push_wrong(text, trial, expected(interface, trial, wanted), None)
+            put_wrong(text, trial, expected(interface, trial, wanted), None)
         }
     }
 }
 
 /// Adds the lines of points.
-fn push_points(
+fn put_points(
     text: &mut Vec<u8>,
     image: &Image,
     interface: &Interface,
@@ -102,7 +102,7 @@ fn push_points(
         ++ flat_map (spec.line_of_point image.now interface.now) points.now) }
 {
     for point in points {
-        push_point(text, image, interface, *point)?;
+        put_point(text, image, interface, *point)?;
     }
     Ok(())
 }
@@ -141,7 +141,7 @@ pub fn points_text(
         return Ok(line);
     }
     let mut lines = first_lines(alloc, lattice, image, &answer.refusal)?;
-    push_points(&mut lines, image, interface, &answer.points)?;
-    push_bound(&mut lines, &answer.unbounded)?;
+    put_points(&mut lines, image, interface, &answer.points)?;
+    put_bound(&mut lines, &answer.unbounded)?;
     Ok(lines)
 }

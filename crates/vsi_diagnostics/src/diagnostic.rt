@@ -55,7 +55,7 @@ impl<'a> Diagnostic<'a> {
 }
 
 /// Adds a field, after a space.
-fn push_field(text: &mut Vec<u8>, field: Field) -> Result<(), AllocError>
+fn put_field(text: &mut Vec<u8>, field: Field) -> Result<(), AllocError>
     ensures { OnOk result
         (text.new.items ≡ text.old.items ++ spec.field_text (field_of field.entry)) }
 {
@@ -99,7 +99,7 @@ pub fn line_text(alloc: Global, diagnostic: &Diagnostic) -> Result<Vec<u8>, Allo
     put_number(&mut text, diagnostic.code)?;
     text.extend_from_slice(b" ")?;
     text.extend_from_slice(diagnostic.name)?;
-    push_field(&mut text, diagnostic.field)?;
+    put_field(&mut text, diagnostic.field)?;
     text.extend_from_slice(b"\n")?;
     Ok(text)
 }

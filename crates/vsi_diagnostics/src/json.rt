@@ -73,7 +73,7 @@ fn step_object(
 }
 
 /// Adds the objects of steps, in their order.
-fn push_steps(
+fn put_step_objects(
     alloc: Global,
     found: &mut Vec<Value>,
     source: &[u8],
@@ -117,7 +117,7 @@ fn walk_objects(
         }
     };
     let mut found = Vec::new(alloc);
-    push_steps(alloc, &mut found, source, &program, steps)?;
+    put_step_objects(alloc, &mut found, source, &program, steps)?;
     Ok(found)
 }
 

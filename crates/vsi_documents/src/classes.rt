@@ -44,7 +44,7 @@ fn class_object(
 }
 
 /// Adds the objects of the globals.
-fn push_globals(
+fn put_globals(
     alloc: Global,
     found: &mut Vec<Value>,
     text: &[u8],
@@ -62,7 +62,7 @@ fn push_globals(
 }
 
 /// Adds the objects of the letvars, with the classes chosen for them.
-fn push_letvars(
+fn put_letvars(
     alloc: Global,
     found: &mut Vec<Value>,
     text: &[u8],
@@ -108,9 +108,9 @@ fn line_of(alloc: Global, source: &Source<'_>, classes: &[Class]) -> Result<Vec<
 {
     let text = source.text();
     let mut found = Vec::new(alloc);
-    push_globals(alloc, &mut found, text, source.globals())?;
+    put_globals(alloc, &mut found, text, source.globals())?;
     let letvars = source.resolved().letvars();
-    push_letvars(alloc, &mut found, text, source.lattice(), letvars, classes)?;
+    put_letvars(alloc, &mut found, text, source.lattice(), letvars, classes)?;
     let line = classes_line(alloc, found)?;
     Ok(line)
 }

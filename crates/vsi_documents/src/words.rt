@@ -98,7 +98,7 @@ fn pair_object(
 }
 
 /// Adds the object of a global in two runs, if it is shown.
-fn push_pair(
+fn put_pair_object(
     alloc: Global,
     found: &mut Vec<Value>,
     shown: bool,
@@ -116,7 +116,7 @@ fn push_pair(
 }
 
 /// Adds an object for each global that is shown.
-fn push_pairs(
+fn put_pair_objects(
     alloc: Global,
     found: &mut Vec<Value>,
     lattice: &Lattice,
@@ -135,7 +135,7 @@ fn push_pairs(
         match (first.get(i), second.get(i)) {
             (Some(one), Some(other)) => {
                 let pair = (*one, *other);
-                push_pair(alloc, found, shown, variable.0.as_slice(), pair)?;
+                put_pair_object(alloc, found, shown, variable.0.as_slice(), pair)?;
             }
             _ => return Ok(()),
         }
@@ -159,7 +159,7 @@ pub(crate) fn put_pairs(
         words.entry.0.now words.entry.1.now (members_view members.old.entries)) }
 {
     let mut found = Vec::new(alloc);
-    push_pairs(alloc, &mut found, lattice, to, variables, words)?;
+    put_pair_objects(alloc, &mut found, lattice, to, variables, words)?;
     put(members, alloc, key, Value::Array(found))
 }
 

@@ -86,7 +86,7 @@ pub(crate) fn is_listed(list: Option<&[&[u8]]>, name: &[u8]) -> bool
 
 /// Processes the byte at a position, within a name that began at `start`: adds the name if a comma
 /// ends it, and returns the start of the name to which the next byte belongs.
-fn push_name<'a>(
+fn put_name<'a>(
     names: &mut Vec<&'a [u8]>,
     text: &'a [u8],
     start: usize,
@@ -118,7 +118,7 @@ pub fn names_of<'a>(alloc: Global, text: &'a [u8]) -> Result<Vec<&'a [u8]>, Allo
     }
     let mut start = 0;
     for i in 0..text.len() {
-        start = push_name(&mut names, text, start, i)?;
+        start = put_name(&mut names, text, start, i)?;
     }
     names.push(&text[start..])?;
     Ok(names)

@@ -21,7 +21,7 @@ fn is_blank(byte: u8) -> bool
 }
 
 /// Adds a field, unless it is empty.
-fn push_field<'a>(fields: &mut Vec<&'a [u8]>, field: &'a [u8]) -> Result<(), AllocError>
+fn put_field<'a>(fields: &mut Vec<&'a [u8]>, field: &'a [u8]) -> Result<(), AllocError>
     ensures { OnOk result
         (texts fields.new.items ≡ texts fields.old.items ++ spec.ended field.now []) }
 {
@@ -33,7 +33,7 @@ fn push_field<'a>(fields: &mut Vec<&'a [u8]>, field: &'a [u8]) -> Result<(), All
 
 /// Processes the byte at a position, within a field that began at `start`, and returns the start of
 /// the field after it.
-fn push_byte<'a>(
+fn put_byte<'a>(
     fields: &mut Vec<&'a [u8]>,
     line: &'a [u8],
     start: usize,
@@ -50,11 +50,11 @@ fn push_byte<'a>(
 {
     let byte = line[at];
     if is_blank(byte) {
-        push_field(fields, &line[start..at])?;
+        put_field(fields, &line[start..at])?;
         return Ok(at + 1);
     }
     if byte == b'=' {
-        push_field(fields, &line[start..at])?;
+        put_field(fields, &line[start..at])?;
         fields.push(b"=")?;
         return Ok(at + 1);
     }
@@ -68,9 +68,9 @@ pub(crate) fn fields_of<'a>(alloc: Global, line: &'a [u8]) -> Result<Vec<&'a [u8
     let mut fields = Vec::new(alloc);
     let mut start = 0;
     for i in 0..line.len() {
-        start = push_byte(&mut fields, line, start, i)?;
+        start = put_byte(&mut fields, line, start, i)?;
     }
-    push_field(&mut fields, &line[start..])?;
+    put_field(&mut fields, &line[start..])?;
     Ok(fields)
 }
 

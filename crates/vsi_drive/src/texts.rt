@@ -17,7 +17,7 @@ use std::alloc::{AllocError, Global};
 use vsi_syntax::{put_number, put_word};
 
 /// Adds a name, a space and a number.
-fn push_numbered(text: &mut Vec<u8>, name: &[u8], number: usize) -> Result<(), AllocError>
+fn put_numbered(text: &mut Vec<u8>, name: &[u8], number: usize) -> Result<(), AllocError>
     ensures { OnOk result (text.new.items ≡ text.old.items ++ settings.numbered name.now number) }
 {
     text.extend_from_slice(name)?;
@@ -26,16 +26,16 @@ fn push_numbered(text: &mut Vec<u8>, name: &[u8], number: usize) -> Result<(), A
 }
 
 /// Adds the number, the name and the field of a fault.
-fn push_fault(text: &mut Vec<u8>, fault: LineFault) -> Result<(), AllocError>
+fn put_fault(text: &mut Vec<u8>, fault: LineFault) -> Result<(), AllocError>
     ensures { OnOk result (text.new.items ≡ text.old.items ++ settings.fault_name fault) }
 {
     match fault {
         LineFault::TooLong => text.extend_from_slice(b"44 LineTooLong"),
-        LineFault::BadSetting(n) => push_numbered(text, b"45 BadSetting", n),
-        LineFault::UnknownGlobal(n) => push_numbered(text, b"46 NoGlobal", n),
-        LineFault::AboveClass(n) => push_numbered(text, b"47 AboveClass", n),
-        LineFault::NotAnInput(n) => push_numbered(text, b"60 NotAnInput", n),
-        LineFault::NotANumber(n) => push_numbered(text, b"48 NoNumber", n),
+        LineFault::BadSetting(n) => put_numbered(text, b"45 BadSetting", n),
+        LineFault::UnknownGlobal(n) => put_numbered(text, b"46 NoGlobal", n),
+        LineFault::AboveClass(n) => put_numbered(text, b"47 AboveClass", n),
+        LineFault::NotAnInput(n) => put_numbered(text, b"60 NotAnInput", n),
+        LineFault::NotANumber(n) => put_numbered(text, b"48 NoNumber", n),
     }
 }
 
@@ -44,21 +44,21 @@ pub(crate) fn fault_line(alloc: Global, fault: LineFault) -> Result<Vec<u8>, All
     ensures { IfOk result (λ text. text.items ≡ settings.fault_line fault) }
 {
     let mut text = Vec::from_slice(alloc, b"refused: ")?;
-    push_fault(&mut text, fault)?;
+    put_fault(&mut text, fault)?;
     text.extend_from_slice(b"\n")?;
     Ok(text)
 }
 
 /// Adds the number, the name and the field of a fault of a boundary.
-fn push_boundary_fault(text: &mut Vec<u8>, fault: BoundaryFault) -> Result<(), AllocError>
+fn put_boundary_fault(text: &mut Vec<u8>, fault: BoundaryFault) -> Result<(), AllocError>
     ensures { OnOk result (text.new.items ≡ text.old.items ++ faults.boundary_fault_name fault) }
 {
     match fault {
-        BoundaryFault::UnknownInput(n) => push_numbered(text, b"61 UnknownInput", n),
-        BoundaryFault::InputAboveClass(n) => push_numbered(text, b"62 InputAboveClass", n),
-        BoundaryFault::UnknownOutput(n) => push_numbered(text, b"63 UnknownOutput", n),
-        BoundaryFault::OutputAboveClass(n) => push_numbered(text, b"64 OutputAboveClass", n),
-        BoundaryFault::NotAnOutput(n) => push_numbered(text, b"65 NotAnOutput", n),
+        BoundaryFault::UnknownInput(n) => put_numbered(text, b"61 UnknownInput", n),
+        BoundaryFault::InputAboveClass(n) => put_numbered(text, b"62 InputAboveClass", n),
+        BoundaryFault::UnknownOutput(n) => put_numbered(text, b"63 UnknownOutput", n),
+        BoundaryFault::OutputAboveClass(n) => put_numbered(text, b"64 OutputAboveClass", n),
+        BoundaryFault::NotAnOutput(n) => put_numbered(text, b"65 NotAnOutput", n),
     }
 }
 
@@ -68,9 +68,9 @@ pub fn start_fault_line(alloc: Global, fault: StartFault) -> Result<Vec<u8>, All
 {
     let mut text = Vec::from_slice(alloc, b"refused: ")?;
     match fault {
-        StartFault::Setting(fault) => push_fault(&mut text, fault)?,
-        StartFault::Boundary(fault) => push_boundary_fault(&mut text, fault)?,
-        StartFault::Unnamed(i) => push_numbered(&mut text, b"56 GlobalNotNamed", i)?,
+        StartFault::Setting(fault) => put_fault(&mut text, fault)?,
+        StartFault::Boundary(fault) => put_boundary_fault(&mut text, fault)?,
+        StartFault::Unnamed(i) => put_numbered(&mut text, b"56 GlobalNotNamed", i)?,
     }
     text.extend_from_slice(b"\n")?;
     Ok(text)
@@ -84,7 +84,7 @@ pub(crate) fn spent_line(alloc: Global) -> Result<Vec<u8>, AllocError>
 }
 
 /// Adds one global and a space, if it is written.
-fn push_seen(
+fn put_seen(
     text: &mut Vec<u8>,
     controller: &Controller,
     variable: &(Vec<u8>, Vec<u8>),
@@ -116,7 +116,7 @@ fn globals_seen(
     let variables = controller.globals();
     let mut text = Vec::new(alloc);
     for (i, variable) in variables.iter().enumerate() {
-        push_seen(&mut text, controller, variable, words[i])?;
+        put_seen(&mut text, controller, variable, words[i])?;
     }
     Ok(text)
 }
@@ -137,7 +137,7 @@ pub(crate) fn line_seen(
 }
 
 /// Adds the line of one global, if it is written.
-fn push_written(
+fn put_written(
     text: &mut Vec<u8>,
     controller: &Controller,
     variable: &(Vec<u8>, Vec<u8>),
@@ -168,7 +168,7 @@ pub(crate) fn written_text(
     let variables = controller.globals();
     let mut text = Vec::new(alloc);
     for (i, variable) in variables.iter().enumerate() {
-        push_written(&mut text, controller, variable, words[i])?;
+        put_written(&mut text, controller, variable, words[i])?;
     }
     Ok(text)
 }

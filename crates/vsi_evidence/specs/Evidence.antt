@@ -4,8 +4,8 @@ use Rattle.std.specs.List.{flat_map, list_any}
 use Rattle.hex.specs.Hex.{encode_lower}
 use Rattle.sha2.specs.Sha256.{sha256}
 use Rattle.vsi_evidence.specs.declared.Filed as code
-use Rattle.vsi_evidence.specs.declared.Manner.{Manner}
-use Rattle.vsi_evidence.specs.declared.Manner.TheVariants.{Base, Strict, Steady}
+use Rattle.vsi_evidence.specs.declared.AuditProfile.{AuditProfile}
+use Rattle.vsi_evidence.specs.declared.AuditProfile.TheVariants.{Base, Strict, Steady}
 
 -- A path and the bytes of the file.
 abbrev pub Filed : Type 0
@@ -15,11 +15,11 @@ Filed = List ℕ × List ℕ
 abbrev pub filed : code.Filed → Filed
 filed f = (f.path.now, f.bytes.now)
 
--- The name of a manner.
-abbrev pub manner_name : Manner → List ℕ
-manner_name Base = codes "base"
-manner_name Strict = codes "strict"
-manner_name Steady = codes "steady"
+-- The name of a profile.
+abbrev pub profile_name : AuditProfile → List ℕ
+profile_name Base = codes "base"
+profile_name Strict = codes "strict"
+profile_name Steady = codes "steady"
 
 -- A backslash, a line feed or a carriage return.
 abbrev pub is_special : ℕ → Bool
@@ -39,8 +39,8 @@ abbrev pub sum_line : Filed → List ℕ
 sum_line f =
     mark f.0 ++ encode_lower (sha256 f.1) ++ codes "  " ++ flat_map escaped_byte f.0 ++ codes "\n"
 
--- The version of the program, the manner of the audit, and the lines of the files.
-abbrev pub evidence_text : List ℕ → Manner → List Filed → List ℕ
-evidence_text version manner files =
-    codes "# vsi " ++ version ++ codes "\n# audit " ++ manner_name manner ++ codes ": accepted\n"
+-- The version of the program, the profile of the audit, and the lines of the files.
+abbrev pub evidence_text : List ℕ → AuditProfile → List Filed → List ℕ
+evidence_text version profile files =
+    codes "# vsi " ++ version ++ codes "\n# audit " ++ profile_name profile ++ codes ": accepted\n"
     ++ flat_map sum_line files

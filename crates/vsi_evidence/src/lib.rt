@@ -17,7 +17,7 @@ use std::alloc::{AllocError, Global};
 
 /// How an audit judges an image.
 #[derive(Clone, Copy, PartialEq, Eq, Debug)]
-pub enum Manner {
+pub enum AuditProfile {
     /// Under the base profile.
     Base,
     /// Under the strict profile.
@@ -33,14 +33,14 @@ pub struct Filed<'a> {
     pub bytes: &'a [u8],
 }
 
-/// The name of a manner.
-fn manner_name(manner: Manner) -> &'static [u8]
-    ensures { result.now ≡ spec.manner_name manner }
+/// The name of a profile.
+fn profile_name(profile: AuditProfile) -> &'static [u8]
+    ensures { result.now ≡ spec.profile_name profile }
 {
-    match manner {
-        Manner::Base => b"base",
-        Manner::Strict => b"strict",
-        Manner::Steady => b"steady",
+    match profile {
+        AuditProfile::Base => b"base",
+        AuditProfile::Strict => b"strict",
+        AuditProfile::Steady => b"steady",
     }
 }
 
@@ -122,20 +122,20 @@ fn put_files(alloc: Global, text: &mut Vec<u8>, files: &[Filed<'_>]) -> Result<(
 }
 
 /// The evidence of an audit that has accepted an image: comments with the version of the program and
-/// the manner of the audit, and a line with the SHA-256 of each file.
+/// the profile of the audit, and a line with the SHA-256 of each file.
 pub fn evidence(
     alloc: Global,
     version: &[u8],
-    manner: Manner,
+    profile: AuditProfile,
     files: &[Filed<'_>],
 ) -> Result<Vec<u8>, AllocError>
     ensures text { IfOk result (λ text. text.items
-        ≡ spec.evidence_text version.now manner (map spec.filed files.now)) }
+        ≡ spec.evidence_text version.now profile (map spec.filed files.now)) }
 {
     let mut text = Vec::from_slice(alloc, b"# vsi ")?;
     text.extend_from_slice(version)?;
     text.extend_from_slice(b"\n# audit ")?;
-    text.extend_from_slice(manner_name(manner))?;
+    text.extend_from_slice(profile_name(profile))?;
     text.extend_from_slice(b": accepted\n")?;
     put_files(alloc, &mut text, files)?;
     Ok(text)

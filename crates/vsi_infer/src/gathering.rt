@@ -19,7 +19,7 @@ use crate::wanted::Wanted;
 use std::alloc::{AllocError, Global as Heap};
 use vsi_scope::{Cmd, Entry, Ex, Resolved, Var};
 use vsi_syntax::Span;
-use vsi_types::{Profile, Rule, Step, Walker, first_variables, push_reads};
+use vsi_types::{Profile, Rule, Step, Walker, first_variables, put_reads};
 
 /// Gathers from an assignment, which doesn't loop.
 fn gather_assign<W: Wanted>(
@@ -77,7 +77,7 @@ fn gather_if<W: Wanted>(
     log.turn = turn;
     let around = log.around;
     let outside = walk.guards.len();
-    push_reads(&mut walk.guards, &walk.scope, Rule::If, guard)?;
+    put_reads(&mut walk.guards, &walk.scope, Rule::If, guard)?;
     enter(log, &walk.guards, outside);
     let one = gather_commands(wanted, profile, entries, first, walk, log, then_branch)?;
     let two = gather_commands(wanted, profile, entries, first, walk, log, else_branch)?;
@@ -111,7 +111,7 @@ fn gather_while<W: Wanted>(
     look_ending(wanted, profile, log, &walk.scope, turn, true, guard)?;
     let around = log.around;
     let outside = walk.guards.len();
-    push_reads(&mut walk.guards, &walk.scope, Rule::While, guard)?;
+    put_reads(&mut walk.guards, &walk.scope, Rule::While, guard)?;
     enter(log, &walk.guards, outside);
     gather_commands(wanted, profile, entries, first, walk, log, body)?;
     walk.guards.truncate(outside);

@@ -2,7 +2,7 @@
 
 use std::alloc::{AllocError, Global};
 use std::test::Fail;
-use vsi_caret::{Manner, put_place, put_place_in, put_safe, put_text};
+use vsi_caret::{ColourMode, put_place, put_place_in, put_safe, put_text};
 
 /// A position in a text called `t`.
 fn placed(alloc: Global, source: &[u8], start: usize, stop: usize) -> Result<Vec<u8>, AllocError> {
@@ -60,7 +60,7 @@ fn long_lines_are_cut(rt: HostRuntime) -> Result<(), Fail> {
 #[test]
 fn colours(rt: HostRuntime) -> Result<(), Fail> {
     let mut text = Vec::new(rt.alloc());
-    put_place_in(&mut text, Manner::Coloured, b"t", b"a", 0, 1)?;
+    put_place_in(&mut text, ColourMode::Coloured, b"t", b"a", 0, 1)?;
     assert_eq!(rt;
         text.as_slice(),
         b"t:1:1\n  1 | a\n    | \x1b[1;31m^\x1b[0m\n".as_slice()

@@ -33,7 +33,7 @@ fn truth(e: &Ex) -> Option<bool>
 }
 
 /// Adds a loop, unless its guard is the number 0.
-fn push_loop(out: &mut Vec<Cmd>, guard: Ex, body: Vec<Cmd>) -> Result<(), AllocError>
+fn put_loop(out: &mut Vec<Cmd>, guard: Ex, body: Vec<Cmd>) -> Result<(), AllocError>
     ensures { OnOk result
         (sequence out.new.items ≡
         append (sequence out.old.items) (one (While (expression guard) (sequence body.items)))) }
@@ -133,8 +133,8 @@ fn fold_one(c: &Cmd, out: &mut Vec<Cmd>, alloc: Global) -> Result<(), AllocError
             let guard = fold_expression(guard, alloc)?;
             match truth(&guard) {
                 Some(false) => Ok(()),
-                Some(true) => push_loop(out, guard, fold_list(body, alloc)?),
-                None => push_loop(out, guard, fold_list(body, alloc)?),
+                Some(true) => put_loop(out, guard, fold_list(body, alloc)?),
+                None => put_loop(out, guard, fold_list(body, alloc)?),
             }
         }
         Cmd::Letvar { value, body } => {

@@ -3,7 +3,7 @@
 use crate::page::{Page, Part};
 use crate::sides::Subject;
 use std::alloc::{AllocError, Global};
-use vsi_caret::Manner;
+use vsi_caret::ColourMode;
 use vsi_compiler::CompileError;
 use vsi_diagnostics::refusal_text;
 use vsi_telling::source_explanation;
@@ -22,7 +22,7 @@ fn told(alloc: Global, subject: &Subject<'_>, error: &CompileError) -> Result<Ve
     let mut text = refusal_text(alloc, subject.lattice, subject.source, error)?;
     let more = source_explanation(
         alloc,
-        Manner::Plain,
+        ColourMode::Plain,
         path(subject),
         subject.lattice,
         subject.source,

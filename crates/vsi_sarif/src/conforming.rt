@@ -9,7 +9,7 @@ ghost use Rattle.vsi_sarif.specs.Conforming as spec;
 
 use crate::checking::is_steady;
 use crate::document::document;
-use crate::findings::{push_bound_result, push_image_results, push_text_results, refusal_results};
+use crate::findings::{put_bound_result, put_image_results, put_text_results, refusal_results};
 use crate::held::{Pages, declarations};
 use crate::kinds::kind_rules;
 use crate::location::uri_of;
@@ -93,8 +93,8 @@ pub fn points_sarif(
     };
     let lines = text_lines(alloc, lattice, text, interface, &answer.refusal)?;
     let mut results = refusal_results(alloc, bytes, answer.refusal.is_some(), &lines)?;
-    push_text_results(alloc, &mut results, bytes, &pages, &answer.points)?;
-    push_bound_result(alloc, &mut results, bytes, &answer.unbounded)?;
+    put_text_results(alloc, &mut results, bytes, &pages, &answer.points)?;
+    put_bound_result(alloc, &mut results, bytes, &answer.unbounded)?;
     let line = findings_document(alloc, results)?;
     Ok(line)
 }
@@ -116,8 +116,8 @@ pub fn image_sarif(
     let bytes = uri.as_bytes();
     let lines = image_lines(alloc, lattice, image, &answer.refusal)?;
     let mut results = refusal_results(alloc, bytes, answer.refusal.is_some(), &lines)?;
-    push_image_results(alloc, &mut results, bytes, image, interface, &answer.points)?;
-    push_bound_result(alloc, &mut results, bytes, &answer.unbounded)?;
+    put_image_results(alloc, &mut results, bytes, image, interface, &answer.points)?;
+    put_bound_result(alloc, &mut results, bytes, &answer.unbounded)?;
     let line = findings_document(alloc, results)?;
     Ok(line)
 }

@@ -12,13 +12,13 @@ use crate::location::location;
 use crate::refusal::result_object;
 use serde_json::{Map, Value};
 use std::alloc::{AllocError, Global};
-use vsi_conform::parts::{asked, expected, push_endless, push_missing, push_parts, push_wrong};
+use vsi_conform::parts::{asked, expected, put_endless, put_missing, put_parts, put_wrong};
 use vsi_conform::{Interface, Point};
 use vsi_image::Image;
 use vsi_syntax::put_number;
 
 /// Adds a position, if there is one.
-fn push_place(line: &mut Vec<u8>, place: Option<(usize, usize)>) -> Result<(), AllocError>
+fn put_place(line: &mut Vec<u8>, place: Option<(usize, usize)>) -> Result<(), AllocError>
     ensures { OnOk result (line.new.items ≡ line.old.items ++ spec.begun place) }
 {
     match place {
@@ -33,24 +33,24 @@ fn push_place(line: &mut Vec<u8>, place: Option<(usize, usize)>) -> Result<(), A
 }
 
 /// Adds the line of a global that isn't required.
-fn push_unexpected(line: &mut Vec<u8>, held: &Held) -> Result<(), AllocError>
+fn put_unexpected(line: &mut Vec<u8>, held: &Held) -> Result<(), AllocError>
     ensures { OnOk result (line.new.items
         ≡ line.old.items ++ spec.unexpected_about (held_of held.now)) }
 {
-    push_place(line, held.place)?;
-    push_parts(
+    put_place(line, held.place)?;
+    put_parts(
         line,
         &[b"unexpected ", held.name, b" : ", held.class, b"\n"],
     )
 }
 
 /// Adds the line of a global with a class other than this one.
-fn push_class(line: &mut Vec<u8>, held: &Held, class: &[u8]) -> Result<(), AllocError>
+fn put_class(line: &mut Vec<u8>, held: &Held, class: &[u8]) -> Result<(), AllocError>
     ensures { OnOk result (line.new.items
         ≡ line.old.items ++ spec.class_about (held_of held.now) class.now) }
 {
-    push_place(line, held.place)?;
-    push_parts(
+    put_place(line, held.place)?;
+    put_parts(
         line,
         &[
             b"class ",
@@ -65,16 +65,16 @@ fn push_class(line: &mut Vec<u8>, held: &Held, class: &[u8]) -> Result<(), Alloc
 }
 
 /// Adds the line of another order, where a global with this name is expected.
-fn push_order(line: &mut Vec<u8>, held: &Held, name: &[u8]) -> Result<(), AllocError>
+fn put_order(line: &mut Vec<u8>, held: &Held, name: &[u8]) -> Result<(), AllocError>
     ensures { OnOk result (line.new.items
         ≡ line.old.items ++ spec.order_about (held_of held.now) name.now) }
 {
-    push_place(line, held.place)?;
-    push_parts(line, &[b"order ", held.name, b", expected ", name, b"\n"])
+    put_place(line, held.place)?;
+    put_parts(line, &[b"order ", held.name, b", expected ", name, b"\n"])
 }
 
 /// Adds the line of a point about a global.
-fn push_line(
+fn put_line(
     line: &mut Vec<u8>,
     interface: &Interface,
     held: &Held,
@@ -84,18 +84,18 @@ fn push_line(
         ≡ line.old.items ++ spec.line_about interface.now (held_of held.now) point) }
 {
     match point {
-        Point::Missing(number) => push_missing(line, asked(interface, number)),
-        Point::Unexpected(_) => push_unexpected(line, held),
-        Point::WrongClass { wanted, .. } => push_class(line, held, asked(interface, wanted).1),
-        Point::WrongOrder(place) => push_order(line, held, asked(interface, place).0),
-        Point::OutOfBudget(trial) => push_endless(line, trial, interface.trials.get(trial)),
+        Point::Missing(number) => put_missing(line, asked(interface, number)),
+        Point::Unexpected(_) => put_unexpected(line, held),
+        Point::WrongClass { wanted, .. } => put_class(line, held, asked(interface, wanted).1),
+        Point::WrongOrder(place) => put_order(line, held, asked(interface, place).0),
+        Point::OutOfBudget(trial) => put_endless(line, trial, interface.trials.get(trial)),
         Point::WrongWord {
             trial,
             wanted,
             word,
-        } => push_wrong(line, trial, expected(interface, trial, wanted), Some(word)),
+        } => put_wrong(line, trial, expected(interface, trial, wanted), Some(word)),
         Point::NoWord { trial, wanted } => {
-            push_wrong(line, trial, expected(interface, trial, wanted), None)
+            put_wrong(line, trial, expected(interface, trial, wanted), None)
         }
     }
 }
@@ -129,7 +129,7 @@ fn finding_about(
         (spec.line_about interface.now (held_of held.now) point)) }
 {
     let mut line = Vec::new(alloc);
-    push_line(&mut line, interface, held, point)?;
+    put_line(&mut line, interface, held, point)?;
     let made = finding(alloc, uri, kind_of(point), held.place, &line)?;
     Ok(made)
 }
@@ -150,7 +150,7 @@ fn text_finding(
 }
 
 /// Adds the results of points of a text.
-pub(crate) fn push_text_results(
+pub(crate) fn put_text_results(
     alloc: Global,
     found: &mut Vec<Value>,
     uri: &[u8],
@@ -183,7 +183,7 @@ fn image_finding(
 }
 
 /// Adds the results of points of an image.
-pub(crate) fn push_image_results(
+pub(crate) fn put_image_results(
     alloc: Global,
     found: &mut Vec<Value>,
     uri: &[u8],
@@ -218,7 +218,7 @@ pub(crate) fn refusal_results(
 }
 
 /// Adds the result of a missing bound, if there is a line about it.
-pub(crate) fn push_bound_result(
+pub(crate) fn put_bound_result(
     alloc: Global,
     found: &mut Vec<Value>,
     uri: &[u8],

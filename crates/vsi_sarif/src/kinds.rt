@@ -89,7 +89,7 @@ fn rule(alloc: Global, kind: Kind) -> Result<Map<String, Value>, AllocError>
 }
 
 /// Adds the objects of the rules of kinds.
-fn push_rules(alloc: Global, found: &mut Vec<Value>, kinds: &[Kind]) -> Result<(), AllocError>
+fn put_rules(alloc: Global, found: &mut Vec<Value>, kinds: &[Kind]) -> Result<(), AllocError>
     ensures { OnOk result
         (map view found.new.items ≡ map view found.old.items ++ spec.rules_of kinds.now) }
 {
@@ -104,6 +104,6 @@ pub(crate) fn kind_rules(alloc: Global) -> Result<Vec<Value>, AllocError>
     ensures { IfOk result (λ found. map view found.items ≡ spec.rules_of spec.kinds) }
 {
     let mut found = Vec::new(alloc);
-    push_rules(alloc, &mut found, &KINDS)?;
+    put_rules(alloc, &mut found, &KINDS)?;
     Ok(found)
 }

@@ -16,8 +16,8 @@ use Rattle.vsi_types.specs.Security.{Program, IsTypable, IsWellFormed, class_of,
 use Rattle.vsi_types.proofs.Orders.{Each, each_append, each_front, each_back, each_map, each_unmap, each_from_all, all_from_each}
 use Rattle.vsi_types.proofs.Programs.{steps_decide}
 use Rattle.vsi_opt.specs.Folding.{append}
-use Rattle.vsi_steady.specs.Watched.{watched, watched_program}
-use Rattle.vsi_steady.proofs.Watching.{watched_letvars, watched_places}
+use Rattle.vsi_steady.specs.Looped.{looped, looped_program}
+use Rattle.vsi_steady.proofs.Watching.{looped_letvars, looped_places}
 
 -- The reads of guards.
 abbrev read_by : List Guard → List Read
@@ -79,72 +79,72 @@ module _ (L : Lattice) (classes : ℕ → ℕ) (names : ℕ → Span) where
   endings_fewer false rs h = tt
 
   -- The steps of a command are in order if those of the command with loops are, under guards with equal reads.
-  unwatched : (c : Command) (gs gs' : List Guard) (scope : List ℕ) (n : ℕ) → read_by gs ≡ read_by gs' →
-      Each InOrder (steps Strict names gs' scope n (watched c)) → Each InOrder (steps Strict names gs scope n c)
-  unwatched Skip gs gs' scope n e h = tt
-  unwatched (Assign l s x) gs gs' scope n e h =
+  unlooped : (c : Command) (gs gs' : List Guard) (scope : List ℕ) (n : ℕ) → read_by gs ≡ read_by gs' →
+      Each InOrder (steps Strict names gs' scope n (looped c)) → Each InOrder (steps Strict names gs scope n c)
+  unlooped Skip gs gs' scope n e h = tt
+  unlooped (Assign l s x) gs gs' scope n e h =
       let own = guarded typing.Assign (reads scope x) in
       flows_alike (slice_index scope l) s (own ++ gs) (own ++ gs') (read_more own own gs gs' refl e) h
-  unwatched (Sequence a b) gs gs' scope n e h =
-      let first = steps Strict names gs' scope n (watched a) in
-      let second = steps Strict names gs' scope (n + letvars (watched a)) (watched b) in
+  unlooped (Sequence a b) gs gs' scope n e h =
+      let first = steps Strict names gs' scope n (looped a) in
+      let second = steps Strict names gs' scope (n + letvars (looped a)) (looped b) in
       each_append InOrder (steps Strict names gs scope n a) (steps Strict names gs scope (n + letvars a) b)
-      (unwatched a gs gs' scope n e (each_front InOrder first second h))
-      (unwatched b gs gs' scope (n + letvars a) e
-      (subst (λ k. Each InOrder (steps Strict names gs' scope (n + k) (watched b))) (watched_letvars a)
+      (unlooped a gs gs' scope n e (each_front InOrder first second h))
+      (unlooped b gs gs' scope (n + letvars a) e
+      (subst (λ k. Each InOrder (steps Strict names gs' scope (n + k) (looped b))) (looped_letvars a)
       (each_back InOrder first second h)))
-  unwatched (If x a b) gs gs' scope n e h =
+  unlooped (If x a b) gs gs' scope n e h =
       let rs = reads scope x in
       let inner = gs ++ guarded typing.If rs in
       let inner' = gs' ++ guarded typing.While rs in
       let same = read_more gs gs' (guarded typing.If rs) (guarded typing.While rs) e
       (read_guarded typing.If rs ∙ sym (read_guarded typing.While rs)) in
-      let both = steps Strict names inner' scope n (append (watched a) (watched b)) in
-      let first = steps Strict names inner' scope n (watched a) in
-      let second = steps Strict names inner' scope (n + letvars (watched a)) (watched b) in
-      let parts = subst (Each InOrder) (append_steps Strict names inner' scope (watched a) (watched b) n)
+      let both = steps Strict names inner' scope n (append (looped a) (looped b)) in
+      let first = steps Strict names inner' scope n (looped a) in
+      let second = steps Strict names inner' scope (n + letvars (looped a)) (looped b) in
+      let parts = subst (Each InOrder) (append_steps Strict names inner' scope (looped a) (looped b) n)
       (each_back InOrder (endings Strict true rs) both h) in
       each_append InOrder (endings Strict (has_loop a || has_loop b) rs)
       (steps Strict names inner scope n a ++ steps Strict names inner scope (n + letvars a) b)
       (endings_fewer (has_loop a || has_loop b) rs (each_front InOrder (endings Strict true rs) both h))
       (each_append InOrder (steps Strict names inner scope n a) (steps Strict names inner scope (n + letvars a) b)
-      (unwatched a inner inner' scope n same (each_front InOrder first second parts))
-      (unwatched b inner inner' scope (n + letvars a) same
-      (subst (λ k. Each InOrder (steps Strict names inner' scope (n + k) (watched b))) (watched_letvars a)
+      (unlooped a inner inner' scope n same (each_front InOrder first second parts))
+      (unlooped b inner inner' scope (n + letvars a) same
+      (subst (λ k. Each InOrder (steps Strict names inner' scope (n + k) (looped b))) (looped_letvars a)
       (each_back InOrder first second parts))))
-  unwatched (While x c) gs gs' scope n e h =
+  unlooped (While x c) gs gs' scope n e h =
       let rs = reads scope x in
       let own = guarded typing.While rs in
-      let rest = steps Strict names (gs' ++ own) scope n (watched c) in
+      let rest = steps Strict names (gs' ++ own) scope n (looped c) in
       each_append InOrder (endings Strict true rs) (steps Strict names (gs ++ own) scope n c)
       (each_front InOrder (endings Strict true rs) rest h)
-      (unwatched c (gs ++ own) (gs' ++ own) scope n (read_more gs gs' own own e refl)
+      (unlooped c (gs ++ own) (gs' ++ own) scope n (read_more gs gs' own own e refl)
       (each_back InOrder (endings Strict true rs) rest h))
-  unwatched (Letvar x c) gs gs' scope n e h =
+  unlooped (Letvar x c) gs gs' scope n e h =
       let own = flows n (names n) (guarded typing.Letvar (reads scope x)) in
-      let rest = steps Strict names gs' (scope ++ n ∷ []) (n + 1) (watched c) in
+      let rest = steps Strict names gs' (scope ++ n ∷ []) (n + 1) (looped c) in
       each_append InOrder own (steps Strict names gs (scope ++ n ∷ []) (n + 1) c)
       (each_front InOrder own rest h)
-      (unwatched c gs gs' (scope ++ n ∷ []) (n + 1) e (each_back InOrder own rest h))
+      (unlooped c gs gs' (scope ++ n ∷ []) (n + 1) e (each_back InOrder own rest h))
 
 -- The program with loops is well formed if the program is.
-pub watched_formed : (L : Lattice) (p : Program) → IsWellFormed L p → IsWellFormed L (watched_program p)
-watched_formed L p w = record {
+pub looped_formed : (L : Lattice) (p : Program) → IsWellFormed L p → IsWellFormed L (looped_program p)
+looped_formed L p w = record {
   classes = w.classes;
-  entries = w.entries ∙ sym (watched_letvars p.body);
-  places = watched_places p.body _ w.places;
-  limit = omega (arith, w.limit, watched_letvars p.body);
+  entries = w.entries ∙ sym (looped_letvars p.body);
+  places = looped_places p.body _ w.places;
+  limit = omega (arith, w.limit, looped_letvars p.body);
 }
 
 -- A choice of classes that types the program with loops types the program.
-pub unwatched_typable : (L : Lattice) (p : Program) (s : List ℕ) → IsLattice L → IsWellFormed L p →
-    IsTypable L Strict (watched_program p) s → IsTypable L Strict p s
-unwatched_typable L p s laws formed typed =
+pub unlooped_typable : (L : Lattice) (p : Program) (s : List ℕ) → IsLattice L → IsWellFormed L p →
+    IsTypable L Strict (looped_program p) s → IsTypable L Strict p s
+unlooped_typable L p s laws formed typed =
     let classes = class_of L (p.globals ++ s) in
-    let ordered = (steps_decide L Strict (watched_program p) s laws (watched_formed L p formed) typed.1).0 typed in
+    let ordered = (steps_decide L Strict (looped_program p) s laws (looped_formed L p formed) typed.1).0 typed in
     (steps_decide L Strict p s laws formed typed.1).1 (
       ordered.0,
       all_from_each (IsInOrder L classes) (steps_of Strict p)
-          (unwatched L classes p.names p.body [] [] _ _ refl
-          (each_from_all (IsInOrder L classes) (steps_of Strict (watched_program p)) ordered.1)),
+          (unlooped L classes p.names p.body [] [] _ _ refl
+          (each_from_all (IsInOrder L classes) (steps_of Strict (looped_program p)) ordered.1)),
     )

@@ -34,9 +34,9 @@ use Rattle.vsi_steady.specs.declared.error.SteadyError.TheVariants as steady
 use Rattle.vsi_steady.specs.Refusal.{Refuses}
 use Rattle.vsi_steady.specs.Source.{HasSteadyFlows, IsSteadilyAccepted, RefusesSteady, compiling, flowing, judging}
 use Rattle.vsi_steady.specs.Steady.{IsSteady, GoesThrough}
-use Rattle.vsi_steady.specs.Watched.{watched_program, IsWatched}
+use Rattle.vsi_steady.specs.Looped.{looped_program, IsLooped}
 use Rattle.vsi_steady.specs.declared.unsteady.UnsteadyError.TheVariants as unsteady
-use Rattle.vsi_steady.proofs.Guards.{unwatched_typable, watched_formed}
+use Rattle.vsi_steady.proofs.Guards.{unlooped_typable, looped_formed}
 
 -- The program made of these parts.
 parts : List Global → List Entry → Command → Program
@@ -49,24 +49,24 @@ parts gs ls c =
     }
 
 -- The resolved program with loops gives the program with loops.
-pub program_watched : (p r : Resolved) → IsWatched p r → program r ≡ watched_program (program p)
+pub program_looped : (p r : Resolved) → IsLooped p r → program r ≡ looped_program (program p)
 unfolding parts
-program_watched p r w =
+program_looped p r w =
     ap (λ gs. parts gs r.letvars (sequence r.body)) w.globals
     ∙ ap (λ ls. parts p.globals ls (sequence r.body)) w.letvars
     ∙ ap (parts p.globals p.letvars) w.body
 
 -- The classes of its globals are classes of the lattice.
-pub watched_globals : (L : Lattice) (p r : Resolved) → IsWatched p r → HasClassesBelow L.count p →
+pub looped_globals : (L : Lattice) (p r : Resolved) → IsLooped p r → HasClassesBelow L.count p →
     All (IsClass L) (program r).globals
-watched_globals L p r w below =
-    subst (λ q. All (IsClass L) q.globals) (sym (program_watched p r w)) (global_classes L p below)
+looped_globals L p r w below =
+    subst (λ q. All (IsClass L) q.globals) (sym (program_looped p r w)) (global_classes L p below)
 
 -- The declared classes of its letvars are classes of the lattice.
-pub watched_declared : (L : Lattice) (p r : Resolved) → IsWatched p r → HasClassesBelow L.count p →
+pub looped_declared : (L : Lattice) (p r : Resolved) → IsLooped p r → HasClassesBelow L.count p →
     AreClasses L (program r).declared
-watched_declared L p r w below =
-    subst (λ q. AreClasses L q.declared) (sym (program_watched p r w)) (declared_classes L p below)
+looped_declared L p r w below =
+    subst (λ q. AreClasses L q.declared) (sym (program_looped p r w)) (declared_classes L p below)
 
 -- A refusal of a text for anything but a flow is passed on unchanged.
 pub text_refused : (known : Known) (L : Lattice) (text : List ℕ) (e : CompileError) → RefusesProgram known text e →
@@ -110,10 +110,10 @@ image_refused known L text im flows compiled (steady.Flow place) h =
     record { flows = flows; image = im; compiled = compiled; told = h }
 
 module _ (known : Known) (text : List ℕ) (p : Resolved) (stands : Stands known text p) (r : Resolved)
-    (w : IsWatched p r) where
+    (w : IsLooped p r) where
   -- The program with loops is that of the tree.
-  watched_tree : program r ≡ watched_program (program_of known stands.tree (map command p.body))
-  watched_tree = program_watched p r w ∙ ap watched_program (program_is known stands.tree p stands.resolves)
+  looped_tree : program r ≡ looped_program (program_of known stands.tree (map command p.body))
+  looped_tree = program_looped p r w ∙ ap looped_program (program_is known stands.tree p stands.resolves)
 
   -- A text has steady flows if its program with loops is typable.
   pub steady_flows : (L : Lattice) (s : List ℕ) → IsTypable L Strict (program r) s → HasSteadyFlows known L text
@@ -124,7 +124,7 @@ module _ (known : Known) (text : List ℕ) (p : Resolved) (stands : Stands known
         reads = stands.reads;
         resolution = stands.resolves.resolution;
         choice = s;
-        typable = subst (λ q. IsTypable L Strict q s) watched_tree typed;
+        typable = subst (λ q. IsTypable L Strict q s) looped_tree typed;
       }
 
   -- Such a text is accepted under the strict profile.
@@ -132,8 +132,8 @@ module _ (known : Known) (text : List ℕ) (p : Resolved) (stands : Stands known
       IsTypable L Strict (program r) s → IsAccepted known L Strict text
   steady_accepted L s laws kept below typed =
       accepted known text p stands L Strict s
-      (unwatched_typable L (program p) s laws (typing_ready L p kept below)
-      (subst (λ q. IsTypable L Strict q s) (program_watched p r w) typed))
+      (unlooped_typable L (program p) s laws (typing_ready L p kept below)
+      (subst (λ q. IsTypable L Strict q s) (program_looped p r w) typed))
 
   -- A refusal of the inference is a refusal of the text.
   pub flow_refused : (L : Lattice) (e : InferError) → inference.Refuses L Strict (program r) e →
@@ -145,7 +145,7 @@ module _ (known : Known) (text : List ℕ) (p : Resolved) (stands : Stands known
         commands = map command p.body;
         reads = stands.reads;
         resolution = stands.resolves.resolution;
-        shortest = subst (λ q. IsShortest L Strict q walk.steps.items) watched_tree h;
+        shortest = subst (λ q. IsShortest L Strict q walk.steps.items) looped_tree h;
       }
 
   -- The program with loops of a text with steady flows is typable.
@@ -155,18 +155,18 @@ module _ (known : Known) (text : List ℕ) (p : Resolved) (stands : Stands known
       let commands = does_all_one _ _ h.commands
       (subst (λ t. IsResolution known t h.commands) (sym tree) h.resolution).body
       ∙ sym (does_all_one _ _ (map command p.body) stands.resolves.resolution.body) in
-      let here : IsTypable L Strict (watched_program (program_of known stands.tree (map command p.body))) h.choice =
-      subst (λ t. IsTypable L Strict (watched_program (program_of known t (map command p.body))) h.choice) (sym tree)
-      (subst (λ cs. IsTypable L Strict (watched_program (program_of known h.tree cs)) h.choice) commands h.typable) in
-      subst (λ q. IsTypable L Strict q h.choice) (sym watched_tree) here
+      let here : IsTypable L Strict (looped_program (program_of known stands.tree (map command p.body))) h.choice =
+      subst (λ t. IsTypable L Strict (looped_program (program_of known t (map command p.body))) h.choice) (sym tree)
+      (subst (λ cs. IsTypable L Strict (looped_program (program_of known h.tree cs)) h.choice) commands h.typable) in
+      subst (λ q. IsTypable L Strict q h.choice) (sym looped_tree) here
 
   -- Therefore the inference refuses it only for lack of memory.
   pub flow_memory : (L : Lattice) → IsLattice L → IsResolved p → HasClassesBelow L.count p → (e : InferError) →
       inference.Refuses L Strict (program r) e → HasSteadyFlows known L text → flowing e ≡ unsteady.Memory
   flow_memory L laws kept below infer.Memory h s = refl
   flow_memory L laws kept below (infer.Refused walk) h s =
-      let formed = subst (λ q. IsWellFormed L q) (sym (program_watched p r w))
-      (watched_formed L (program p) (typing_ready L p kept below)) in
+      let formed = subst (λ q. IsWellFormed L q) (sym (program_looped p r w))
+      (looped_formed L (program p) (typing_ready L p kept below)) in
       absurd (bad_walks_refute L Strict (program r) walk.steps.items s.choice laws formed h.0 (steady_typed L s))
 
 -- Images with the same fields are steady alike.
@@ -193,9 +193,9 @@ image_steady known L text im code h =
     ∙ sym (code is.tree is.commands is.reads is.resolution)) h.steady
 
 -- Two resolved programs with loops of one text are equal for typing.
-pub one_watched : (known : Known) (text : List ℕ) (p q r s : Resolved) → Stands known text p → Stands known text q →
-    IsWatched p r → IsWatched q s → program s ≡ program r
-one_watched known text p q r s stands others w v =
-    program_watched q s v
-    ∙ ap watched_program (one_program known text p q stands others)
-    ∙ sym (program_watched p r w)
+pub one_looped : (known : Known) (text : List ℕ) (p q r s : Resolved) → Stands known text p → Stands known text q →
+    IsLooped p r → IsLooped q s → program s ≡ program r
+one_looped known text p q r s stands others w v =
+    program_looped q s v
+    ∙ ap looped_program (one_program known text p q stands others)
+    ∙ sym (program_looped p r w)

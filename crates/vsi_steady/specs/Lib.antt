@@ -3,5 +3,5 @@ pub mod Least
 pub mod Laws
 pub mod Refusal
 pub mod Telling
-pub mod Watched
+pub mod Looped
 pub mod Source

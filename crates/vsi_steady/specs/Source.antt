@@ -30,7 +30,7 @@ use Rattle.vsi_steady.specs.declared.unsteady.UnsteadyError.{UnsteadyError}
 use Rattle.vsi_steady.specs.declared.unsteady.UnsteadyError.TheVariants as unsteady
 use Rattle.vsi_steady.specs.Refusal.{Refuses}
 use Rattle.vsi_steady.specs.Steady.{IsSteady}
-use Rattle.vsi_steady.specs.Watched.{watched_program, IsWatched}
+use Rattle.vsi_steady.specs.Looped.{looped_program, IsLooped}
 
 -- A tree reads the text, these commands are its resolution, and some choice of classes types the program strictly with
 -- a loop in place of each choice.
@@ -40,7 +40,7 @@ pub record HasSteadyFlows (known : Known) (L : Lattice) (text : List ℕ) : Type
   pub reads : Reads text tree
   pub resolution : IsResolution known tree commands
   pub choice : List ℕ
-  pub typable : IsTypable L Strict (watched_program (program_of known tree commands)) choice
+  pub typable : IsTypable L Strict (looped_program (program_of known tree commands)) choice
 
 -- The flows of the text are steady, and so is its image.
 pub record IsSteadilyAccepted (known : Known) (L : Lattice) (text : List ℕ) : Type 0 where
@@ -51,12 +51,12 @@ pub record IsSteadilyAccepted (known : Known) (L : Lattice) (text : List ℕ) : 
 
 -- The text has a tree and its resolution, and with a loop in place of each choice, these steps are a strictly bad walk
 -- and no such walk has fewer.
-pub record HasShortestWatchedWalk (known : Known) (L : Lattice) (text : List ℕ) (steps : List Step) : Type 0 where
+pub record HasShortestLoopedWalk (known : Known) (L : Lattice) (text : List ℕ) (steps : List Step) : Type 0 where
   pub tree : Whole
   pub commands : List Command
   pub reads : Reads text tree
   pub resolution : IsResolution known tree commands
-  pub shortest : IsShortest L Strict (watched_program (program_of known tree commands)) steps
+  pub shortest : IsShortest L Strict (looped_program (program_of known tree commands)) steps
 
 -- The flows of the text are steady, but its image is refused.
 pub record HasRefusedImage (known : Known) (L : Lattice) (text : List ℕ) (e : SteadyError) : Type 0 where
@@ -88,29 +88,29 @@ RefusesSteady known L text (unsteady.Compile (compiler.Lex e)) = RefusesProgram 
 RefusesSteady known L text (unsteady.Compile (compiler.Parse e)) = RefusesProgram known text (compiler.Parse e)
 RefusesSteady known L text (unsteady.Compile (compiler.Scope e)) = RefusesProgram known text (compiler.Scope e)
 RefusesSteady known L text (unsteady.Compile (compiler.Flow walk)) =
-    HasShortestWatchedWalk known L text walk.steps.items
+    HasShortestLoopedWalk known L text walk.steps.items
 RefusesSteady known L text (unsteady.Image steady.Memory) = ⊥
 RefusesSteady known L text (unsteady.Image (steady.UnknownClass i)) =
     HasRefusedImage known L text (steady.UnknownClass i)
 RefusesSteady known L text (unsteady.Image (steady.Flow place)) = HasRefusedImage known L text (steady.Flow place)
 
 -- The steps are a strictly bad walk with a loop in place of each choice, and this is their explanation.
-pub record IsWatchedExplained (l : declared.Lattice) (text : List ℕ) (steps : List Step) (out : List ℕ) : Type 0 where
+pub record IsLoopedExplained (l : declared.Lattice) (text : List ℕ) (steps : List Step) (out : List ℕ) : Type 0 where
   pub resolved : Resolved
   pub stands : Stands (class_named l) text resolved
-  pub watched : Resolved
-  pub loops : IsWatched resolved watched
-  pub bad : IsBad (order l) Strict (program watched) steps
-  pub lines : out ≡ explanation l text watched steps
+  pub looped : Resolved
+  pub loops : IsLooped resolved looped
+  pub bad : IsBad (order l) Strict (program looped) steps
+  pub lines : out ≡ explanation l text looped steps
 
 -- The steps are no such walk of the text, and there is no explanation.
-pub record IsWatchedUnexplained (l : declared.Lattice) (text : List ℕ) (steps : List Step) (out : List ℕ)
+pub record IsLoopedUnexplained (l : declared.Lattice) (text : List ℕ) (steps : List Step) (out : List ℕ)
     : Type 0 where
-  pub harmless : (r watched : Resolved) → Stands (class_named l) text r → IsWatched r watched →
-      ¬ (IsBad (order l) Strict (program watched) steps)
+  pub harmless : (r looped : Resolved) → Stands (class_named l) text r → IsLooped r looped →
+      ¬ (IsBad (order l) Strict (program looped) steps)
   pub nothing : out ≡ []
 
 -- A bad walk is explained, and no other walk is.
-abbrev pub ExplainsWatchedWalk : declared.Lattice → List ℕ → List Step → List ℕ → Type 0
-ExplainsWatchedWalk l text steps out =
-    IsWatchedExplained l text steps out ⊎ IsWatchedUnexplained l text steps out
+abbrev pub ExplainsLoopedWalk : declared.Lattice → List ℕ → List Step → List ℕ → Type 0
+ExplainsLoopedWalk l text steps out =
+    IsLoopedExplained l text steps out ⊎ IsLoopedUnexplained l text steps out

@@ -21,12 +21,12 @@ mod classes;
 mod error;
 mod held;
 pub mod laws;
+mod looped;
 mod source;
 mod steady;
 mod step;
 mod text;
 mod unsteady;
-mod watched;
 
 pub use chain::chain_source;
 pub use error::SteadyError;

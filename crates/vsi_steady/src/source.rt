@@ -9,14 +9,14 @@ ghost use Rattle.vsi_steady.specs.Source.{
   HasSteadyFlows,
   IsSteadilyAccepted,
   RefusesSteady,
-  ExplainsWatchedWalk,
+  ExplainsLoopedWalk,
 };
 ghost use Rattle.vsi_steady.specs.Steady.{IsSteady};
 ghost use Rattle.vsi_steady.specs.declared.unsteady.UnsteadyError.TheVariants.{Memory};
 
+use crate::looped::looped_program;
 use crate::steady::steady_in;
 use crate::unsteady::UnsteadyError;
-use crate::watched::watched_program;
 use std::alloc::{AllocError, Global};
 use vsi_compiler::{CompileError, Source, image_of, read_source};
 use vsi_image::Verified;
@@ -51,8 +51,8 @@ pub fn steady_image_of(alloc: Global, source: &Source<'_>) -> Result<Verified, U
 {
     let lattice = source.lattice();
     let resolved = source.resolved();
-    let watched = watched_program(alloc, resolved)?;
-    let _classes = infer_in(alloc, Profile::Strict, lattice, &watched)?;
+    let looped = looped_program(alloc, resolved)?;
+    let _classes = infer_in(alloc, Profile::Strict, lattice, &looped)?;
     let verified = image_of(alloc, source)?;
     steady_in(alloc, lattice, &verified)?;
     Ok(verified)
@@ -93,15 +93,15 @@ pub fn steady_explanation_of(
     source: &Source<'_>,
     walk: &Walk,
 ) -> Result<Vec<u8>, AllocError>
-    ensures { IfOk result (λ out. ExplainsWatchedWalk
+    ensures { IfOk result (λ out. ExplainsLoopedWalk
         source.now.lattice source.now.text walk.now.steps.items out.items) }
 {
     let lattice = source.lattice();
     let resolved = source.resolved();
-    let watched = watched_program(alloc, resolved)?;
-    let is_bad = check_walk_once(alloc, Profile::Strict, lattice, &watched, walk)?;
+    let looped = looped_program(alloc, resolved)?;
+    let is_bad = check_walk_once(alloc, Profile::Strict, lattice, &looped, walk)?;
     if is_bad {
-        explain(alloc, source.text(), lattice, &watched, walk)
+        explain(alloc, source.text(), lattice, &looped, walk)
     } else {
         Ok(Vec::new(alloc))
     }
@@ -116,7 +116,7 @@ pub fn steady_explanation(
     walk: &Walk,
 ) -> Result<Vec<u8>, AllocError>
     ensures { IfOk result
-        (λ out. ExplainsWatchedWalk lattice.now text.now walk.now.steps.items out.items) }
+        (λ out. ExplainsLoopedWalk lattice.now text.now walk.now.steps.items out.items) }
 {
     match read_source(alloc, lattice, text) {
         Ok(source) => steady_explanation_of(alloc, &source, walk),

@@ -131,7 +131,7 @@ fn have_same_ends(
 }
 
 /// A row of two sides.
-fn push_row(text: &mut Vec<u8>, left: &[u8], right: &[u8]) -> Result<(), AllocError>
+fn put_row(text: &mut Vec<u8>, left: &[u8], right: &[u8]) -> Result<(), AllocError>
     ensures { OnOk result (text.new.items ≡ text.old.items ++ spec.row left.now right.now) }
 {
     if left == right {
@@ -147,7 +147,7 @@ fn push_row(text: &mut Vec<u8>, left: &[u8], right: &[u8]) -> Result<(), AllocEr
 }
 
 /// The row of a global, if the class sees it.
-fn push_global(
+fn put_global(
     alloc: Global,
     text: &mut Vec<u8>,
     lattice: &Lattice,
@@ -163,13 +163,13 @@ fn push_global(
     if sees(lattice, class, variable.1.as_slice()) {
         let left = word_cell(alloc, variable.0.as_slice(), words.0)?;
         let right = word_cell(alloc, variable.0.as_slice(), words.1)?;
-        push_row(text, &left, &right)?;
+        put_row(text, &left, &right)?;
     }
     Ok(())
 }
 
 /// A row for each global that the class sees.
-fn push_rows(
+fn put_rows(
     alloc: Global,
     text: &mut Vec<u8>,
     lattice: &Lattice,
@@ -186,13 +186,13 @@ fn push_rows(
         first.now second.now) }
 {
     for (i, variable) in variables.iter().enumerate() {
-        push_global(alloc, text, lattice, class, variable, (first[i], second[i]))?;
+        put_global(alloc, text, lattice, class, variable, (first[i], second[i]))?;
     }
     Ok(())
 }
 
 /// The rows of the stores in which both runs halt, as the class sees them.
-fn push_behind(
+fn put_behind(
     alloc: Global,
     text: &mut Vec<u8>,
     lattice: &Lattice,
@@ -211,7 +211,7 @@ fn push_behind(
 {
     match (first, second) {
         (RunEnding::Halted { words, .. }, RunEnding::Halted { words: others, .. }) => {
-            push_rows(
+            put_rows(
                 alloc,
                 text,
                 lattice,
@@ -237,7 +237,7 @@ fn end_cell(alloc: Global, ending: &RunEnding) -> Result<Vec<u8>, AllocError>
 }
 
 /// The row with the ends of two runs.
-fn push_ends(
+fn put_ends(
     alloc: Global,
     text: &mut Vec<u8>,
     first: &RunEnding,
@@ -248,7 +248,7 @@ fn push_ends(
 {
     let left = end_cell(alloc, first)?;
     let right = end_cell(alloc, second)?;
-    push_row(text, &left, &right)
+    put_row(text, &left, &right)
 }
 
 /// The text of two runs.
@@ -277,10 +277,10 @@ fn text_of(
     let variables = verified.image().globals.as_slice();
     let mut text = Vec::from_slice(alloc, name)?;
     text.extend_from_slice(b" sees before\n")?;
-    push_rows(alloc, &mut text, lattice, class, variables, first, second)?;
+    put_rows(alloc, &mut text, lattice, class, variables, first, second)?;
     text.extend_from_slice(name)?;
     text.extend_from_slice(b" sees after\n")?;
-    push_behind(alloc, &mut text, lattice, class, variables, one, other)?;
-    push_ends(alloc, &mut text, one, other)?;
+    put_behind(alloc, &mut text, lattice, class, variables, one, other)?;
+    put_ends(alloc, &mut text, one, other)?;
     Ok(text)
 }

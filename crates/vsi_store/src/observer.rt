@@ -7,7 +7,7 @@ ghost use Rattle.vsi_lattice.specs.Order.{IsClass};
 ghost use Rattle.vsi_store.specs.View.{Views, first_unknown, is_seen, line_seen, view_text_of};
 ghost use Rattle.vsi_store.specs.declared.views.ViewError.TheVariants.{Memory};
 
-use crate::text::push_line;
+use crate::text::put_line;
 use crate::views::{View, ViewError};
 use std::alloc::{AllocError, Global};
 use vsi_image::{Image, Verified};
@@ -85,7 +85,7 @@ pub(crate) fn sees(lattice: &Lattice, class: Class, name: &[u8]) -> bool
 }
 
 /// Adds a line if the class sees the global.
-fn push_seen(
+fn put_seen(
     text: &mut Vec<u8>,
     lattice: &Lattice,
     class: Class,
@@ -98,7 +98,7 @@ fn push_seen(
         word) }
 {
     if sees(lattice, class, variable.1.as_slice()) {
-        push_line(text, variable.0.as_slice(), word)?;
+        put_line(text, variable.0.as_slice(), word)?;
     }
     Ok(())
 }
@@ -120,7 +120,7 @@ fn seen_text(
     let variables = image.globals.as_slice();
     let mut text = Vec::new(alloc);
     for (i, variable) in variables.iter().enumerate() {
-        push_seen(&mut text, lattice, class, variable, words[i])?;
+        put_seen(&mut text, lattice, class, variable, words[i])?;
     }
     Ok(text)
 }

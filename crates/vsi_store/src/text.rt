@@ -17,13 +17,13 @@ pub fn store_text(alloc: Global, image: &Image, words: &[i64]) -> Result<Vec<u8>
     let variables = image.globals.as_slice();
     let mut text = Vec::new(alloc);
     for (i, variable) in variables.iter().enumerate() {
-        push_line(&mut text, variable.0.as_slice(), words[i])?;
+        put_line(&mut text, variable.0.as_slice(), words[i])?;
     }
     Ok(text)
 }
 
 /// Adds one line.
-pub(crate) fn push_line(text: &mut Vec<u8>, name: &[u8], word: i64) -> Result<(), AllocError>
+pub(crate) fn put_line(text: &mut Vec<u8>, name: &[u8], word: i64) -> Result<(), AllocError>
     ensures { OnOk result (text.new.items ≡ text.old.items ++ line_of name.now word) }
 {
     text.extend_from_slice(name)?;

@@ -8,7 +8,7 @@ use Rattle.vsi_scope.specs.declared.resolution.ScopeError.{ScopeError}
 use Rattle.vsi_scope.specs.declared.resolution.ScopeError.TheVariants as scope
 use Rattle.vsi_compiler.specs.declared.error.CompileError.{CompileError}
 use Rattle.vsi_compiler.specs.declared.error.CompileError.TheVariants.{Lex, Parse, Scope, Flow, Memory}
-use Rattle.vsi_caret.specs.declared.manner.Manner.{Manner}
+use Rattle.vsi_caret.specs.declared.colour_mode.ColourMode.{ColourMode}
 use Rattle.vsi_caret.specs.declared.window.Window.{Window}
 use Rattle.vsi_caret.specs.Window.{IsWindow}
 use Rattle.vsi_caret.specs.Place.{placed}
@@ -46,6 +46,6 @@ start_of (Flow walk) = None
 start_of Memory = None
 
 -- A text begins with a place of a file: its path, line and column, that line, and carets below it.
-abbrev pub BeginsAt : Manner → List ℕ → List ℕ → ℕ → List ℕ → Type 0
-BeginsAt manner path bytes start text =
-    (w : Window) × (IsWindow bytes start w × ((rest : List ℕ) × (text ≡ placed manner path bytes w ++ rest)))
+abbrev pub BeginsAt : ColourMode → List ℕ → List ℕ → ℕ → List ℕ → Type 0
+BeginsAt mode path bytes start text =
+    (w : Window) × (IsWindow bytes start w × ((rest : List ℕ) × (text ≡ placed mode path bytes w ++ rest)))

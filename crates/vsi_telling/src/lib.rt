@@ -5,7 +5,7 @@
 #![tactic(auto)]
 
 ghost use Rattle.std.specs.Prelude.{◌≡◌, IfOk, IfSome, option_map, true};
-ghost use Rattle.vsi_caret.specs.declared.manner.Manner.TheVariants.{Plain};
+ghost use Rattle.vsi_caret.specs.declared.colour_mode.ColourMode.TheVariants.{Plain};
 ghost use Rattle.vsi_caret.specs.Safe.{all_plain};
 ghost use Rattle.vsi_telling.specs.Places.{BeginsAt, start_of};
 
@@ -29,7 +29,7 @@ mod wrapping;
 
 use names::{class_names, put_names_between};
 use std::alloc::{AllocError, Global};
-use vsi_caret::{Manner, put_place_in, put_safe, put_text};
+use vsi_caret::{ColourMode, put_place_in, put_safe, put_text};
 use vsi_compiler::CompileError;
 use vsi_diagnostics::Fault;
 use vsi_hints::put_further;
@@ -74,17 +74,17 @@ pub(crate) struct Telling {
 /// The place of a file as text.
 fn begun_at(
     alloc: Global,
-    manner: Manner,
+    mode: ColourMode,
     path: &[u8],
     bytes: &[u8],
     span: Span,
 ) -> Result<Vec<u8>, AllocError>
-    ensures plain { manner ≡ Plain → IfOk result (λ text. all_plain text.items ≡ true) }
+    ensures plain { mode ≡ Plain → IfOk result (λ text. all_plain text.items ≡ true) }
     ensures place { IfOk result
-        (λ text. BeginsAt manner path.now bytes.now span.start text.items) }
+        (λ text. BeginsAt mode path.now bytes.now span.start text.items) }
 {
     let mut text = Vec::new(alloc);
-    put_place_in(&mut text, manner, path, bytes, span.start, span.stop)?;
+    put_place_in(&mut text, mode, path, bytes, span.start, span.stop)?;
     Ok(text)
 }
 
@@ -101,17 +101,17 @@ fn begun(alloc: Global, path: &[u8]) -> Result<Vec<u8>, AllocError>
 /// A place of a file and lines as text.
 fn shown_at(
     alloc: Global,
-    manner: Manner,
+    mode: ColourMode,
     path: &[u8],
     bytes: &[u8],
     span: Span,
     lines: &[u8],
 ) -> Result<Vec<u8>, AllocError>
-    ensures plain { manner ≡ Plain → IfOk result (λ text. all_plain text.items ≡ true) }
+    ensures plain { mode ≡ Plain → IfOk result (λ text. all_plain text.items ≡ true) }
     ensures place { IfOk result
-        (λ text. BeginsAt manner path.now bytes.now span.start text.items) }
+        (λ text. BeginsAt mode path.now bytes.now span.start text.items) }
 {
-    let mut text = begun_at(alloc, manner, path, bytes, span)?;
+    let mut text = begun_at(alloc, mode, path, bytes, span)?;
     put_text(&mut text, lines)?;
     Ok(text)
 }
@@ -120,19 +120,19 @@ fn shown_at(
 /// path is shown.
 pub fn shown(
     alloc: Global,
-    manner: Manner,
+    mode: ColourMode,
     path: &[u8],
     bytes: &[u8],
     place: Option<Span>,
     words: &[u8],
 ) -> Result<Vec<u8>, AllocError>
-    ensures plain { manner ≡ Plain → IfOk result (λ text. all_plain text.items ≡ true) }
+    ensures plain { mode ≡ Plain → IfOk result (λ text. all_plain text.items ≡ true) }
     ensures place { IfSome place (λ span.
-        IfOk result (λ text. BeginsAt manner path.now bytes.now span.start text.items)) }
+        IfOk result (λ text. BeginsAt mode path.now bytes.now span.start text.items)) }
 {
     let lines = wrapping::wrapped(alloc, words)?;
     match place {
-        Some(span) => shown_at(alloc, manner, path, bytes, span, &lines),
+        Some(span) => shown_at(alloc, mode, path, bytes, span, &lines),
         None => {
             let mut text = begun(alloc, path)?;
             put_text(&mut text, &lines)?;
@@ -219,20 +219,20 @@ fn of_source(
 /// The explanation of a refused source text, as `explanation` writes it.
 pub fn source_explanation(
     alloc: Global,
-    manner: Manner,
+    mode: ColourMode,
     path: &[u8],
     lattice: &Lattice,
     source: &[u8],
     error: &CompileError,
 ) -> Result<Vec<u8>, AllocError>
     // Without colours no byte drives a terminal.
-    ensures plain { manner ≡ Plain → IfOk result (λ text. all_plain text.items ≡ true) }
+    ensures plain { mode ≡ Plain → IfOk result (λ text. all_plain text.items ≡ true) }
     // It begins with the place at which the text is refused.
     ensures place { IfSome (start_of error.now) (λ start.
-        IfOk result (λ text. BeginsAt manner path.now source.now start text.items)) }
+        IfOk result (λ text. BeginsAt mode path.now source.now start text.items)) }
 {
     let words = of_source(alloc, lattice, source, error)?;
-    shown(alloc, manner, path, source, place_of(error), &words)
+    shown(alloc, mode, path, source, place_of(error), &words)
 }
 
 /// Adds the explanation of a refused lattice file, image or other file, and answers where it is
@@ -277,10 +277,10 @@ fn of_store(
 /// what to do. For `CompileError::Flow` it says only that a flow breaks the policy.
 pub fn explanation<'a>(
     alloc: Global,
-    manner: Manner,
+    mode: ColourMode,
     refused: &Refused<'a>,
 ) -> Result<Vec<u8>, AllocError>
-    ensures plain { manner ≡ Plain → IfOk result (λ text. all_plain text.items ≡ true) }
+    ensures plain { mode ≡ Plain → IfOk result (λ text. all_plain text.items ≡ true) }
 {
     match refused {
         Refused::Source {
@@ -288,7 +288,7 @@ pub fn explanation<'a>(
             bytes,
             lattice,
             error,
-        } => { source_explanation(alloc, manner, path, lattice, bytes, error) }
+        } => { source_explanation(alloc, mode, path, lattice, bytes, error) }
         Refused::Store {
             path,
             bytes,
@@ -296,11 +296,11 @@ pub fn explanation<'a>(
             error,
         } => {
             let telling = of_store(alloc, bytes, image, error)?;
-            shown(alloc, manner, path, bytes, telling.place, &telling.words)
+            shown(alloc, mode, path, bytes, telling.place, &telling.words)
         }
         Refused::File { path, bytes, fault } => {
             let telling = of_file(alloc, path, bytes, fault)?;
-            shown(alloc, manner, path, bytes, telling.place, &telling.words)
+            shown(alloc, mode, path, bytes, telling.place, &telling.words)
         }
     }
 }

@@ -77,23 +77,23 @@ impl<'t> Order<'t> {
         class: usize,
         into: &[Option<usize>],
     ) -> Result<Vec<usize>, AllocError> {
-        let mut ring = Vec::new(alloc);
+        let mut cycle = Vec::new(alloc);
         let mut at = class;
         for _ in 0..self.names.len() {
             let Some(number) = into.get(at).copied().flatten() else {
                 break;
             };
-            ring.push(number)?;
+            cycle.push(number)?;
             at = self.pair(number).0;
             if at == class {
                 break;
             }
         }
-        Ok(ring)
+        Ok(cycle)
     }
 
     /// The numbers of pairs that lead from a class back to it, the last one first.
-    fn ring(&self, alloc: Global, class: usize) -> Result<Vec<usize>, AllocError> {
+    fn cycle(&self, alloc: Global, class: usize) -> Result<Vec<usize>, AllocError> {
         let into = self.pairs_into(alloc, class)?;
         self.ring_by(alloc, class, &into)
     }
@@ -128,10 +128,10 @@ fn put_link(
     )
 }
 
-/// The pair of a ring that goes against the order of the classes, where one alone does.
-fn wrong_in(order: &Order, ring: &[usize]) -> Option<usize> {
+/// The pair of a cycle that goes against the order of the classes, where one alone does.
+fn wrong_in(order: &Order, cycle: &[usize]) -> Option<usize> {
     let mut wrong = None;
-    for number in ring {
+    for number in cycle {
         let (low, high) = order.pair(*number);
         if high <= low {
             if let Some(_) = wrong {
@@ -143,7 +143,7 @@ fn wrong_in(order: &Order, ring: &[usize]) -> Option<usize> {
     wrong
 }
 
-/// Adds which pair of a ring to take out, and returns its place.
+/// Adds which pair of a cycle to take out, and returns its place.
 fn put_wrong(
     words: &mut Vec<u8>,
     bytes: &[u8],
@@ -175,18 +175,18 @@ fn put_links(
     words: &mut Vec<u8>,
     bytes: &[u8],
     order: &Order,
-    ring: &[usize],
+    cycle: &[usize],
 ) -> Result<Option<Span>, AllocError> {
-    for done in 0..ring.len() {
+    for done in 0..cycle.len() {
         put_link(
             words,
             order,
-            order.pair(ring[ring.len() - 1 - done]),
+            order.pair(cycle[cycle.len() - 1 - done]),
             done == 0,
         )?;
     }
     words.extend_from_slice(b": that is a cycle.\nHint: ")?;
-    let place = put_wrong(words, bytes, order, wrong_in(order, ring))?;
+    let place = put_wrong(words, bytes, order, wrong_in(order, cycle))?;
     words.extend_from_slice(b" Removing another pair changes who may see what.\n")?;
     Ok(place)
 }
@@ -199,6 +199,6 @@ pub(crate) fn put_ring(
     order: &Order,
     class: usize,
 ) -> Result<Option<Span>, AllocError> {
-    let ring = order.ring(alloc, class)?;
-    put_links(words, bytes, order, &ring)
+    let cycle = order.cycle(alloc, class)?;
+    put_links(words, bytes, order, &cycle)
 }

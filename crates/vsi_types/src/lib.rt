@@ -7,7 +7,7 @@
 //! system are in `laws`.
 //!
 //! Another crate can walk over the same flow steps with a [`Walker`]: its scope begins as
-//! `first_variables`, `push_reads` adds the reads of a guard, and `loops` says whether the commands
+//! `first_variables`, `put_reads` adds the reads of a guard, and `loops` says whether the commands
 //! under a guard contain a loop.
 //!
 //! To be believed: `specs/Security`, `specs/Steps`, `specs/Typing`, `specs/Walks`, and `TellsWhy`
@@ -26,4 +26,4 @@ mod walker;
 pub use checker::{check, check_in};
 pub use error::CheckError;
 pub use rules::{FlowFault, Guard, LOOP, Profile, Read, Rule, Step};
-pub use walker::{Walker, first_variables, loops, push_reads};
+pub use walker::{Walker, first_variables, loops, put_reads};

@@ -13,7 +13,7 @@ ghost use Rattle.vsi_scope.specs.Limits.{max_declarations};
 use crate::error::CheckError;
 use crate::flows::{check_choice, check_guards, check_loop, check_reads};
 use crate::rules::{Profile, Rule};
-use crate::walker::{Walker, push_reads};
+use crate::walker::{Walker, put_reads};
 use vsi_lattice::{Class, Classes};
 use vsi_scope::{Cmd, Ex, Var};
 use vsi_syntax::Span;
@@ -75,7 +75,7 @@ fn check_if<C: Classes>(
         guard,
     )?;
     let outside = walk.guards.len();
-    push_reads(&mut walk.guards, &walk.scope, Rule::If, guard)?;
+    put_reads(&mut walk.guards, &walk.scope, Rule::If, guard)?;
     check_commands(lattice, profile, table, walk, then_branch)?;
     check_commands(lattice, profile, table, walk, else_branch)?;
     walk.guards.truncate(outside);
@@ -103,7 +103,7 @@ fn check_while<C: Classes>(
 {
     check_loop(lattice, profile, table, &walk.scope, guard)?;
     let outside = walk.guards.len();
-    push_reads(&mut walk.guards, &walk.scope, Rule::While, guard)?;
+    put_reads(&mut walk.guards, &walk.scope, Rule::While, guard)?;
     check_commands(lattice, profile, table, walk, body)?;
     walk.guards.truncate(outside);
     Ok(())

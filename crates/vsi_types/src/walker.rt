@@ -35,7 +35,7 @@ pub fn first_variables(alloc: Heap, count: u16) -> Result<Vec<Var>, AllocError>
 
 /// Appends the reads of an expression, in source order, to the guards under a rule; the scope gives
 /// the variable of each location. If memory runs out, the guards are unchanged.
-pub fn push_reads(
+pub fn put_reads(
     guards: &mut Vec<Guard>,
     scope: &[Var],
     rule: Rule,
@@ -60,8 +60,8 @@ pub fn push_reads(
         }
         Ex::Op(_, a, b) => {
             let before = guards.len();
-            push_reads(guards, scope, rule, a)?;
-            let added = push_reads(guards, scope, rule, b);
+            put_reads(guards, scope, rule, a)?;
+            let added = put_reads(guards, scope, rule, b);
             if added.is_err() {
                 guards.truncate(before);
             }

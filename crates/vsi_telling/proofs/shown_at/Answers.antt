@@ -8,5 +8,5 @@ returns-clause-place c =
     let path = c.args.path.now in
     let bytes = c.args.bytes.now in
     let start = c.args.span.start in
-    subst (λ t. BeginsAt c.args.manner path bytes start t) (sym c.in_ok-put_text.ensures.told)
-    (more_begins c.args.manner path bytes start _ _ c.in_ok-text.ensures.place)
+    subst (λ t. BeginsAt c.args.mode path bytes start t) (sym c.in_ok-put_text.ensures.told)
+    (more_begins c.args.mode path bytes start _ _ c.in_ok-text.ensures.place)

@@ -1,5 +1,5 @@
 use Rattle.std.specs.Prelude.{codes}
-use Rattle.vsi_blame.specs.Odds.{class_prose}
+use Rattle.vsi_blame.specs.Violation.{class_prose}
 use Rattle.vsi_blame.proofs.PartLemmas.{on_added, three_parts}
 use Rattle.vsi_blame.proofs.fixes.put_hidden.Goals as goal
 

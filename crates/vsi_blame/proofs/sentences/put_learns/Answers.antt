@@ -1,5 +1,5 @@
 use Rattle.std.specs.Prelude.{◌++◌, codes}
-use Rattle.vsi_blame.specs.Odds.{variable_prose}
+use Rattle.vsi_blame.specs.Violation.{variable_prose}
 use Rattle.vsi_blame.proofs.PartLemmas.{on_added, two_parts, four_parts}
 use Rattle.vsi_blame.proofs.sentences.put_learns.Goals as goal
 

@@ -9,7 +9,7 @@ returns c =
     on_added c.extend_from_slice.result c.extend_from_slice.new.self.items c.put_fixes.new.text.items (codes "\n")
     (paragraph_more c.args.lattice.now c.args.page.now.path.now c.args.page.now.source.now c.args.program.now
     c.args.walks.now c.args.entry.now c.as_slice-steps.result.now c.as_slice.result.now c.args.text.now.items
-    c.put_odds.new.text.items c.put_walk.new.text.items c.put_fixes.new.text.items c.extend_from_slice.new.self.items
-    c.as_slice-steps.ensures.value (c.as_slice.ensures.value ∙ c.in_ok-near.ensures) c.in_ok-put_odds.ensures
+    c.put_violation.new.text.items c.put_walk.new.text.items c.put_fixes.new.text.items c.extend_from_slice.new.self.items
+    c.as_slice-steps.ensures.value (c.as_slice.ensures.value ∙ c.in_ok-near.ensures) c.in_ok-put_violation.ensures
     c.in_ok-put_walk.ensures c.in_ok-put_fixes.ensures)
     c.extend_from_slice.ensures.items

@@ -8,9 +8,9 @@ pub returns : goal.returns
 returns c =
     let a = replicate {A = ℕ} c.args.margin 32 in
     let b = replicate {A = ℕ} c.args.before 32 in
-    let on = turned_on c.args.manner in
+    let on = turned_on c.args.mode in
     let d = replicate {A = ℕ} c.max.result 94 in
-    let off = turned_off c.args.manner in
+    let off = turned_off c.args.mode in
     c.in_ok-extend_from_slice-2.ensures.items
     ∙ ap (λ x. x ++ codes "\n") (c.in_ok-put_off.ensures
     ∙ ap (λ x. x ++ off) (c.in_ok-put_repeated-3.ensures

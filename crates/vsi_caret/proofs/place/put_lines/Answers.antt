@@ -13,16 +13,16 @@ returns c =
     let e = standing source w in
     let f = behind source w in
     let last =
-    same_carets c.args.manner c.in_ok-margin.margin (length a) c.in_ok-before.before (length d)
+    same_carets c.args.mode c.in_ok-margin.margin (length a) c.in_ok-before.before (length d)
     c.in_ok-standing.standing (length e) c.in_ok-margin.ensures.width c.in_ok-before.ensures.width
     c.in_ok-standing.ensures.width in
     c.in_ok-put_carets.ensures
     ∙ ap (λ x. c.extend_from_slice-2.new.self.items ++ x) last
-    ∙ ap (λ x. x ++ carets c.args.manner (length a) (length d) (length e)) (c.in_ok-extend_from_slice-2.ensures.items
+    ∙ ap (λ x. x ++ carets c.args.mode (length a) (length d) (length e)) (c.in_ok-extend_from_slice-2.ensures.items
     ∙ ap (λ x. x ++ codes "\n") (c.in_ok-put_behind.ensures
     ∙ ap (λ x. x ++ f) (c.in_ok-standing.ensures.items
     ∙ ap (λ x. x ++ e) (c.in_ok-before.ensures.items
     ∙ ap (λ x. x ++ d) (c.in_ok-extend_from_slice.ensures.items
     ∙ ap (λ x. x ++ codes " | ") c.in_ok-margin.ensures.items)))))
     ∙ seven_parts c.args.text.now.items a (codes " | ") d e f (codes "\n")
-    (carets c.args.manner (length a) (length d) (length e))
+    (carets c.args.mode (length a) (length d) (length e))

@@ -5,7 +5,7 @@ use Rattle.vsi_caret.proofs.PlaceLemmas.{place_plain}
 use Rattle.vsi_caret.proofs.place.put_place_in.Goals as goal
 
 pub returns-clause-plain : goal.returns-clause-plain
-returns-clause-plain c manner old =
+returns-clause-plain c mode old =
     let o = c.args.text.now.items in
     let path = c.args.path.now in
     let source = c.args.source.now in
@@ -13,6 +13,6 @@ returns-clause-plain c manner old =
     let line = c.line_column-line.result.0 in
     let column = c.line_column-line.result.1 in
     ap all_plain (c.in_ok-put_lines.ensures
-    ∙ ap (λ x. x ++ lines_at c.args.manner source w line) c.in_ok-put_heading.ensures
-    ∙ ap (λ m. o ++ heading_at path line column ++ lines_at m source w line) manner)
+    ∙ ap (λ x. x ++ lines_at c.args.mode source w line) c.in_ok-put_heading.ensures
+    ∙ ap (λ m. o ++ heading_at path line column ++ lines_at m source w line) mode)
     ∙ place_plain o path source w line column old

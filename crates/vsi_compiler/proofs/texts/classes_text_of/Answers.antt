@@ -14,8 +14,8 @@ use Rattle.vsi_compiler.proofs.Compiled.{least_tree}
 use Rattle.vsi_compiler.proofs.Programs.{zip_length}
 use Rattle.vsi_compiler.proofs.texts.classes_text_of.Goals as goal
 
-pub push_letvars-requires-clause-each : goal.push_letvars-requires-clause-each
-push_letvars-requires-clause-each c =
+pub put_letvars-requires-clause-each : goal.put_letvars-requires-clause-each
+put_letvars-requires-clause-each c =
     let r = c.args.source.now.resolved in
     ap length c.letvars.ensures
     ∙ ap (λ (x : Resolved). length x.letvars) c.resolved.ensures.value
@@ -23,8 +23,8 @@ push_letvars-requires-clause-each c =
     ∙ zip_length Keeps _ _ c.in_ok-classes.ensures.least.0.0
     ∙ ap length (sym c.deref.ensures.value)
 
-pub push_letvars-requires-clause-within : goal.push_letvars-requires-clause-within
-push_letvars-requires-clause-within c =
+pub put_letvars-requires-clause-within : goal.put_letvars-requires-clause-within
+put_letvars-requires-clause-within c =
     let l = c.args.source.now.lattice in
     subst (λ (x : Lattice). All (IsClass (order x)) c.deref.result.now) (sym c.lattice.ensures)
     (subst (All (IsClass (order l))) (sym c.deref.ensures.value) c.in_ok-classes.ensures.least.0.1)
@@ -40,15 +40,15 @@ returns-clause-lines c =
     let variables : map variable c.letvars.result.now ≡ all_variables (class_named s.lattice) stands.tree.body =
     ap (map variable) (c.letvars.ensures ∙ ap (λ (x : Resolved). x.letvars) c.resolved.ensures.value)
     ∙ stands.resolves.letvars in
-    let first : c.push_globals.new.out.items ≡ global_lines c.text-text.result.now (map declared c.globals.result.now) =
-    c.in_ok-push_globals.ensures
+    let first : c.put_globals.new.out.items ≡ global_lines c.text-text.result.now (map declared c.globals.result.now) =
+    c.in_ok-put_globals.ensures
     ∙ ap (λ x. x ++ global_lines c.text-text.result.now (map declared c.globals.result.now)) c.new-out.ensures.items in
-    let made : c.push_letvars.new.out.items
+    let made : c.put_letvars.new.out.items
     ≡ global_lines s.text stands.tree.globals
     ++ letvar_lines s.text (names s.lattice) (all_variables (class_named s.lattice) stands.tree.body) classes =
     cc (
       first,
-      c.in_ok-push_letvars.ensures,
+      c.in_ok-put_letvars.ensures,
       globals,
       variables,
       c.lattice.ensures,

@@ -9,24 +9,24 @@ use Rattle.vsi_documents.specs.Classes.{global_objects}
 use Rattle.vsi_documents.proofs.Made.{line_made, objects_are}
 use Rattle.vsi_documents.proofs.classes.line_of.Goals as goal
 
-pub push_letvars-requires-clause-each : goal.push_letvars-requires-clause-each
-push_letvars-requires-clause-each c =
+pub put_letvars-requires-clause-each : goal.put_letvars-requires-clause-each
+put_letvars-requires-clause-each c =
     ap length (c.letvars-letvars.ensures ∙ ap (λ (x : Resolved). x.letvars) c.resolved.ensures.value) ∙ c.requires.each
 
-pub push_letvars-requires-clause-within : goal.push_letvars-requires-clause-within
-push_letvars-requires-clause-within c =
+pub put_letvars-requires-clause-within : goal.put_letvars-requires-clause-within
+put_letvars-requires-clause-within c =
     subst (λ (x : Lattice). All (IsClass (order x)) c.args.classes.now) (sym c.lattice.ensures) c.requires.within
 
 pub returns : goal.returns
 returns c = λ tree reads.
     let s = c.args.source.now in
-    line_made s tree c.args.classes.now (map view c.push_letvars.new.found.items) c.in_ok-line.line.items
+    line_made s tree c.args.classes.now (map view c.put_letvars.new.found.items) c.in_ok-line.line.items
     (objects_are s tree c.lattice.result.now c.text-text.result.now c.globals.result.now c.letvars-letvars.result.now
-    c.args.classes.now (map view c.push_globals.new.found.items) (map view c.push_letvars.new.found.items) reads
+    c.args.classes.now (map view c.put_globals.new.found.items) (map view c.put_letvars.new.found.items) reads
     c.lattice.ensures c.text-text.ensures c.globals.ensures
     (c.letvars-letvars.ensures ∙ ap (λ (x : Resolved). x.letvars) c.resolved.ensures.value)
-    (c.in_ok-push_globals.ensures
+    (c.in_ok-put_globals.ensures
     ∙ ap (λ x. map view x ++ global_objects c.text-text.result.now (map declared c.globals.result.now))
     c.new-found.ensures.items)
-    c.in_ok-push_letvars.ensures)
+    c.in_ok-put_letvars.ensures)
     c.in_ok-line.ensures

@@ -137,17 +137,17 @@ gather_if-returns g t c =
     let then_branch = sequence c.args.then_branch.now in
     let else_branch = sequence c.args.else_branch.now in
     let w = kept_of c.args.log.now in
-    let gs : c.push_reads.new.guards.items ≡ c.args.walk.now.guards.items
+    let gs : c.put_reads.new.guards.items ≡ c.args.walk.now.guards.items
     ++ guarded typing.If (reads c.args.walk.now.scope.items x) =
-    c.in_ok-push_reads.ensures ∙ ap (λ s. c.args.walk.now.guards.items ++ guarded typing.If (reads s x))
+    c.in_ok-put_reads.ensures ∙ ap (λ s. c.args.walk.now.guards.items ++ guarded typing.If (reads s x))
     c.deref.ensures.value in
     let b = walker_place c.gather_commands.new.walk in
     let d = walker_place c.gather_commands-2.new.walk in
     let u = kept_of c.gather_commands.new.log in
     let v = kept_of c.gather_commands-2.new.log in
     let one = gathered_at W P N c.args.walk.now.scope.items c.args.walk.now.scope.items
-    c.push_reads.new.guards.items _ c.args.walk.now.next b then_branch w u refl gs
-    (subst (λ l. IsGathered W P N (place c.args.walk.now.scope.items c.push_reads.new.guards.items
+    c.put_reads.new.guards.items _ c.args.walk.now.next b then_branch w u refl gs
+    (subst (λ l. IsGathered W P N (place c.args.walk.now.scope.items c.put_reads.new.guards.items
     c.args.walk.now.next) l then_branch b u) c.enter.ensures c.in_ok-one.ensures.1) in
     let two = c.in_ok-two.ensures.1 in
     let loops : (c.in_ok-one.one || c.in_ok-two.two) ≡ (has_loop then_branch || has_loop else_branch) =
@@ -179,14 +179,14 @@ gather_while-returns g t c =
     let v = kept_of c.gather_commands.new.log in
     let h = subst (λ s. IsFrom W (endings P true (reads s x)) w u) c.deref.ensures.value
     c.in_ok-look_ending.ensures in
-    let gs : c.push_reads.new.guards.items ≡ c.args.walk.now.guards.items
+    let gs : c.put_reads.new.guards.items ≡ c.args.walk.now.guards.items
     ++ guarded typing.While (reads c.args.walk.now.scope.items x) =
-    c.in_ok-push_reads.ensures ∙ ap (λ s. c.args.walk.now.guards.items ++ guarded typing.While (reads s x))
+    c.in_ok-put_reads.ensures ∙ ap (λ s. c.args.walk.now.guards.items ++ guarded typing.While (reads s x))
     c.deref-2.ensures.value in
     let b = walker_place c.gather_commands.new.walk in
     let one = gathered_at W P N c.args.walk.now.scope.items c.args.walk.now.scope.items
-    c.push_reads.new.guards.items _ c.args.walk.now.next b body u v refl gs
-    (subst (λ l. IsGathered W P N (place c.args.walk.now.scope.items c.push_reads.new.guards.items
+    c.put_reads.new.guards.items _ c.args.walk.now.next b body u v refl gs
+    (subst (λ l. IsGathered W P N (place c.args.walk.now.scope.items c.put_reads.new.guards.items
     c.args.walk.now.next) l body b v) c.enter.ensures c.in_ok-gather_commands.ensures.1) in
     let n : c.len-outside.result ≡ length c.args.walk.now.guards.items = search rules in
     let back = c.truncate.ensures.items ∙ ap (λ k. take k c.gather_commands.new.walk.guards.items) n in (

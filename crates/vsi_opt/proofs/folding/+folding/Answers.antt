@@ -60,9 +60,9 @@ fold_one-returns-in-Some-true-truth t c =
     let loop_is = ap (λ x. one (While (expression c.in_ok-guard-in-While.guard) x))
     (c.in_ok-fold_list-in-Some-true-truth.ensures
     ∙ ap (λ l. fold (sequence l)) c.deref-in-Some-true-truth.ensures.value) in
-    subst (λ d. OnOk c.push_loop.result
-    (sequence c.push_loop.new.out.items ≡ append (sequence c.args.out.now.items) d)) (loop_is
-    ∙ sym e) c.push_loop.ensures
+    subst (λ d. OnOk c.put_loop.result
+    (sequence c.put_loop.new.out.items ≡ append (sequence c.args.out.now.items) d)) (loop_is
+    ∙ sym e) c.put_loop.ensures
 
 pub fold_one-returns-in-Some-false-truth : goal.fold_one-returns-in-Some-false-truth
 fold_one-returns-in-Some-false-truth t c =
@@ -78,9 +78,9 @@ fold_one-returns-in-While t c =
     c.in-While.is c.in_ok-guard-in-While.ensures (sym c.in-None-truth.is ∙ c.truth-in-While.ensures) in
     let loop_is = ap (λ x. one (While (expression c.in_ok-guard-in-While.guard) x))
     (c.in_ok-fold_list-in-None-truth.ensures ∙ ap (λ l. fold (sequence l)) c.deref-in-None-truth.ensures.value) in
-    subst (λ d. OnOk c.push_loop-in-None-truth.result
-    (sequence c.push_loop-in-None-truth.new.out.items ≡ append (sequence c.args.out.now.items) d)) (loop_is
-    ∙ sym e) c.push_loop-in-None-truth.ensures
+    subst (λ d. OnOk c.put_loop-in-None-truth.result
+    (sequence c.put_loop-in-None-truth.new.out.items ≡ append (sequence c.args.out.now.items) d)) (loop_is
+    ∙ sym e) c.put_loop-in-None-truth.ensures
 
 pub fold_one-returns : goal.fold_one-returns
 fold_one-returns t c =

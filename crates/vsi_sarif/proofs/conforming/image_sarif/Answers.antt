@@ -9,9 +9,9 @@ returns c =
     record {
       document = image_so c.args.lattice.now c.args.path.now c.args.image.now c.args.interface.now c.args.answer.now
           c.in_ok-lines.lines.items (string_bytes c.in_ok-uri.uri) (map view c.in_ok-results.results.items)
-          (map view c.push_image_results.new.found.items) (map view c.push_bound_result.new.found.items)
+          (map view c.put_image_results.new.found.items) (map view c.put_bound_result.new.found.items)
           c.in_ok-line.line.items c.in_ok-lines.ensures c.in_ok-uri.ensures
           (rw (bytes, c.is_some.ensures, c.deref.ensures.value) at c.in_ok-results.ensures)
-          (rw (bytes, c.deref-2.ensures.value) at c.in_ok-push_image_results.ensures)
-          (rw bytes at c.in_ok-push_bound_result.ensures) c.in_ok-line.ensures;
+          (rw (bytes, c.deref-2.ensures.value) at c.in_ok-put_image_results.ensures)
+          (rw bytes at c.in_ok-put_bound_result.ensures) c.in_ok-line.ensures;
     }

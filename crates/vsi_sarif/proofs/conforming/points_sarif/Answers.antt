@@ -10,10 +10,10 @@ returns c =
     record {
       document = text_so c.args.lattice.now c.args.path.now c.args.text.now c.args.interface.now c.args.answer.now
           (map declared c.in_ok-found.found.items) c.in_ok-lines.lines.items (string_bytes c.in_ok-uri.uri)
-          (map view c.in_ok-results.results.items) (map view c.push_text_results.new.found.items)
-          (map view c.push_bound_result.new.found.items) c.in_ok-line.line.items c.in_ok-found.ensures
+          (map view c.in_ok-results.results.items) (map view c.put_text_results.new.found.items)
+          (map view c.put_bound_result.new.found.items) c.in_ok-line.line.items c.in_ok-found.ensures
           c.in_ok-lines.ensures c.in_ok-uri.ensures
           (rw (bytes, c.is_some.ensures, c.deref-2.ensures.value) at c.in_ok-results.ensures)
-          (rw (bytes, c.deref.ensures.value, c.deref-3.ensures.value) at c.in_ok-push_text_results.ensures)
-          (rw bytes at c.in_ok-push_bound_result.ensures) c.in_ok-line.ensures;
+          (rw (bytes, c.deref.ensures.value, c.deref-3.ensures.value) at c.in_ok-put_text_results.ensures)
+          (rw bytes at c.in_ok-put_bound_result.ensures) c.in_ok-line.ensures;
     }

@@ -3,7 +3,7 @@ use Rattle.vsi_lattice.specs.LatticeView.{class_named, order}
 use Rattle.vsi_types.specs.declared.rules.Profile.TheVariants.{Strict}
 use Rattle.vsi_types.specs.Walks.{IsBad}
 use Rattle.vsi_compiler.proofs.Held.{of_parts}
-use Rattle.vsi_steady.proofs.Sources.{watched_globals, watched_declared, one_watched}
+use Rattle.vsi_steady.proofs.Sources.{looped_globals, looped_declared, one_looped}
 use Rattle.vsi_steady.proofs.source.steady_explanation_of.Goals as goal
 
 pub check_walk_once-requires-clause-globals : goal.check_walk_once-requires-clause-globals
@@ -13,7 +13,7 @@ check_walk_once-requires-clause-globals c =
     let r = c.resolved-resolved.result.now in
     let is = of_parts c.args.source.now c.resolved-resolved.ensures.kept l text r c.lattice-lattice.ensures refl
     c.resolved-resolved.ensures.value in
-    watched_globals (order l) r c.in_ok-watched.watched c.in_ok-watched.ensures is.classes
+    looped_globals (order l) r c.in_ok-looped.looped c.in_ok-looped.ensures is.classes
 
 pub check_walk_once-requires-clause-declared : goal.check_walk_once-requires-clause-declared
 check_walk_once-requires-clause-declared c =
@@ -22,7 +22,7 @@ check_walk_once-requires-clause-declared c =
     let r = c.resolved-resolved.result.now in
     let is = of_parts c.args.source.now c.resolved-resolved.ensures.kept l text r c.lattice-lattice.ensures refl
     c.resolved-resolved.ensures.value in
-    watched_declared (order l) r c.in_ok-watched.watched c.in_ok-watched.ensures is.classes
+    looped_declared (order l) r c.in_ok-looped.looped c.in_ok-looped.ensures is.classes
 
 pub explain-requires-clause-globals : goal.explain-requires-clause-globals
 explain-requires-clause-globals c =
@@ -31,7 +31,7 @@ explain-requires-clause-globals c =
     let r = c.resolved-resolved.result.now in
     let is = of_parts c.args.source.now c.resolved-resolved.ensures.kept l text r c.lattice-lattice.ensures refl
     c.resolved-resolved.ensures.value in
-    watched_globals (order l) r c.in_ok-watched.watched c.in_ok-watched.ensures is.classes
+    looped_globals (order l) r c.in_ok-looped.looped c.in_ok-looped.ensures is.classes
 
 pub explain-requires-clause-declared : goal.explain-requires-clause-declared
 explain-requires-clause-declared c =
@@ -40,7 +40,7 @@ explain-requires-clause-declared c =
     let r = c.resolved-resolved.result.now in
     let is = of_parts c.args.source.now c.resolved-resolved.ensures.kept l text r c.lattice-lattice.ensures refl
     c.resolved-resolved.ensures.value in
-    watched_declared (order l) r c.in_ok-watched.watched c.in_ok-watched.ensures is.classes
+    looped_declared (order l) r c.in_ok-looped.looped c.in_ok-looped.ensures is.classes
 
 pub returns : goal.returns
 returns c =
@@ -50,10 +50,10 @@ returns c =
     let is = of_parts c.args.source.now c.resolved-resolved.ensures.kept l text r c.lattice-lattice.ensures refl
     c.resolved-resolved.ensures.value in
     rw (← c.lattice-lattice.ensures) (inr (record {
-      harmless = λ other watched stands loops bad.
+      harmless = λ other looped stands loops bad.
           let here = subst (λ p. IsBad (order l) Strict p c.args.walk.now.steps.items)
-          (one_watched (class_named l) text r other c.in_ok-watched.watched watched is.stands stands
-          c.in_ok-watched.ensures loops) bad in
+          (one_looped (class_named l) text r other c.in_ok-looped.looped looped is.stands stands
+          c.in_ok-looped.ensures loops) bad in
           true≢false (sym (c.in_ok-is_bad.ensures.1 here) ∙ c.if-is_bad.false);
       nothing = c.new.ensures.items;
     }))

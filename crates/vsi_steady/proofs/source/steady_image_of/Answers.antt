@@ -7,7 +7,7 @@ use Rattle.vsi_compiler.specs.Acceptance.{IsAccepted}
 use Rattle.vsi_compiler.specs.Headline.{IsCompiled}
 use Rattle.vsi_compiler.proofs.Compiled.{lawful}
 use Rattle.vsi_compiler.proofs.Held.{of_parts}
-use Rattle.vsi_steady.proofs.Sources.{watched_globals, watched_declared, steady_flows, steady_accepted, flow_memory, flow_refused, image_steady, image_refused, strictly_compiled}
+use Rattle.vsi_steady.proofs.Sources.{looped_globals, looped_declared, steady_flows, steady_accepted, flow_memory, flow_refused, image_steady, image_refused, strictly_compiled}
 use Rattle.vsi_steady.specs.Refusal.{Refuses}
 use Rattle.vsi_steady.specs.Source.{HasSteadyFlows, judging}
 use Rattle.vsi_steady.specs.Steady.{IsSteady}
@@ -20,7 +20,7 @@ infer_in-requires-clause-globals c =
     let r = c.resolved-resolved.result.now in
     let is = of_parts c.args.source.now c.resolved-resolved.ensures.kept l text r c.lattice-lattice.ensures refl
     c.resolved-resolved.ensures.value in
-    watched_globals (order l) r c.in_ok-watched.watched c.in_ok-watched.ensures is.classes
+    looped_globals (order l) r c.in_ok-looped.looped c.in_ok-looped.ensures is.classes
 
 pub infer_in-requires-clause-declared : goal.infer_in-requires-clause-declared
 infer_in-requires-clause-declared c =
@@ -29,7 +29,7 @@ infer_in-requires-clause-declared c =
     let r = c.resolved-resolved.result.now in
     let is = of_parts c.args.source.now c.resolved-resolved.ensures.kept l text r c.lattice-lattice.ensures refl
     c.resolved-resolved.ensures.value in
-    watched_declared (order l) r c.in_ok-watched.watched c.in_ok-watched.ensures is.classes
+    looped_declared (order l) r c.in_ok-looped.looped c.in_ok-looped.ensures is.classes
 
 pub returns-in_err-_classes-clause-refused : goal.returns-in_err-_classes-clause-refused
 returns-in_err-_classes-clause-refused c =
@@ -40,7 +40,7 @@ returns-in_err-_classes-clause-refused c =
     c.resolved-resolved.ensures.value in
     let p = err_from_is_err_and c.from_residual-in_err-_classes.result c.from_residual-in_err-_classes.ensures.1 in
     rw (p.1, p.2, ← c.lattice-lattice.ensures)
-    (flow_refused (class_named l) text r is.stands c.in_ok-watched.watched c.in_ok-watched.ensures (order l)
+    (flow_refused (class_named l) text r is.stands c.in_ok-looped.looped c.in_ok-looped.ensures (order l)
     c.in_err-_classes.field-0.0 c.in_err-_classes.ensures.refused)
 
 pub returns-in_err-_classes-clause-exact : goal.returns-in_err-_classes-clause-exact
@@ -52,7 +52,7 @@ returns-in_err-_classes-clause-exact c = λ accepted.
     c.resolved-resolved.ensures.value in
     let p = err_from_is_err_and c.from_residual-in_err-_classes.result c.from_residual-in_err-_classes.ensures.1 in
     rw (p.1, p.2)
-    (flow_memory (class_named l) text r is.stands c.in_ok-watched.watched c.in_ok-watched.ensures (order l) (lawful l)
+    (flow_memory (class_named l) text r is.stands c.in_ok-looped.looped c.in_ok-looped.ensures (order l) (lawful l)
     is.kept is.classes c.in_err-_classes.field-0.0 c.in_err-_classes.ensures.refused
     (subst (λ (x : Lattice). HasSteadyFlows (class_named x) (order x) text) (sym c.lattice-lattice.ensures)
     accepted.flows))
@@ -67,7 +67,7 @@ returns-in_err-steady_in-clause-refused c =
     let s = c.args.source.now in
     let accepted : IsAccepted (class_named s.lattice) (order s.lattice) Strict s.text =
     rw (← c.lattice-lattice.ensures)
-    (steady_accepted (class_named l) text r is.stands c.in_ok-watched.watched c.in_ok-watched.ensures (order l) c.in_ok-_classes._classes.items (lawful l) is.kept
+    (steady_accepted (class_named l) text r is.stands c.in_ok-looped.looped c.in_ok-looped.ensures (order l) c.in_ok-_classes._classes.items (lawful l) is.kept
     is.classes c.in_ok-_classes.ensures.ok.0) in
     let v = c.in_ok-verified.ensures in
     let compiled : IsCompiled (class_named s.lattice) (order s.lattice) Strict s.text c.in_ok-verified.verified =
@@ -75,7 +75,7 @@ returns-in_err-steady_in-clause-refused c =
     v.meaning (v.noninterference Strict accepted) (λ _. v.endings accepted) v.coded v.image v.size in
     let flows : HasSteadyFlows (class_named s.lattice) (order s.lattice) s.text =
     rw (← c.lattice-lattice.ensures)
-    (steady_flows (class_named l) text r is.stands c.in_ok-watched.watched c.in_ok-watched.ensures (order l)
+    (steady_flows (class_named l) text r is.stands c.in_ok-looped.looped c.in_ok-looped.ensures (order l)
     c.in_ok-_classes._classes.items c.in_ok-_classes.ensures.ok.0) in
     let told = subst (λ (x : Lattice). Refuses (class_named x) (order x) c.in_ok-verified.verified
     c.in_err-steady_in.field-0.0) c.lattice-lattice.ensures c.in_err-steady_in.ensures.refused in
@@ -103,7 +103,7 @@ returns-clause-flows c =
     let is = of_parts c.args.source.now c.resolved-resolved.ensures.kept l text r c.lattice-lattice.ensures refl
     c.resolved-resolved.ensures.value in
     rw (← c.lattice-lattice.ensures)
-    (steady_flows (class_named l) text r is.stands c.in_ok-watched.watched c.in_ok-watched.ensures (order l)
+    (steady_flows (class_named l) text r is.stands c.in_ok-looped.looped c.in_ok-looped.ensures (order l)
     c.in_ok-_classes._classes.items c.in_ok-_classes.ensures.ok.0)
 
 pub returns-clause-compiled : goal.returns-clause-compiled
@@ -116,7 +116,7 @@ returns-clause-compiled c =
     let s = c.args.source.now in
     let accepted : IsAccepted (class_named s.lattice) (order s.lattice) Strict s.text =
     rw (← c.lattice-lattice.ensures)
-    (steady_accepted (class_named l) text r is.stands c.in_ok-watched.watched c.in_ok-watched.ensures (order l) c.in_ok-_classes._classes.items (lawful l) is.kept
+    (steady_accepted (class_named l) text r is.stands c.in_ok-looped.looped c.in_ok-looped.ensures (order l) c.in_ok-_classes._classes.items (lawful l) is.kept
     is.classes c.in_ok-_classes.ensures.ok.0) in
     let v = c.in_ok-verified.ensures in
     let compiled : IsCompiled (class_named s.lattice) (order s.lattice) Strict s.text c.in_ok-verified.verified =

@@ -82,7 +82,7 @@ pub check_if-returns-in_err-check_commands : goal.check_if-returns-in_err-check_
 check_if-returns-in_err-check_commands g t c =
     choice_first (g.C.Classes.lattice c.args.lattice.now) c.args.profile c.args.table.now c.args.walk.now
     c.args.guard.now c.args.then_branch.now c.args.else_branch.now _ c.deref.ensures.value
-    c.in_ok-check_choice.ensures _ c.deref-2.ensures.value _ c.in_ok-push_reads.ensures
+    c.in_ok-check_choice.ensures _ c.deref-2.ensures.value _ c.in_ok-put_reads.ensures
     _ _ _ c.from_residual-in_err-check_commands.ensures.1 c.in_err-check_commands.ensures
 
 pub check_if-check_commands-requires-2 : goal.check_if-check_commands-requires-2
@@ -96,7 +96,7 @@ pub check_if-returns-in_err-check_commands-2 : goal.check_if-returns-in_err-chec
 check_if-returns-in_err-check_commands-2 g t c =
     choice_second (g.C.Classes.lattice c.args.lattice.now) c.args.profile c.args.table.now c.args.walk.now
     c.args.guard.now c.args.then_branch.now c.args.else_branch.now _ c.deref.ensures.value
-    c.in_ok-check_choice.ensures _ c.deref-2.ensures.value _ c.in_ok-push_reads.ensures
+    c.in_ok-check_choice.ensures _ c.deref-2.ensures.value _ c.in_ok-put_reads.ensures
     _ _ _ _ c.from_residual-in_err-check_commands-2.ensures.1 c.in_ok-check_commands.ensures
     c.in_err-check_commands-2.ensures
 
@@ -104,7 +104,7 @@ pub check_if-returns : goal.check_if-returns
 check_if-returns g t c =
     choice_judged (g.C.Classes.lattice c.args.lattice.now) c.args.profile c.args.table.now c.args.walk.now
     c.args.guard.now c.args.then_branch.now c.args.else_branch.now _ c.deref.ensures.value
-    c.in_ok-check_choice.ensures _ c.deref-2.ensures.value _ c.in_ok-push_reads.ensures
+    c.in_ok-check_choice.ensures _ c.deref-2.ensures.value _ c.in_ok-put_reads.ensures
     _ _ _ c.len-outside.result (search rules) c.truncate.ensures.items c.in_ok-check_commands.ensures
     c.in_ok-check_commands-2.ensures
 
@@ -122,14 +122,14 @@ pub check_while-returns-in_err-check_commands : goal.check_while-returns-in_err-
 check_while-returns-in_err-check_commands g t c =
     loop_body (g.C.Classes.lattice c.args.lattice.now) c.args.profile c.args.table.now c.args.walk.now
     c.args.guard.now c.args.body.now _ c.deref.ensures.value c.in_ok-check_loop.ensures
-    _ c.deref-2.ensures.value _ c.in_ok-push_reads.ensures _ _ _
+    _ c.deref-2.ensures.value _ c.in_ok-put_reads.ensures _ _ _
     c.from_residual-in_err-check_commands.ensures.1 c.in_err-check_commands.ensures
 
 pub check_while-returns : goal.check_while-returns
 check_while-returns g t c =
     loop_judged (g.C.Classes.lattice c.args.lattice.now) c.args.profile c.args.table.now c.args.walk.now
     c.args.guard.now c.args.body.now _ c.deref.ensures.value c.in_ok-check_loop.ensures
-    _ c.deref-2.ensures.value _ c.in_ok-push_reads.ensures _ _
+    _ c.deref-2.ensures.value _ c.in_ok-put_reads.ensures _ _
     c.len-outside.result (search rules) c.truncate.ensures.items c.in_ok-check_commands.ensures
 
 pub check_letvar-returns-in_err-check_reads : goal.check_letvar-returns-in_err-check_reads
