@@ -16,7 +16,7 @@ mod source;
 mod texts;
 mod unjudged;
 
-pub use compiler::{compile, compile_in};
+pub use compiler::{compile, compile_in, compile_source};
 pub use error::CompileError;
 pub use image::image_of;
 pub use judging::judge;
