@@ -10,10 +10,17 @@ use Rattle.vsi_answers.specs.declared.unanswered.Unanswered.TheVariants.{Refused
 use Rattle.vsi_answers.specs.declared.unanswered.Cause.TheVariants.{Source, File, Start, Steady, Raised}
 use Rattle.vsi_answers.specs.Answers.{Because, Telling}
 use Rattle.vsi_lattice.specs.LatticeView.{class_named, order}
+use Rattle.vsi_syntax.specs.Tree.{Whole}
+use Rattle.vsi_scope.specs.Language.{Command}
+use Rattle.vsi_scope.specs.Resolving.{IsResolution}
+use Rattle.vsi_types.specs.declared.rules.Profile.{Profile}
 use Rattle.vsi_types.specs.declared.rules.Profile.TheVariants.{Base}
 use Rattle.vsi_image.specs.declared.instr.Image.{Image}
 use Rattle.vsi_compiler.specs.Headline.{IsCompiled}
-use Rattle.vsi_answers.specs.Judged.{TellsFault, TellsRaised, TellsSource}
+use Rattle.vsi_compiler.specs.Refusal.{RefusesProgram}
+use Rattle.vsi_compiler.specs.Source.{Reads}
+use Rattle.vsi_compiler.proofs.Held.{refuses}
+use Rattle.vsi_answers.specs.Judged.{IsCompileFault, TellsFault, TellsRaised, TellsSource}
 use Rattle.vsi_answers.specs.Requests.{Answer, RunsSourceTo, RunsTo, zeros}
 
 -- The refusal of a source text for an error is a refusal for each kind to which the error belongs.
@@ -28,6 +35,21 @@ source_told Kind l source error kind (Refused text (Steady e)) told = absurd tol
 source_told Kind l source error kind (Refused text (Raised e)) told = absurd told
 source_told Kind l source error kind OutOfBudget told = absurd told
 source_told Kind l source error kind Memory told = tt
+
+-- A text that has no program is refused under each profile.
+pub unread_told : (l : Lattice) (P : Profile) (source : List ℕ) (error : CompileError) →
+    RefusesProgram (class_named l) source error →
+    ((tree : Whole) (commands : List Command) → Reads source tree → IsResolution (class_named l) tree commands →
+    error ≡ compiler.Memory) → (u : Unanswered) →
+    Because (TellsSource (λ e. e ≡ error) l source) ⊥ u → Because (TellsSource (IsCompileFault l P source) l source) ⊥ u
+unread_told l P source error refused exact u told =
+    source_told (IsCompileFault l P source) l source error
+    (λ other.
+    record {
+      other = other;
+      told = refuses (class_named l) (order l) P source error refused;
+      unaccepted = λ a. other (exact a.tree a.commands a.reads a.resolution);
+    }) u told
 
 -- The refusal of a file for a fault is a refusal for each kind to which the fault belongs.
 pub fault_told : (Kind : Fault → Type 0) (fault : Fault) → Kind fault → (spent : Type 0) → (u : Unanswered) →

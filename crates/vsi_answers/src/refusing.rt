@@ -6,8 +6,8 @@ ghost use Rattle.vsi_answers.specs.Judged.{TellsFault, TellsSource, TellsStartFa
 
 use crate::unanswered::{Cause, Unanswered};
 use std::alloc::Global;
-use vsi_compiler::CompileError;
-use vsi_diagnostics::{Fault, fault_text, refusal_text};
+use vsi_compiler::{CompileError, Source};
+use vsi_diagnostics::{Fault, fault_text, refusal_text, refusal_text_of};
 use vsi_drive::{StartFault, start_fault_line};
 use vsi_lattice::Lattice;
 
@@ -24,6 +24,19 @@ pub fn refused_source(
         return Unanswered::Memory;
     }
     match refusal_text(alloc, lattice, source, &error) {
+        Ok(text) => Unanswered::Refused(text, Cause::Source(error)),
+        Err(_) => Unanswered::Memory,
+    }
+}
+
+/// Why there is no answer for a source text that was read and is refused with this error.
+pub(crate) fn refused_judged(alloc: Global, source: &Source<'_>, error: CompileError) -> Unanswered
+    ensures { Because (TellsSource (λ e. e ≡ error) source.now.lattice source.now.text) ⊥ result }
+{
+    if let CompileError::Memory = &error {
+        return Unanswered::Memory;
+    }
+    match refusal_text_of(alloc, source, &error) {
         Ok(text) => Unanswered::Refused(text, Cause::Source(error)),
         Err(_) => Unanswered::Memory,
     }

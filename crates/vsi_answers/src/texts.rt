@@ -1,43 +1,19 @@
 //! The answers for a source text under a lattice.
 
-ghost use Rattle.std.specs.Prelude.{◌≡◌, IfErr, OnOk};
-ghost use Rattle.vsi_lattice.specs.LatticeView.{class_named, order};
-ghost use Rattle.vsi_compiler.specs.declared.error.CompileError.TheVariants.{Memory};
-ghost use Rattle.vsi_compiler.specs.Acceptance.{IsAccepted};
-ghost use Rattle.vsi_compiler.specs.Refusal.{Refuses};
 ghost use Rattle.vsi_answers.specs.Requests.{BuildsTo, ChecksFilesTo, ChecksTo, ClassesTo, FlowsTo, FormatsTo};
 
 use crate::files::declared_lattice;
-use crate::refusing::refused_source;
+use crate::refusing::{refused_judged, refused_source};
 use crate::unanswered::Unanswered;
 use std::alloc::Global;
-use vsi_compiler::{CompileError, classes_text_in, format_text, judge, read_source};
-use vsi_devices::{EngineError, image_bytes};
+use vsi_compiler::{Source, classes_text_of, format_text, judge, read_source};
+use vsi_devices::{EngineError, image_bytes_of};
 use vsi_flows::flows_text_in;
 use vsi_lattice::Lattice;
 use vsi_types::Profile;
 
 /// The answer for an accepted text.
 pub(crate) const ACCEPTED: &[u8] = b"accepted\n";
-
-/// Judges the flows of a text under a profile. No code is generated.
-fn accept(
-    alloc: Global,
-    profile: Profile,
-    lattice: &Lattice,
-    source: &[u8],
-) -> Result<(), CompileError>
-    ensures accepted { OnOk result
-        (IsAccepted (class_named lattice.now) (order lattice.now) profile source.now) }
-    ensures refused { IfErr result
-        (Refuses (class_named lattice.now) (order lattice.now) profile source.now) }
-    ensures exact { IsAccepted (class_named lattice.now) (order lattice.now) profile source.now
-        → IfErr result (λ e. e ≡ Memory) }
-{
-    let read = read_source(alloc, lattice, source)?;
-    let _classes = judge(alloc, profile, &read)?;
-    Ok(())
-}
 
 /// `accepted` and a line feed, if the text is accepted under a profile.
 pub fn check(
@@ -48,9 +24,19 @@ pub fn check(
 ) -> Result<Vec<u8>, Unanswered>
     ensures checks { ChecksTo lattice.now profile source.now result }
 {
-    match accept(alloc, profile, lattice, source) {
-        Ok(()) => Ok(Vec::from_slice(alloc, ACCEPTED)?),
+    match read_source(alloc, lattice, source) {
+        Ok(read) => check_source(alloc, profile, &read),
         Err(error) => Err(refused_source(alloc, lattice, source, error)),
+    }
+}
+
+/// `check` for a source text that was read. No code is generated.
+fn check_source(alloc: Global, profile: Profile, source: &Source<'_>) -> Result<Vec<u8>, Unanswered>
+    ensures { ChecksTo source.now.lattice profile source.now.text result }
+{
+    match judge(alloc, profile, source) {
+        Ok(_classes) => Ok(Vec::from_slice(alloc, ACCEPTED)?),
+        Err(error) => Err(refused_judged(alloc, source, error)),
     }
 }
 
@@ -78,9 +64,23 @@ pub fn classes(
 ) -> Result<Vec<u8>, Unanswered>
     ensures classes { ClassesTo lattice.now profile source.now result }
 {
-    match classes_text_in(alloc, profile, lattice, source) {
-        Ok(lines) => Ok(lines),
+    match read_source(alloc, lattice, source) {
+        Ok(read) => source_classes(alloc, profile, &read),
         Err(error) => Err(refused_source(alloc, lattice, source, error)),
+    }
+}
+
+/// `classes` for a source text that was read.
+fn source_classes(
+    alloc: Global,
+    profile: Profile,
+    source: &Source<'_>,
+) -> Result<Vec<u8>, Unanswered>
+    ensures { ClassesTo source.now.lattice profile source.now.text result }
+{
+    match classes_text_of(alloc, profile, source) {
+        Ok(lines) => Ok(lines),
+        Err(error) => Err(refused_judged(alloc, source, error)),
     }
 }
 
@@ -108,9 +108,19 @@ pub fn build(
 ) -> Result<Vec<u8>, Unanswered>
     ensures builds { BuildsTo lattice.now profile source.now result }
 {
-    match image_bytes(alloc, profile, lattice, source) {
+    match read_source(alloc, lattice, source) {
+        Ok(read) => build_source(alloc, profile, &read),
+        Err(error) => Err(refused_source(alloc, lattice, source, error)),
+    }
+}
+
+/// `build` for a source text that was read.
+fn build_source(alloc: Global, profile: Profile, source: &Source<'_>) -> Result<Vec<u8>, Unanswered>
+    ensures { BuildsTo source.now.lattice profile source.now.text result }
+{
+    match image_bytes_of(alloc, profile, source) {
         Ok(bytes) => Ok(bytes),
-        Err(EngineError::Compile(error)) => Err(refused_source(alloc, lattice, source, error)),
+        Err(EngineError::Compile(error)) => Err(refused_judged(alloc, source, error)),
         Err(_) => Err(Unanswered::Memory),
     }
 }

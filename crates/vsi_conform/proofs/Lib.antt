@@ -11,3 +11,4 @@ pub mod Tables
 pub mod Readable
 pub mod Told
 pub mod Allowed
+pub mod Profiles

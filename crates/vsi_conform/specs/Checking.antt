@@ -3,6 +3,8 @@ use Rattle.std.specs.Prelude.{◌≡◌, ℕ, ◌++◌, Bool, true, false, List,
 use Rattle.vsi_lattice.specs.declared.lattice.Lattice.{Lattice}
 use Rattle.vsi_lattice.specs.LatticeView.{class_named, order}
 use Rattle.vsi_image.specs.declared.instr.Image.{Image}
+use Rattle.vsi_types.specs.declared.rules.Profile.{Profile}
+use Rattle.vsi_types.specs.declared.rules.Profile.TheVariants as profile
 use Rattle.vsi_steady.specs.declared.error.SteadyError.{SteadyError}
 use Rattle.vsi_steady.specs.declared.error.SteadyError.TheVariants as steady
 use Rattle.vsi_steady.specs.declared.unsteady.UnsteadyError.{UnsteadyError}
@@ -11,6 +13,7 @@ use Rattle.vsi_diagnostics.specs.Diagnostic.{Diagnostic, nothing, number}
 use Rattle.vsi_diagnostics.specs.Json.{IsRefusalJson, accepted_line, refused_begin}
 use Rattle.vsi_diagnostics.specs.Source.{refusal_diagnostic, refused}
 use Rattle.vsi_conform.specs.declared.interface.Judgement.{Judgement}
+use Rattle.vsi_conform.specs.declared.interface.Judgement.TheVariants as judgement
 use Rattle.vsi_conform.specs.Conforms.{IsAcceptedAs, IsRefusedAs}
 use Rattle.vsi_conform.specs.Lines.{IsRefusalLines, is_steady}
 
@@ -25,6 +28,11 @@ abbrev pub unsteady_diagnostic : List ℕ → UnsteadyError → Option Diagnosti
 unsteady_diagnostic text (unsteady.Compile e) = refusal_diagnostic text e
 unsteady_diagnostic text (unsteady.Image e) = steady_diagnostic e
 unsteady_diagnostic text unsteady.Memory = None
+
+-- The judgement by a profile.
+abbrev pub judgement_by : Profile → Judgement
+judgement_by profile.Base = judgement.Base
+judgement_by profile.Strict = judgement.Strict
 
 -- The text has an image as required, and the line says so.
 pub record TellsAccepted (l : Lattice) (j : Judgement) (text out : List ℕ) : Type 0 where

@@ -1,16 +1,24 @@
 //! The answer of a check as a line of JSON.
 
-ghost use Rattle.std.specs.Prelude.{◌≡◌, IfOk, option_map};
+ghost use Rattle.std.specs.Prelude.{◌≡◌, true, false, IfOk, option_map};
+ghost use Rattle.vsi_diagnostics.specs.Json.{accepted_line};
 ghost use Rattle.vsi_diagnostics.specs.View.{diagnostic_of};
+ghost use Rattle.vsi_steady.specs.declared.unsteady.UnsteadyError.TheVariants as unsteady;
+ghost use Rattle.vsi_conform.specs.declared.interface.Judgement.TheVariants as judgement;
 ghost use Rattle.vsi_conform.specs.Checking as spec;
 
 use crate::accepting::judged;
 use crate::interface::Judgement;
 use crate::texts::{is_steady, refusal_lines};
 use std::alloc::{AllocError, Global};
-use vsi_diagnostics::{Diagnostic, Field, accepted_json, refusal_diagnostic, refusal_json};
+use vsi_compiler::{CompileError, Source, compile_source, read_source};
+use vsi_diagnostics::{
+    Diagnostic, Field, accepted_json, refusal_diagnostic, refusal_json, refusal_json_of,
+    refusal_text_of,
+};
 use vsi_lattice::Lattice;
 use vsi_steady::{SteadyError, UnsteadyError};
+use vsi_types::Profile;
 
 /// The answer of a check: whether the text is accepted, and the line of JSON that says so.
 #[derive(Debug, Drop)]
@@ -66,6 +74,100 @@ fn refused_line(
     Ok(line)
 }
 
+/// The answer for an accepted text.
+fn accepted(alloc: Global) -> Result<Checked, AllocError>
+    ensures accepted { IfOk result (λ checked. checked.is_accepted ≡ true) }
+    ensures line { IfOk result (λ checked. checked.line.items ≡ accepted_line) }
+{
+    let line = accepted_json(alloc)?;
+    Ok(Checked {
+        is_accepted: true,
+        line,
+    })
+}
+
+/// The answer for a refused text with this line.
+fn refused(line: Vec<u8>) -> Checked
+    ensures refused { result.is_accepted ≡ false }
+    ensures line { result.line ≡ line }
+{
+    Checked {
+        is_accepted: false,
+        line,
+    }
+}
+
+/// The line of a source text that was read and is refused under a profile.
+fn source_line(
+    alloc: Global,
+    source: &Source<'_>,
+    error: &CompileError,
+) -> Result<Vec<u8>, AllocError>
+    ensures { IfOk result (λ out. spec.WritesRefusal
+        source.now.lattice judgement.Base source.now.text
+        (unsteady.Compile error.now) out.items) }
+{
+    let Some(diagnostic) = refusal_diagnostic(source.text(), error) else {
+        return Err(AllocError);
+    };
+    let lines = refusal_text_of(alloc, source, error)?;
+    let line = refusal_json_of(alloc, source, &diagnostic, &lines)?;
+    Ok(line)
+}
+
+/// The answer for a source text that was read, under a profile.
+fn source_json(alloc: Global, profile: Profile, source: &Source<'_>) -> Result<Checked, AllocError>
+    ensures { IfOk result (λ checked. spec.TellsAnswer
+        source.now.lattice (spec.judgement_by profile) source.now.text
+        checked.is_accepted checked.line.items) }
+{
+    match compile_source(alloc, profile, source) {
+        Ok(_verified) => accepted(alloc),
+        Err(CompileError::Memory) => Err(AllocError),
+        Err(error) => {
+            let line = source_line(alloc, source, &error)?;
+            Ok(refused(line))
+        }
+    }
+}
+
+/// The answer for a text under a profile. The text is read once.
+fn profile_json(
+    alloc: Global,
+    profile: Profile,
+    lattice: &Lattice,
+    text: &[u8],
+) -> Result<Checked, AllocError>
+    ensures { IfOk result (λ checked. spec.TellsAnswer
+        lattice.now (spec.judgement_by profile) text.now
+        checked.is_accepted checked.line.items) }
+{
+    match read_source(alloc, lattice, text) {
+        Ok(source) => source_json(alloc, profile, &source),
+        Err(CompileError::Memory) => Err(AllocError),
+        Err(error) => {
+            let error = UnsteadyError::Compile(error);
+            let line = refused_line(alloc, Judgement::Base, lattice, text, &error)?;
+            Ok(refused(line))
+        }
+    }
+}
+
+/// The answer for a text that should have a steady image.
+fn steady_json(alloc: Global, lattice: &Lattice, text: &[u8]) -> Result<Checked, AllocError>
+    ensures { IfOk result (λ checked. spec.TellsAnswer
+        lattice.now judgement.Steady text.now
+        checked.is_accepted checked.line.items) }
+{
+    match judged(alloc, Judgement::Steady, lattice, text)? {
+        Ok(_verified) => accepted(alloc),
+        Err(error) => {
+            let line = refused_line(alloc, Judgement::Steady, lattice, text, &error)?;
+            Ok(refused(line))
+        }
+    }
+}
+
 /// The answer of `vsi check` to a text as a line of JSON: an object with `accepted` and, for a
 /// refused text, the keys of `refusal_json`, in byte order. An error means that memory ran out.
 pub fn check_json(
@@ -78,20 +180,9 @@ pub fn check_json(
         checked.is_accepted checked.line.items) }
     ensures apart { spec.BeginApart }
 {
-    match judged(alloc, judgement, lattice, text)? {
-        Ok(_verified) => {
-            let line = accepted_json(alloc)?;
-            Ok(Checked {
-                is_accepted: true,
-                line,
-            })
-        }
-        Err(error) => {
-            let line = refused_line(alloc, judgement, lattice, text, &error)?;
-            Ok(Checked {
-                is_accepted: false,
-                line,
-            })
-        }
+    match judgement {
+        Judgement::Base => profile_json(alloc, Profile::Base, lattice, text),
+        Judgement::Strict => profile_json(alloc, Profile::Strict, lattice, text),
+        Judgement::Steady => steady_json(alloc, lattice, text),
     }
 }

@@ -13,7 +13,7 @@ use crate::diagnostic::{Diagnostic, Field};
 use crate::members::{put_natural, put_text};
 use serde_json::{Map, Value, put};
 use std::alloc::{AllocError, Global};
-use vsi_compiler::{CompileError, resolved_program};
+use vsi_compiler::{CompileError, Source, resolved_program};
 use vsi_lattice::Lattice;
 use vsi_scope::{Resolved, Var};
 use vsi_syntax::line_column;
@@ -140,6 +140,40 @@ fn flow_objects(
     }
 }
 
+/// The objects of the steps of a walk, by the names of the program of a source text.
+fn source_objects(
+    alloc: Global,
+    source: &Source<'_>,
+    steps: &[Step],
+) -> Result<Vec<Value>, AllocError>
+    ensures { IfOk result (λ found. spec.NamesWalk source.now.lattice source.now.text
+        steps.now (map view found.items)) }
+{
+    let text = source.text();
+    let program = source.resolved();
+    let mut found = Vec::new(alloc);
+    put_step_objects(alloc, &mut found, text, program, steps)?;
+    Ok(found)
+}
+
+/// The objects of the steps of a flow of a source text, or none for any other refusal.
+fn source_flow_objects(
+    alloc: Global,
+    source: &Source<'_>,
+    steps: Option<&[Step]>,
+) -> Result<Option<Vec<Value>>, AllocError>
+    ensures { IfOk result (λ found. spec.NamesFlow source.now.lattice source.now.text
+        (option_map (λ s. s.now) steps.entry) (option_map (λ v. map view v.items) found)) }
+{
+    match steps {
+        Some(steps) => {
+            let found = source_objects(alloc, source, steps)?;
+            Ok(Some(found))
+        }
+        None => Ok(None),
+    }
+}
+
 /// Puts the line and the column of a refusal that has a position.
 fn put_place(alloc: Global, map: &mut Map<String, Value>, field: Field) -> Result<(), AllocError>
     ensures { OnOk result (members_view map.new.entries
@@ -222,6 +256,22 @@ pub fn refusal_json(
         (diagnostic_of diagnostic.now) lines.now out.items) }
 {
     let steps = flow_objects(alloc, lattice, source, diagnostic.steps)?;
+    let map = refusal_members(alloc, diagnostic, steps, lines)?;
+    let line = object_line(alloc, map)?;
+    Ok(line)
+}
+
+/// The line of `refusal_json` for a source text that was read already.
+pub fn refusal_json_of(
+    alloc: Global,
+    source: &Source<'_>,
+    diagnostic: &Diagnostic,
+    lines: &[u8],
+) -> Result<Vec<u8>, AllocError>
+    ensures json { IfOk result (λ out. spec.IsRefusalJson source.now.lattice source.now.text
+        (diagnostic_of diagnostic.now) lines.now out.items) }
+{
+    let steps = source_flow_objects(alloc, source, diagnostic.steps)?;
     let map = refusal_members(alloc, diagnostic, steps, lines)?;
     let line = object_line(alloc, map)?;
     Ok(line)

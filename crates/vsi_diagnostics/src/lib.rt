@@ -4,7 +4,8 @@
 //! any other file; `specs/Source`, `specs/Lattice` and `specs/Files` define it for each error.
 //! `refusal_text` and `fault_text` write its fixed text, as `specs/Texts` defines it: the line
 //! `refused: NUMBER NAME FIELDS` of `specs/Diagnostic`, and for a flow the explanation of its walk.
-//! `refusal_json` writes the value as a line of JSON, as `specs/Json` defines it.
+//! `refusal_json` writes the value as a line of JSON, as `specs/Json` defines it. `refusal_text_of`
+//! and `refusal_json_of` do the same for a source text that was read already.
 //!
 //! To be believed: all files of `specs/`.
 #![tactic(auto)]
@@ -21,6 +22,6 @@ mod texts;
 pub use diagnostic::{Diagnostic, Field, line_text};
 pub use fault::Fault;
 pub use files::fault_diagnostic;
-pub use json::{accepted_json, refusal_json};
+pub use json::{accepted_json, refusal_json, refusal_json_of};
 pub use source::refusal_diagnostic;
-pub use texts::{fault_text, refusal_text};
+pub use texts::{fault_text, refusal_text, refusal_text_of};

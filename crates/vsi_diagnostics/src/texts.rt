@@ -10,7 +10,7 @@ use crate::fault::Fault;
 use crate::files::fault_diagnostic;
 use crate::source::refusal_diagnostic;
 use std::alloc::{AllocError, Global};
-use vsi_compiler::{CompileError, explanation_text};
+use vsi_compiler::{CompileError, Source, explanation_text, walk_explanation};
 use vsi_lattice::Lattice;
 
 /// The text that is printed if memory ran out.
@@ -60,6 +60,39 @@ pub fn refusal_text(
 {
     let mut text = text_of(alloc, refusal_diagnostic(source, error))?;
     let more = following(alloc, lattice, source, error)?;
+    text.extend_from_slice(&more)?;
+    Ok(text)
+}
+
+/// The text after the line of a source text that was read and is refused.
+fn following_in(
+    alloc: Global,
+    source: &Source<'_>,
+    error: &CompileError,
+) -> Result<Vec<u8>, AllocError>
+    ensures { IfOk result (λ more. spec.Follows source.now.lattice source.now.text error.now
+        more.items) }
+{
+    match error {
+        CompileError::Flow(walk) => walk_explanation(alloc, source, walk),
+        CompileError::Lex(_) => Ok(Vec::new(alloc)),
+        CompileError::Parse(_) => Ok(Vec::new(alloc)),
+        CompileError::Scope(_) => Ok(Vec::new(alloc)),
+        CompileError::Memory => Ok(Vec::new(alloc)),
+    }
+}
+
+/// The text of `refusal_text` for a source text that was read already.
+pub fn refusal_text_of(
+    alloc: Global,
+    source: &Source<'_>,
+    error: &CompileError,
+) -> Result<Vec<u8>, AllocError>
+    ensures text { IfOk result (λ text. spec.IsRefusalText source.now.lattice source.now.text
+        error.now text.items) }
+{
+    let mut text = text_of(alloc, refusal_diagnostic(source.text(), error))?;
+    let more = following_in(alloc, source, error)?;
     text.extend_from_slice(&more)?;
     Ok(text)
 }

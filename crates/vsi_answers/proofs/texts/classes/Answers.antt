@@ -1,0 +1,15 @@
+use Rattle.vsi_answers.proofs.Told.{unread_told}
+use Rattle.vsi_answers.proofs.texts.classes.Goals as goal
+
+pub returns-in-Ok : goal.returns-in-Ok
+returns-in-Ok c =
+    let s = c.in-Ok.ensures in
+    record { classes = rw (← s.lattice, ← s.text) c.source_classes.ensures }
+
+pub returns-in-Err : goal.returns-in-Err
+returns-in-Err c =
+    let e = c.in-Err.ensures in
+    record {
+      classes = unread_told c.args.lattice.now c.args.profile c.args.source.now c.in-Err.error e.refused e.exact
+          c.refused_source.result c.refused_source.ensures;
+    }
