@@ -14,9 +14,9 @@ use vsi_advice::advice;
 use vsi_answers::Cause;
 use vsi_arguments::{Colour, Document, Request};
 use vsi_audit::AuditError;
-use vsi_blame::refused_flows;
+use vsi_blame::refused_flows_of;
 use vsi_caret::{ColourMode, put_safe};
-use vsi_compiler::CompileError;
+use vsi_compiler::{CompileError, read_source};
 use vsi_conform::InterfaceError;
 use vsi_diagnostics::{Diagnostic, Fault};
 use vsi_drive::{LineFault, StartFault};
@@ -309,12 +309,13 @@ fn flow_lines(
     profile: Profile,
     lattice: &Lattice,
     path: &str,
-    source: &[u8],
+    text: &[u8],
 ) -> Result<Vec<u8>, AllocError> {
-    let Ok(mut lines) = refused_flows(alloc, profile, lattice, path, source) else {
+    let Ok(source) = read_source(alloc, lattice, text) else {
         return Err(AllocError);
     };
-    put_least_raise(alloc, &mut lines, profile, lattice, source)?;
+    let mut lines = refused_flows_of(alloc, profile, path, &source)?;
+    put_least_raise(alloc, &mut lines, profile, &source)?;
     Ok(lines)
 }
 

@@ -3,9 +3,9 @@
 ghost use Rattle.std.specs.Prelude.{◌≤◌, length};
 
 use std::alloc::{AllocError, Global};
-use vsi_answers::{Unanswered, mend};
 use vsi_caret::put_text;
-use vsi_lattice::Lattice;
+use vsi_compiler::{CompileError, Source};
+use vsi_raised::raise_lines_of;
 use vsi_types::Profile;
 
 /// The largest number of raises that are listed.
@@ -59,12 +59,11 @@ pub(crate) fn put_least_raise(
     alloc: Global,
     text: &mut Vec<u8>,
     profile: Profile,
-    lattice: &Lattice,
-    source: &[u8],
+    source: &Source<'_>,
 ) -> Result<(), AllocError> {
-    match mend(alloc, profile, lattice, source) {
+    match raise_lines_of(alloc, profile, source) {
         Ok(lines) => put_raises(text, &lines),
-        Err(Unanswered::Refused(_, _)) => text.extend_from_slice(NONE),
-        Err(_) => Err(AllocError),
+        Err(CompileError::Memory) => Err(AllocError),
+        Err(_) => text.extend_from_slice(NONE),
     }
 }

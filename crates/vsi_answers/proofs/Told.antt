@@ -19,7 +19,7 @@ use Rattle.vsi_image.specs.declared.instr.Image.{Image}
 use Rattle.vsi_compiler.specs.Headline.{IsCompiled}
 use Rattle.vsi_compiler.specs.Refusal.{RefusesProgram}
 use Rattle.vsi_compiler.specs.Source.{Reads}
-use Rattle.vsi_compiler.proofs.Held.{refuses}
+use Rattle.vsi_compiler.proofs.Held.{program_refused}
 use Rattle.vsi_answers.specs.Judged.{IsCompileFault, TellsFault, TellsRaised, TellsSource}
 use Rattle.vsi_answers.specs.Requests.{Answer, RunsSourceTo, RunsTo, zeros}
 
@@ -47,7 +47,7 @@ unread_told l P source error refused exact u told =
     (λ other.
     record {
       other = other;
-      told = refuses (class_named l) (order l) P source error refused;
+      told = program_refused (class_named l) (order l) P source error refused;
       unaccepted = λ a. other (exact a.tree a.commands a.reads a.resolution);
     }) u told
 
