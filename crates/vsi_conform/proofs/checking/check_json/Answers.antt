@@ -1,1 +1,0 @@
-use Rattle.vsi_conform.proofs.checking.check_json.Goals as goal
