@@ -16,6 +16,7 @@ mod holes;
 mod listing;
 mod naming;
 mod tokens;
+mod undeclared;
 mod walk;
 
 pub use fault::{Cause, Fault};

@@ -2,6 +2,7 @@
 
 use crate::fault::{Cause, Fault};
 use crate::tokens::{Tokens, is_put};
+use crate::undeclared::undeclared_names;
 use std::alloc::{AllocError, Global};
 use vsi_lattice::{Class, Classes, Lattice};
 use vsi_repairs::{DECLARATION, Part, Stock, number_of, put_at, put_numbered};
@@ -27,21 +28,23 @@ fn put_class<'a>(
     Ok(())
 }
 
-/// The list with the declaration of a name in front.
+/// The list with the declarations of names in front.
 fn declared<'a>(
     alloc: Global,
     stock: &Stock<'a>,
     lattice: &'a Lattice,
     list: &[Token<'a>],
-    name: Token<'a>,
+    names: &[Token<'a>],
 ) -> Result<Vec<Token<'a>>, AllocError> {
     let start = Span { start: 0, stop: 0 };
     let mut made = Vec::new(alloc);
-    stock.put(&mut made, Part::Var, start)?;
-    put_at(&mut made, name, start)?;
-    stock.put(&mut made, Part::Colon, start)?;
-    put_class(alloc, &mut made, lattice, start)?;
-    stock.put(&mut made, Part::Semicolon, start)?;
+    for name in names {
+        stock.put(&mut made, Part::Var, start)?;
+        put_at(&mut made, *name, start)?;
+        stock.put(&mut made, Part::Colon, start)?;
+        put_class(alloc, &mut made, lattice, start)?;
+        stock.put(&mut made, Part::Semicolon, start)?;
+    }
     made.extend_from_slice(list)?;
     Ok(made)
 }
@@ -179,6 +182,32 @@ fn put_class_fault(
     Ok(())
 }
 
+/// Adds the fault of a name that isn't in scope, and then those of the names that no declaration
+/// has, and declares them. So the text is read once for all of these.
+fn put_unbound<'a>(
+    alloc: Global,
+    stock: &Stock<'a>,
+    lattice: &'a Lattice,
+    source: &[Token<'a>],
+    tokens: &mut Tokens<'a>,
+    first: Token<'a>,
+    faults: &mut Vec<Fault>,
+) -> Result<(), AllocError> {
+    let mut names = Vec::new(alloc);
+    names.push(first)?;
+    for token in &undeclared_names(alloc, &tokens.list)? {
+        if token.text != first.text {
+            names.push(*token)?;
+        }
+    }
+    for token in &names {
+        let error = ScopeError::Unbound(token.span);
+        put_fault(stock, source, tokens, *token, error, faults)?;
+    }
+    tokens.list = declared(alloc, stock, lattice, &tokens.list, &names)?;
+    Ok(())
+}
+
 /// Adds the first fault of the names, and repairs it. The answer is no if there is none, or none
 /// that can be repaired.
 fn put_next<'a>(
@@ -196,6 +225,10 @@ fn put_next<'a>(
         return Ok(false);
     };
     let token = *token;
+    if let ScopeError::Unbound(_) = error {
+        put_unbound(alloc, stock, lattice, source, tokens, token, faults)?;
+        return Ok(true);
+    }
     put_fault(stock, source, tokens, token, error, faults)?;
     if let ScopeError::Duplicate(_) = error {
         put_class_fault(lattice, tokens, place, faults)?;
@@ -203,8 +236,7 @@ fn put_next<'a>(
     let list = tokens.list.as_slice();
     tokens.list = match error {
         ScopeError::Duplicate(_) => undeclared(alloc, list, place)?,
-        ScopeError::UnknownClass(_) => with_class(alloc, lattice, list, place)?,
-        _ => declared(alloc, stock, lattice, list, token)?,
+        _ => with_class(alloc, lattice, list, place)?,
     };
     Ok(true)
 }
