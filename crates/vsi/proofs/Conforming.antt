@@ -5,7 +5,7 @@ use Rattle.std.proofs.lemmas.Bool.{false≢true}
 use Rattle.vsi_lattice.specs.declared.lattice.Lattice.{Lattice}
 use Rattle.vsi_conform.specs.Conforms.{Conforms, IsUnbounded}
 use Rattle.vsi_conform.specs.declared.interface.Interface.{Interface}
-use Rattle.vsi_conform.specs.declared.reader.Asked.{Asked}
+use Rattle.vsi_conform.specs.declared.reader.InterfaceFile.{InterfaceFile}
 use Rattle.vsi.specs.declared.failure.Failure.{Failure}
 use Rattle.vsi.specs.Holding.{Holding}
 use Rattle.vsi.specs.Interfaces.{IsAskedAt}
@@ -23,7 +23,7 @@ is_verdict false None l source i is exact unbounded = λ conforms. false≢true 
 is_verdict false (Some line) l source i is exact unbounded = unbounded
 
 -- An interface whose lattice is refused has no answer.
-pub refuses_asked : (old new : Holding) (path : List ℕ) (asked : Asked) (other : Failure → Type 0) → new ≡ old →
+pub refuses_asked : (old new : Holding) (path : List ℕ) (asked : InterfaceFile) (other : Failure → Type 0) → new ≡ old →
     IsAskedAt old path asked → (failure : Failure) → FailsBy (RefusesPolicy new path asked.policy) NoOther failure →
     FailsBy (RefusesAsked old path) other failure
 refuses_asked old new path asked other same is failure told =

@@ -5,14 +5,14 @@ use Rattle.std.specs.Str.Lossy.{utf8_lossy}
 use Rattle.vsi_lattice.specs.declared.lattice.Lattice.{Lattice}
 use Rattle.vsi_conform.specs.Beside.{IsInside, beside}
 use Rattle.vsi_conform.specs.Reading.{IsReadAs}
-use Rattle.vsi_conform.specs.declared.reader.Asked.{Asked}
+use Rattle.vsi_conform.specs.declared.reader.InterfaceFile.{InterfaceFile}
 use Rattle.vsi_conform.specs.declared.reader.Policy.{Policy}
 use Rattle.vsi_conform.specs.declared.reader.Policy.TheVariants.{File, Tables}
 use Rattle.vsi_answers.specs.Judged.{Declares}
 use Rattle.vsi.specs.Holding.{Holding, IsLatticeAt, IsReadAt}
 
 -- The request that the interface in a file makes, whose lattice file, if there is one, isn't outside its folder.
-pub record IsAskedAt (holds : Holding) (path : List ℕ) (asked : Asked) : Type 0 where
+pub record IsAskedAt (holds : Holding) (path : List ℕ) (asked : InterfaceFile) : Type 0 where
   pub bytes : List ℕ
   pub read : IsReadAt holds path bytes
   pub is : IsReadAs bytes asked

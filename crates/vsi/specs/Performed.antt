@@ -38,7 +38,7 @@ use Rattle.vsi_sarif.specs.Conforming.{IsConformSarif}
 use Rattle.vsi_conform.specs.Points.{is_conforming}
 use Rattle.vsi_conform.specs.Totals.{total_of}
 use Rattle.vsi_conform.specs.declared.point.Answer.{Answer}
-use Rattle.vsi_conform.specs.declared.reader.Asked.{Asked}
+use Rattle.vsi_conform.specs.declared.reader.InterfaceFile.{InterfaceFile}
 use Rattle.vsi_conform.specs.declared.interface.Interface.{Interface}
 use Rattle.vsi_conform.specs.declared.interface.Judgement.{Judgement}
 use Rattle.vsi_conform.specs.declared.interface.Judgement.TheVariants as judgement
@@ -318,7 +318,8 @@ abbrev pub BoundsFile : Holding → Bounding → BoundAnswer → Type 0
 BoundsFile holds asked = BoundsImage (IsEmittedFrom holds asked.lattice asked.file)
 
 -- The request of an interface, its lattice and a source text or an image, as the files hold them.
-pub record AreAsked (holds : Holding) (c : Conformance) (asked : Asked) (l : Lattice) (source : List ℕ) : Type 0 where
+pub record AreAsked (holds : Holding) (c : Conformance) (asked : InterfaceFile) (l : Lattice) (source : List ℕ)
+    : Type 0 where
   pub interface : IsAskedAt holds c.interface.now asked
   pub lattice : IsPolicyAt holds c.interface.now asked.policy l
   pub read : IsReadAt holds c.source.now source
@@ -353,7 +354,7 @@ TellsBytes false = TellsConforming
 -- The text written for the files of a conformance, whose source text or image conforms to the interface under its
 -- lattice or doesn't. The runs of the interface take together no more instructions than the budget has.
 pub record ConformsFiles (holds : Holding) (c : Conformance) (conforms : Bool) (text : Vec ℕ) : Type 0 where
-  pub asked : Asked
+  pub asked : InterfaceFile
   pub lattice : Lattice
   pub source : List ℕ
   pub files : AreAsked holds c asked lattice source

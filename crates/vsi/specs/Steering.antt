@@ -7,7 +7,7 @@ use Rattle.vsi_image.specs.declared.instr.Image.{Image}
 use Rattle.vsi_drive.specs.Boundary.{Boundary}
 use Rattle.vsi_conform.specs.Reading.{cycle}
 use Rattle.vsi_conform.specs.Totals.{total_of}
-use Rattle.vsi_conform.specs.declared.reader.Asked.{Asked}
+use Rattle.vsi_conform.specs.declared.reader.InterfaceFile.{InterfaceFile}
 use Rattle.vsi_conform_image.specs.Conforms.{Conforms}
 use Rattle.vsi_arguments.specs.declared.request.DrivePolicy.{DrivePolicy}
 use Rattle.vsi_arguments.specs.declared.request.DrivePolicy.TheVariants as policy
@@ -20,7 +20,7 @@ use Rattle.vsi.specs.Holding.{Holding, IsLatticeAt}
 use Rattle.vsi.specs.Interfaces.{IsAskedAt, IsPolicyAt}
 
 -- The interface of a file and its lattice, with runs that take together at most the default budget of `conform`.
-pub record IsInForce (holds : Holding) (interface : List ℕ) (asked : Asked) (l : Lattice) : Type 0 where
+pub record IsInForce (holds : Holding) (interface : List ℕ) (asked : InterfaceFile) (l : Lattice) : Type 0 where
   pub is_asked : IsAskedAt holds interface asked
   pub declared : IsPolicyAt holds interface asked.policy l
   pub within : total_of asked.interface ≤ RUNS_BUDGET
@@ -30,7 +30,7 @@ pub record IsInForce (holds : Holding) (interface : List ℕ) (asked : Asked) (l
 -- it.
 pub record IsGoverned (holds : Holding) (interface class : List ℕ) (l : Lattice) (driver : ℕ) (im : Image)
     (b : Boundary) : Type 0 where
-  pub asked : Asked
+  pub asked : InterfaceFile
   pub force : IsInForce holds interface asked l
   pub named : class_named l class ≡ Some driver
   pub is : IsClass (order l) driver
@@ -60,7 +60,7 @@ IsViewed holds v = IsSteeredBy holds v.class.now v.policy
 -- The lattice of a drive.
 abbrev pub IsLatticeOf : Holding → DrivePolicy → Lattice → Type 0
 IsLatticeOf holds (policy.Lattice path lists) l = IsLatticeAt holds path.now l
-IsLatticeOf holds (policy.Interface path) l = (asked : Asked) × IsInForce holds path.now asked l
+IsLatticeOf holds (policy.Interface path) l = (asked : InterfaceFile) × IsInForce holds path.now asked l
 
 -- The line of a class that the tables of an interface leave out.
 abbrev pub no_cycle_line : List ℕ → List ℕ

@@ -12,7 +12,7 @@ use Rattle.vsi_conform.specs.Faulty.{interface_line}
 use Rattle.vsi_conform_image.specs.Lines.{IsConformText}
 use Rattle.vsi_conform.specs.Reading.{ClassBoundary, cycle}
 use Rattle.vsi_conform.specs.declared.interface.Interface.{Interface}
-use Rattle.vsi_conform.specs.declared.reader.Asked.{Asked}
+use Rattle.vsi_conform.specs.declared.reader.InterfaceFile.{InterfaceFile}
 use Rattle.vsi_conform.specs.declared.reader.Policy.{Policy}
 use Rattle.vsi_conform.specs.declared.reader.Policy.TheVariants.{File, Tables}
 use Rattle.vsi_answers.specs.Answers.{Because}
@@ -41,7 +41,7 @@ RefusesPolicy holds interface (Tables text) reason = ReadsLattice text.items (Er
 
 -- `conform`: the lattice of the interface of the file is refused.
 pub record RefusesAsked (holds : Holding) (path : List ℕ) (reason : Unanswered) : Type 0 where
-  pub asked : Asked
+  pub asked : InterfaceFile
   pub interface : IsAskedAt holds path asked
   pub refused : RefusesPolicy holds path asked.policy reason
 
@@ -123,7 +123,7 @@ SaysDiffering l image i failure = ⊥
 
 -- By an interface: the image of a file doesn't conform to it.
 pub record DiffersGoverned (holds : Holding) (interface path : List ℕ) (failure : Failure) : Type 0 where
-  pub asked : Asked
+  pub asked : InterfaceFile
   pub lattice : Lattice
   pub force : IsInForce holds interface asked lattice
   pub image : Image
@@ -136,7 +136,7 @@ LacksCycle bs class failure = (boundary_at bs class ≡ None) × SaysLine (no_cy
 
 -- By an interface: its lattice has no class of the name, or its tables leave out the class.
 pub record LacksGovernedClass (holds : Holding) (interface class : List ℕ) (failure : Failure) : Type 0 where
-  pub asked : Asked
+  pub asked : InterfaceFile
   pub lattice : Lattice
   pub force : IsInForce holds interface asked lattice
   pub is : LacksClass lattice class failure ⊎ LacksCycle (map cycle asked.cycles.items) class failure

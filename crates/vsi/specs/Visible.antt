@@ -4,7 +4,7 @@ use Rattle.std.specs.Borrow.{Bor}
 use Rattle.std.specs.Global.{Vec}
 use Rattle.vsi_lattice.specs.declared.lattice.Lattice.{Lattice}
 use Rattle.vsi_conform.specs.declared.interface.Interface.{Interface}
-use Rattle.vsi_conform.specs.declared.reader.Asked.{Asked}
+use Rattle.vsi_conform.specs.declared.reader.InterfaceFile.{InterfaceFile}
 use Rattle.vsi_visible.specs.Visible.{visible_changes, visible_table}
 use Rattle.vsi_arguments.specs.declared.request.Visibility.{Visibility}
 use Rattle.vsi.specs.Holding.{Holding}
@@ -12,7 +12,7 @@ use Rattle.vsi.specs.Interfaces.{IsAskedAt, IsPolicyAt}
 
 -- The text has the differences of an interface from that of a file, each with its lattice.
 pub record DiffersFrom (holds : Holding) (path : List ℕ) (i : Interface) (l : Lattice) (text : List ℕ) : Type 0 where
-  pub old : Asked
+  pub old : InterfaceFile
   pub asked : IsAskedAt holds path old
   pub lattice : Lattice
   pub declared : IsPolicyAt holds path old.policy lattice
@@ -25,7 +25,7 @@ ToldVisible holds (Some path) i l text = DiffersFrom holds path.now i l text
 
 -- The text says which globals each class sees under the interface of a file.
 pub record ShowsFiles (holds : Holding) (v : Visibility) (text : Vec ℕ) : Type 0 where
-  pub asked : Asked
+  pub asked : InterfaceFile
   pub interface : IsAskedAt holds v.interface.now asked
   pub lattice : Lattice
   pub declared : IsPolicyAt holds v.interface.now asked.policy lattice

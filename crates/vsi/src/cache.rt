@@ -1,6 +1,9 @@
 //! The files read by a request, kept for the explanation of its refusal and for its line of JSON.
 
+use crate::explaining::flow_lines;
 use std::alloc::{AllocError, Global};
+use vsi_compiler::Source;
+use vsi_types::Profile;
 
 /// The kind of a file that was read.
 #[derive(Clone, Copy, Debug, PartialEq, Eq)]
@@ -42,16 +45,22 @@ pub(crate) struct InputCache {
     pub(crate) keeps_files: bool,
     /// Whether a store file was read whose checksum isn't that of the rest.
     pub(crate) is_broken: bool,
+    /// Whether refusals are explained.
+    explains: bool,
+    /// The explanation of a refused flow, made while its source text was at hand.
+    flow_lines: Option<Result<Vec<u8>, AllocError>>,
     kept: Vec<Kept>,
 }
 
 impl InputCache {
-    /// An empty cache.
-    pub(crate) fn new(alloc: Global, keeps_files: bool) -> InputCache {
+    /// An empty cache, which keeps files for explanations or for positions in lines of JSON.
+    pub(crate) fn new(alloc: Global, explains: bool, answers_json: bool) -> InputCache {
         InputCache {
             alloc,
-            keeps_files,
+            keeps_files: explains || answers_json,
             is_broken: false,
+            explains,
+            flow_lines: None,
             kept: Vec::new(alloc),
         }
     }
@@ -73,6 +82,31 @@ impl InputCache {
         };
         self.kept.push(kept)?;
         Ok(())
+    }
+
+    /// Keeps the explanation of a source text that is refused for a flow under a profile, if refusals
+    /// are explained.
+    pub(crate) fn explain_flow(&mut self, profile: Profile, source: &Source<'_>) {
+        if !self.explains {
+            return;
+        }
+        let lines = match self.last(InputKind::Source) {
+            Some(kept) => {
+                let path = str::from_utf8(&kept.path).unwrap_or("");
+                flow_lines(self.alloc, profile, path, source)
+            }
+            None => return,
+        };
+        self.flow_lines = Some(lines);
+    }
+
+    /// The explanation of a refused flow, if one was kept.
+    pub(crate) fn flow_lines(&self) -> Option<Result<Vec<u8>, AllocError>> {
+        match &self.flow_lines {
+            Some(Ok(lines)) => Some(Vec::from_slice(self.alloc, lines)),
+            Some(Err(_)) => Some(Err(AllocError)),
+            None => None,
+        }
     }
 
     /// The last file of this kind that was read. A lattice file that was read before an interface is

@@ -108,7 +108,7 @@ fn carry_out_asked<'a, F: Files, R: Read, W: Write>(
 
 /// An empty cache, which keeps files for an explanation or for the position in a line of JSON.
 fn cache_for(alloc: Global, explaining: &Option<Explaining>, is_json: bool) -> InputCache {
-    InputCache::new(alloc, explaining.is_some() || is_json)
+    InputCache::new(alloc, explaining.is_some(), is_json)
 }
 
 /// The settings for explaining a refusal, if explanations are requested.

@@ -28,7 +28,7 @@ use std::io::Write;
 use vsi_answers::judged_image;
 use vsi_arguments::{AnswerForm, Conformance};
 use vsi_conform::{
-    Answer, Asked, Cycle, Interface, InterfaceError, Policy, interface_text, is_within,
+    Answer, Cycle, Interface, InterfaceError, InterfaceFile, Policy, interface_text, is_within,
     path_beside, points_json, points_text, read_interface, unknown_class, unknown_cycle,
 };
 use vsi_conform_image::conform_image;
@@ -100,7 +100,7 @@ pub(crate) fn interface_in<'a, F: Files>(
     cache: &mut InputCache,
     path: &'a str,
     files: &mut F,
-) -> Result<Asked, Failure<'a>>
+) -> Result<InterfaceFile, Failure<'a>>
     ensures kept { F.holds files.new ≡ F.holds files.old }
     ensures asked { IfOk result (IsAskedAt (F.holds files.old) path.now) }
     ensures failed { IfErr result (FailsBy (λ reason. ⊥) IsUnusable) }
@@ -309,7 +309,7 @@ pub(crate) fn asked_in<'a, F: Files>(
     path: &'a str,
     budget: u64,
     files: &mut F,
-) -> Result<(Asked, Lattice), Failure<'a>>
+) -> Result<(InterfaceFile, Lattice), Failure<'a>>
     ensures kept { F.holds files.new ≡ F.holds files.old }
     ensures asked { IfOk result (λ pair. IsAskedAt (F.holds files.old) path.now pair.0) }
     ensures declared { IfOk result

@@ -16,7 +16,7 @@ use vsi_arguments::{Colour, Document, Request};
 use vsi_audit::AuditError;
 use vsi_blame::refused_flows_of;
 use vsi_caret::{ColourMode, put_safe};
-use vsi_compiler::{CompileError, read_source};
+use vsi_compiler::{CompileError, Source, read_source};
 use vsi_conform::InterfaceError;
 use vsi_diagnostics::{Diagnostic, Fault};
 use vsi_drive::{LineFault, StartFault};
@@ -25,7 +25,7 @@ use vsi_lattice::{Lattice, read_lattice};
 use vsi_steady::{SteadyError, UnsteadyError};
 use vsi_store::StoreError;
 use vsi_syntax::put_number;
-use vsi_telling::{Refused, class_list, explanation};
+use vsi_telling::{RefusedFile, class_list, explanation};
 use vsi_types::Profile;
 
 /// The advice for a run that is out of budget.
@@ -167,14 +167,16 @@ impl Explaining {
         let Some(kept) = cache.last(InputKind::Source) else {
             return Ok(Vec::new(cache.alloc));
         };
+        if let Some(lines) = cache.flow_lines() {
+            return lines;
+        }
         let Some(lattice) = policy(cache) else {
             return Err(AllocError);
         };
         if let CompileError::Flow(_) = error {
-            let path = str::from_utf8(&kept.path).unwrap_or("");
-            return flow_lines(cache.alloc, self.profile, &lattice, path, &kept.bytes);
+            return self.of_flow(cache.alloc, &lattice, kept);
         }
-        let refused = Refused::Source {
+        let refused = RefusedFile::Source {
             path: &kept.path,
             bytes: &kept.bytes,
             lattice: &lattice,
@@ -191,13 +193,22 @@ impl Explaining {
         let Some(image) = read_image(cache) else {
             return Err(AllocError);
         };
-        let refused = Refused::Store {
+        let refused = RefusedFile::Store {
             path: &kept.path,
             bytes: &kept.bytes,
             image: &image,
             error,
         };
         explanation(cache.alloc, self.mode, &refused)
+    }
+
+    /// The explanation of a source text that is refused for a flow, which is read once more.
+    fn of_flow(self, alloc: Global, lattice: &Lattice, kept: &Kept) -> Result<Vec<u8>, AllocError> {
+        let Ok(source) = read_source(alloc, lattice, &kept.bytes) else {
+            return Err(AllocError);
+        };
+        let path = str::from_utf8(&kept.path).unwrap_or("");
+        flow_lines(alloc, self.profile, path, &source)
     }
 
     /// The explanation of a refused lattice file or image.
@@ -210,7 +221,7 @@ impl Explaining {
         let Some(kept) = of_kind(cache, kind) else {
             return Ok(Vec::new(cache.alloc));
         };
-        let refused = Refused::File {
+        let refused = RefusedFile::File {
             path: &kept.path,
             bytes: &kept.bytes,
             fault,
@@ -244,7 +255,7 @@ impl Explaining {
         lattice: Option<&'d Lattice>,
         error: &'d InterfaceError,
     ) -> Result<Vec<u8>, AllocError> {
-        let refused = vsi_advice::Refused::Interface {
+        let refused = vsi_advice::RefusedInput::Interface {
             bytes: &kept.bytes,
             lattice,
             error,
@@ -260,7 +271,7 @@ impl Explaining {
         let Some(image) = read_image(cache) else {
             return Err(AllocError);
         };
-        let refused = vsi_advice::Refused::Start {
+        let refused = vsi_advice::RefusedInput::Start {
             bytes: &kept.bytes,
             image: &image,
             fault,
@@ -277,7 +288,7 @@ impl Explaining {
         ) else {
             return Err(AllocError);
         };
-        let refused = vsi_advice::Refused::Audit {
+        let refused = vsi_advice::RefusedInput::Audit {
             lattice: &lattice,
             image: &image,
             error,
@@ -294,7 +305,7 @@ impl Explaining {
         ) else {
             return Err(AllocError);
         };
-        let refused = vsi_advice::Refused::Steady {
+        let refused = vsi_advice::RefusedInput::Steady {
             lattice: &lattice,
             image: &image,
             error,
@@ -304,18 +315,14 @@ impl Explaining {
 }
 
 /// The explanation of a text that is refused for a flow: its refused flows, and the least raise.
-fn flow_lines(
+pub(crate) fn flow_lines(
     alloc: Global,
     profile: Profile,
-    lattice: &Lattice,
     path: &str,
-    text: &[u8],
+    source: &Source<'_>,
 ) -> Result<Vec<u8>, AllocError> {
-    let Ok(source) = read_source(alloc, lattice, text) else {
-        return Err(AllocError);
-    };
-    let mut lines = refused_flows_of(alloc, profile, path, &source)?;
-    put_least_raise(alloc, &mut lines, profile, &source)?;
+    let mut lines = refused_flows_of(alloc, profile, path, source)?;
+    put_least_raise(alloc, &mut lines, profile, source)?;
     Ok(lines)
 }
 

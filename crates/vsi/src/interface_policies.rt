@@ -13,7 +13,7 @@ use crate::failure::Failure;
 use crate::files::Files;
 use std::alloc::{AllocError, Global};
 use vsi_arguments::Visibility;
-use vsi_conform::{Asked, Interface};
+use vsi_conform::{Interface, InterfaceFile};
 use vsi_lattice::Lattice;
 use vsi_policy::policy_warnings;
 use vsi_visible::{unused_warnings, visible_changes, visible_table};
@@ -24,7 +24,7 @@ fn known_in<'a, F: Files>(
     cache: &mut InputCache,
     path: &'a str,
     files: &mut F,
-) -> Result<(Asked, Lattice), Failure<'a>>
+) -> Result<(InterfaceFile, Lattice), Failure<'a>>
     ensures kept { F.holds files.new ≡ F.holds files.old }
     ensures asked { IfOk result (λ pair. IsAskedAt (F.holds files.old) path.now pair.0) }
     ensures declared { IfOk result

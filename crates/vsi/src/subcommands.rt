@@ -17,13 +17,13 @@ use crate::cache::{InputCache, InputKind};
 use crate::failure::{Failure, write_answer};
 use crate::files::Files;
 use crate::filling::fill;
+use crate::observing::CheckObserver;
 use crate::reading::{answered, bytes_in, lattice_in, two_classes};
-use crate::warning::put_warnings;
 use std::alloc::Global;
 use std::io::Write;
-use vsi_answers::Unanswered;
+use vsi_answers::{Observer, Unanswered};
 use vsi_arguments::{Compilation, Judging, Mending};
-use vsi_conform::{Checked, Judgement, check_json};
+use vsi_conform::{Checked, Judgement, check_json_for};
 use vsi_devices::Counted;
 use vsi_lattice::Lattice;
 use vsi_raises_json::{Mended, mend_json};
@@ -58,20 +58,21 @@ pub(crate) fn policy_and_text<'a, F: Files>(
 }
 
 /// `accepted`, if a text is accepted under a lattice as requested.
-fn checked(
+fn checked<O: Observer>(
     alloc: Global,
     asked: Judging<'_>,
     classes: &Lattice,
     text: &[u8],
+    observer: &mut O,
 ) -> Result<Vec<u8>, Unanswered>
     ensures { AsksCheck asked.entry.is_steady asked.entry.compilation.is_strict
         classes.now text.now result }
 {
     if asked.is_steady {
-        return vsi_answers::check_steady(alloc, classes, text);
+        return vsi_answers::check_steady(alloc, classes, text, observer);
     }
     let profile = profile(asked.compilation.is_strict);
-    vsi_answers::check(alloc, profile, classes, text)
+    vsi_answers::check(alloc, profile, classes, text, observer)
 }
 
 /// `accepted`, if the source text is accepted as requested. The note gets the warnings about the
@@ -90,8 +91,14 @@ pub(crate) fn check<'a, F: Files>(
         (AsksCheck asked.entry.is_steady asked.entry.compilation.is_strict)) NoOther) }
 {
     let (classes, text) = policy_and_text(cache, asked.compilation, files)?;
-    put_warnings(cache.alloc, asked, &classes, &text, note)?;
-    answered(checked(cache.alloc, asked, &classes, text.as_slice()))
+    let alloc = cache.alloc;
+    let has_warnings = asked.has_warnings;
+    let mut observer = CheckObserver {
+        cache,
+        note,
+        has_warnings,
+    };
+    answered(checked(alloc, asked, &classes, text.as_slice(), &mut observer))
 }
 
 /// The judgement that the source text must pass.
@@ -125,8 +132,20 @@ fn checked_line<'a, F: Files>(
         (RefusesLattice (F.holds files.old) asked.entry.compilation.lattice.now) NoOther) }
 {
     let (classes, text) = policy_and_text(cache, asked.compilation, files)?;
-    put_warnings(cache.alloc, asked, &classes, &text, note)?;
-    let checked = check_json(cache.alloc, judgement(asked), &classes, text.as_slice())?;
+    let alloc = cache.alloc;
+    let has_warnings = asked.has_warnings;
+    let mut observer = CheckObserver {
+        cache,
+        note,
+        has_warnings,
+    };
+    let checked = check_json_for(
+        alloc,
+        judgement(asked),
+        &classes,
+        text.as_slice(),
+        &mut observer,
+    )?;
     Ok(checked)
 }
 
@@ -167,7 +186,8 @@ pub(crate) fn classes<'a, F: Files>(
 {
     let (classes, text) = policy_and_text(cache, compilation, files)?;
     let profile = profile(compilation.is_strict);
-    answered(vsi_answers::classes(cache.alloc, profile, &classes, text.as_slice()))
+    let alloc = cache.alloc;
+    answered(vsi_answers::classes(alloc, profile, &classes, text.as_slice(), cache))
 }
 
 /// The flows between the declared variables of the source text.
@@ -286,7 +306,8 @@ pub(crate) fn built<'a, F: Files>(
 {
     let (classes, text) = policy_and_text(cache, compilation, files)?;
     let profile = profile(compilation.is_strict);
-    answered(vsi_answers::build(cache.alloc, profile, &classes, text.as_slice()))
+    let alloc = cache.alloc;
+    answered(vsi_answers::build(alloc, profile, &classes, text.as_slice(), cache))
 }
 
 /// Compiles the source text, and then fills the image file with the image's bytes.

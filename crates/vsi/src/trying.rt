@@ -107,7 +107,8 @@ pub(crate) fn made_image<'a>(
     ensures failed { IfErr result
         (FailsBy (λ reason. BuildsTo lattice.now Base text.now (Err reason)) NoOther) }
 {
-    let bytes = answered(vsi_answers::build(cache.alloc, Profile::Base, lattice, text))?;
+    let alloc = cache.alloc;
+    let bytes = answered(vsi_answers::build(alloc, Profile::Base, lattice, text, cache))?;
     let image = bytes.as_slice();
     cache.keep(InputKind::Image, source, image)?;
     match judged_image(cache.alloc, image) {

@@ -1,7 +1,7 @@
 //! The explanation of a faulty boundary of an interface file.
 
 use crate::interface_places::{cycle_key_place, cycle_place, global_names, pair_named};
-use crate::interfaces::{Page, own_classes};
+use crate::interfaces::{InterfaceAdvice, own_classes};
 use std::alloc::AllocError;
 use toml::{Table, Value};
 use vsi_conform::InterfaceError;
@@ -107,7 +107,7 @@ fn class_of(cycle: &Table) -> Option<&str> {
     cycle.get("class")?.as_str()
 }
 
-impl Page<'_> {
+impl InterfaceAdvice<'_> {
     /// Adds a text, the boundary's number and another text.
     fn cycle(&mut self, before: &str, number: usize, after: &str) -> Result<(), AllocError> {
         self.put(before)?;
@@ -251,13 +251,13 @@ impl Page<'_> {
 
 /// Adds the explanation of a faulty boundary, and returns its position.
 pub(crate) fn of_cycle(
-    page: &mut Page,
+    advice: &mut InterfaceAdvice,
     lattice: Option<&Lattice>,
     error: &InterfaceError,
 ) -> Result<Option<Span>, AllocError> {
     match error {
-        InterfaceError::BadCycle(number) => page.no_cycle(*number),
-        InterfaceError::UnknownInCycle(number, name) => page.unknown(*number, name, lattice),
+        InterfaceError::BadCycle(number) => advice.no_cycle(*number),
+        InterfaceError::UnknownInCycle(number, name) => advice.unknown(*number, name, lattice),
         _ => Ok(None),
     }
 }

@@ -1,7 +1,7 @@
 //! The explanation of a faulty run of an interface file.
 
 use crate::interface_places::{entry_place, global_names, run_key_place, run_place};
-use crate::interfaces::{Page, RUN_KEYS, is_run_key};
+use crate::interfaces::{InterfaceAdvice, RUN_KEYS, is_run_key};
 use std::alloc::AllocError;
 use toml::{Table, Value};
 use vsi_conform::InterfaceError;
@@ -47,7 +47,7 @@ fn faulty_word<'t>(table: &'t Table, number: usize, key: &str) -> Option<&'t [u8
     wordless(run_value(table, number, key)?)
 }
 
-impl Page<'_> {
+impl InterfaceAdvice<'_> {
     /// Adds a text, the run's number and another text.
     fn run(&mut self, before: &str, number: usize, behind: &str) -> Result<(), AllocError> {
         self.put(before)?;
@@ -197,15 +197,18 @@ impl Page<'_> {
 }
 
 /// Adds the explanation of the runs of an interface, and returns its position.
-pub(crate) fn of_run(page: &mut Page, error: &InterfaceError) -> Result<Option<Span>, AllocError> {
+pub(crate) fn of_run(
+    advice: &mut InterfaceAdvice,
+    error: &InterfaceError,
+) -> Result<Option<Span>, AllocError> {
     match error {
-        InterfaceError::BadRuns => page.runs(),
-        InterfaceError::BadRun(number) => page.other(*number),
-        InterfaceError::BadStore(number) => page.table(*number, "store"),
-        InterfaceError::NoBudget(number) => page.budget(*number),
-        InterfaceError::NothingExpected(number) => page.expect(*number),
-        InterfaceError::UnknownGlobal(number, name) => page.global(*number, name),
-        InterfaceError::AboveBudget(most) => page.budgets(*most),
+        InterfaceError::BadRuns => advice.runs(),
+        InterfaceError::BadRun(number) => advice.other(*number),
+        InterfaceError::BadStore(number) => advice.table(*number, "store"),
+        InterfaceError::NoBudget(number) => advice.budget(*number),
+        InterfaceError::NothingExpected(number) => advice.expect(*number),
+        InterfaceError::UnknownGlobal(number, name) => advice.global(*number, name),
+        InterfaceError::AboveBudget(most) => advice.budgets(*most),
         _ => Ok(None),
     }
 }

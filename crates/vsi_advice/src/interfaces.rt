@@ -55,7 +55,7 @@ fn is_long(value: &Value) -> bool {
 
 /// A refused interface file, and its explanation so far.
 #[derive(Drop)]
-pub(crate) struct Page<'p> {
+pub(crate) struct InterfaceAdvice<'p> {
     pub(crate) alloc: Global,
     pub(crate) bytes: &'p [u8],
     pub(crate) table: &'p Table,
@@ -82,7 +82,7 @@ fn put_not_toml(
     Ok(place)
 }
 
-impl Page<'_> {
+impl InterfaceAdvice<'_> {
     /// Adds a text.
     pub(crate) fn put(&mut self, text: &str) -> Result<(), AllocError> {
         self.words.extend_from_slice(text.as_bytes())
@@ -356,37 +356,37 @@ fn text_at<'t>(table: &'t Table, key: &str) -> Option<&'t str> {
 
 /// Adds the explanation of a fault, and returns its position.
 fn put_fault(
-    page: &mut Page,
+    advice: &mut InterfaceAdvice,
     lattice: Option<&Lattice>,
     error: &InterfaceError,
 ) -> Result<Option<Span>, AllocError> {
     match error {
-        InterfaceError::UnknownKey(key) => page.key(key),
-        InterfaceError::BadLattice => page.lattice(),
+        InterfaceError::UnknownKey(key) => advice.key(key),
+        InterfaceError::BadLattice => advice.lattice(),
         InterfaceError::BadProfile => {
-            page.choice("profile", " isn't a profile: the profiles are ", &PROFILES)
+            advice.choice("profile", " isn't a profile: the profiles are ", &PROFILES)
         }
-        InterfaceError::BadOrder => page.choice(
+        InterfaceError::BadOrder => advice.choice(
             "order",
             " isn't an order: the orders are ",
             &ORDERS,
         ),
-        InterfaceError::BadBounded => page.bounded(),
-        InterfaceError::BadGlobals => page.globals(),
-        InterfaceError::BadName(name) => page.name(
+        InterfaceError::BadBounded => advice.bounded(),
+        InterfaceError::BadGlobals => advice.globals(),
+        InterfaceError::BadName(name) => advice.name(
             name,
             0,
             " isn't a valid name. Hint: a name begins with a letter, continues with letters, \
             digits and `_`, has at most 32 of them, and isn't a keyword.\n",
         ),
         InterfaceError::RepeatedGlobal(name) => {
-            page.name(name, 1, " is in `globals` twice. Hint: leave one out.\n")
+            advice.name(name, 1, " is in `globals` twice. Hint: leave one out.\n")
         }
-        InterfaceError::UnknownClass(name) => page.class(name, lattice),
+        InterfaceError::UnknownClass(name) => advice.class(name, lattice),
         InterfaceError::BadCycle(_) | InterfaceError::UnknownInCycle(_, _) => {
-            of_cycle(page, lattice, error)
+            of_cycle(advice, lattice, error)
         }
-        other => of_run(page, other),
+        other => of_run(advice, other),
     }
 }
 
@@ -399,13 +399,13 @@ fn put_table_fault(
     lattice: Option<&Lattice>,
     error: &InterfaceError,
 ) -> Result<Option<Span>, AllocError> {
-    let mut page = Page {
+    let mut advice = InterfaceAdvice {
         alloc,
         bytes,
         table,
         words,
     };
-    put_fault(&mut page, lattice, error)
+    put_fault(&mut advice, lattice, error)
 }
 
 /// Adds the explanation of a refused interface file, and returns the position of the fault. The

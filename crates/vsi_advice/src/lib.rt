@@ -33,7 +33,7 @@ use vsi_telling::shown;
 
 /// A refusal: the refused file or image, and the reason.
 #[derive(Clone, Copy)]
-pub enum Refused<'a> {
+pub enum RefusedInput<'a> {
     /// An interface file, with the lattice of the file that it names, if that was read.
     Interface {
         bytes: &'a [u8],
@@ -63,7 +63,7 @@ pub enum Refused<'a> {
 
 /// The explanation of a refusal: a part of the file, if one is known, and a text.
 #[derive(Drop)]
-pub(crate) struct Telling {
+pub(crate) struct InputAdvice {
     pub(crate) place: Option<Span>,
     pub(crate) words: Vec<u8>,
 }
@@ -73,27 +73,27 @@ pub(crate) struct Telling {
 fn put_file(
     alloc: Global,
     words: &mut Vec<u8>,
-    refused: Refused,
+    refused: RefusedInput,
 ) -> Result<Option<Span>, AllocError> {
     match refused {
-        Refused::Interface {
+        RefusedInput::Interface {
             bytes,
             lattice,
             error,
         } => put_interface(alloc, words, bytes, lattice, error),
-        Refused::Start {
+        RefusedInput::Start {
             bytes,
             image,
             fault,
         } => put_start(alloc, words, bytes, image, fault),
-        Refused::Audit { .. } | Refused::Steady { .. } => Ok(None),
+        RefusedInput::Audit { .. } | RefusedInput::Steady { .. } => Ok(None),
     }
 }
 
 /// Adds the explanation of a judged image. Adds nothing for a file.
-fn put_judged(alloc: Global, words: &mut Vec<u8>, refused: Refused) -> Result<(), AllocError> {
+fn put_judged(alloc: Global, words: &mut Vec<u8>, refused: RefusedInput) -> Result<(), AllocError> {
     match refused {
-        Refused::Audit {
+        RefusedInput::Audit {
             lattice,
             image,
             error,
@@ -105,7 +105,7 @@ fn put_judged(alloc: Global, words: &mut Vec<u8>, refused: Refused) -> Result<()
             };
             put_audit(&judged, words, error)
         }
-        Refused::Steady {
+        RefusedInput::Steady {
             lattice,
             image,
             error,
@@ -117,23 +117,23 @@ fn put_judged(alloc: Global, words: &mut Vec<u8>, refused: Refused) -> Result<()
             };
             put_steady(&judged, words, error)
         }
-        Refused::Interface { .. } | Refused::Start { .. } => Ok(()),
+        RefusedInput::Interface { .. } | RefusedInput::Start { .. } => Ok(()),
     }
 }
 
 /// The explanation of a refusal.
-fn telling_of(alloc: Global, refused: Refused) -> Result<Telling, AllocError> {
+fn advice_of(alloc: Global, refused: RefusedInput) -> Result<InputAdvice, AllocError> {
     let mut words = Vec::new(alloc);
     let place = put_file(alloc, &mut words, refused)?;
     put_judged(alloc, &mut words, refused)?;
-    Ok(Telling { place, words })
+    Ok(InputAdvice { place, words })
 }
 
 /// The bytes to which the positions of a refusal refer; an image has none.
-fn bytes_of<'a>(refused: Refused<'a>) -> &'a [u8] {
+fn bytes_of<'a>(refused: RefusedInput<'a>) -> &'a [u8] {
     match refused {
-        Refused::Interface { bytes, .. } | Refused::Start { bytes, .. } => bytes,
-        Refused::Audit { .. } | Refused::Steady { .. } => b"",
+        RefusedInput::Interface { bytes, .. } | RefusedInput::Start { bytes, .. } => bytes,
+        RefusedInput::Audit { .. } | RefusedInput::Steady { .. } => b"",
     }
 }
 
@@ -144,18 +144,18 @@ pub fn advice(
     alloc: Global,
     mode: ColourMode,
     path: &[u8],
-    refused: Refused,
+    refused: RefusedInput,
 ) -> Result<Vec<u8>, AllocError>
     // Without colours no byte controls a terminal.
     ensures plain { mode ≡ Plain → IfOk result (λ text. all_plain text.items ≡ true) }
 {
-    let telling = telling_of(alloc, refused)?;
+    let advice = advice_of(alloc, refused)?;
     shown(
         alloc,
         mode,
         path,
         bytes_of(refused),
-        telling.place,
-        &telling.words,
+        advice.place,
+        &advice.words,
     )
 }

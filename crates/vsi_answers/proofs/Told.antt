@@ -1,5 +1,5 @@
 -- A refusal for one error is a refusal for each kind to which the error belongs.
-use Rattle.std.proofs.Common.{◌≡◌, ◌≢◌, ◌⊎◌, ℕ, List, Ok, Err, inl, inr, sym, subst, ◌∙◌}
+use Rattle.std.proofs.Common.{◌≡◌, ◌≢◌, ◌⊎◌, ℕ, List, Ok, Err, inl, inr, refl, sym, subst, ◌∙◌}
 use Rattle.vsi_lattice.specs.declared.lattice.Lattice.{Lattice}
 use Rattle.vsi_compiler.specs.declared.error.CompileError.{CompileError}
 use Rattle.vsi_compiler.specs.declared.error.CompileError.TheVariants as compiler
@@ -9,7 +9,9 @@ use Rattle.vsi_answers.specs.declared.unanswered.Unanswered.{Unanswered}
 use Rattle.vsi_answers.specs.declared.unanswered.Unanswered.TheVariants.{Refused, OutOfBudget, Memory}
 use Rattle.vsi_answers.specs.declared.unanswered.Cause.TheVariants.{Source, File, Start, Steady, Raised}
 use Rattle.vsi_answers.specs.Answers.{Because, Telling}
+use Rattle.vsi_lattice.specs.Known.{Known}
 use Rattle.vsi_lattice.specs.LatticeView.{class_named, order}
+use Rattle.vsi_lattice.specs.Order as lattices
 use Rattle.vsi_syntax.specs.Tree.{Whole}
 use Rattle.vsi_scope.specs.Language.{Command}
 use Rattle.vsi_scope.specs.Resolving.{IsResolution}
@@ -20,7 +22,9 @@ use Rattle.vsi_compiler.specs.Headline.{IsCompiled}
 use Rattle.vsi_compiler.specs.Refusal.{RefusesProgram}
 use Rattle.vsi_compiler.specs.Source.{Reads}
 use Rattle.vsi_compiler.proofs.Held.{program_refused}
-use Rattle.vsi_answers.specs.Judged.{IsCompileFault, TellsFault, TellsRaised, TellsSource}
+use Rattle.vsi_steady.specs.Source.{RefusesSteady}
+use Rattle.vsi_steady.specs.declared.unsteady.UnsteadyError.TheVariants as unsteady
+use Rattle.vsi_answers.specs.Judged.{IsCompileFault, TellsFault, TellsRaised, TellsSource, TellsSteady}
 use Rattle.vsi_answers.specs.Requests.{Answer, RunsSourceTo, RunsTo, zeros}
 
 -- The refusal of a source text for an error is a refusal for each kind to which the error belongs.
@@ -50,6 +54,33 @@ unread_told l P source error refused exact u told =
       told = program_refused (class_named l) (order l) P source error refused;
       unaccepted = λ a. other (exact a.tree a.commands a.reads a.resolution);
     }) u told
+
+-- A refusal of the program is one of the steady judgement.
+pub steadily_told : (known : Known) (L : lattices.Lattice) (text : List ℕ) (e : CompileError) → e ≢ compiler.Memory →
+    RefusesProgram known text e → RefusesSteady known L text (unsteady.Compile e)
+steadily_told known L text compiler.Memory other h = absurd (other refl)
+steadily_told known L text (compiler.Lex e) other h = h
+steadily_told known L text (compiler.Parse e) other h = h
+steadily_told known L text (compiler.Scope e) other h = h
+steadily_told known L text (compiler.Flow walk) other h = absurd h
+
+-- A text that has no program is refused when a steady image is required.
+pub unread_steady : (l : Lattice) (source : List ℕ) (error : CompileError) → error ≢ compiler.Memory →
+    RefusesProgram (class_named l) source error → (u : Unanswered) →
+    Because (TellsSteady (λ e. e ≡ unsteady.Compile error) l source) ⊥ u →
+    Because (TellsSteady (RefusesSteady (class_named l) (order l) source) l source) ⊥ u
+unread_steady l source error other h (Refused text (Source e)) told = absurd told
+unread_steady l source error other h (Refused text (File f)) told = absurd told
+unread_steady l source error other h (Refused text (Start f)) told = absurd told
+unread_steady l source error other h (Refused text (Steady e)) told = (
+  told.0,
+  subst (RefusesSteady (class_named l) (order l) source) (sym told.1)
+      (steadily_told (class_named l) (order l) source error other h),
+  told.2,
+)
+unread_steady l source error other h (Refused text (Raised e)) told = absurd told
+unread_steady l source error other h OutOfBudget told = absurd told
+unread_steady l source error other h Memory told = tt
 
 -- The refusal of a file for a fault is a refusal for each kind to which the fault belongs.
 pub fault_told : (Kind : Fault → Type 0) (fault : Fault) → Kind fault → (spent : Type 0) → (u : Unanswered) →

@@ -10,6 +10,7 @@
 mod bounds;
 mod files;
 pub mod laws;
+mod observer;
 mod places;
 mod raising;
 mod refusing;
@@ -20,10 +21,11 @@ mod unanswered;
 
 pub use bounds::{BoundAnswer, bound, bound_in, enough_budget};
 pub use files::{declared_lattice, judged_image, list};
+pub use observer::{Observer, Unobserved};
 pub use places::Place;
 pub use raising::{apply, mend};
 pub use refusing::{refused_file, refused_source, refused_start};
 pub use runs::{compare, run, run_source, start_words, view};
-pub use steady::check_steady;
-pub use texts::{build, check, check_files, classes, flows, format};
+pub use steady::{check_steady, image_text, image_text_of, looped_text, looped_text_of};
+pub use texts::{build, check, classes, flows, format};
 pub use unanswered::{Cause, Unanswered};

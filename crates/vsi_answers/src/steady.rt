@@ -5,17 +5,22 @@ ghost use Rattle.vsi_answers.specs.Answers.{Because};
 ghost use Rattle.vsi_answers.specs.Judged.{IsImageText, IsSteadyText, IsLoopedText, TellsSteady};
 ghost use Rattle.vsi_answers.specs.Requests.{ChecksSteadyTo};
 
+use crate::observer::Observer;
 use crate::texts::ACCEPTED;
 use crate::unanswered::{Cause, Unanswered};
 use std::alloc::{AllocError, Global};
-use vsi_compiler::{CompileError, unjudged_image};
-use vsi_diagnostics::refusal_text;
+use vsi_compiler::{CompileError, Source, image_of, read_source};
+use vsi_diagnostics::{refusal_text, refusal_text_of};
 use vsi_infer::Walk;
 use vsi_lattice::Lattice;
-use vsi_steady::{SteadyError, UnsteadyError, compile_steady, steady_explanation, steady_text};
+use vsi_steady::{
+    SteadyError, UnsteadyError, steady_explanation, steady_explanation_of, steady_image_of,
+    steady_text,
+};
 
-/// The text of a walk with a loop in place of each choice.
-fn looped_text(
+/// The text of the refusal of a flow when a steady image is required: its walk has a loop in place of
+/// each choice.
+pub fn looped_text(
     alloc: Global,
     lattice: &Lattice,
     source: &[u8],
@@ -30,8 +35,23 @@ fn looped_text(
     Ok(text)
 }
 
+/// The same for a source text that was read.
+pub fn looped_text_of(
+    alloc: Global,
+    source: &Source<'_>,
+    walk: &Walk,
+) -> Result<Vec<u8>, AllocError>
+    ensures { IfOk result (λ text. IsLoopedText source.now.lattice source.now.text
+        walk.now.steps.items text.items) }
+{
+    let mut text = Vec::from_slice(alloc, b"refused: 25 Refused\n")?;
+    let lines = steady_explanation_of(alloc, source, walk)?;
+    text.extend_from_slice(&lines)?;
+    Ok(text)
+}
+
 /// The text of the refusal of a text's image.
-fn image_text(
+pub fn image_text(
     alloc: Global,
     lattice: &Lattice,
     source: &[u8],
@@ -39,13 +59,27 @@ fn image_text(
 ) -> Result<Vec<u8>, AllocError>
     ensures { IfOk result (λ text. IsImageText lattice.now source.now error.now text.items) }
 {
-    match unjudged_image(alloc, lattice, source) {
-        Ok(verified) => {
-            let text = steady_text(alloc, lattice, verified.image(), error)?;
-            Ok(text)
-        }
+    match read_source(alloc, lattice, source) {
+        Ok(read) => image_text_of(alloc, &read, error),
         Err(_) => Err(AllocError),
     }
+}
+
+/// The same for a source text that was read.
+pub fn image_text_of(
+    alloc: Global,
+    source: &Source<'_>,
+    error: &SteadyError,
+) -> Result<Vec<u8>, AllocError>
+    ensures { IfOk result (λ text. IsImageText source.now.lattice source.now.text error.now
+        text.items) }
+{
+    // The contract of `resolved` says that the source is one; the proofs need that.
+    let _program = source.resolved();
+    let verified = image_of(alloc, source)?;
+    let lattice = source.lattice();
+    let text = steady_text(alloc, lattice, verified.image(), error)?;
+    Ok(text)
 }
 
 /// The text of a refusal when a steady image is required.
@@ -68,6 +102,36 @@ fn unsteady_text(
     }
 }
 
+/// The same for a source text that was read.
+fn unsteady_text_of(
+    alloc: Global,
+    source: &Source<'_>,
+    error: &UnsteadyError,
+) -> Result<Vec<u8>, AllocError>
+    ensures { IfOk result (λ text. IsSteadyText source.now.lattice source.now.text error.now
+        text.items) }
+{
+    match error {
+        UnsteadyError::Compile(CompileError::Flow(walk)) => looped_text_of(alloc, source, walk),
+        UnsteadyError::Compile(error) => refusal_text_of(alloc, source, error),
+        UnsteadyError::Image(error) => image_text_of(alloc, source, error),
+        UnsteadyError::Memory => Err(AllocError),
+    }
+}
+
+/// Why there is no answer for a source text that was read, when a steady image is required.
+fn refused_steady_of(alloc: Global, source: &Source<'_>, error: UnsteadyError) -> Unanswered
+    ensures { Because (TellsSteady (λ e. e ≡ error) source.now.lattice source.now.text) ⊥ result }
+{
+    if let UnsteadyError::Memory = &error {
+        return Unanswered::Memory;
+    }
+    match unsteady_text_of(alloc, source, &error) {
+        Ok(text) => Unanswered::Refused(text, Cause::Steady(error)),
+        Err(_) => Unanswered::Memory,
+    }
+}
+
 /// Why there is no answer for a text when a steady image is required.
 pub(crate) fn refused_steady(
     alloc: Global,
@@ -87,12 +151,36 @@ pub(crate) fn refused_steady(
 }
 
 /// `accepted` and a line feed, if the text is accepted under the strict profile and the number of
-/// executed instructions of its image reveals nothing.
-pub fn check_steady(alloc: Global, lattice: &Lattice, source: &[u8]) -> Result<Vec<u8>, Unanswered>
+/// executed instructions of its image reveals nothing. The observer gets the text as it was read.
+pub fn check_steady<O: Observer>(
+    alloc: Global,
+    lattice: &Lattice,
+    source: &[u8],
+    observer: &mut O,
+) -> Result<Vec<u8>, Unanswered>
     ensures checks { ChecksSteadyTo lattice.now source.now result }
 {
-    match compile_steady(alloc, lattice, source) {
+    match read_source(alloc, lattice, source) {
+        Ok(read) => check_steady_source(alloc, &read, observer),
+        Err(CompileError::Memory) => Err(Unanswered::Memory),
+        Err(error) => {
+            let error = UnsteadyError::Compile(error);
+            Err(refused_steady(alloc, lattice, source, error))
+        }
+    }
+}
+
+/// `check_steady` for a source text that was read.
+fn check_steady_source<O: Observer>(
+    alloc: Global,
+    source: &Source<'_>,
+    observer: &mut O,
+) -> Result<Vec<u8>, Unanswered>
+    ensures { ChecksSteadyTo source.now.lattice source.now.text result }
+{
+    observer.read(source)?;
+    match steady_image_of(alloc, source) {
         Ok(_verified) => Ok(Vec::from_slice(alloc, ACCEPTED)?),
-        Err(error) => Err(refused_steady(alloc, lattice, source, error)),
+        Err(error) => Err(refused_steady_of(alloc, source, error)),
     }
 }

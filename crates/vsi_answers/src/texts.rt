@@ -1,8 +1,8 @@
 //! The answers for a source text under a lattice.
 
-ghost use Rattle.vsi_answers.specs.Requests.{BuildsTo, ChecksFilesTo, ChecksTo, ClassesTo, FlowsTo, FormatsTo};
+ghost use Rattle.vsi_answers.specs.Requests.{BuildsTo, ChecksTo, ClassesTo, FlowsTo, FormatsTo};
 
-use crate::files::declared_lattice;
+use crate::observer::Observer;
 use crate::refusing::{refused_judged, refused_source};
 use crate::unanswered::Unanswered;
 use std::alloc::Global;
@@ -15,72 +15,67 @@ use vsi_types::Profile;
 /// The answer for an accepted text.
 pub(crate) const ACCEPTED: &[u8] = b"accepted\n";
 
-/// `accepted` and a line feed, if the text is accepted under a profile.
-pub fn check(
+/// `accepted` and a line feed, if the text is accepted under a profile. The observer gets the text as
+/// it was read, and again if it is refused for a flow.
+pub fn check<O: Observer>(
     alloc: Global,
     profile: Profile,
     lattice: &Lattice,
     source: &[u8],
+    observer: &mut O,
 ) -> Result<Vec<u8>, Unanswered>
     ensures checks { ChecksTo lattice.now profile source.now result }
 {
     match read_source(alloc, lattice, source) {
-        Ok(read) => check_source(alloc, profile, &read),
+        Ok(read) => check_source(alloc, profile, &read, observer),
         Err(error) => Err(refused_source(alloc, lattice, source, error)),
     }
 }
 
 /// `check` for a source text that was read. No code is generated.
-fn check_source(alloc: Global, profile: Profile, source: &Source<'_>) -> Result<Vec<u8>, Unanswered>
-    ensures { ChecksTo source.now.lattice profile source.now.text result }
-{
-    match judge(alloc, profile, source) {
-        Ok(_classes) => Ok(Vec::from_slice(alloc, ACCEPTED)?),
-        Err(error) => Err(refused_judged(alloc, source, error)),
-    }
-}
-
-/// `check` for the bytes of a lattice file and of a text.
-pub fn check_files(
+fn check_source<O: Observer>(
     alloc: Global,
     profile: Profile,
-    policy: &[u8],
-    source: &[u8],
+    source: &Source<'_>,
+    observer: &mut O,
 ) -> Result<Vec<u8>, Unanswered>
-    ensures checks { ChecksFilesTo profile policy.now source.now result }
+    ensures { ChecksTo source.now.lattice profile source.now.text result }
 {
-    match declared_lattice(alloc, policy) {
-        Ok(lattice) => check(alloc, profile, &lattice, source),
-        Err(unanswered) => Err(unanswered),
+    observer.read(source)?;
+    match judge(alloc, profile, source) {
+        Ok(_classes) => Ok(Vec::from_slice(alloc, ACCEPTED)?),
+        Err(error) => Err(refused_judged(alloc, profile, source, error, observer)),
     }
 }
 
-/// The class of each declaration of the text.
-pub fn classes(
+/// The class of each declaration of the text. The observer gets a text that is refused for a flow.
+pub fn classes<O: Observer>(
     alloc: Global,
     profile: Profile,
     lattice: &Lattice,
     source: &[u8],
+    observer: &mut O,
 ) -> Result<Vec<u8>, Unanswered>
     ensures classes { ClassesTo lattice.now profile source.now result }
 {
     match read_source(alloc, lattice, source) {
-        Ok(read) => source_classes(alloc, profile, &read),
+        Ok(read) => source_classes(alloc, profile, &read, observer),
         Err(error) => Err(refused_source(alloc, lattice, source, error)),
     }
 }
 
 /// `classes` for a source text that was read.
-fn source_classes(
+fn source_classes<O: Observer>(
     alloc: Global,
     profile: Profile,
     source: &Source<'_>,
+    observer: &mut O,
 ) -> Result<Vec<u8>, Unanswered>
     ensures { ClassesTo source.now.lattice profile source.now.text result }
 {
     match classes_text_of(alloc, profile, source) {
         Ok(lines) => Ok(lines),
-        Err(error) => Err(refused_judged(alloc, source, error)),
+        Err(error) => Err(refused_judged(alloc, profile, source, error, observer)),
     }
 }
 
@@ -99,28 +94,36 @@ pub fn flows(
     }
 }
 
-/// The bytes of the image of the text.
-pub fn build(
+/// The bytes of the image of the text. The observer gets a text that is refused for a flow.
+pub fn build<O: Observer>(
     alloc: Global,
     profile: Profile,
     lattice: &Lattice,
     source: &[u8],
+    observer: &mut O,
 ) -> Result<Vec<u8>, Unanswered>
     ensures builds { BuildsTo lattice.now profile source.now result }
 {
     match read_source(alloc, lattice, source) {
-        Ok(read) => build_source(alloc, profile, &read),
+        Ok(read) => build_source(alloc, profile, &read, observer),
         Err(error) => Err(refused_source(alloc, lattice, source, error)),
     }
 }
 
 /// `build` for a source text that was read.
-fn build_source(alloc: Global, profile: Profile, source: &Source<'_>) -> Result<Vec<u8>, Unanswered>
+fn build_source<O: Observer>(
+    alloc: Global,
+    profile: Profile,
+    source: &Source<'_>,
+    observer: &mut O,
+) -> Result<Vec<u8>, Unanswered>
     ensures { BuildsTo source.now.lattice profile source.now.text result }
 {
     match image_bytes_of(alloc, profile, source) {
         Ok(bytes) => Ok(bytes),
-        Err(EngineError::Compile(error)) => Err(refused_judged(alloc, source, error)),
+        Err(EngineError::Compile(error)) => Err(refused_judged(
+            alloc, profile, source, error, observer,
+        )),
         Err(_) => Err(Unanswered::Memory),
     }
 }

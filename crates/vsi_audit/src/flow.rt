@@ -3,7 +3,6 @@
 ghost use Rattle.std.specs.Prelude.{◌≡◌, ◌++◌, OnOk, IfOk, codes, decimal};
 ghost use Rattle.std.specs.List.{flat_map};
 ghost use Rattle.vsi_image.specs.Fields as fields;
-ghost use Rattle.vsi_infer.specs.Explanation as explanation;
 ghost use Rattle.vsi_audit.specs.Telling as spec;
 ghost use Rattle.vsi_audit.specs.Telling.{IsAuditText};
 
@@ -11,24 +10,11 @@ use crate::error::AuditError;
 use crate::names::Names;
 use std::alloc::{AllocError, Global};
 use vsi_image::Image;
-use vsi_infer::Step;
+use vsi_infer::{Step, rule_text};
 use vsi_lattice::{Classes, Lattice};
 use vsi_scope::Var;
 use vsi_syntax::put_number;
-use vsi_types::{LOOP, Rule};
-
-/// The name of a rule.
-fn rule_text(rule: Rule) -> &'static [u8]
-    ensures { result.now ≡ explanation.rule_text rule }
-{
-    match rule {
-        Rule::Assign => b"ASSIGN",
-        Rule::If => b"IF",
-        Rule::While => b"WHILE",
-        Rule::Letvar => b"LETVAR",
-        Rule::Loop => b"LOOP",
-    }
-}
+use vsi_types::LOOP;
 
 /// Adds the name of a variable.
 fn put_name(out: &mut Vec<u8>, names: &Names<'_>, variable: Var) -> Result<(), AllocError>

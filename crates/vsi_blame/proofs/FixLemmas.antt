@@ -15,16 +15,16 @@ use Rattle.vsi_scope.specs.Program.{Resolved}
 use Rattle.vsi_types.specs.declared.rules.Step.{Step}
 use Rattle.vsi_types.specs.Security.{program}
 use Rattle.vsi_flows.specs.declared.pair.Pair.{Pair}
-use Rattle.vsi_blame.specs.declared.walking.Walked.{Walked}
+use Rattle.vsi_flows.specs.declared.walked.WalkedPair.{WalkedPair}
 use Rattle.vsi_blame.specs.Fixes.{passing, is_busier, IsBusiest, change_prose, IsAdvised, declare_prose, warning_prose, fix_prose}
 use Rattle.vsi_blame.proofs.PartLemmas.{four_parts}
 
 -- Steps are in order by the number of walks that pass them.
-pub busier_order : (walks : List Walked) → IsStrictWeakOrder (is_busier walks)
+pub busier_order : (walks : List WalkedPair) → IsStrictWeakOrder (is_busier walks)
 busier_order walks =
     IsStrictWeakOrder-flip (λ s t. nat_lt (passing walks s) (passing walks t)) (IsStrictWeakOrder-by_number (passing walks))
 
-module _ (walks : List Walked) (steps : List Step) (i b : ℕ) (x y : Step) (most count : ℕ) where
+module _ (walks : List WalkedPair) (steps : List Step) (i b : ℕ) (x y : Step) (most count : ℕ) where
   -- The best step so far stays the best one if more walks pass it than the next one.
   pub busier_keeps : IsLastBest (is_busier walks) steps i b → i < length steps → x ≡ get_or steps i x → y ≡ get_or steps b y
       → most ≡ passing walks y → count ≡ passing walks x → count < most → IsLastBest (is_busier walks) steps (i + 1) b
@@ -68,7 +68,7 @@ find_more p xs i x none lt at failed =
     ∙ ap (λ y. find p (y ∷ [])) (sym at)
     ∙ ap (λ b. cond b (Some x) None) failed
 
-module _ (l : Lattice) (path source : List ℕ) (r : Resolved) (walks : List Walked) (pair : Pair) (near : List Step) where
+module _ (l : Lattice) (path source : List ℕ) (r : Resolved) (walks : List WalkedPair) (pair : Pair) (near : List Step) where
   -- The possible fixes are added.
   pub fixes_more : (old m₁ m₂ m₃ new : List ℕ) → m₁ ≡ old ++ codes "What would fix it:\n"
       → ((s : Option Step) × (IsBusiest walks near s × (m₂ ≡ m₁ ++ change_prose path source r walks s)))

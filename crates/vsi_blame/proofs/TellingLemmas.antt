@@ -10,16 +10,16 @@ use Rattle.vsi_lattice.specs.LatticeView.{order}
 use Rattle.vsi_scope.specs.Program.{Resolved}
 use Rattle.vsi_types.specs.declared.rules.Step.{Step}
 use Rattle.vsi_types.specs.Security.{program}
-use Rattle.vsi_blame.specs.declared.walking.Walked.{Walked}
+use Rattle.vsi_flows.specs.declared.walked.WalkedPair.{WalkedPair}
 use Rattle.vsi_blame.specs.Violation.{violation}
 use Rattle.vsi_blame.specs.Steps.{near_ends, IsWalkText}
 use Rattle.vsi_blame.specs.Fixes.{IsBusiest, IsAdvised, fix_prose}
 use Rattle.vsi_blame.specs.Telling.{Paragraph, IsParagraph, paragraph_text, AreTold}
 use Rattle.vsi_blame.proofs.PartLemmas.{four_parts}
 
-module _ (l : Lattice) (path source : List ℕ) (r : Resolved) (walks : List Walked) where
+module _ (l : Lattice) (path source : List ℕ) (r : Resolved) (walks : List WalkedPair) where
   -- The conflict, the steps and the fixes of a pair are added.
-  pub paragraph_more : (w : Walked) (items near : List Step) (old m₁ m₂ m₃ new : List ℕ) → items ≡ w.steps.items
+  pub paragraph_more : (w : WalkedPair) (items near : List Step) (old m₁ m₂ m₃ new : List ℕ) → items ≡ w.steps.items
       → near ≡ near_ends items → m₁ ≡ old ++ violation l r w.pair.source w.pair.target
       → ((lines : List ℕ) × (IsWalkText l path source r w.pair.source items lines × (m₂ ≡ m₁ ++ lines)))
       → ((busiest : Option Step) × ((advised : Option ℕ) × (IsBusiest walks near busiest
@@ -55,7 +55,7 @@ module _ (l : Lattice) (path source : List ℕ) (r : Resolved) (walks : List Wal
   }
 
   -- One more pair adds its text.
-  pub told_more : (part : List Walked) (w : Walked) (text new : List ℕ) → AreTold l path source r walks part text
+  pub told_more : (part : List WalkedPair) (w : WalkedPair) (text new : List ℕ) → AreTold l path source r walks part text
       → ((p : Paragraph) × ((p.entry ≡ w) × (IsParagraph l path source r walks p
       × (new ≡ text ++ paragraph_text l path source r walks p))))
       → AreTold l path source r walks (part ++ w ∷ []) new

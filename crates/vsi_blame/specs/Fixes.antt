@@ -10,8 +10,8 @@ use Rattle.vsi_types.specs.declared.rules.Step.{Step}
 use Rattle.vsi_types.specs.Steps.{sink}
 use Rattle.vsi_types.specs.Security.{Program}
 use Rattle.vsi_flows.specs.declared.pair.Pair.{Pair}
-use Rattle.vsi_blame.specs.declared.walking.Walked.{Walked}
-use Rattle.vsi_blame.specs.Refused.{IsRaised}
+use Rattle.vsi_flows.specs.declared.walked.WalkedPair.{WalkedPair}
+use Rattle.vsi_blame.specs.Raised.{IsRaised}
 use Rattle.vsi_blame.specs.Violation.{variable_prose, class_name, class_prose}
 
 -- Whether two steps have the same variables.
@@ -27,19 +27,19 @@ abbrev pub is_same : Step → Step → Bool
 is_same s t = has_same_ends s t && has_same_places s t
 
 -- Whether a walk passes a step.
-abbrev pub passes : Step → Walked → Bool
+abbrev pub passes : Step → WalkedPair → Bool
 passes s w = list_any (λ t. is_same t s) w.steps.items
 
 -- The number of walks that pass a step.
-abbrev pub passing : List Walked → Step → ℕ
+abbrev pub passing : List WalkedPair → Step → ℕ
 passing walks s = count_by (passes s) walks
 
 -- Whether more walks pass the first step than the second.
-abbrev pub is_busier : List Walked → Step → Step → Bool
+abbrev pub is_busier : List WalkedPair → Step → Step → Bool
 is_busier walks s t = nat_lt (passing walks t) (passing walks s)
 
 -- The step that most of the walks pass, and of equals the last one; none if there are no steps.
-abbrev pub IsBusiest : List Walked → List Step → Option Step → Type 0
+abbrev pub IsBusiest : List WalkedPair → List Step → Option Step → Type 0
 IsBusiest walks steps None = steps ≡ []
 IsBusiest walks steps (Some s) =
     (b : ℕ) × (slice_get steps b ≡ Some s × IsLastBest (is_busier walks) steps (length steps) b)
@@ -61,11 +61,11 @@ step_change path source r s =
     ++ codes " doesn't depend on " ++ variable_prose r s.source ++ codes ".\n"
 
 -- The same, with the number of walks that pass the step.
-abbrev pub found_prose : List ℕ → List ℕ → Resolved → List Walked → Step → List ℕ
+abbrev pub found_prose : List ℕ → List ℕ → Resolved → List WalkedPair → Step → List ℕ
 found_prose path source r walks s = step_change path source r s ++ also_prose (passing walks s)
 
 -- The same for the step to change; empty if there is none.
-abbrev pub change_prose : List ℕ → List ℕ → Resolved → List Walked → Option Step → List ℕ
+abbrev pub change_prose : List ℕ → List ℕ → Resolved → List WalkedPair → Option Step → List ℕ
 change_prose path source r walks None = []
 change_prose path source r walks (Some s) = found_prose path source r walks s
 
@@ -96,16 +96,16 @@ declare_prose l r v None = fixed_prose r v
 declare_prose l r v (Some c) = declared_prose l r v c
 
 -- Whether the walk, if there is one, leads to a variable.
-abbrev pub leads_to : Option Walked → ℕ → Bool
+abbrev pub leads_to : Option WalkedPair → ℕ → Bool
 leads_to None v = false
 leads_to (Some w) v = w.pair.target == v
 
 -- Whether the pair from one variable to another is the first one from that variable.
-abbrev pub is_first : List Walked → ℕ → ℕ → Bool
+abbrev pub is_first : List WalkedPair → ℕ → ℕ → Bool
 is_first walks a b = leads_to (find (λ w. w.pair.source == a) walks) b
 
 -- The warning, at the first pair from a variable, not to lower the variable's declaration.
-abbrev pub warning_prose : Resolved → List Walked → ℕ → ℕ → List ℕ
+abbrev pub warning_prose : Resolved → List WalkedPair → ℕ → ℕ → List ℕ
 warning_prose r walks a b =
     if is_first walks a b
     then codes "Declaring " ++ variable_prose r a ++ codes " lower is not a fix: it makes " ++ variable_prose r a
@@ -113,7 +113,7 @@ warning_prose r walks a b =
     else []
 
 -- The possible fixes of a pair: the step to change, the class to declare and the warning.
-abbrev pub fix_prose : named.Lattice → List ℕ → List ℕ → Resolved → List Walked → Pair → Option Step → Option ℕ → List ℕ
+abbrev pub fix_prose : named.Lattice → List ℕ → List ℕ → Resolved → List WalkedPair → Pair → Option Step → Option ℕ → List ℕ
 fix_prose l path source r walks pair busiest advised =
     codes "What would fix it:\n" ++ change_prose path source r walks busiest ++ declare_prose l r pair.target advised
     ++ warning_prose r walks pair.source pair.target

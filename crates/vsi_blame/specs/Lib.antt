@@ -1,4 +1,4 @@
-pub mod Refused
+pub mod Raised
 pub mod Violation
 pub mod Steps
 pub mod Fixes

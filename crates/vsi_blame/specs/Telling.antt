@@ -11,39 +11,34 @@ use Rattle.vsi_types.specs.Security.{program, steps_of}
 use Rattle.vsi_compiler.specs.Stands.{Stands}
 use Rattle.vsi_flows.specs.declared.pair.Pair.{Pair}
 use Rattle.vsi_flows.specs.Text.{IsWalkOf}
-use Rattle.vsi_blame.specs.declared.walking.Walked.{Walked}
-use Rattle.vsi_blame.specs.Refused.{AreRefused}
+use Rattle.vsi_flows.specs.declared.walked.WalkedPair.{WalkedPair}
+use Rattle.vsi_flows.specs.Refused.{AreRefused, AreWalked}
 use Rattle.vsi_blame.specs.Violation.{violation}
 use Rattle.vsi_blame.specs.Steps.{near_ends, IsWalkText}
 use Rattle.vsi_blame.specs.Fixes.{IsBusiest, IsAdvised, fix_prose}
 
--- Each pair has a walk of its fewest steps.
-pub record AreWalked (ss : List Step) (pairs : List Pair) (walked : List Walked) : Type 0 where
-  pub kept : map (λ w. w.pair) walked ≡ pairs
-  pub walks : All (λ w. IsWalkOf ss w.pair w.steps.items) walked
-
 -- A pair with its walk, the lines of the walk's steps, the step to change and the class to declare.
 pub record Paragraph : Type 0 where
-  pub entry : Walked
+  pub entry : WalkedPair
   pub lines : List ℕ
   pub busiest : Option Step
   pub advised : Option ℕ
 
 -- The lines are those of the walk's steps, the step is the one that most walks pass, and the class fixes the flow.
-pub record IsParagraph (l : Lattice) (path source : List ℕ) (r : Resolved) (walks : List Walked) (p : Paragraph)
+pub record IsParagraph (l : Lattice) (path source : List ℕ) (r : Resolved) (walks : List WalkedPair) (p : Paragraph)
     : Type 0 where
   pub steps : IsWalkText l path source r p.entry.pair.source p.entry.steps.items p.lines
   pub busiest : IsBusiest walks (near_ends p.entry.steps.items) p.busiest
   pub advised : IsAdvised (order l) (program r) p.entry.pair p.advised
 
 -- The text about a pair: the conflict, the steps and the possible fixes.
-abbrev pub paragraph_text : Lattice → List ℕ → List ℕ → Resolved → List Walked → Paragraph → List ℕ
+abbrev pub paragraph_text : Lattice → List ℕ → List ℕ → Resolved → List WalkedPair → Paragraph → List ℕ
 paragraph_text l path source r walks p =
     violation l r p.entry.pair.source p.entry.pair.target ++ p.lines
     ++ fix_prose l path source r walks p.entry.pair p.busiest p.advised ++ codes "\n"
 
 -- The text consists of the texts about these pairs, in their order.
-pub record AreTold (l : Lattice) (path source : List ℕ) (r : Resolved) (walks part : List Walked) (text : List ℕ)
+pub record AreTold (l : Lattice) (path source : List ℕ) (r : Resolved) (walks part : List WalkedPair) (text : List ℕ)
     : Type 0 where
   pub told : List Paragraph
   pub kept : map (λ p. p.entry) told ≡ part
@@ -72,7 +67,7 @@ pub record TellsRefused (l : Lattice) (P : Profile) (path source out : List ℕ)
   pub stands : Stands (class_named l) source resolved
   pub pairs : List Pair
   pub refused : AreRefused (order l) P (program resolved) pairs
-  pub walked : List Walked
+  pub walked : List WalkedPair
   pub walks : AreWalked (steps_of P (program resolved)) (take (min (length pairs) 20) pairs) walked
   pub text : List ℕ
   pub told : AreTold l path source resolved walked walked text

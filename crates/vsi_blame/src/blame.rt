@@ -11,13 +11,12 @@ ghost use Rattle.vsi_compiler.specs.declared.error.CompileError.TheVariants.{Mem
 ghost use Rattle.vsi_compiler.specs.Refusal.{RefusesProgram};
 ghost use Rattle.vsi_blame.specs.Telling.{TellsRefused};
 
-use crate::refused::refused_pairs;
-use crate::sentences::Page;
+use crate::sentences::SourceFile;
 use crate::telling::{put_end, told_of};
-use crate::walking::walks_of;
 use std::alloc::{AllocError, Global};
 use vsi_caret::put_text;
 use vsi_compiler::{CompileError, Source, read_source};
+use vsi_flows::{refused_pairs, walks_of};
 use vsi_lattice::Lattice;
 use vsi_types::Profile;
 
@@ -42,11 +41,11 @@ pub fn refused_flows_of(
     let pairs = refused_pairs(alloc, profile, lattice, resolved)?;
     let first = &pairs[..pairs.len().min(TOLD)];
     let walks = walks_of(alloc, profile, lattice, resolved, first)?;
-    let page = Page {
+    let file = SourceFile {
         path: path.as_bytes(),
         source: text,
     };
-    let mut prose = told_of(alloc, lattice, &page, resolved, &walks)?;
+    let mut prose = told_of(alloc, lattice, &file, resolved, &walks)?;
     put_end(&mut prose, pairs.len(), walks.len())?;
     let mut answer = Vec::new(alloc);
     put_text(&mut answer, &prose)?;

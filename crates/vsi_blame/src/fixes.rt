@@ -7,16 +7,15 @@ ghost use Rattle.vsi_lattice.specs.LatticeView.{order};
 ghost use Rattle.vsi_types.specs.Security.{program as program_of};
 ghost use Rattle.vsi_types.specs.declared.rules.Step.{Step};
 ghost use Rattle.vsi_infer.specs.Inference.{AreClasses};
-ghost use Rattle.vsi_blame.specs.Refused.{IsRaised};
+ghost use Rattle.vsi_blame.specs.Raised.{IsRaised};
 ghost use Rattle.vsi_blame.specs.Steps.{near_ends};
 ghost use Rattle.vsi_blame.specs.Fixes as spec;
 
 use crate::names::{put_class_name, put_class_of, put_variable};
-use crate::sentences::{Page, put_where};
-use crate::walking::Walked;
+use crate::sentences::{SourceFile, put_where};
 use std::alloc::AllocError;
 use vsi_caret::put_number;
-use vsi_flows::Pair;
+use vsi_flows::{Pair, WalkedPair};
 use vsi_infer::declared_class;
 use vsi_lattice::{Class, Classes, Lattice};
 use vsi_scope::{Resolved, Var};
@@ -65,7 +64,7 @@ fn is_same(one: &Step, other: &Step) -> bool
 }
 
 /// Whether a walk passes a step.
-fn passes(walk: &Walked, wanted: &Step) -> bool
+fn passes(walk: &WalkedPair, wanted: &Step) -> bool
     ensures { result ≡ spec.passes wanted.now walk.now }
 {
     for step in &walk.steps {
@@ -77,7 +76,7 @@ fn passes(walk: &Walked, wanted: &Step) -> bool
 }
 
 /// The number of walks that pass a step.
-fn passing(walks: &[Walked], wanted: &Step) -> usize
+fn passing(walks: &[WalkedPair], wanted: &Step) -> usize
     ensures { result ≡ spec.passing walks.now wanted.now }
 {
     let mut count: usize = 0;
@@ -91,7 +90,7 @@ fn passing(walks: &[Walked], wanted: &Step) -> usize
 
 /// The better one of the best step so far and the next step: the one that more walks pass, and of
 /// equals the next one.
-fn busier(walks: &[Walked], steps: &[Step], best: usize, next: usize) -> usize
+fn busier(walks: &[WalkedPair], steps: &[Step], best: usize, next: usize) -> usize
     requires next { next < length steps.now }
     requires best { IsLastBest (spec.is_busier walks.now) steps.now next best }
     ensures { IsLastBest (spec.is_busier walks.now) steps.now (next + 1) result }
@@ -102,7 +101,7 @@ fn busier(walks: &[Walked], steps: &[Step], best: usize, next: usize) -> usize
 }
 
 /// The step that most walks pass, and of equals the last one.
-fn busiest(walks: &[Walked], steps: &[Step]) -> Option<Step>
+fn busiest(walks: &[WalkedPair], steps: &[Step]) -> Option<Step>
     ensures { spec.IsBusiest walks.now steps.now result }
 {
     if steps.is_empty() {
@@ -118,15 +117,15 @@ fn busiest(walks: &[Walked], steps: &[Step]) -> Option<Step>
 /// Adds the advice to change a step.
 fn put_step_change(
     text: &mut Vec<u8>,
-    page: &Page<'_, '_>,
+    file: &SourceFile<'_, '_>,
     program: &Resolved<'_>,
     step: &Step,
 ) -> Result<(), AllocError>
     ensures { OnOk result (text.new.items ≡ text.old.items
-        ++ spec.step_change page.now.path.now page.now.source.now program.now step.now) }
+        ++ spec.step_change file.now.path.now file.now.source.now program.now step.now) }
 {
     text.extend_from_slice(b"- Change ")?;
-    put_where(text, page, step.read.start)?;
+    put_where(text, file, step.read.start)?;
     text.extend_from_slice(b" so that ")?;
     put_variable(text, program, step.target)?;
     text.extend_from_slice(b" doesn't depend on ")?;
@@ -149,15 +148,15 @@ fn put_also(text: &mut Vec<u8>, count: usize) -> Result<(), AllocError>
 /// Adds the advice to change a step, with the number of walks that pass it.
 fn put_found(
     text: &mut Vec<u8>,
-    page: &Page<'_, '_>,
+    file: &SourceFile<'_, '_>,
     program: &Resolved<'_>,
-    walks: &[Walked],
+    walks: &[WalkedPair],
     step: &Step,
 ) -> Result<(), AllocError>
     ensures { OnOk result (text.new.items ≡ text.old.items
-        ++ spec.found_prose page.now.path.now page.now.source.now program.now walks.now step.now) }
+        ++ spec.found_prose file.now.path.now file.now.source.now program.now walks.now step.now) }
 {
-    put_step_change(text, page, program, step)?;
+    put_step_change(text, file, program, step)?;
     put_also(text, passing(walks, step))
 }
 
@@ -165,17 +164,17 @@ fn put_found(
 /// steps of a walk that are reported.
 fn put_change(
     text: &mut Vec<u8>,
-    page: &Page<'_, '_>,
+    file: &SourceFile<'_, '_>,
     program: &Resolved<'_>,
-    walks: &[Walked],
+    walks: &[WalkedPair],
     near: &[Step],
 ) -> Result<(), AllocError>
     ensures { OnOk result ((busiest : Option Step) × (spec.IsBusiest walks.now near.now busiest
-        × (text.new.items ≡ text.old.items ++ spec.change_prose page.now.path.now
-        page.now.source.now program.now walks.now busiest))) }
+        × (text.new.items ≡ text.old.items ++ spec.change_prose file.now.path.now
+        file.now.source.now program.now walks.now busiest))) }
 {
     match busiest(walks, near) {
-        Some(step) => put_found(text, page, program, walks, &step),
+        Some(step) => put_found(text, file, program, walks, &step),
         None => Ok(()),
     }
 }
@@ -265,7 +264,7 @@ fn put_declare(
 }
 
 /// Whether the pair from one variable to another is the first one from that variable.
-fn is_first(walks: &[Walked], source: Var, target: Var) -> bool
+fn is_first(walks: &[WalkedPair], source: Var, target: Var) -> bool
     ensures { result ≡ spec.is_first walks.now source target }
 {
     for walk in walks {
@@ -280,7 +279,7 @@ fn is_first(walks: &[Walked], source: Var, target: Var) -> bool
 fn put_warning(
     text: &mut Vec<u8>,
     program: &Resolved<'_>,
-    walks: &[Walked],
+    walks: &[WalkedPair],
     pair: Pair,
 ) -> Result<(), AllocError>
     ensures { OnOk result (text.new.items ≡ text.old.items
@@ -301,10 +300,10 @@ fn put_warning(
 pub(crate) fn put_fixes(
     text: &mut Vec<u8>,
     lattice: &Lattice,
-    page: &Page<'_, '_>,
+    file: &SourceFile<'_, '_>,
     program: &Resolved<'_>,
-    walks: &[Walked],
-    entry: &Walked,
+    walks: &[WalkedPair],
+    entry: &WalkedPair,
     near: &[Step],
 ) -> Result<(), AllocError>
     requires globals { All (IsClass (order lattice.now)) (program_of program.now).globals }
@@ -312,11 +311,11 @@ pub(crate) fn put_fixes(
     ensures { OnOk result ((busiest : Option Step) × ((advised : Option ℕ)
         × (spec.IsBusiest walks.now near.now busiest
         × (spec.IsAdvised (order lattice.now) (program_of program.now) entry.now.pair advised
-        × (text.new.items ≡ text.old.items ++ spec.fix_prose lattice.now page.now.path.now
-        page.now.source.now program.now walks.now entry.now.pair busiest advised))))) }
+        × (text.new.items ≡ text.old.items ++ spec.fix_prose lattice.now file.now.path.now
+        file.now.source.now program.now walks.now entry.now.pair busiest advised))))) }
 {
     text.extend_from_slice(b"What would fix it:\n")?;
-    put_change(text, page, program, walks, near)?;
+    put_change(text, file, program, walks, near)?;
     put_declare(text, lattice, program, entry.pair)?;
     put_warning(text, program, walks, entry.pair)
 }

@@ -11,10 +11,8 @@
 mod blame;
 mod fixes;
 mod names;
-mod refused;
 mod sentences;
 mod steps;
 mod telling;
-mod walking;
 
 pub use blame::{refused_flows, refused_flows_of};

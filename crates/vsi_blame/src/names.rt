@@ -5,34 +5,15 @@ ghost use Rattle.std.specs.List.{All};
 ghost use Rattle.vsi_lattice.specs.Order.{IsClass};
 ghost use Rattle.vsi_lattice.specs.LatticeView.{order};
 ghost use Rattle.vsi_types.specs.Security.{program as program_of};
-ghost use Rattle.vsi_infer.specs.Explanation.{name_of};
 ghost use Rattle.vsi_infer.specs.Inference.{AreClasses};
 ghost use Rattle.vsi_blame.specs.Violation as spec;
 
 use std::alloc::AllocError;
 use vsi_caret::put_safe;
-use vsi_infer::declared_class;
+use vsi_infer::{declared_class, variable_name};
 use vsi_lattice::{Class, Lattice};
 use vsi_scope::{Resolved, Var};
 use vsi_types::LOOP;
-
-/// The name of a variable.
-fn name<'a>(program: &'a Resolved<'_>, variable: Var) -> &'a [u8]
-    ensures { result.now ≡ name_of program.now variable }
-{
-    if variable == LOOP {
-        return b"(loop)";
-    }
-    let number = variable.0 as usize;
-    let globals = program.globals();
-    if number < globals.len() {
-        return globals[number].name;
-    }
-    match program.letvars().get(number - globals.len()) {
-        Some(entry) => entry.name,
-        None => b"",
-    }
-}
 
 /// Adds a variable as named in a sentence.
 pub(crate) fn put_variable(
@@ -47,7 +28,7 @@ pub(crate) fn put_variable(
         return text.extend_from_slice(b"the ending of loops");
     }
     text.extend_from_slice(b"`")?;
-    put_safe(text, name(program, variable))?;
+    put_safe(text, variable_name(program, variable))?;
     text.extend_from_slice(b"`")
 }
 

@@ -15,7 +15,7 @@ use vsi_types::{Rule, Step};
 
 /// A text in which positions are reported: its path and its bytes.
 #[derive(Clone, Copy)]
-pub(crate) struct Page<'a, 'b> {
+pub(crate) struct SourceFile<'a, 'b> {
     pub(crate) path: &'a [u8],
     pub(crate) source: &'b [u8],
 }
@@ -23,14 +23,14 @@ pub(crate) struct Page<'a, 'b> {
 /// Adds the path, the line and the column of a position.
 pub(crate) fn put_where(
     text: &mut Vec<u8>,
-    page: &Page<'_, '_>,
+    file: &SourceFile<'_, '_>,
     at: usize,
 ) -> Result<(), AllocError>
     ensures { OnOk result
-        (text.new.items ≡ text.old.items ++ where_prose page.now.path.now page.now.source.now at) }
+        (text.new.items ≡ text.old.items ++ where_prose file.now.path.now file.now.source.now at) }
 {
-    let (line, column) = line_column(page.source, at);
-    put_safe(text, page.path)?;
+    let (line, column) = line_column(file.source, at);
+    put_safe(text, file.path)?;
     text.extend_from_slice(b":")?;
     put_number(text, line)?;
     text.extend_from_slice(b":")?;
@@ -103,49 +103,49 @@ fn put_learns(text: &mut Vec<u8>, program: &Resolved<'_>, step: &Step) -> Result
 /// Adds what a step under a guard reveals, and where its target is assigned.
 fn put_guarded(
     text: &mut Vec<u8>,
-    page: &Page<'_, '_>,
+    file: &SourceFile<'_, '_>,
     program: &Resolved<'_>,
     step: &Step,
 ) -> Result<(), AllocError>
-    ensures { OnOk result ((v : Window) × (IsWindow page.now.source.now step.now.written.start v
+    ensures { OnOk result ((v : Window) × (IsWindow file.now.source.now step.now.written.start v
         × (text.new.items ≡ text.old.items
-        ++ spec.guarded_prose page.now.path.now page.now.source.now program.now step.now v))) }
+        ++ spec.guarded_prose file.now.path.now file.now.source.now program.now step.now v))) }
 {
     put_learns(text, program, step)?;
     let written = step.written;
-    put_place(text, page.path, page.source, written.start, written.stop)
+    put_place(text, file.path, file.source, written.start, written.stop)
 }
 
 /// Adds what a step reveals without a copy, if it is under a guard.
 fn put_consequence(
     text: &mut Vec<u8>,
-    page: &Page<'_, '_>,
+    file: &SourceFile<'_, '_>,
     program: &Resolved<'_>,
     step: &Step,
 ) -> Result<(), AllocError>
-    ensures { OnOk result ((v : Window) × (IsWindow page.now.source.now step.now.written.start v
+    ensures { OnOk result ((v : Window) × (IsWindow file.now.source.now step.now.written.start v
         × (text.new.items ≡ text.old.items ++ spec.consequence step.now.rule
-        (spec.guarded_prose page.now.path.now page.now.source.now program.now step.now v)))) }
+        (spec.guarded_prose file.now.path.now file.now.source.now program.now step.now v)))) }
 {
     match step.rule {
         Rule::Assign | Rule::Letvar | Rule::Loop => Ok(()),
-        Rule::If | Rule::While => put_guarded(text, page, program, step),
+        Rule::If | Rule::While => put_guarded(text, file, program, step),
     }
 }
 
 /// Adds a step: where the source is read, what happens there, and what that reveals.
 pub(crate) fn put_step(
     text: &mut Vec<u8>,
-    page: &Page<'_, '_>,
+    file: &SourceFile<'_, '_>,
     program: &Resolved<'_>,
     step: &Step,
 ) -> Result<(), AllocError>
     ensures { OnOk result ((s : spec.Shown) × (s.step ≡ step.now
-        × (spec.IsShown page.now.source.now s × (text.new.items ≡ text.old.items
-        ++ spec.step_prose page.now.path.now page.now.source.now program.now s)))) }
+        × (spec.IsShown file.now.source.now s × (text.new.items ≡ text.old.items
+        ++ spec.step_prose file.now.path.now file.now.source.now program.now s)))) }
 {
     let read = step.read;
-    put_place(text, page.path, page.source, read.start, read.stop)?;
+    put_place(text, file.path, file.source, read.start, read.stop)?;
     put_sentence(text, program, step)?;
-    put_consequence(text, page, program, step)
+    put_consequence(text, file, program, step)
 }

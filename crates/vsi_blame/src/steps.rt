@@ -9,7 +9,7 @@ ghost use Rattle.vsi_infer.specs.Inference.{AreClasses};
 ghost use Rattle.vsi_blame.specs.Steps as spec;
 
 use crate::names::{put_class_name, put_variable};
-use crate::sentences::{Page, put_step};
+use crate::sentences::{SourceFile, put_step};
 use std::alloc::AllocError;
 use vsi_caret::put_number;
 use vsi_infer::declared_class;
@@ -110,7 +110,7 @@ fn put_inherited(
 fn put_step_lines(
     text: &mut Vec<u8>,
     lattice: &Lattice,
-    page: &Page<'_, '_>,
+    file: &SourceFile<'_, '_>,
     program: &Resolved<'_>,
     source: Var,
     step: &Step,
@@ -118,11 +118,11 @@ fn put_step_lines(
     requires globals { All (IsClass (order lattice.now)) (program_of program.now).globals }
     requires declared { AreClasses (order lattice.now) (program_of program.now).declared }
     ensures { OnOk result ((s : spec.Shown) × (s.step ≡ step.now
-        × (spec.IsShown page.now.source.now s
-        × (text.new.items ≡ text.old.items ++ spec.step_lines lattice.now page.now.path.now
-        page.now.source.now program.now source s)))) }
+        × (spec.IsShown file.now.source.now s
+        × (text.new.items ≡ text.old.items ++ spec.step_lines lattice.now file.now.path.now
+        file.now.source.now program.now source s)))) }
 {
-    put_step(text, page, program, step)?;
+    put_step(text, file, program, step)?;
     put_inherited(text, lattice, program, source, step.target)
 }
 
@@ -130,7 +130,7 @@ fn put_step_lines(
 fn put_lines(
     text: &mut Vec<u8>,
     lattice: &Lattice,
-    page: &Page<'_, '_>,
+    file: &SourceFile<'_, '_>,
     program: &Resolved<'_>,
     source: Var,
     steps: &[Step],
@@ -138,12 +138,12 @@ fn put_lines(
     requires globals { All (IsClass (order lattice.now)) (program_of program.now).globals }
     requires declared { AreClasses (order lattice.now) (program_of program.now).declared }
     ensures { OnOk result ((lines : List ℕ)
-        × (spec.AreLines lattice.now page.now.path.now page.now.source.now program.now source
+        × (spec.AreLines lattice.now file.now.path.now file.now.source.now program.now source
         steps.now lines
         × (text.new.items ≡ text.old.items ++ lines))) }
 {
     for step in steps {
-        put_step_lines(text, lattice, page, program, source, step)?;
+        put_step_lines(text, lattice, file, program, source, step)?;
     }
     Ok(())
 }
@@ -152,7 +152,7 @@ fn put_lines(
 pub(crate) fn put_walk(
     text: &mut Vec<u8>,
     lattice: &Lattice,
-    page: &Page<'_, '_>,
+    file: &SourceFile<'_, '_>,
     program: &Resolved<'_>,
     source: Var,
     steps: &[Step],
@@ -160,11 +160,11 @@ pub(crate) fn put_walk(
     requires globals { All (IsClass (order lattice.now)) (program_of program.now).globals }
     requires declared { AreClasses (order lattice.now) (program_of program.now).declared }
     ensures { OnOk result ((lines : List ℕ)
-        × (spec.IsWalkText lattice.now page.now.path.now page.now.source.now program.now source
+        × (spec.IsWalkText lattice.now file.now.path.now file.now.source.now program.now source
         steps.now lines
         × (text.new.items ≡ text.old.items ++ lines))) }
 {
-    put_lines(text, lattice, page, program, source, near_start(steps))?;
+    put_lines(text, lattice, file, program, source, near_start(steps))?;
     put_left_out(text, steps)?;
-    put_lines(text, lattice, page, program, source, near_end(steps))
+    put_lines(text, lattice, file, program, source, near_end(steps))
 }

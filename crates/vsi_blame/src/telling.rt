@@ -11,11 +11,11 @@ ghost use Rattle.vsi_blame.specs.Telling as spec;
 
 use crate::fixes::put_fixes;
 use crate::names::put_violation;
-use crate::sentences::Page;
+use crate::sentences::SourceFile;
 use crate::steps::{near_end, near_start, put_walk};
-use crate::walking::Walked;
 use std::alloc::{AllocError, Global};
 use vsi_caret::put_number;
+use vsi_flows::WalkedPair;
 use vsi_lattice::Lattice;
 use vsi_scope::Resolved;
 use vsi_types::Step;
@@ -35,25 +35,25 @@ fn put_paragraph(
     text: &mut Vec<u8>,
     alloc: Global,
     lattice: &Lattice,
-    page: &Page<'_, '_>,
+    file: &SourceFile<'_, '_>,
     program: &Resolved<'_>,
-    walks: &[Walked],
-    entry: &Walked,
+    walks: &[WalkedPair],
+    entry: &WalkedPair,
 ) -> Result<(), AllocError>
     requires globals { All (IsClass (order lattice.now)) (program_of program.now).globals }
     requires declared { AreClasses (order lattice.now) (program_of program.now).declared }
     ensures { OnOk result ((p : spec.Paragraph) × (p.entry ≡ entry.now
-        × (spec.IsParagraph lattice.now page.now.path.now page.now.source.now program.now
+        × (spec.IsParagraph lattice.now file.now.path.now file.now.source.now program.now
         walks.now p
-        × (text.new.items ≡ text.old.items ++ spec.paragraph_text lattice.now page.now.path.now
-        page.now.source.now program.now walks.now p)))) }
+        × (text.new.items ≡ text.old.items ++ spec.paragraph_text lattice.now file.now.path.now
+        file.now.source.now program.now walks.now p)))) }
 {
     let pair = entry.pair;
     let steps = entry.steps.as_slice();
     let near = near_ends_of(alloc, steps)?;
     put_violation(text, lattice, program, pair.source, pair.target)?;
-    put_walk(text, lattice, page, program, pair.source, steps)?;
-    put_fixes(text, lattice, page, program, walks, entry, near.as_slice())?;
+    put_walk(text, lattice, file, program, pair.source, steps)?;
+    put_fixes(text, lattice, file, program, walks, entry, near.as_slice())?;
     text.extend_from_slice(b"\n")
 }
 
@@ -61,18 +61,18 @@ fn put_paragraph(
 pub(crate) fn told_of(
     alloc: Global,
     lattice: &Lattice,
-    page: &Page<'_, '_>,
+    file: &SourceFile<'_, '_>,
     program: &Resolved<'_>,
-    walks: &[Walked],
+    walks: &[WalkedPair],
 ) -> Result<Vec<u8>, AllocError>
     requires globals { All (IsClass (order lattice.now)) (program_of program.now).globals }
     requires declared { AreClasses (order lattice.now) (program_of program.now).declared }
-    ensures { IfOk result (λ text. spec.AreTold lattice.now page.now.path.now page.now.source.now
+    ensures { IfOk result (λ text. spec.AreTold lattice.now file.now.path.now file.now.source.now
         program.now walks.now walks.now text.items) }
 {
     let mut text = Vec::new(alloc);
     for entry in walks {
-        put_paragraph(&mut text, alloc, lattice, page, program, walks, entry)?;
+        put_paragraph(&mut text, alloc, lattice, file, program, walks, entry)?;
     }
     Ok(text)
 }

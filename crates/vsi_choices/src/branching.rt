@@ -1,7 +1,7 @@
 //! The repair of an `if` without an `else`: a branch that changes nothing.
 
 use crate::objects::{document_edits, edit, text_value};
-use crate::rewriting::Asked;
+use crate::rewriting::FaultyDocument;
 use crate::scope::names_after;
 use serde_json::{Value, json};
 use std::alloc::{AllocError, Global};
@@ -91,13 +91,18 @@ fn branch_of(alloc: Global, name: &[u8]) -> Result<Vec<u8>, AllocError> {
 }
 
 /// The repair that puts a branch into a text at a byte.
-fn addition(alloc: Global, asked: Asked<'_>, at: usize, new: &[u8]) -> Result<Value, AllocError> {
+fn addition(
+    alloc: Global,
+    document: FaultyDocument<'_>,
+    at: usize,
+    new: &[u8],
+) -> Result<Value, AllocError> {
     let mut title = Vec::from_slice(alloc, b"Add `")?;
     title.extend_from_slice(new.get(1..).unwrap_or(b""))?;
     title.extend_from_slice(b"`, which changes nothing")?;
-    let range = range_of(asked.encoding, asked.text, at, at);
+    let range = range_of(document.encoding, document.text, at, at);
     let change = edit(alloc, range, new)?;
-    let changes = document_edits(alloc, asked.uri, json!(in alloc; [change])?)?;
+    let changes = document_edits(alloc, document.uri, json!(in alloc; [change])?)?;
     let title = text_value(alloc, &title)?;
     json!(in alloc; {"title": title, "kind": "quickfix", "edit": changes})
 }
@@ -107,11 +112,11 @@ fn addition(alloc: Global, asked: Asked<'_>, at: usize, new: &[u8]) -> Result<Va
 /// value, so nothing flows by it that doesn't flow without it.
 pub(crate) fn put_branch(
     alloc: Global,
-    asked: Asked<'_>,
+    document: FaultyDocument<'_>,
     at: usize,
     list: &mut Vec<Value>,
 ) -> Result<(), AllocError> {
-    let Some(tokens) = tokens_of(alloc, asked.text)? else {
+    let Some(tokens) = tokens_of(alloc, document.text)? else {
         return Ok(());
     };
     let count = tokens
@@ -132,12 +137,12 @@ pub(crate) fn put_branch(
     let new = branch_of(alloc, name)?;
     if is_read(
         alloc,
-        asked.text,
+        document.text,
         stop,
         &new,
         tokens.get(count..).unwrap_or(&[]),
     )? {
-        list.push(addition(alloc, asked, stop, &new)?)?;
+        list.push(addition(alloc, document, stop, &new)?)?;
     }
     Ok(())
 }

@@ -5,7 +5,7 @@ ghost use Rattle.vsi_lattice.specs.LatticeView.{class_named, order};
 ghost use Rattle.vsi_compiler.specs.Acceptance.{IsAccepted};
 
 use crate::objects::{document_edits, text_value, whole_edits};
-use crate::rewriting::{Asked, put_rewrites};
+use crate::rewriting::{FaultyDocument, put_rewrites};
 use crate::titles::raising_title;
 use serde_json::{Value, json};
 use std::alloc::{AllocError, Global};
@@ -116,11 +116,11 @@ pub fn fixes(
             list.push(repair)?;
         }
     }
-    let asked = Asked {
+    let document = FaultyDocument {
         encoding,
         uri,
         text,
     };
-    put_rewrites(alloc, asked, value, &mut list)?;
+    put_rewrites(alloc, document, value, &mut list)?;
     Ok(Value::Array(list))
 }

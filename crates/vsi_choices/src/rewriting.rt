@@ -24,7 +24,7 @@ const LONGEST: usize = 120;
 
 /// The document for which repairs are requested.
 #[derive(Clone, Copy)]
-pub(crate) struct Asked<'a> {
+pub(crate) struct FaultyDocument<'a> {
     pub(crate) encoding: Encoding,
     pub(crate) uri: &'a [u8],
     pub(crate) text: &'a [u8],
@@ -53,7 +53,7 @@ fn span_of(text: &[u8], part: &[u8], at: usize) -> Option<Span> {
 /// The repair that writes a text in place of a part.
 fn rewrite(
     alloc: Global,
-    asked: Asked<'_>,
+    document: FaultyDocument<'_>,
     span: Span,
     new: &[u8],
     old: &[u8],
@@ -63,9 +63,9 @@ fn rewrite(
     title.extend_from_slice(b"` in place of `")?;
     title.extend_from_slice(old)?;
     title.extend_from_slice(b"`")?;
-    let range = range_of(asked.encoding, asked.text, span.start, span.stop);
+    let range = range_of(document.encoding, document.text, span.start, span.stop);
     let change = edit(alloc, range, new)?;
-    let changes = document_edits(alloc, asked.uri, json!(in alloc; [change])?)?;
+    let changes = document_edits(alloc, document.uri, json!(in alloc; [change])?)?;
     let title = text_value(alloc, &title)?;
     json!(in alloc; {"title": title, "kind": "quickfix", "edit": changes})
 }
@@ -73,11 +73,11 @@ fn rewrite(
 /// Adds the rewrite that the hint at a byte offers, if it has one.
 fn put_hinted(
     alloc: Global,
-    asked: Asked<'_>,
+    document: FaultyDocument<'_>,
     at: usize,
     list: &mut Vec<Value>,
 ) -> Result<(), AllocError> {
-    let Some(hint) = hint_at(alloc, asked.text, at)? else {
+    let Some(hint) = hint_at(alloc, document.text, at)? else {
         return Ok(());
     };
     let Some((new, old)) = offered(&hint) else {
@@ -86,8 +86,8 @@ fn put_hinted(
     if old.is_empty() || LONGEST < old.len() || LONGEST < new.len() {
         return Ok(());
     }
-    if let Some(span) = span_of(asked.text, old, at) {
-        list.push(rewrite(alloc, asked, span, new, old)?)?;
+    if let Some(span) = span_of(document.text, old, at) {
+        list.push(rewrite(alloc, document, span, new, old)?)?;
     }
     Ok(())
 }
@@ -132,11 +132,11 @@ fn nearest<'n>(
 /// Adds the rewrite of a name that isn't declared to the nearest name in scope.
 fn put_nearest(
     alloc: Global,
-    asked: Asked<'_>,
+    document: FaultyDocument<'_>,
     at: usize,
     list: &mut Vec<Value>,
 ) -> Result<(), AllocError> {
-    let tokens = match lex(alloc, asked.text) {
+    let tokens = match lex(alloc, document.text) {
         Ok(tokens) => tokens,
         Err(LexError::Memory) => return Err(AllocError),
         Err(_) => return Ok(()),
@@ -145,7 +145,7 @@ fn put_nearest(
         if token.span.start == at {
             let names = names_after(alloc, tokens.get(..number).unwrap_or(&[]))?;
             if let Some(name) = nearest(alloc, token.text, &names)? {
-                list.push(rewrite(alloc, asked, token.span, name, token.text)?)?;
+                list.push(rewrite(alloc, document, token.span, name, token.text)?)?;
             }
             return Ok(());
         }
@@ -168,21 +168,21 @@ fn place_of(error: &Value) -> Option<Place> {
 /// Adds the rewrites for an error of a request.
 fn put_rewrite(
     alloc: Global,
-    asked: Asked<'_>,
+    document: FaultyDocument<'_>,
     error: &Value,
     list: &mut Vec<Value>,
 ) -> Result<(), AllocError> {
     let Some(place) = place_of(error) else {
         return Ok(());
     };
-    let at = offset_of(asked.encoding, asked.text, place);
+    let at = offset_of(document.encoding, document.text, place);
     match number_at(error, "/code") {
-        Some(UNBOUND) => put_nearest(alloc, asked, at, list),
+        Some(UNBOUND) => put_nearest(alloc, document, at, list),
         Some(LAST) => {
-            put_hinted(alloc, asked, at, list)?;
-            put_branch(alloc, asked, at, list)
+            put_hinted(alloc, document, at, list)?;
+            put_branch(alloc, document, at, list)
         }
-        Some(code) if FIRST <= code && code < LAST => put_hinted(alloc, asked, at, list),
+        Some(code) if FIRST <= code && code < LAST => put_hinted(alloc, document, at, list),
         _ => Ok(()),
     }
 }
@@ -190,7 +190,7 @@ fn put_rewrite(
 /// Adds the rewrites for the errors of a request, up to 20.
 pub(crate) fn put_rewrites(
     alloc: Global,
-    asked: Asked<'_>,
+    document: FaultyDocument<'_>,
     value: &Value,
     list: &mut Vec<Value>,
 ) -> Result<(), AllocError> {
@@ -201,7 +201,7 @@ pub(crate) fn put_rewrites(
         return Ok(());
     };
     for error in errors.iter().take(20) {
-        put_rewrite(alloc, asked, error, list)?;
+        put_rewrite(alloc, document, error, list)?;
     }
     Ok(())
 }

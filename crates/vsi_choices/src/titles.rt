@@ -3,34 +3,16 @@
 ghost use Rattle.std.specs.Prelude.{◌≡◌, ◌++◌, IfOk, IfSome, OnOk};
 ghost use Rattle.vsi_lattice.specs.LatticeView.{order};
 ghost use Rattle.vsi_lattice.specs.Order.{IsClass};
-ghost use Rattle.vsi_infer.specs.Explanation.{name_of};
 ghost use Rattle.vsi_raised.specs.Answers.{HasClassesIn};
 ghost use Rattle.vsi_choices.specs.Titles as spec;
 
 use std::alloc::{AllocError, Global};
 use vsi_compiler::Source;
+use vsi_infer::variable_name;
 use vsi_lattice::Lattice;
 use vsi_raise::{Raise, Raising, raises_of};
-use vsi_scope::{Resolved, Var};
-use vsi_types::{LOOP, Profile};
-
-/// The name of a variable.
-fn variable_name<'a>(program: &'a Resolved<'_>, variable: Var) -> &'a [u8]
-    ensures { result.now ≡ name_of program.now variable }
-{
-    if variable == LOOP {
-        return b"(loop)";
-    }
-    let number = variable.0 as usize;
-    let globals = program.globals();
-    if number < globals.len() {
-        return globals[number].name;
-    }
-    match program.letvars().get(number - globals.len()) {
-        Some(entry) => entry.name,
-        None => b"",
-    }
-}
+use vsi_scope::Resolved;
+use vsi_types::Profile;
 
 /// Adds a raise: `l from L to H`.
 fn put_raise(

@@ -1,7 +1,7 @@
 -- The contents of the files of the tests.
 use Rattle.std.specs.Prelude.{ℕ, Bool, false, List, Option, Some, None, bytes_eq, codes, if◌then◌else◌}
-use Rattle.vsi_command_tests.specs.declared.devices.Page.{Page}
-use Rattle.vsi_command_tests.specs.declared.devices.Page.TheVariants.{Blank, Filled}
+use Rattle.vsi_command_tests.specs.declared.devices.WrittenFile.{WrittenFile}
+use Rattle.vsi_command_tests.specs.declared.devices.WrittenFile.TheVariants.{Blank, Filled}
 
 -- The lattice of one class below another.
 abbrev pub two : List ℕ
@@ -17,11 +17,11 @@ stored path =
     else None
 
 -- The file at the path has been written.
-abbrev pub is_written : Page → List ℕ → Bool
+abbrev pub is_written : WrittenFile → List ℕ → Bool
 is_written Blank path = false
-is_written (Filled at page) path = bytes_eq at.items path
+is_written (Filled at written) path = bytes_eq at.items path
 
 -- The bytes of the file at each path: what has been written, or else what was stored.
-abbrev pub held : Page → List ℕ → Option (List ℕ)
+abbrev pub held : WrittenFile → List ℕ → Option (List ℕ)
 held Blank path = stored path
-held (Filled at page) path = if bytes_eq at.items path then Some page.items else stored path
+held (Filled at written) path = if bytes_eq at.items path then Some written.items else stored path

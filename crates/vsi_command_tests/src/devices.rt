@@ -106,17 +106,17 @@ impl Write for Scant {
 
 /// The one file that can be written: nothing yet, or its path and the bytes that it took.
 #[derive(Drop)]
-pub(super) enum Page {
+pub(super) enum WrittenFile {
     Blank,
     Filled(Vec<u8>, Vec<u8>),
 }
 
-impl Page {
+impl WrittenFile {
     /// The bytes that it took.
     fn taken(self, alloc: Global) -> Vec<u8> {
         match self {
-            Page::Filled(_path, bytes) => bytes,
-            Page::Blank => Vec::new(alloc),
+            WrittenFile::Filled(_path, bytes) => bytes,
+            WrittenFile::Blank => Vec::new(alloc),
         }
     }
 }
@@ -127,23 +127,27 @@ impl Page {
 pub(super) struct Shelf {
     alloc: Global,
     room: usize,
-    page: Page,
+    written: WrittenFile,
 }
 
 impl Shelf {
     ghost use Rattle.vsi_command_tests.specs.Shelf.{is_written};
 
     /// The files, with room for this many bytes in the one that can be written.
-    pub(super) fn new(alloc: Global, room: usize, page: Page) -> Shelf {
-        Shelf { alloc, room, page }
+    pub(super) fn new(alloc: Global, room: usize, written: WrittenFile) -> Shelf {
+        Shelf {
+            alloc,
+            room,
+            written,
+        }
     }
 
     /// Whether the file at the path has been written.
     fn has_written(&self, path: &[u8]) -> bool
-        ensures { result ≡ is_written self.now.page path.now }
+        ensures { result ≡ is_written self.now.written path.now }
     {
-        match &self.page {
-            Page::Filled(at, _) => at.as_slice() == path,
+        match &self.written {
+            WrittenFile::Filled(at, _) => at.as_slice() == path,
             _ => false,
         }
     }
@@ -154,7 +158,7 @@ impl Files for Shelf {
 
     type Input = Drip<'static>;
 
-    ghost holds = { λ shelf. held shelf.page };
+    ghost holds = { λ shelf. held shelf.written };
 
     fn open_file(&mut self, path: &str) -> Option<Drip<'static>> {
         if self.has_written(path.as_bytes()) {
@@ -172,17 +176,17 @@ impl Files for Shelf {
     }
 
     fn fill_file(&mut self, path: &str, bytes: &[u8]) -> Option<()> {
-        let Page::Blank = self.page else {
+        let WrittenFile::Blank = self.written else {
             return None;
         };
         let at = Vec::from_slice(self.alloc, path.as_bytes()).ok()?;
         if self.room < bytes.len() {
             let taken = Vec::from_slice(self.alloc, &bytes[..self.room]).ok()?;
-            self.page = Page::Filled(at, taken);
+            self.written = WrittenFile::Filled(at, taken);
             return None;
         }
         let taken = Vec::from_slice(self.alloc, bytes).ok()?;
-        self.page = Page::Filled(at, taken);
+        self.written = WrittenFile::Filled(at, taken);
         Some(())
     }
 }
@@ -252,7 +256,7 @@ impl Shown {
 
 /// Calls `command` with these arguments, this input and this room.
 fn call(alloc: Global, words: &[String], drip: Drip<'_>, room: Room) -> Shown {
-    let mut files = Shelf::new(alloc, room.image, Page::Blank);
+    let mut files = Shelf::new(alloc, room.image, WrittenFile::Blank);
     let mut input = Counted::new(drip);
     let mut output = Counted::new(Scant::new(alloc, room.output));
     let mut error = Counted::new(Scant::new(alloc, room.error));
@@ -268,7 +272,7 @@ fn call(alloc: Global, words: &[String], drip: Drip<'_>, room: Room) -> Shown {
         status,
         output: output.into_inner().bytes,
         error: error.into_inner().bytes,
-        image: files.page.taken(alloc),
+        image: files.written.taken(alloc),
     }
 }
 

@@ -1,6 +1,6 @@
 //! Files that are read once.
 
-use super::devices::{Drip, LEAK, Page, SUM, Scant, Shelf, TWO};
+use super::devices::{Drip, LEAK, SUM, Scant, Shelf, TWO, WrittenFile};
 use std::alloc::{AllocError, Global};
 use std::test::Fail;
 use vsi::{Counted, Files, command, load};
@@ -79,7 +79,7 @@ fn writes_over_no_file_that_it_reads(rt: HostRuntime) -> Result<(), Fail> {
         ("check two none", 4, "file fault: none\n"),
         ("check torn sum", 4, "file fault: torn\n"),
     ] {
-        let shelf = Shelf::new(rt.alloc(), 1 << 20, Page::Blank);
+        let shelf = Shelf::new(rt.alloc(), 1 << 20, WrittenFile::Blank);
         let (found, _output, told) = carried(rt.alloc(), line, shelf)?;
         assert!(rt;
             found == *status && told.as_slice() == error.as_bytes(),

@@ -1,7 +1,7 @@
--- The answers of a check under a profile.
-use Rattle.std.proofs.Common.{◌≡◌, ℕ, true, false, List, Ok, Err, IfOk, sym, subst, ◌∙◌}
+-- The answers of a check.
+use Rattle.std.proofs.Common.{◌≡◌, ℕ, true, false, List, Ok, Err, IfOk, refl, sym, subst, ◌∙◌}
 use Rattle.std.specs.Global.{Vec}
-use Rattle.std.specs.Prelude.{Result}
+use Rattle.std.specs.Prelude.{◌≢◌, Result}
 use Rattle.vsi_lattice.specs.Known.{Known}
 use Rattle.vsi_lattice.specs.Order.{Lattice}
 use Rattle.vsi_lattice.specs.LatticeView.{class_named, order}
@@ -9,36 +9,58 @@ use Rattle.vsi_lattice.specs.declared.lattice.Lattice as named
 use Rattle.vsi_types.specs.declared.rules.Profile.{Profile}
 use Rattle.vsi_types.specs.declared.rules.Profile.TheVariants as profile
 use Rattle.vsi_image.specs.declared.instr.Image.{Image}
+use Rattle.vsi_scope.specs.Language.{Command}
+use Rattle.vsi_scope.specs.Resolving.{IsResolution}
+use Rattle.vsi_syntax.specs.Tree.{Whole}
 use Rattle.vsi_compiler.specs.declared.error.CompileError.{CompileError}
+use Rattle.vsi_compiler.specs.declared.error.CompileError.TheVariants as compiler
+use Rattle.vsi_compiler.specs.Refusal.{RefusesProgram}
+use Rattle.vsi_compiler.specs.Source.{Reads}
+use Rattle.vsi_compiler.proofs.Held.{program_refused}
 use Rattle.vsi_steady.specs.declared.unsteady.UnsteadyError.{UnsteadyError}
 use Rattle.vsi_steady.specs.declared.unsteady.UnsteadyError.TheVariants as unsteady
 use Rattle.vsi_diagnostics.specs.Json.{accepted_line}
 use Rattle.vsi_diagnostics.proofs.Begins.{begins}
+use Rattle.vsi_answers.proofs.Told.{steadily_told}
 use Rattle.vsi_conform.specs.declared.checking.Checked.{Checked}
 use Rattle.vsi_conform.specs.declared.interface.Judgement.{Judgement}
 use Rattle.vsi_conform.specs.declared.interface.Judgement.TheVariants as judgement
-use Rattle.vsi_conform.specs.Checking.{judgement_by, TellsAnswer, TellsRefused, WritesRefusal}
-use Rattle.vsi_conform.specs.Conforms.{IsAcceptedAs, IsCompiled, IsRefused, IsRefusedAs}
+use Rattle.vsi_conform.specs.Checking.{TellsAnswer, TellsRefused, WritesRefusal}
+use Rattle.vsi_conform.specs.Conforms.{IsAcceptedAs, IsRefused, IsRefusedAs}
 
--- An image that is compiled under a profile is accepted by its judgement.
-pub accepted_by : (known : Known) (L : Lattice) (P : Profile) (text : List ℕ) (image : Image) →
-    IsCompiled known L P text image → IsAcceptedAs known L (judgement_by P) text image
-accepted_by known L profile.Base text image is = is
-accepted_by known L profile.Strict text image is = is
+-- The error is lack of memory if the text has a program.
+abbrev pub OnlyMemory : Known → List ℕ → CompileError → Type 0
+OnlyMemory known text e =
+    (tree : Whole) (commands : List Command) → Reads text tree → IsResolution known tree commands → e ≡ compiler.Memory
 
--- A text that is refused under a profile is refused by its judgement.
-pub refused_by : (known : Known) (L : Lattice) (P : Profile) (text : List ℕ) (e : UnsteadyError) →
-    IsRefused known L P text e → IsRefusedAs known L (judgement_by P) text e
-refused_by known L profile.Base text e is = is
-refused_by known L profile.Strict text e is = is
+-- A refusal by the compiler isn't lack of memory in the steady judgement.
+compile_apart : (e : CompileError) → unsteady.Compile e ≢ unsteady.Memory
+compile_apart e q = absurd cc
 
--- The line of a refusal by the compiler is the same under each profile.
-pub written_by : (l : named.Lattice) (P : Profile) (text : List ℕ) (e : CompileError) (out : List ℕ) →
-    WritesRefusal l judgement.Base text (unsteady.Compile e) out →
-    WritesRefusal l (judgement_by P) text (unsteady.Compile e) out
-written_by l profile.Base text e out w = w
-written_by l profile.Strict text e out w =
-    record { diagnostic = w.diagnostic; is = w.is; lines = w.lines; printed = w.printed; json = w.json }
+-- A text that has no program is refused under a profile.
+unread_by : (known : Known) (L : Lattice) (P : Profile) (text : List ℕ) (e : CompileError) → e ≢ compiler.Memory →
+    RefusesProgram known text e → OnlyMemory known text e → IsRefused known L P text (unsteady.Compile e)
+unread_by known L P text e other h only =
+    record {
+      other = other;
+      told = program_refused known L P text e h;
+      unaccepted = λ a. other (only a.tree a.commands a.reads a.resolution);
+    }
+
+-- A text that has no program is refused by each judgement.
+pub unread_refused : (l : named.Lattice) (j : Judgement) (text : List ℕ) (e : CompileError) → e ≢ compiler.Memory →
+    RefusesProgram (class_named l) text e → OnlyMemory (class_named l) text e →
+    IsRefusedAs (class_named l) (order l) j text (unsteady.Compile e)
+unread_refused l judgement.Base text e other h only =
+    unread_by (class_named l) (order l) profile.Base text e other h only
+unread_refused l judgement.Strict text e other h only =
+    unread_by (class_named l) (order l) profile.Strict text e other h only
+unread_refused l judgement.Steady text e other h only =
+    record {
+      other = compile_apart e;
+      told = steadily_told (class_named l) (order l) text e other h;
+      unaccepted = λ a. other (only a.flows.tree a.flows.commands a.flows.reads a.flows.resolution);
+    }
 
 -- The line of a refusal has the fixed beginning.
 pub tells_refused : (l : named.Lattice) (j : Judgement) (text : List ℕ) (e : UnsteadyError) (out : List ℕ) →

@@ -9,6 +9,8 @@ use Rattle.vsi_steady.specs.declared.error.SteadyError.{SteadyError}
 use Rattle.vsi_steady.specs.declared.error.SteadyError.TheVariants as steady
 use Rattle.vsi_steady.specs.declared.unsteady.UnsteadyError.{UnsteadyError}
 use Rattle.vsi_steady.specs.declared.unsteady.UnsteadyError.TheVariants as unsteady
+use Rattle.vsi_audit.specs.declared.error.AuditError.{AuditError}
+use Rattle.vsi_audit.specs.declared.error.AuditError.TheVariants as audit
 use Rattle.vsi_diagnostics.specs.Diagnostic.{Diagnostic, nothing, number}
 use Rattle.vsi_diagnostics.specs.Json.{IsRefusalJson, accepted_line, refused_begin}
 use Rattle.vsi_diagnostics.specs.Source.{refusal_diagnostic, refused}
@@ -22,6 +24,15 @@ abbrev pub steady_diagnostic : SteadyError → Option Diagnostic
 steady_diagnostic (steady.UnknownClass i) = refused 43 (codes "ClassNotInLattice") (number i)
 steady_diagnostic (steady.Flow place) = refused 25 (codes "Refused") nothing
 steady_diagnostic steady.Memory = None
+
+-- The refusal of an image by an audit; none if memory ran out. Its steps have no position in a text.
+abbrev pub audit_diagnostic : AuditError → Option Diagnostic
+audit_diagnostic (audit.UnknownClass n) = refused 43 (codes "ClassNotInLattice") (number n)
+audit_diagnostic (audit.Unstructured n) = refused 49 (codes "NoCommands") (number n)
+audit_diagnostic audit.WrongFields = refused 50 (codes "WrongFields") nothing
+audit_diagnostic audit.NoText = refused 51 (codes "NoText") nothing
+audit_diagnostic (audit.Flow walk) = refused 25 (codes "Refused") nothing
+audit_diagnostic audit.Memory = None
 
 -- The refusal of a source text, with or without a demand for a steady image; none if memory ran out.
 abbrev pub unsteady_diagnostic : List ℕ → UnsteadyError → Option Diagnostic

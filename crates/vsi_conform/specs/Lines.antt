@@ -5,20 +5,13 @@ use Rattle.std.specs.Global.{Vec}
 use Rattle.std.specs.List.{flat_map}
 use Rattle.vsi_syntax.specs.Tree.{Declared}
 use Rattle.vsi_lattice.specs.declared.lattice.Lattice.{Lattice}
-use Rattle.vsi_lattice.specs.LatticeView.{class_named}
-use Rattle.vsi_types.specs.declared.rules.Step.{Step}
-use Rattle.vsi_image.specs.declared.instr.Image.{Image}
 use Rattle.vsi_image.specs.Fields.{Global}
-use Rattle.vsi_compiler.specs.Headline.{IsImageOf}
 use Rattle.vsi_compiler.specs.declared.error.CompileError.{CompileError}
 use Rattle.vsi_compiler.specs.declared.error.CompileError.TheVariants as compiler
-use Rattle.vsi_compiler.specs.Readable.{HasProgram}
-use Rattle.vsi_steady.specs.Source.{ExplainsLoopedWalk}
-use Rattle.vsi_steady.specs.Telling.{IsUnsteadyText}
-use Rattle.vsi_steady.specs.declared.error.SteadyError.{SteadyError}
 use Rattle.vsi_steady.specs.declared.unsteady.UnsteadyError.{UnsteadyError}
 use Rattle.vsi_steady.specs.declared.unsteady.UnsteadyError.TheVariants as unsteady
 use Rattle.vsi_diagnostics.specs.Texts.{IsRefusalText}
+use Rattle.vsi_answers.specs.Judged.{IsImageText, IsLoopedText}
 use Rattle.vsi_conform.specs.declared.interface.Interface.{Interface}
 use Rattle.vsi_conform.specs.declared.interface.Judgement.{Judgement}
 use Rattle.vsi_conform.specs.declared.interface.Judgement.TheVariants.{Base, Strict, Steady}
@@ -87,11 +80,6 @@ line_of_point p (NoWord run n) = word_line run (expected p.interface run n) None
 
 -- ---- the refusal.
 
--- The line of a refused flow, followed by the explanation of the walk, where each choice is judged as a loop.
-abbrev pub IsLoopedText : Lattice → List ℕ → List Step → List ℕ → Type 0
-IsLoopedText l text steps out =
-    (more : List ℕ) × ExplainsLoopedWalk l text steps more × (out ≡ codes "refused: 25 Refused\n" ++ more)
-
 -- The text of a refusal by the compiler, where choices are judged as loops or not.
 abbrev pub IsCompileText : Lattice → List ℕ → Bool → CompileError → List ℕ → Type 0
 IsCompileText l text false e out = IsRefusalText l text e out
@@ -100,13 +88,6 @@ IsCompileText l text true (compiler.Lex e) out = IsRefusalText l text (compiler.
 IsCompileText l text true (compiler.Parse e) out = IsRefusalText l text (compiler.Parse e) out
 IsCompileText l text true (compiler.Scope e) out = IsRefusalText l text (compiler.Scope e) out
 IsCompileText l text true compiler.Memory out = IsRefusalText l text compiler.Memory out
-
--- The text of the refusal of a text's image.
-pub record IsImageText (l : Lattice) (text : List ℕ) (e : SteadyError) (out : List ℕ) : Type 0 where
-  pub program : HasProgram (class_named l) text
-  pub image : Image
-  pub is_image : IsImageOf (class_named l) text image
-  pub told : IsUnsteadyText l image e out
 
 -- The lines of a refusal.
 abbrev pub IsRefusalLines : Lattice → List ℕ → Bool → UnsteadyError → List ℕ → Type 0

@@ -16,7 +16,7 @@ use Rattle.vsi_conform.specs.declared.interface.Interface.{Interface}
 use Rattle.vsi_conform.specs.declared.interface.Judgement.{Judgement}
 use Rattle.vsi_conform.specs.declared.interface.Judgement.TheVariants.{Base, Strict, Steady}
 use Rattle.vsi_conform.specs.declared.interface.Trial.{Trial}
-use Rattle.vsi_conform.specs.declared.reader.Asked.{Asked}
+use Rattle.vsi_conform.specs.declared.reader.InterfaceFile.{InterfaceFile}
 use Rattle.vsi_conform.specs.declared.reader.Policy.{Policy}
 use Rattle.vsi_conform.specs.declared.reader.Policy.TheVariants.{File, Tables}
 use Rattle.vsi_conform.specs.Points.{Entry, entries}
@@ -299,7 +299,7 @@ pub record Asks (ms : Members) (i : Interface) : Type 0 where
   pub named : NameGlobals i
 
 -- The text is a document with this policy and this interface, and with no keys other than those of an interface.
-pub record IsReadAs (text : List ℕ) (a : Asked) : Type 0 where
+pub record IsReadAs (text : List ℕ) (a : InterfaceFile) : Type 0 where
   pub table : Members
   pub document : IsDocument text table
   pub keys : has_keys interface_keys table ≡ true

@@ -4,17 +4,17 @@ ghost use Rattle.std.specs.Prelude.{◌≡◌, true, false, IfOk, option_map};
 ghost use Rattle.vsi_diagnostics.specs.Json.{accepted_line};
 ghost use Rattle.vsi_diagnostics.specs.View.{diagnostic_of};
 ghost use Rattle.vsi_steady.specs.declared.unsteady.UnsteadyError.TheVariants as unsteady;
-ghost use Rattle.vsi_conform.specs.declared.interface.Judgement.TheVariants as judgement;
 ghost use Rattle.vsi_conform.specs.Checking as spec;
 
-use crate::accepting::judged;
+use crate::accepting::judged_of;
 use crate::interface::Judgement;
-use crate::texts::{is_steady, refusal_lines};
+use crate::texts::{is_steady, refusal_lines, refusal_lines_of};
 use std::alloc::{AllocError, Global};
-use vsi_compiler::{CompileError, Source, compile_source, read_source};
+use vsi_answers::{Observer, Unobserved};
+use vsi_audit::AuditError;
+use vsi_compiler::{CompileError, Source, read_source};
 use vsi_diagnostics::{
     Diagnostic, Field, accepted_json, refusal_diagnostic, refusal_json, refusal_json_of,
-    refusal_text_of,
 };
 use vsi_lattice::Lattice;
 use vsi_steady::{SteadyError, UnsteadyError};
@@ -42,6 +42,24 @@ pub fn steady_diagnostic(error: &SteadyError) -> Option<Diagnostic<'static>>
     }
 }
 
+/// The refusal of an image by an audit; none if memory ran out.
+pub fn audit_diagnostic(error: &AuditError) -> Option<Diagnostic<'static>>
+    ensures refusal { option_map diagnostic_of result ≡ spec.audit_diagnostic error.now }
+{
+    match error {
+        AuditError::UnknownClass(n) => {
+            Some(Diagnostic::new(43, b"ClassNotInLattice", Field::Number(*n)))
+        }
+        AuditError::Unstructured(n) => {
+            Some(Diagnostic::new(49, b"NoCommands", Field::Number(*n)))
+        }
+        AuditError::WrongFields => Some(Diagnostic::new(50, b"WrongFields", Field::Nothing)),
+        AuditError::NoText => Some(Diagnostic::new(51, b"NoText", Field::Nothing)),
+        AuditError::Flow(_) => Some(Diagnostic::new(25, b"Refused", Field::Nothing)),
+        AuditError::Memory => None,
+    }
+}
+
 /// The refusal of a source text, with or without a demand for a steady image; none if memory ran
 /// out.
 pub fn unsteady_diagnostic<'a>(text: &[u8], error: &'a UnsteadyError) -> Option<Diagnostic<'a>>
@@ -55,7 +73,17 @@ pub fn unsteady_diagnostic<'a>(text: &[u8], error: &'a UnsteadyError) -> Option<
     }
 }
 
-/// The line of a refused text.
+/// The judgement by a profile.
+pub fn judgement_by(profile: Profile) -> Judgement
+    ensures judgement { result ≡ spec.judgement_by profile }
+{
+    match profile {
+        Profile::Base => Judgement::Base,
+        Profile::Strict => Judgement::Strict,
+    }
+}
+
+/// The line of a refused text, which has no program.
 fn refused_line(
     alloc: Global,
     judgement: Judgement,
@@ -97,79 +125,60 @@ fn refused(line: Vec<u8>) -> Checked
     }
 }
 
-/// The line of a source text that was read and is refused under a profile.
+/// The line of a source text that was read and is refused.
 fn source_line(
     alloc: Global,
+    judgement: Judgement,
     source: &Source<'_>,
-    error: &CompileError,
+    error: &UnsteadyError,
 ) -> Result<Vec<u8>, AllocError>
-    ensures { IfOk result (λ out. spec.WritesRefusal
-        source.now.lattice judgement.Base source.now.text
-        (unsteady.Compile error.now) out.items) }
+    ensures { IfOk result (λ out. spec.WritesRefusal source.now.lattice judgement source.now.text
+        error.now out.items) }
 {
-    let Some(diagnostic) = refusal_diagnostic(source.text(), error) else {
+    let Some(diagnostic) = unsteady_diagnostic(source.text(), error) else {
         return Err(AllocError);
     };
-    let lines = refusal_text_of(alloc, source, error)?;
+    let lines = refusal_lines_of(alloc, source, error, is_steady(judgement))?;
     let line = refusal_json_of(alloc, source, &diagnostic, &lines)?;
     Ok(line)
 }
 
-/// The answer for a source text that was read, under a profile.
-fn source_json(alloc: Global, profile: Profile, source: &Source<'_>) -> Result<Checked, AllocError>
-    ensures { IfOk result (λ checked. spec.TellsAnswer
-        source.now.lattice (spec.judgement_by profile) source.now.text
-        checked.is_accepted checked.line.items) }
+/// The answer of `check_json` for a source text that was read already.
+pub fn check_json_of(
+    alloc: Global,
+    judgement: Judgement,
+    source: &Source<'_>,
+) -> Result<Checked, AllocError>
+    ensures answer { IfOk result (λ checked. spec.TellsAnswer source.now.lattice judgement
+        source.now.text checked.is_accepted checked.line.items) }
 {
-    match compile_source(alloc, profile, source) {
+    match judged_of(alloc, judgement, source)? {
         Ok(_verified) => accepted(alloc),
-        Err(CompileError::Memory) => Err(AllocError),
         Err(error) => {
-            let line = source_line(alloc, source, &error)?;
+            let line = source_line(alloc, judgement, source, &error)?;
             Ok(refused(line))
         }
     }
 }
 
-/// The answer for a text under a profile. The text is read once.
-fn profile_json(
+/// The line of `check_json` for a text that `read_source` refuses with this error.
+pub fn unread_json(
     alloc: Global,
-    profile: Profile,
+    judgement: Judgement,
     lattice: &Lattice,
     text: &[u8],
-) -> Result<Checked, AllocError>
-    ensures { IfOk result (λ checked. spec.TellsAnswer
-        lattice.now (spec.judgement_by profile) text.now
-        checked.is_accepted checked.line.items) }
+    error: CompileError,
+) -> Result<Vec<u8>, AllocError>
+    ensures refusal { IfOk result (λ out. spec.WritesRefusal
+        lattice.now judgement text.now (unsteady.Compile error) out.items) }
 {
-    match read_source(alloc, lattice, text) {
-        Ok(source) => source_json(alloc, profile, &source),
-        Err(CompileError::Memory) => Err(AllocError),
-        Err(error) => {
-            let error = UnsteadyError::Compile(error);
-            let line = refused_line(alloc, Judgement::Base, lattice, text, &error)?;
-            Ok(refused(line))
-        }
-    }
-}
-
-/// The answer for a text that should have a steady image.
-fn steady_json(alloc: Global, lattice: &Lattice, text: &[u8]) -> Result<Checked, AllocError>
-    ensures { IfOk result (λ checked. spec.TellsAnswer
-        lattice.now judgement.Steady text.now
-        checked.is_accepted checked.line.items) }
-{
-    match judged(alloc, Judgement::Steady, lattice, text)? {
-        Ok(_verified) => accepted(alloc),
-        Err(error) => {
-            let line = refused_line(alloc, Judgement::Steady, lattice, text, &error)?;
-            Ok(refused(line))
-        }
-    }
+    let error = UnsteadyError::Compile(error);
+    refused_line(alloc, judgement, lattice, text, &error)
 }
 
 /// The answer of `vsi check` to a text as a line of JSON: an object with `accepted` and, for a
-/// refused text, the keys of `refusal_json`, in byte order. An error means that memory ran out.
+/// refused text, the keys of `refusal_json`, in byte order. The text is read once. An error means
+/// that memory ran out.
 pub fn check_json(
     alloc: Global,
     judgement: Judgement,
@@ -180,9 +189,29 @@ pub fn check_json(
         checked.is_accepted checked.line.items) }
     ensures apart { spec.BeginApart }
 {
-    match judgement {
-        Judgement::Base => profile_json(alloc, Profile::Base, lattice, text),
-        Judgement::Strict => profile_json(alloc, Profile::Strict, lattice, text),
-        Judgement::Steady => steady_json(alloc, lattice, text),
+    check_json_for(alloc, judgement, lattice, text, &mut Unobserved)
+}
+
+/// The answer of `check_json`. The observer gets the text as it was read, before it is judged.
+pub fn check_json_for<O: Observer>(
+    alloc: Global,
+    judgement: Judgement,
+    lattice: &Lattice,
+    text: &[u8],
+    observer: &mut O,
+) -> Result<Checked, AllocError>
+    ensures answer { IfOk result (λ checked. spec.TellsAnswer lattice.now judgement text.now
+        checked.is_accepted checked.line.items) }
+{
+    match read_source(alloc, lattice, text) {
+        Ok(source) => {
+            observer.read(&source)?;
+            check_json_of(alloc, judgement, &source)
+        }
+        Err(CompileError::Memory) => Err(AllocError),
+        Err(error) => {
+            let line = unread_json(alloc, judgement, lattice, text, error)?;
+            Ok(refused(line))
+        }
     }
 }

@@ -17,10 +17,7 @@ fn globals_of<'a>(alloc: Global, program: &Program<'a>) -> Result<Vec<Declaratio
 }
 
 /// The globals of a text, in its order; a text without a tree has none.
-pub(crate) fn declarations<'a>(
-    alloc: Global,
-    text: &'a [u8],
-) -> Result<Vec<Declaration<'a>>, AllocError>
+pub fn declarations<'a>(alloc: Global, text: &'a [u8]) -> Result<Vec<Declaration<'a>>, AllocError>
     ensures { IfOk result (λ found. spec.Declares text.now (map declared found.items)) }
 {
     let tokens = match lex(alloc, text) {

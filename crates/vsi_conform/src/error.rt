@@ -95,7 +95,7 @@ impl<T: Drop> From<AllocFailed<T>> for InterfaceError {
 }
 
 /// The name of a fault.
-fn fault_name(error: &InterfaceError) -> &'static [u8]
+pub fn fault_name(error: &InterfaceError) -> &'static [u8]
     ensures { result.now ≡ spec.name_of error.now }
 {
     match error {

@@ -1,14 +1,15 @@
 //! Interfaces that are fixed outside a program, and whether a text conforms to one.
 //!
 //! `check_json` judges a source text as `vsi check` does, and writes the answer as a line of JSON
-//! (`specs/Checking`). `read_interface` reads an interface file: the lattice, the judgement, the
-//! globals with their classes, the required runs, and the boundaries of controllers. `conform`
-//! reports each point in which a text differs from an interface; if there is none, the text
-//! conforms to it (`specs/Conforms`). `image_points` reports the points of an image. `is_within`
-//! compares the budgets of all runs with one budget (`specs/Totals`). `parts` has the lines and
-//! objects of points that name no position in a text. `points_text` and `points_json` write an
-//! answer (`specs/Lines`, `specs/Json`), and `interface_text` writes why an interface is refused
-//! (`specs/Faulty`).
+//! (`specs/Checking`); `check_json_of` does the same for a text that was read already, and
+//! `unread_json` for one that can't be read. `read_interface` reads an interface file: the lattice,
+//! the judgement, the globals with their classes, the required runs, and the boundaries of
+//! controllers. `conform` reports each point in which a text differs from an interface; if there is
+//! none, the text conforms to it (`specs/Conforms`). `image_points` reports the points of an image.
+//! `is_within` compares the budgets of all runs with one budget (`specs/Totals`). `parts` has the
+//! lines and objects of points that name no position in a text. `points_text` and `points_json`
+//! write an answer (`specs/Lines`, `specs/Json`), and `interface_text` writes why an interface is
+//! refused (`specs/Faulty`).
 //!
 //! To be believed: all files of `specs/`.
 #![tactic(auto)]
@@ -32,14 +33,18 @@ mod texts;
 mod totals;
 mod trials;
 
-pub use accepting::judged;
-pub use checking::{Checked, check_json, steady_diagnostic, unsteady_diagnostic};
+pub use accepting::{judged, judged_of};
+pub use checking::{
+    Checked, audit_diagnostic, check_json, check_json_for, check_json_of, judgement_by,
+    steady_diagnostic, unread_json, unsteady_diagnostic,
+};
 pub use conforming::{conform, image_points};
 pub use cycles::{Cycle, unknown_cycle};
-pub use error::{InterfaceError, interface_text};
+pub use declared::declarations;
+pub use error::{InterfaceError, fault_name, interface_text};
 pub use interface::{Interface, Judgement, Trial};
 pub use json::points_json;
 pub use point::{Answer, Point};
-pub use reader::{Asked, Policy, path_beside, read_interface, unknown_class};
-pub use texts::{points_text, refusal_lines};
+pub use reader::{InterfaceFile, Policy, path_beside, read_interface, unknown_class};
+pub use texts::{first_lines, points_text, refusal_lines, refusal_lines_of};
 pub use totals::is_within;

@@ -46,7 +46,7 @@ pub enum Policy {
 
 /// The contents of an interface file.
 #[derive(Debug, Drop)]
-pub struct Asked {
+pub struct InterfaceFile {
     /// The lattice.
     pub policy: Policy,
     /// The requirements on a text.
@@ -329,7 +329,7 @@ fn interface_in(alloc: Global, table: &Table) -> Result<Interface, InterfaceErro
 ///
 /// `NotToml` if the text is no document, isn't UTF-8, or has an integer beyond 64 bits; otherwise
 /// the first fault in the order keys, lattice, profile, order, bound, globals, runs, cycles.
-pub fn read_interface(alloc: Global, text: &[u8]) -> Result<Asked, InterfaceError>
+pub fn read_interface(alloc: Global, text: &[u8]) -> Result<InterfaceFile, InterfaceError>
     ensures read { IfOk result (spec.IsReadAs text.now) }
     ensures inside { IfOk result (λ asked. IsInside asked.policy) }
 {
@@ -341,7 +341,7 @@ pub fn read_interface(alloc: Global, text: &[u8]) -> Result<Asked, InterfaceErro
     let policy = policy_in(alloc, &table)?;
     let interface = interface_in(alloc, &table)?;
     let cycles = cycles_in(alloc, &table, &interface.globals)?;
-    Ok(Asked {
+    Ok(InterfaceFile {
         policy,
         interface,
         cycles,

@@ -10,11 +10,11 @@ use crate::declared::{Shown, declarations, global_at};
 use crate::interface::{Interface, Judgement, Trial};
 use crate::point::{Answer, Point};
 use std::alloc::{AllocError, Global};
-use vsi_compiler::{CompileError, unjudged_image};
-use vsi_diagnostics::refusal_text;
-use vsi_infer::Walk;
+use vsi_answers::{image_text, image_text_of, looped_text, looped_text_of};
+use vsi_compiler::{CompileError, Source};
+use vsi_diagnostics::{refusal_text, refusal_text_of};
 use vsi_lattice::Lattice;
-use vsi_steady::{SteadyError, UnsteadyError, steady_explanation, steady_text};
+use vsi_steady::UnsteadyError;
 use vsi_syntax::{Declaration, put_number, put_word};
 
 /// A source text and the interface for it.
@@ -35,22 +35,6 @@ pub fn put_parts(text: &mut Vec<u8>, parts: &[&[u8]]) -> Result<(), AllocError>
     Ok(())
 }
 
-/// The lines of a refused flow, judged as for a steady image.
-fn looped_lines(
-    alloc: Global,
-    lattice: &Lattice,
-    text: &[u8],
-    walk: &Walk,
-) -> Result<Vec<u8>, AllocError>
-    ensures { IfOk result (λ lines. spec.IsLoopedText lattice.now text.now
-        walk.now.steps.items lines.items) }
-{
-    let mut lines = Vec::from_slice(alloc, b"refused: 25 Refused\n")?;
-    let steps = steady_explanation(alloc, lattice, text, walk)?;
-    lines.extend_from_slice(&steps)?;
-    Ok(lines)
-}
-
 /// The lines of a refusal of a steady image.
 fn steady_lines(
     alloc: Global,
@@ -62,30 +46,11 @@ fn steady_lines(
         error.now lines.items) }
 {
     match error {
-        CompileError::Flow(walk) => looped_lines(alloc, lattice, text, walk),
+        CompileError::Flow(walk) => looped_text(alloc, lattice, text, walk),
         CompileError::Lex(_) => refusal_text(alloc, lattice, text, error),
         CompileError::Parse(_) => refusal_text(alloc, lattice, text, error),
         CompileError::Scope(_) => refusal_text(alloc, lattice, text, error),
         CompileError::Memory => refusal_text(alloc, lattice, text, error),
-    }
-}
-
-/// The lines of the refusal of a text's image.
-fn image_lines(
-    alloc: Global,
-    lattice: &Lattice,
-    text: &[u8],
-    error: &SteadyError,
-) -> Result<Vec<u8>, AllocError>
-    ensures { IfOk result
-        (λ lines. spec.IsImageText lattice.now text.now error.now lines.items) }
-{
-    match unjudged_image(alloc, lattice, text) {
-        Ok(verified) => {
-            let lines = steady_text(alloc, lattice, verified.image(), error)?;
-            Ok(lines)
-        }
-        Err(_) => Err(AllocError),
     }
 }
 
@@ -109,7 +74,48 @@ pub fn refusal_lines(
                 refusal_text(alloc, lattice, text, error)
             }
         }
-        UnsteadyError::Image(error) => image_lines(alloc, lattice, text, error),
+        UnsteadyError::Image(error) => image_text(alloc, lattice, text, error),
+        UnsteadyError::Memory => Err(AllocError),
+    }
+}
+
+/// The lines of a refusal of a source text, judged as for a steady image.
+fn source_steady_lines(
+    alloc: Global,
+    source: &Source<'_>,
+    error: &CompileError,
+) -> Result<Vec<u8>, AllocError>
+    ensures { IfOk result (λ lines. spec.IsCompileText source.now.lattice source.now.text true
+        error.now lines.items) }
+{
+    match error {
+        CompileError::Flow(walk) => looped_text_of(alloc, source, walk),
+        CompileError::Lex(_) => refusal_text_of(alloc, source, error),
+        CompileError::Parse(_) => refusal_text_of(alloc, source, error),
+        CompileError::Scope(_) => refusal_text_of(alloc, source, error),
+        CompileError::Memory => refusal_text_of(alloc, source, error),
+    }
+}
+
+/// The lines of `refusal_lines` for a source text that was read already.
+pub fn refusal_lines_of(
+    alloc: Global,
+    source: &Source<'_>,
+    error: &UnsteadyError,
+    is_steady: bool,
+) -> Result<Vec<u8>, AllocError>
+    ensures lines { IfOk result (λ lines. spec.IsRefusalLines source.now.lattice source.now.text
+        is_steady error.now lines.items) }
+{
+    match error {
+        UnsteadyError::Compile(error) => {
+            if is_steady {
+                source_steady_lines(alloc, source, error)
+            } else {
+                refusal_text_of(alloc, source, error)
+            }
+        }
+        UnsteadyError::Image(error) => image_text_of(alloc, source, error),
         UnsteadyError::Memory => Err(AllocError),
     }
 }
@@ -310,7 +316,7 @@ fn put_points(text: &mut Vec<u8>, pages: &Pages, points: &[Point]) -> Result<(),
 }
 
 /// The lines of a refusal, if there is one.
-fn first_lines(
+pub fn first_lines(
     alloc: Global,
     lattice: &Lattice,
     text: &[u8],

@@ -17,4 +17,4 @@ mod texts;
 pub use answer::{Answer, Refusal};
 pub use conforming::conform_image;
 pub use json::points_json;
-pub use texts::points_text;
+pub use texts::{first_lines, points_text};

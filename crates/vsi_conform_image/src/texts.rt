@@ -108,7 +108,7 @@ fn put_points(
 }
 
 /// The lines of a refusal, if there is one.
-pub(crate) fn first_lines(
+pub fn first_lines(
     alloc: Global,
     lattice: &Lattice,
     image: &Image,

@@ -1,11 +1,12 @@
 //! A refusal as a line of JSON.
 
-ghost use Rattle.std.specs.Prelude.{◌≡◌, ◌≢◌, ◌++◌, codes, false, map, option_map, IfOk, OnOk};
+ghost use Rattle.std.specs.Prelude.{◌≡◌, ◌≢◌, ◌++◌, ℕ, List, codes, false};
+ghost use Rattle.std.specs.Prelude.{map, option_map, IfOk, OnOk};
 ghost use Rattle.serde_json.specs.Data.{object};
 ghost use Rattle.serde_json.specs.View.{members_view, view};
 ghost use Rattle.serde_json.specs.Written.{compact_text, members_have_float};
+ghost use Rattle.vsi_lattice.specs.declared.lattice.Lattice.{Lattice as Named};
 ghost use Rattle.vsi_compiler.specs.declared.error.CompileError.TheVariants.{Memory};
-ghost use Rattle.vsi_infer.specs.Explanation.{name_of, rule_text};
 ghost use Rattle.vsi_diagnostics.specs.Json as spec;
 ghost use Rattle.vsi_diagnostics.specs.View.{diagnostic_of, field_of};
 
@@ -13,43 +14,12 @@ use crate::diagnostic::{Diagnostic, Field};
 use crate::members::{put_natural, put_text};
 use serde_json::{Map, Value, put};
 use std::alloc::{AllocError, Global};
-use vsi_compiler::{CompileError, Source, resolved_program};
+use vsi_compiler::{CompileError, Source, read_source};
+use vsi_infer::{rule_text, variable_name};
 use vsi_lattice::Lattice;
-use vsi_scope::{Resolved, Var};
+use vsi_scope::Resolved;
 use vsi_syntax::line_column;
-use vsi_types::{LOOP, Rule, Step};
-
-/// The name of the rule by which a step flows.
-fn rule_name(rule: Rule) -> &'static [u8]
-    ensures { result.now ≡ rule_text rule }
-{
-    match rule {
-        Rule::Assign => b"ASSIGN",
-        Rule::If => b"IF",
-        Rule::While => b"WHILE",
-        Rule::Letvar => b"LETVAR",
-        Rule::Loop => b"LOOP",
-    }
-}
-
-/// The name of a variable; globals have the first numbers, and the ending of loops has its own
-/// name.
-fn variable_name<'a>(program: &'a Resolved<'_>, variable: Var) -> &'a [u8]
-    ensures { result.now ≡ name_of program.now variable }
-{
-    if variable == LOOP {
-        return b"(loop)";
-    }
-    let number = variable.0 as usize;
-    let globals = program.globals();
-    if number < globals.len() {
-        return globals[number].name;
-    }
-    match program.letvars().get(number - globals.len()) {
-        Some(entry) => entry.name,
-        None => b"",
-    }
-}
+use vsi_types::Step;
 
 /// The object of a step: the position where its source is read, its rule, and the names of both
 /// ends.
@@ -66,7 +36,7 @@ fn step_object(
     let (line, column) = line_column(source, step.read.start);
     put_natural(alloc, &mut map, "line", line)?;
     put_natural(alloc, &mut map, "column", column)?;
-    put_text(alloc, &mut map, "kind", rule_name(step.rule))?;
+    put_text(alloc, &mut map, "kind", rule_text(step.rule))?;
     put_text(alloc, &mut map, "from", variable_name(program, step.source))?;
     put_text(alloc, &mut map, "to", variable_name(program, step.target))?;
     Ok(map)
@@ -96,29 +66,41 @@ fn wants_memory(error: &CompileError) -> bool
     matches!(error, CompileError::Memory)
 }
 
-/// The objects of the steps of a walk, by the names of the text's program, or none if it has no
-/// program.
+/// The objects of the steps of a walk, by the names of the program of a source text.
+fn source_objects(
+    alloc: Global,
+    source: &Source<'_>,
+    steps: &[Step],
+) -> Result<Vec<Value>, AllocError>
+    ensures { IfOk result (λ found. spec.NamesWalk source.now.lattice source.now.text
+        steps.now (map view found.items)) }
+{
+    let text = source.text();
+    let program = source.resolved();
+    let mut found = Vec::new(alloc);
+    put_step_objects(alloc, &mut found, text, program, steps)?;
+    Ok(found)
+}
+
+/// The same for a text, which may have no program; then there is no object.
 fn walk_objects(
     alloc: Global,
     lattice: &Lattice,
-    source: &[u8],
+    text: &[u8],
     steps: &[Step],
 ) -> Result<Vec<Value>, AllocError>
     ensures { IfOk result (λ found.
-        spec.NamesWalk lattice.now source.now steps.now (map view found.items)) }
+        spec.NamesWalk lattice.now text.now steps.now (map view found.items)) }
 {
-    let program = match resolved_program(alloc, lattice, source) {
-        Ok(program) => program,
+    match read_source(alloc, lattice, text) {
+        Ok(source) => source_objects(alloc, &source, steps),
         Err(error) => {
             if wants_memory(&error) {
                 return Err(AllocError);
             }
-            return Ok(Vec::new(alloc));
+            Ok(Vec::new(alloc))
         }
-    };
-    let mut found = Vec::new(alloc);
-    put_step_objects(alloc, &mut found, source, &program, steps)?;
-    Ok(found)
+    }
 }
 
 /// The objects of the steps of a flow, or none for any other refusal.
@@ -138,22 +120,6 @@ fn flow_objects(
         }
         None => Ok(None),
     }
-}
-
-/// The objects of the steps of a walk, by the names of the program of a source text.
-fn source_objects(
-    alloc: Global,
-    source: &Source<'_>,
-    steps: &[Step],
-) -> Result<Vec<Value>, AllocError>
-    ensures { IfOk result (λ found. spec.NamesWalk source.now.lattice source.now.text
-        steps.now (map view found.items)) }
-{
-    let text = source.text();
-    let program = source.resolved();
-    let mut found = Vec::new(alloc);
-    put_step_objects(alloc, &mut found, text, program, steps)?;
-    Ok(found)
 }
 
 /// The objects of the steps of a flow of a source text, or none for any other refusal.
@@ -242,6 +208,22 @@ fn object_line(alloc: Global, map: Map<String, Value>) -> Result<Vec<u8>, AllocE
     Ok(line)
 }
 
+/// The line of a refusal whose flow has these objects.
+fn steps_json(
+    alloc: Global,
+    diagnostic: &Diagnostic,
+    steps: Option<Vec<Value>>,
+    lines: &[u8],
+) -> Result<Vec<u8>, AllocError>
+    ensures { IfOk result (λ out. (l : Named) (text : List ℕ) → spec.NamesFlow l text
+        (diagnostic_of diagnostic.now).steps (option_map (λ v. map view v.items) steps)
+        → spec.IsRefusalJson l text (diagnostic_of diagnostic.now) lines.now out.items) }
+{
+    let map = refusal_members(alloc, diagnostic, steps, lines)?;
+    let line = object_line(alloc, map)?;
+    Ok(line)
+}
+
 /// A refusal of a source text as a line of JSON: an object with `accepted`, `number`, `name`,
 /// `text` (these lines without the last line feed), `line` and `column` if the refusal has a
 /// position, and `steps` for a flow.
@@ -256,8 +238,7 @@ pub fn refusal_json(
         (diagnostic_of diagnostic.now) lines.now out.items) }
 {
     let steps = flow_objects(alloc, lattice, source, diagnostic.steps)?;
-    let map = refusal_members(alloc, diagnostic, steps, lines)?;
-    let line = object_line(alloc, map)?;
+    let line = steps_json(alloc, diagnostic, steps, lines)?;
     Ok(line)
 }
 
@@ -272,8 +253,7 @@ pub fn refusal_json_of(
         (diagnostic_of diagnostic.now) lines.now out.items) }
 {
     let steps = source_flow_objects(alloc, source, diagnostic.steps)?;
-    let map = refusal_members(alloc, diagnostic, steps, lines)?;
-    let line = object_line(alloc, map)?;
+    let line = steps_json(alloc, diagnostic, steps, lines)?;
     Ok(line)
 }
 

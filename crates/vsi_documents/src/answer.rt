@@ -9,8 +9,7 @@ ghost use Rattle.vsi_documents.specs.Lines as spec;
 use serde_json::{Map, Value};
 use std::alloc::{AllocError, Global};
 use vsi_compiler::CompileError;
-use vsi_conform::{Checked, Judgement};
-use vsi_types::Profile;
+use vsi_conform::Checked;
 
 /// An answer: whether it is good, and the line of JSON that says so.
 #[derive(Debug, Drop)]
@@ -19,16 +18,6 @@ pub struct Documented {
     pub is_good: bool,
     /// The line of JSON.
     pub line: Vec<u8>,
-}
-
-/// The judgement by a profile.
-pub(crate) fn judgement(profile: Profile) -> Judgement
-    ensures { result ≡ spec.judgement_by profile }
-{
-    match profile {
-        Profile::Base => Judgement::Base,
-        Profile::Strict => Judgement::Strict,
-    }
 }
 
 /// Whether the error is lack of memory.

@@ -1,40 +1,22 @@
 //! The judgement of an image as a line of JSON.
 
-ghost use Rattle.std.specs.Prelude.{◌≡◌, IfOk, option_map, true};
+ghost use Rattle.std.specs.Prelude.{◌≡◌, IfOk, true};
 ghost use Rattle.vsi_steady.specs.Telling.{IsUnsteadyText};
 ghost use Rattle.vsi_audit.specs.Telling.{IsAuditText};
 ghost use Rattle.vsi_diagnostics.specs.Json.{accepted_line};
-ghost use Rattle.vsi_diagnostics.specs.View.{diagnostic_of};
+ghost use Rattle.vsi_conform.specs.Checking.{audit_diagnostic as audit_of};
 ghost use Rattle.vsi_conform.specs.Checking.{steady_diagnostic as steady_of};
 ghost use Rattle.vsi_documents.specs.Audits as spec;
 
 use crate::answer::Documented;
 use std::alloc::{AllocError, Global};
 use vsi_audit::{AuditError, audit_in, audit_text};
-use vsi_conform::steady_diagnostic;
-use vsi_diagnostics::{Diagnostic, Field, accepted_json, refusal_json};
+use vsi_conform::{audit_diagnostic, steady_diagnostic};
+use vsi_diagnostics::{accepted_json, refusal_json};
 use vsi_image::{Image, Verified};
 use vsi_lattice::Lattice;
 use vsi_steady::{SteadyError, steady_in, steady_text};
 use vsi_types::Profile;
-
-/// The refusal of an image; none if memory ran out.
-fn audit_diagnostic(error: &AuditError) -> Option<Diagnostic<'static>>
-    ensures { option_map diagnostic_of result ≡ spec.audit_diagnostic error.now }
-{
-    match error {
-        AuditError::UnknownClass(n) => {
-            Some(Diagnostic::new(43, b"ClassNotInLattice", Field::Number(*n)))
-        }
-        AuditError::Unstructured(n) => {
-            Some(Diagnostic::new(49, b"NoCommands", Field::Number(*n)))
-        }
-        AuditError::WrongFields => Some(Diagnostic::new(50, b"WrongFields", Field::Nothing)),
-        AuditError::NoText => Some(Diagnostic::new(51, b"NoText", Field::Nothing)),
-        AuditError::Flow(_) => Some(Diagnostic::new(25, b"Refused", Field::Nothing)),
-        AuditError::Memory => None,
-    }
-}
 
 /// The answer for an accepted image.
 fn accepted(alloc: Global) -> Result<Documented, AllocError>
@@ -55,7 +37,7 @@ fn unaudited(
     image: &Image,
     error: &AuditError,
 ) -> Result<Vec<u8>, AllocError>
-    ensures { IfOk result (λ out. spec.WritesRefusal lattice.now (spec.audit_diagnostic error.now)
+    ensures { IfOk result (λ out. spec.WritesRefusal lattice.now (audit_of error.now)
         (IsAuditText lattice.now image.now error.now) out.items) }
 {
     let Some(diagnostic) = audit_diagnostic(error) else {

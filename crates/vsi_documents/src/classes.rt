@@ -12,11 +12,11 @@ ghost use Rattle.vsi_syntax.specs.Tree.{Whole};
 ghost use Rattle.vsi_compiler.specs.Source.{Reads};
 ghost use Rattle.vsi_documents.specs.Classes as spec;
 
-use crate::answer::{Documented, judgement, refused, wants_memory};
+use crate::answer::{Documented, refused, wants_memory};
 use serde_json::{Map, Value, put};
 use std::alloc::{AllocError, Global};
 use vsi_compiler::{Source, judge, read_source};
-use vsi_conform::check_json;
+use vsi_conform::{check_json, judgement_by};
 use vsi_diagnostics::members::{put_natural, put_text};
 use vsi_lattice::{Class, Lattice};
 use vsi_scope::Entry;
@@ -179,6 +179,6 @@ pub fn classes_json(
             is_good: true,
             line,
         }),
-        None => refused(check_json(alloc, judgement(profile), lattice, text)?),
+        None => refused(check_json(alloc, judgement_by(profile), lattice, text)?),
     }
 }

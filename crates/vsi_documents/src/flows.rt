@@ -10,15 +10,14 @@ ghost use Rattle.vsi_types.specs.Security.{program as program_of};
 ghost use Rattle.vsi_infer.specs.Inference.{AreClasses};
 ghost use Rattle.vsi_documents.specs.Flows as spec;
 
-use crate::answer::{Documented, judgement, refused, wants_memory};
-use crate::names::{class_name, name};
+use crate::answer::{Documented, refused, wants_memory};
 use serde_json::{Map, Value, put};
 use std::alloc::{AllocError, Global};
 use vsi_compiler::{Source, read_source};
-use vsi_conform::check_json;
+use vsi_conform::{check_json, judgement_by};
 use vsi_diagnostics::members::{put_natural, put_text};
 use vsi_flows::{FlowsError, Pair, flows_in};
-use vsi_infer::declared_class;
+use vsi_infer::{class_name, declared_class, variable_name};
 use vsi_lattice::Lattice;
 use vsi_scope::{Resolved, Var};
 use vsi_types::Profile;
@@ -38,7 +37,7 @@ fn put_variable(
         keys.entry.0.now keys.entry.1.now lattice.now program.now variable
         (members_view members.old.entries)) }
 {
-    put_text(alloc, members, keys.0, name(program, variable))?;
+    put_text(alloc, members, keys.0, variable_name(program, variable))?;
     let class = declared_class(lattice, program, variable);
     put_text(alloc, members, keys.1, class_name(lattice, class))
 }
@@ -185,6 +184,6 @@ pub fn flows_json(
             is_good: true,
             line,
         }),
-        None => refused(check_json(alloc, judgement(profile), lattice, text)?),
+        None => refused(check_json(alloc, judgement_by(profile), lattice, text)?),
     }
 }

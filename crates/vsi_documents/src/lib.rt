@@ -18,7 +18,6 @@ mod classes;
 mod comparisons;
 mod flows;
 mod leaks;
-mod names;
 mod refused;
 mod runs;
 mod words;

@@ -2,7 +2,6 @@
 
 ghost use Rattle.std.specs.Prelude.{◌≡◌, None, IfOk, OnOk};
 ghost use Rattle.serde_json.specs.View.{members_view};
-ghost use Rattle.vsi_conform.specs.Faulty.{name_of};
 ghost use Rattle.vsi_diagnostics.specs.Json.{refusal_members, with_place};
 ghost use Rattle.vsi_diagnostics.specs.View.{diagnostic_of, field_of};
 ghost use Rattle.vsi_documents.specs.Refused as spec;
@@ -11,7 +10,7 @@ use crate::answer::object_line;
 use crate::bounds::without_end;
 use serde_json::{Map, Value, put};
 use std::alloc::{AllocError, Global};
-use vsi_conform::InterfaceError;
+use vsi_conform::{InterfaceError, fault_name};
 use vsi_diagnostics::members::{put_natural, put_text};
 use vsi_diagnostics::{Diagnostic, Field};
 
@@ -68,34 +67,6 @@ pub fn refused_json(
     Ok(line)
 }
 
-/// The name of the fault of an interface.
-fn interface_name(error: &InterfaceError) -> &'static [u8]
-    ensures { result.now ≡ name_of error.now }
-{
-    match error {
-        InterfaceError::NotToml => b"NotToml",
-        InterfaceError::UnknownKey(_) => b"UnknownKey",
-        InterfaceError::BadLattice => b"BadLattice",
-        InterfaceError::BadProfile => b"BadProfile",
-        InterfaceError::BadOrder => b"BadOrder",
-        InterfaceError::BadBounded => b"BadBounded",
-        InterfaceError::BadGlobals => b"BadGlobals",
-        InterfaceError::BadName(_) => b"BadName",
-        InterfaceError::RepeatedGlobal(_) => b"RepeatedGlobal",
-        InterfaceError::UnknownClass(_) => b"UnknownClass",
-        InterfaceError::BadRuns => b"BadRuns",
-        InterfaceError::BadRun(_) => b"BadRun",
-        InterfaceError::BadStore(_) => b"BadStore",
-        InterfaceError::NoBudget(_) => b"NoBudget",
-        InterfaceError::NothingExpected(_) => b"NothingExpected",
-        InterfaceError::UnknownGlobal(_, _) => b"UnknownGlobal",
-        InterfaceError::BadCycle(_) => b"BadCycle",
-        InterfaceError::UnknownInCycle(_, _) => b"UnknownInCycle",
-        InterfaceError::AboveBudget(_) => b"AboveBudget",
-        InterfaceError::Memory => b"Memory",
-    }
-}
-
 /// The object of a refused interface with this text.
 fn interface_object(
     alloc: Global,
@@ -107,7 +78,7 @@ fn interface_object(
 {
     let mut members = Map::new(alloc);
     put(&mut members, alloc, "accepted", Value::Bool(false))?;
-    put_text(alloc, &mut members, "name", interface_name(error))?;
+    put_text(alloc, &mut members, "name", fault_name(error))?;
     put_text(alloc, &mut members, "text", without_end(text))?;
     Ok(members)
 }

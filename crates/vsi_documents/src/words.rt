@@ -5,15 +5,14 @@ ghost use Rattle.serde_json.specs.View.{members_view, view};
 ghost use Rattle.vsi_image.specs.Fields.{globals};
 ghost use Rattle.vsi_lattice.specs.LatticeView.{class_named, order};
 ghost use Rattle.vsi_lattice.specs.Order.{IsClass};
-ghost use Rattle.vsi_leak.specs.Agreement.{is_seen};
-ghost use Rattle.vsi_leak.specs.Texts.{is_shown as is_shown_of};
 ghost use Rattle.vsi_conform.specs.Json.{with_word};
 ghost use Rattle.vsi_documents.specs.Words as spec;
 
 use serde_json::{Map, Value, put};
 use std::alloc::{AllocError, Global};
 use vsi_diagnostics::members::{put_natural, put_text};
-use vsi_lattice::{Class, Classes, Lattice};
+use vsi_lattice::{Class, Lattice};
+use vsi_leak::is_shown;
 
 /// Puts a word at a key.
 fn put_word(
@@ -55,30 +54,6 @@ pub(crate) fn word_objects(
         found.push(Value::Object(members))?;
     }
     Ok(found)
-}
-
-/// Whether the class sees a global with this class name.
-fn sees(lattice: &Lattice, class: Class, name: &[u8]) -> bool
-    requires { IsClass (order lattice.now) class }
-    ensures { result ≡ is_seen (class_named lattice.now) (order lattice.now) class name.now }
-{
-    match lattice.class_named(name) {
-        Some(found) => lattice.leq(found, class),
-        None => false,
-    }
-}
-
-/// Whether a global of this class name is shown: those that the class sees or, without a class,
-/// all.
-fn is_shown(lattice: &Lattice, to: &Option<Class>, name: &[u8]) -> bool
-    requires { IfSome to.now (IsClass (order lattice.now)) }
-    ensures { result
-        ≡ is_shown_of (class_named lattice.now) (order lattice.now) to.now name.now }
-{
-    match to {
-        None => true,
-        Some(class) => sees(lattice, *class, name),
-    }
 }
 
 /// The object of a global in two runs.

@@ -20,13 +20,13 @@ use vsi_types::Profile;
 
 /// A document that is judged: its name, its text and the code units of its positions.
 #[derive(Clone, Copy)]
-pub struct Page<'a> {
+pub struct DocumentText<'a> {
     pub uri: &'a [u8],
     pub text: &'a [u8],
     pub encoding: Encoding,
 }
 
-impl Page<'_> {
+impl DocumentText<'_> {
     /// The positions of a part of the text.
     pub fn range(&self, span: Span) -> Range {
         range_of(self.encoding, self.text, span.start, span.stop)
@@ -56,51 +56,51 @@ pub fn shown_in(
     ensures exact { IfOk result
         (λ shown. spec.IsVerdict lattice.now profile text.now shown.errors.items) }
 {
-    let page = Page {
+    let document = DocumentText {
         uri,
         text,
         encoding,
     };
     match read_source(alloc, lattice, text) {
-        Ok(source) => shown_of_source(alloc, page, profile, &source),
-        Err(error) => shown_of_refused(alloc, page, lattice, &error),
+        Ok(source) => shown_of_source(alloc, document, profile, &source),
+        Err(error) => shown_of_refused(alloc, document, lattice, &error),
     }
 }
 
 /// The errors in a text that has a program, and the warnings about it.
 fn shown_of_source(
     alloc: Global,
-    page: Page<'_>,
+    document: DocumentText<'_>,
     profile: Profile,
     source: &Source<'_>,
 ) -> Result<Shown, AllocError>
     ensures { IfOk result (λ shown.
         spec.IsVerdict source.now.lattice profile source.now.text shown.errors.items) }
 {
-    let errors = source_errors(alloc, page, profile, source)?;
-    let others = source_warnings(alloc, page, source)?;
+    let errors = source_errors(alloc, document, profile, source)?;
+    let others = source_warnings(alloc, document, source)?;
     Ok(Shown { errors, others })
 }
 
 /// The first error in a text that has no program, and the further ones.
 fn shown_of_refused(
     alloc: Global,
-    page: Page<'_>,
+    document: DocumentText<'_>,
     lattice: &Lattice,
     error: &CompileError,
 ) -> Result<Shown, AllocError>
     ensures some { IfOk result (λ shown. shown.errors.items ≢ []) }
     ensures judged { IfOk result (λ shown. error.now ≢ Memory) }
 {
-    let errors = refusal_errors(alloc, page, error)?;
-    let others = further_errors(alloc, page, lattice, error)?;
+    let errors = refusal_errors(alloc, document, error)?;
+    let others = further_errors(alloc, document, lattice, error)?;
     Ok(Shown { errors, others })
 }
 
 /// The errors in a source text. No code is generated.
 fn source_errors(
     alloc: Global,
-    page: Page<'_>,
+    document: DocumentText<'_>,
     profile: Profile,
     source: &Source<'_>,
 ) -> Result<Vec<Value>, AllocError>
@@ -109,14 +109,14 @@ fn source_errors(
 {
     match judge(alloc, profile, source) {
         Ok(_classes) => Ok(Vec::new(alloc)),
-        Err(error) => judged_errors(alloc, page, profile, source, &error),
+        Err(error) => judged_errors(alloc, document, profile, source, &error),
     }
 }
 
 /// The errors in a source text that is refused, unless memory ran out.
 fn judged_errors(
     alloc: Global,
-    page: Page<'_>,
+    document: DocumentText<'_>,
     profile: Profile,
     source: &Source<'_>,
     error: &CompileError,
@@ -125,8 +125,15 @@ fn judged_errors(
     ensures judged { IfOk result (λ errors. error.now ≢ Memory) }
 {
     match error {
-        CompileError::Flow(walk) => flow_errors(alloc, page, profile, source, error, &walk.steps),
-        _ => refusal_errors(alloc, page, error),
+        CompileError::Flow(walk) => flow_errors(
+            alloc,
+            document,
+            profile,
+            source,
+            error,
+            &walk.steps,
+        ),
+        _ => refusal_errors(alloc, document, error),
     }
 }
 
@@ -143,7 +150,7 @@ pub fn one_error(alloc: Global, error: Value) -> Result<Vec<Value>, AllocError>
 /// The error in a text that is refused, unless memory ran out.
 fn refusal_errors(
     alloc: Global,
-    page: Page<'_>,
+    document: DocumentText<'_>,
     error: &CompileError,
 ) -> Result<Vec<Value>, AllocError>
     ensures some { IfOk result (λ errors. errors.items ≢ []) }
@@ -151,7 +158,7 @@ fn refusal_errors(
 {
     match error {
         CompileError::Memory => Err(AllocError),
-        _ => one_error(alloc, refusal_object(alloc, page, error)?),
+        _ => one_error(alloc, refusal_object(alloc, document, error)?),
     }
 }
 
@@ -172,22 +179,22 @@ pub(crate) fn ranged_object(
 /// The object of an error: its part, its number and its message.
 pub fn error_object(
     alloc: Global,
-    page: Page<'_>,
+    document: DocumentText<'_>,
     span: Span,
     code: usize,
     message: &[u8],
 ) -> Result<Value, AllocError> {
-    ranged_object(alloc, page.range(span), code, message)
+    ranged_object(alloc, document.range(span), code, message)
 }
 
 /// The object of a warning: its part and its message.
 pub(crate) fn warning_object(
     alloc: Global,
-    page: Page<'_>,
+    document: DocumentText<'_>,
     span: Span,
     message: &[u8],
 ) -> Result<Value, AllocError> {
-    let range = range_object(alloc, page.range(span))?;
+    let range = range_object(alloc, document.range(span))?;
     let message = text_value(alloc, message)?;
     json!(in alloc; {"range": range, "severity": 2, "source": "vsi", "message": message})
 }
@@ -195,11 +202,11 @@ pub(crate) fn warning_object(
 /// The line of a refusal without its position.
 pub(crate) fn line_of(
     alloc: Global,
-    page: Page<'_>,
+    document: DocumentText<'_>,
     error: &CompileError,
 ) -> Result<Vec<u8>, AllocError> {
     let mut line = Vec::from_slice(alloc, b"refused: ")?;
-    if let Some(diagnostic) = refusal_diagnostic(page.text, error) {
+    if let Some(diagnostic) = refusal_diagnostic(document.text, error) {
         put_number(&mut line, diagnostic.code)?;
         line.extend_from_slice(b" ")?;
         line.extend_from_slice(diagnostic.name)?;
@@ -210,13 +217,19 @@ pub(crate) fn line_of(
 /// The object of a refusal.
 pub(crate) fn refusal_object(
     alloc: Global,
-    page: Page<'_>,
+    document: DocumentText<'_>,
     error: &CompileError,
 ) -> Result<Value, AllocError> {
-    let code = match refusal_diagnostic(page.text, error) {
+    let code = match refusal_diagnostic(document.text, error) {
         Some(diagnostic) => diagnostic.code,
         None => 0,
     };
-    let line = line_of(alloc, page, error)?;
-    error_object(alloc, page, refused_span(page.text, error), code, &line)
+    let line = line_of(alloc, document, error)?;
+    error_object(
+        alloc,
+        document,
+        refused_span(document.text, error),
+        code,
+        &line,
+    )
 }

@@ -2,7 +2,7 @@
 
 ghost use Rattle.std.specs.Prelude.{◌≢◌, [], IfOk};
 
-use crate::diagnostics::{Page, line_of, one_error, ranged_object, refusal_object};
+use crate::diagnostics::{DocumentText, line_of, one_error, ranged_object, refusal_object};
 use crate::location::location_object;
 use crate::marks::{Marked, with_marks};
 use serde_json::{Value, json, put};
@@ -10,14 +10,15 @@ use std::alloc::{AllocError, Global};
 use vsi_choices::text_value;
 use vsi_compiler::{CompileError, Source};
 use vsi_diagnostics::refusal_diagnostic;
-use vsi_further_flows::{FurtherFlow, ends_text, further_flows, step_text};
+use vsi_flows::WalkedPair;
+use vsi_further_flows::{ends_text, further_flows, step_text};
 use vsi_scope::Var;
 use vsi_syntax::Span;
 use vsi_types::{Profile, Step};
 
 /// A source text that is refused for a flow, and the parts that all objects of its flows share.
 #[derive(Drop)]
-struct Refused<'p, 's, 'a> {
+struct RefusedText<'p, 's, 'a> {
     marked: Marked<'p>,
     source: &'s Source<'a>,
     code: usize,
@@ -27,7 +28,7 @@ struct Refused<'p, 's, 'a> {
 /// The object of a step of a walk: where it reads, and its message.
 fn step_object(
     alloc: Global,
-    text: &Refused<'_, '_, '_>,
+    text: &RefusedText<'_, '_, '_>,
     step: &Step,
 ) -> Result<Value, AllocError> {
     let marked = &text.marked;
@@ -41,7 +42,7 @@ fn step_object(
 /// The objects of the steps of a walk.
 fn step_objects(
     alloc: Global,
-    text: &Refused<'_, '_, '_>,
+    text: &RefusedText<'_, '_, '_>,
     steps: &[Step],
 ) -> Result<Value, AllocError> {
     let mut objects = Vec::new(alloc);
@@ -63,7 +64,7 @@ fn with_related(alloc: Global, object: Value, related: Value) -> Result<Value, A
 /// The object of a refused flow: its line, the classes of its ends, and the steps of its walk.
 fn flow_object(
     alloc: Global,
-    text: &Refused<'_, '_, '_>,
+    text: &RefusedText<'_, '_, '_>,
     span: Span,
     from: Var,
     to: Var,
@@ -82,8 +83,8 @@ fn flow_object(
 /// The objects of further flows, each at the place where the last step of its walk writes.
 fn further_objects(
     alloc: Global,
-    text: &Refused<'_, '_, '_>,
-    flows: &[FurtherFlow],
+    text: &RefusedText<'_, '_, '_>,
+    flows: &[WalkedPair],
 ) -> Result<Vec<Value>, AllocError> {
     let mut objects = Vec::new(alloc);
     for flow in flows {
@@ -101,7 +102,7 @@ fn further_objects(
 /// where its first step reads, and further ones.
 pub(crate) fn flow_errors(
     alloc: Global,
-    page: Page<'_>,
+    document: DocumentText<'_>,
     profile: Profile,
     source: &Source<'_>,
     error: &CompileError,
@@ -110,12 +111,12 @@ pub(crate) fn flow_errors(
     ensures { IfOk result (λ errors. errors.items ≢ []) }
 {
     let Some(first) = steps.first() else {
-        return one_error(alloc, refusal_object(alloc, page, error)?);
+        return one_error(alloc, refusal_object(alloc, document, error)?);
     };
     let Some(last) = steps.last() else {
-        return one_error(alloc, refusal_object(alloc, page, error)?);
+        return one_error(alloc, refusal_object(alloc, document, error)?);
     };
-    let text = refused_source(alloc, page, source, error)?;
+    let text = refused_source(alloc, document, source, error)?;
     let (from, to) = (first.source, last.target);
     let flows = further_flows(alloc, profile, source, from, to)?;
     let mut errors = further_objects(alloc, &text, &flows)?;
@@ -127,18 +128,18 @@ pub(crate) fn flow_errors(
 /// A source text that is refused for a flow.
 fn refused_source<'p, 's, 'a>(
     alloc: Global,
-    page: Page<'p>,
+    document: DocumentText<'p>,
     source: &'s Source<'a>,
     error: &CompileError,
-) -> Result<Refused<'p, 's, 'a>, AllocError> {
-    let code = match refusal_diagnostic(page.text, error) {
+) -> Result<RefusedText<'p, 's, 'a>, AllocError> {
+    let code = match refusal_diagnostic(document.text, error) {
         Some(diagnostic) => diagnostic.code,
         None => 0,
     };
-    Ok(Refused {
-        marked: with_marks(alloc, page)?,
+    Ok(RefusedText {
+        marked: with_marks(alloc, document)?,
         source,
         code,
-        line: line_of(alloc, page, error)?,
+        line: line_of(alloc, document, error)?,
     })
 }

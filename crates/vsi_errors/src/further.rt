@@ -1,6 +1,6 @@
 //! The faults of a text after its first one, as objects.
 
-use crate::diagnostics::{Page, refusal_object};
+use crate::diagnostics::{DocumentText, refusal_object};
 use serde_json::Value;
 use std::alloc::{AllocError, Global};
 use vsi_compiler::CompileError;
@@ -25,7 +25,7 @@ fn refusal_of(cause: Cause, span: Span) -> CompileError {
 /// other error, since its size is judged last.
 pub(crate) fn further_errors(
     alloc: Global,
-    page: Page<'_>,
+    document: DocumentText<'_>,
     lattice: &Lattice,
     first: &CompileError,
 ) -> Result<Vec<Value>, AllocError> {
@@ -33,9 +33,9 @@ pub(crate) fn further_errors(
     if matches!(first, CompileError::Scope(ScopeError::TooLarge)) {
         return Ok(objects);
     }
-    for fault in &further_faults(alloc, lattice, page.text, MAX_READ)? {
+    for fault in &further_faults(alloc, lattice, document.text, MAX_READ)? {
         let error = refusal_of(fault.cause, fault.span);
-        objects.push(refusal_object(alloc, page, &error)?)?;
+        objects.push(refusal_object(alloc, document, &error)?)?;
     }
     Ok(objects)
 }

@@ -16,5 +16,5 @@ mod location;
 mod marks;
 mod warned;
 
-pub use diagnostics::{Page, Shown, error_object, one_error, shown_in};
+pub use diagnostics::{DocumentText, Shown, error_object, one_error, shown_in};
 pub use location::location_object;

@@ -1,7 +1,7 @@
 //! Positions of many places of one text. Each is counted from the last mark before it, and marks are
 //! close together.
 
-use crate::diagnostics::Page;
+use crate::diagnostics::DocumentText;
 use std::alloc::{AllocError, Global};
 use vsi_client::{Place, Range, range_of};
 use vsi_syntax::{Span, line_column};
@@ -33,7 +33,7 @@ const START: Mark = Mark {
 /// A text with marks.
 #[derive(Drop)]
 pub(crate) struct Marked<'p> {
-    page: Page<'p>,
+    document: DocumentText<'p>,
     marks: Vec<Mark>,
 }
 
@@ -52,10 +52,10 @@ fn joined(before: Place, inside: Place) -> Place {
 }
 
 /// The mark of a place after a mark.
-fn moved(page: Page<'_>, mark: Mark, at: usize) -> Mark {
-    let part = page.text.get(mark.at..at).unwrap_or(b"");
+fn moved(document: DocumentText<'_>, mark: Mark, at: usize) -> Mark {
+    let part = document.text.get(mark.at..at).unwrap_or(b"");
     let size = part.len();
-    let place = range_of(page.encoding, part, 0, size).stop;
+    let place = range_of(document.encoding, part, 0, size).stop;
     let (line, column) = line_column(part, size);
     let written = Place {
         line: line.saturating_sub(1),
@@ -77,22 +77,25 @@ fn outside(text: &[u8], at: usize) -> usize {
 }
 
 /// A text with its marks.
-pub(crate) fn with_marks<'p>(alloc: Global, page: Page<'p>) -> Result<Marked<'p>, AllocError> {
+pub(crate) fn with_marks<'p>(
+    alloc: Global,
+    document: DocumentText<'p>,
+) -> Result<Marked<'p>, AllocError> {
     let mut marks = Vec::new(alloc);
     let mut mark = START;
     marks.push(mark)?;
-    for number in 0..page.text.len() / SPACE {
+    for number in 0..document.text.len() / SPACE {
         let at = number.saturating_add(1).saturating_mul(SPACE);
-        mark = moved(page, mark, outside(page.text, at));
+        mark = moved(document, mark, outside(document.text, at));
         marks.push(mark)?;
     }
-    Ok(Marked { page, marks })
+    Ok(Marked { document, marks })
 }
 
 impl Marked<'_> {
     /// The name of the document.
     pub(crate) fn uri(&self) -> &[u8] {
-        self.page.uri
+        self.document.uri
     }
 
     /// The mark of a place.
@@ -101,7 +104,7 @@ impl Marked<'_> {
             Some(mark) => *mark,
             None => START,
         };
-        moved(self.page, mark, at)
+        moved(self.document, mark, at)
     }
 
     /// The positions of a part of the text.

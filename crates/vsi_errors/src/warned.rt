@@ -1,6 +1,6 @@
 //! The warnings about a text, as objects.
 
-use crate::diagnostics::{Page, warning_object};
+use crate::diagnostics::{DocumentText, warning_object};
 use serde_json::Value;
 use std::alloc::{AllocError, Global};
 use vsi_compiler::Source;
@@ -10,21 +10,25 @@ use vsi_warnings::{Warning, put_message, warnings_of};
 const MAX_WARNINGS: usize = 100;
 
 /// The object of a warning.
-fn object(alloc: Global, page: Page<'_>, warning: Warning) -> Result<Value, AllocError> {
+fn object(
+    alloc: Global,
+    document: DocumentText<'_>,
+    warning: Warning,
+) -> Result<Value, AllocError> {
     let mut message = Vec::new(alloc);
-    put_message(&mut message, page.text, warning)?;
-    warning_object(alloc, page, warning.span, &message)
+    put_message(&mut message, document.text, warning)?;
+    warning_object(alloc, document, warning.span, &message)
 }
 
 /// The warnings about a source text, up to the first 100.
 pub(crate) fn source_warnings(
     alloc: Global,
-    page: Page<'_>,
+    document: DocumentText<'_>,
     source: &Source<'_>,
 ) -> Result<Vec<Value>, AllocError> {
     let mut objects = Vec::new(alloc);
     for warning in warnings_of(alloc, source)?.iter().take(MAX_WARNINGS) {
-        objects.push(object(alloc, page, *warning)?)?;
+        objects.push(object(alloc, document, *warning)?)?;
     }
     Ok(objects)
 }

@@ -1,4 +1,5 @@
 pub mod RowLemmas
+pub mod RefusedLemmas
 pub mod FillLemmas
 pub mod VerdictLemmas
 pub mod TwoClasses
@@ -6,4 +7,5 @@ pub mod BaseTargets
 pub mod IndependenceLemmas
 pub mod ImageLemmas
 pub mod WalkLemmas
+pub mod WalkedLemmas
 pub mod TextLemmas

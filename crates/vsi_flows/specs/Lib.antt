@@ -3,5 +3,6 @@ pub mod Rows
 pub mod Filling
 pub mod Independence
 pub mod Text
+pub mod Refused
 pub mod Walks
 pub mod Walking

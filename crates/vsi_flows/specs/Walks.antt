@@ -21,7 +21,7 @@ FindWalks ss last rows found = AllZip (λ row o. MatchOption o (IsUnreached row)
 
 -- Down this row the walk of the pair reaches its target.
 pub record FindsPair (ss : List Step) (pair : Pair) (w : WalksTo) : Type 0 where
-  pub known : All (Contains ss) w.known.steps.items
+  pub known : All (Contains ss) w.known.now.steps.items
   pub down : LeadsDown ss w.last w.row.now
   pub away : slice_index w.row.now (row_of w.last pair.source) ≡ pair.steps
   pub small : pair.steps < 65535

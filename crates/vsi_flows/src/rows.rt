@@ -46,8 +46,8 @@ fn row_for<C: Classes>(
     }
 }
 
-/// The number of declarations.
-pub(crate) fn declarations(program: &Resolved<'_>) -> u16
+/// The number of declarations of a program: its globals and its `letvar`s.
+pub fn declarations(program: &Resolved<'_>) -> u16
     ensures count { result ≡ size_of (program_of program.now) }
     ensures small { result ≤ 1024 }
 {

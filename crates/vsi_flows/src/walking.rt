@@ -12,16 +12,18 @@ use crate::table::pairs_of;
 use crate::text::put_pair;
 use std::alloc::{AllocError, Global as Heap};
 use vsi_compiler::Source;
-use vsi_infer::{Mark, WalksTo, marks_of, put_steps};
+use vsi_infer::{FirstSteps, Mark, WalksTo, marks_of, put_steps, steps_down_each};
 use vsi_types::Profile;
 
-/// The pairs of a source text under a profile, and the rows that walks go down.
+/// The pairs of a source text under a profile, the rows that walks go down, and the program's steps
+/// that lead down them.
 #[derive(Drop)]
 pub struct WalkTable<'s, 'a> {
     profile: Profile,
     source: &'s Source<'a>,
     rows: Vec<Vec<u16>>,
     pairs: Vec<Pair>,
+    known: FirstSteps,
 }
 
 /// The walks of a table's pairs. Each is found in the time that its steps take.
@@ -32,7 +34,7 @@ pub struct Walks<'t, 's, 'a> {
     marks: Vec<Mark>,
 }
 
-/// The table of a source text under a profile.
+/// The table of a source text under a profile. This takes two passes over the program.
 pub fn walk_table<'s, 'a>(
     alloc: Heap,
     profile: Profile,
@@ -46,15 +48,18 @@ pub fn walk_table<'s, 'a>(
     let resolved = source.resolved();
     let rows = program_rows(alloc, profile, lattice, resolved)?;
     let pairs = pairs_of(alloc, lattice, resolved, &rows)?;
+    let last = declarations(resolved);
+    let known = steps_down_each(alloc, profile, resolved, &rows, last)?;
     Ok(WalkTable {
         profile,
         source,
         rows,
         pairs,
+        known,
     })
 }
 
-/// The walks of a table. This takes one pass over the program for each row that is reached.
+/// The walks of a table.
 pub fn table_walks<'t, 's, 'a>(
     alloc: Heap,
     table: &'t WalkTable<'s, 'a>,
@@ -65,7 +70,7 @@ pub fn table_walks<'t, 's, 'a>(
 {
     let resolved = table.source.resolved();
     let last = declarations(resolved);
-    let found = found_in(alloc, table.profile, resolved, &table.rows, last)?;
+    let found = found_in(alloc, &table.known, &table.rows, last)?;
     let text = table.source.text();
     let marks = marks_of(alloc, text)?;
     Ok(Walks {

@@ -16,9 +16,9 @@ use Rattle.vsi_compiler.specs.SourceView.{Source}
 use Rattle.vsi_flows.specs.declared.pair.Pair.{Pair}
 use Rattle.vsi_flows.specs.Table.{IsTold, IsTable, Precedes, AreSorted}
 use Rattle.vsi_flows.specs.Text.{IsWalkOf}
-use Rattle.vsi_blame.specs.Refused.{IsRefused}
-use Rattle.vsi_further_flows.specs.declared.flow.FurtherFlow.{FurtherFlow}
-use Rattle.vsi_further_flows.specs.Further.{has_ends, is_further, further_of, most_flows, first_of, is_small, HaveWalks, IsRefusedFlow, HasOtherEnds, AreFurther, AreFirst, AreListed}
+use Rattle.vsi_flows.specs.Refused.{IsRefused, AreWalked}
+use Rattle.vsi_flows.specs.declared.walked.WalkedPair.{WalkedPair}
+use Rattle.vsi_further_flows.specs.Further.{has_ends, is_further, further_of, most_flows, first_of, is_small, IsRefusedFlow, HasOtherEnds, AreFurther, AreFirst, AreListed}
 
 -- A part of a sorted list is sorted.
 sorted_filter : (test : Pair → Bool) (pairs : List Pair) → AreSorted pairs → AreSorted (filter test pairs)
@@ -35,7 +35,7 @@ sorted_take (suc n) [] s = tt
 sorted_take (suc n) (r ∷ pairs) s = (All-take (Precedes r) n pairs s.0, sorted_take n pairs s.1)
 
 -- A property of the pairs of flows is a property of the flows.
-of_pairs : (Q : Pair → Type 0) (flows : List FurtherFlow) → All Q (map (λ f. f.pair) flows)
+of_pairs : (Q : Pair → Type 0) (flows : List WalkedPair) → All Q (map (λ f. f.pair) flows)
     → All (λ f. Q f.pair) flows
 of_pairs Q [] h = All-nil (λ f. Q f.pair)
 of_pairs Q (f ∷ flows) h =
@@ -107,7 +107,7 @@ first_pass n a b pairs =
     All-take (λ r. is_further a b r ≡ true) (min (length (further_of a b pairs)) (most_flows n))
     (further_of a b pairs) (filter_passes (is_further a b) pairs)
 
-module _ (s : Source) (P : Profile) (a b : ℕ) (flows : List FurtherFlow) (first : AreFirst s P a b flows) where
+module _ (s : Source) (P : Profile) (a b : ℕ) (flows : List WalkedPair) (first : AreFirst s P a b flows) where
   abbrev listed : List Pair
   listed = first_of (length s.text) (further_of a b first.pairs)
 
@@ -182,21 +182,21 @@ first_told Q n further items first same cut h =
 -- The walks of the first pairs are those of the first listed ones.
 pub first_walks : {V E : Type 0} (s : Source) (P : Profile) (a b : ℕ) (r : Resolved) → r ≡ s.resolved
     → (text : List ℕ) → text ≡ s.text → (further items first : List Pair) → items ≡ further
-    → first ≡ first_of (length text) items → AreFurther s P a b further → (f : V → List FurtherFlow) (o : Result V E)
-    → IfOk o (λ v. HaveWalks (steps_of P (program r)) first (f v)) → IfOk o (λ v. AreFirst s P a b (f v))
+    → first ≡ first_of (length text) items → AreFurther s P a b further → (f : V → List WalkedPair) (o : Result V E)
+    → IfOk o (λ v. AreWalked (steps_of P (program r)) first (f v)) → IfOk o (λ v. AreFirst s P a b (f v))
 first_walks s P a b r is text read further items first same cut x f (Ok v) h = record {
   pairs = x.pairs;
   table = x.table;
   walks =
-      subst (λ (ps : List Pair). HaveWalks (steps_of P (program s.resolved)) ps (f v))
+      subst (λ (ps : List Pair). AreWalked (steps_of P (program s.resolved)) ps (f v))
       (cut ∙ ap (λ t. first_of (length t) items) read ∙ ap (first_of (length s.text)) same
       ∙ ap (first_of (length s.text)) x.same)
-      (subst (λ (q : Resolved). HaveWalks (steps_of P (program q)) first (f v)) is h);
+      (subst (λ (q : Resolved). AreWalked (steps_of P (program q)) first (f v)) is h);
 }
 first_walks s P a b r is text read further items first same cut x f (Err e) h = tt
 
 -- If a property holds of no flow and of the first ones, it holds of the listed ones.
-of_listing : (Q : List FurtherFlow → Type 0) (s : Source) (P : Profile) (a b : ℕ) (flows : List FurtherFlow)
+of_listing : (Q : List WalkedPair → Type 0) (s : Source) (P : Profile) (a b : ℕ) (flows : List WalkedPair)
     → AreListed s P a b flows → Q [] → (AreFirst s P a b flows → Q flows) → Q flows
 of_listing Q s P a b flows x none some = by (is_small (program s.resolved) (length s.text)) x.small x.large
   where
@@ -214,7 +214,7 @@ small_same s r text b is read e =
 -- The first flows are listed where the program and its text are small.
 pub listed_first : {V E : Type 0} (s : Source) (P : Profile) (a b : ℕ) (r : Resolved) (text : List ℕ) (b' : Bool)
     → r ≡ s.resolved → text ≡ s.text → b' ≡ is_small (program r) (length text) → b' ≡ true
-    → (f : V → List FurtherFlow) (o : Result V E) → IfOk o (λ v. AreFirst s P a b (f v))
+    → (f : V → List WalkedPair) (o : Result V E) → IfOk o (λ v. AreFirst s P a b (f v))
     → IfOk o (λ v. AreListed s P a b (f v))
 listed_first s P a b r text b' is read e holds f (Ok v) h = record {
   small = λ _. h;
@@ -224,7 +224,7 @@ listed_first s P a b r text b' is read e holds f (Err _) h = tt
 
 -- None is where one of them is large.
 pub listed_none : (s : Source) (P : Profile) (a b : ℕ) (r : Resolved) (text : List ℕ) (b' : Bool) → r ≡ s.resolved
-    → text ≡ s.text → b' ≡ is_small (program r) (length text) → b' ≡ false → (flows : List FurtherFlow)
+    → text ≡ s.text → b' ≡ is_small (program r) (length text) → b' ≡ false → (flows : List WalkedPair)
     → flows ≡ [] → AreListed s P a b flows
 listed_none s P a b r text b' is read e fails flows none = record {
   small = λ other. absurd (false≢true (sym fails ∙ sym (small_same s r text b' is read e) ∙ other));
@@ -232,13 +232,13 @@ listed_none s P a b r text b' is read e fails flows none = record {
 }
 
 -- The four facts about the listed flows of an answer.
-pub listed_few : {V E : Type 0} (s : Source) (P : Profile) (a b : ℕ) (f : V → List FurtherFlow) (o : Result V E)
+pub listed_few : {V E : Type 0} (s : Source) (P : Profile) (a b : ℕ) (f : V → List WalkedPair) (o : Result V E)
     → IfOk o (λ v. AreListed s P a b (f v)) → IfOk o (λ v. length (f v) ≤ 19)
 listed_few s P a b f (Ok v) h =
     of_listing (λ flows. length flows ≤ 19) s P a b (f v) h (omega arith) (are_few s P a b (f v))
 listed_few s P a b f (Err e) h = tt
 
-pub listed_refused : {V E : Type 0} (s : Source) (P : Profile) (a b : ℕ) (f : V → List FurtherFlow) (o : Result V E)
+pub listed_refused : {V E : Type 0} (s : Source) (P : Profile) (a b : ℕ) (f : V → List WalkedPair) (o : Result V E)
     → IfOk o (λ v. AreListed s P a b (f v))
     → IfOk o (λ v. All (IsRefusedFlow (order s.lattice) P (program s.resolved)) (f v))
 listed_refused s P a b f (Ok v) h =
@@ -246,29 +246,14 @@ listed_refused s P a b f (Ok v) h =
     (All-nil (IsRefusedFlow (order s.lattice) P (program s.resolved))) (are_refused_flows s P a b (f v))
 listed_refused s P a b f (Err e) h = tt
 
-pub listed_others : {V E : Type 0} (s : Source) (P : Profile) (a b : ℕ) (f : V → List FurtherFlow) (o : Result V E)
+pub listed_others : {V E : Type 0} (s : Source) (P : Profile) (a b : ℕ) (f : V → List WalkedPair) (o : Result V E)
     → IfOk o (λ v. AreListed s P a b (f v)) → IfOk o (λ v. All (HasOtherEnds a b) (f v))
 listed_others s P a b f (Ok v) h =
     of_listing (All (HasOtherEnds a b)) s P a b (f v) h (All-nil (HasOtherEnds a b)) (have_other_ends s P a b (f v))
 listed_others s P a b f (Err e) h = tt
 
-pub listed_sorted : {V E : Type 0} (s : Source) (P : Profile) (a b : ℕ) (f : V → List FurtherFlow) (o : Result V E)
+pub listed_sorted : {V E : Type 0} (s : Source) (P : Profile) (a b : ℕ) (f : V → List WalkedPair) (o : Result V E)
     → IfOk o (λ v. AreListed s P a b (f v)) → IfOk o (λ v. AreSorted (map (λ g. g.pair) (f v)))
 listed_sorted s P a b f (Ok v) h =
     of_listing (λ flows. AreSorted (map (λ g. g.pair) flows)) s P a b (f v) h tt (are_sorted s P a b (f v))
 listed_sorted s P a b f (Err e) h = tt
-
--- One more pair has a walk.
-pub walked_more : (ss : List Step) (pairs : List Pair) (flows : List FurtherFlow) (f : FurtherFlow)
-    → HaveWalks ss pairs flows → IsWalkOf ss f.pair f.steps.items → HaveWalks ss (pairs ++ f.pair ∷ []) (flows ++ f ∷ [])
-walked_more ss pairs flows f a h = record {
-  kept = map_push (λ v. v.pair) flows f ∙ ap (λ l. l ++ f.pair ∷ []) a.kept;
-  walks = All-push (λ v. IsWalkOf ss v.pair v.steps.items) flows f a.walks h;
-}
-
--- No pairs have no walks.
-pub walked_none : (ss : List Step) (flows : List FurtherFlow) → flows ≡ [] → HaveWalks ss [] flows
-walked_none ss flows e = subst (HaveWalks ss []) (sym e) (record {
-  kept = refl;
-  walks = All-nil (λ v. IsWalkOf ss v.pair v.steps.items);
-})

@@ -11,8 +11,8 @@ use Rattle.vsi_compiler.specs.SourceView.{Source}
 use Rattle.vsi_flows.specs.declared.pair.Pair.{Pair}
 use Rattle.vsi_flows.specs.Table.{IsTable}
 use Rattle.vsi_flows.specs.Text.{IsWalkOf}
-use Rattle.vsi_blame.specs.Refused.{IsRefused}
-use Rattle.vsi_further_flows.specs.declared.flow.FurtherFlow.{FurtherFlow}
+use Rattle.vsi_flows.specs.Refused.{IsRefused, AreWalked}
+use Rattle.vsi_flows.specs.declared.walked.WalkedPair.{WalkedPair}
 
 -- The pair leads from a to b.
 abbrev pub has_ends : ℕ → ℕ → Pair → Bool
@@ -42,18 +42,13 @@ is_small p n = if nat_le (size_of p) 128 then nat_le n 131072 else false
 abbrev pub IsTableOf : Source → Profile → List Pair → Type 0
 IsTableOf s P pairs = IsTable (order s.lattice) P (program s.resolved) pairs
 
--- Each pair has a walk of its fewest steps.
-pub record HaveWalks (ss : List Step) (pairs : List Pair) (flows : List FurtherFlow) : Type 0 where
-  pub kept : map (λ f. f.pair) flows ≡ pairs
-  pub walks : All (λ f. IsWalkOf ss f.pair f.steps.items) flows
-
 -- The steps lead from the pair's source to its target, and the class of the source isn't at or below that of the target.
-pub record IsRefusedFlow (L : Lattice) (P : Profile) (p : Program) (f : FurtherFlow) : Type 0 where
+pub record IsRefusedFlow (L : Lattice) (P : Profile) (p : Program) (f : WalkedPair) : Type 0 where
   pub refused : IsRefused L P p f.pair.source f.pair.target
   pub walk : IsWalkOf (steps_of P p) f.pair f.steps.items
 
 -- The flow doesn't lead from a to b.
-abbrev pub HasOtherEnds : ℕ → ℕ → FurtherFlow → Type 0
+abbrev pub HasOtherEnds : ℕ → ℕ → WalkedPair → Type 0
 HasOtherEnds a b f = f.pair.source ≡ a → f.pair.target ≡ b → ⊥
 
 -- The pairs are those of the table that are refused, don't lead from a to b, and have a walk of at most 32 steps.
@@ -63,12 +58,12 @@ pub record AreFurther (s : Source) (P : Profile) (a b : ℕ) (further : List Pai
   pub same : further ≡ further_of a b pairs
 
 -- The flows are those of the first of these pairs, at most as many as are listed for the text.
-pub record AreFirst (s : Source) (P : Profile) (a b : ℕ) (flows : List FurtherFlow) : Type 0 where
+pub record AreFirst (s : Source) (P : Profile) (a b : ℕ) (flows : List WalkedPair) : Type 0 where
   pub pairs : List Pair
   pub table : IsTableOf s P pairs
-  pub walks : HaveWalks (steps_of P (program s.resolved)) (first_of (length s.text) (further_of a b pairs)) flows
+  pub walks : AreWalked (steps_of P (program s.resolved)) (first_of (length s.text) (further_of a b pairs)) flows
 
 -- The flows are the first ones if the program and its text are small, and there are none if they are large.
-pub record AreListed (s : Source) (P : Profile) (a b : ℕ) (flows : List FurtherFlow) : Type 0 where
+pub record AreListed (s : Source) (P : Profile) (a b : ℕ) (flows : List WalkedPair) : Type 0 where
   pub small : is_small (program s.resolved) (length s.text) ≡ true → AreFirst s P a b flows
   pub large : is_small (program s.resolved) (length s.text) ≡ false → flows ≡ []

@@ -9,11 +9,8 @@
 #![tactic(auto)]
 
 mod choosing;
-mod flow;
 mod listing;
 mod messages;
-mod walking;
 
-pub use flow::FurtherFlow;
 pub use listing::further_flows;
 pub use messages::{ends_text, step_text};

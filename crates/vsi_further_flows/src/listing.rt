@@ -8,11 +8,9 @@ ghost use Rattle.vsi_flows.specs.Table.{AreSorted};
 ghost use Rattle.vsi_further_flows.specs.Further as spec;
 
 use crate::choosing::further_pairs;
-use crate::flow::FurtherFlow;
-use crate::walking::{declarations, flows_of};
 use std::alloc::{AllocError, Global};
 use vsi_compiler::Source;
-use vsi_flows::{FlowsError, Pair, flows_in};
+use vsi_flows::{FlowsError, Pair, WalkedPair, declarations, flows_in, walks_of};
 use vsi_scope::{Resolved, Var};
 use vsi_types::Profile;
 
@@ -87,14 +85,14 @@ fn first_flows(
     source: &Source<'_>,
     from: Var,
     to: Var,
-) -> Result<Vec<FurtherFlow>, AllocError>
+) -> Result<Vec<WalkedPair>, AllocError>
     ensures { IfOk result (λ flows. spec.AreFirst source.now profile from to flows.items) }
 {
     let lattice = source.lattice();
     let resolved = source.resolved();
     let pairs = further_in(alloc, profile, source, from, to)?;
     let first = first_of(&pairs, source.text().len());
-    flows_of(alloc, profile, lattice, resolved, first)
+    walks_of(alloc, profile, lattice, resolved, first)
 }
 
 /// The same, or nothing if the program or its text is large.
@@ -104,7 +102,7 @@ fn listed_flows(
     source: &Source<'_>,
     from: Var,
     to: Var,
-) -> Result<Vec<FurtherFlow>, AllocError>
+) -> Result<Vec<WalkedPair>, AllocError>
     ensures { IfOk result (λ flows. spec.AreListed source.now profile from to flows.items) }
 {
     let resolved = source.resolved();
@@ -126,7 +124,7 @@ pub fn further_flows(
     source: &Source<'_>,
     from: Var,
     to: Var,
-) -> Result<Vec<FurtherFlow>, AllocError>
+) -> Result<Vec<WalkedPair>, AllocError>
     ensures few { IfOk result (λ flows. length flows.items ≤ 19) }
     ensures refused { IfOk result (λ flows. All (spec.IsRefusedFlow (order source.now.lattice)
         profile (program_of source.now.resolved)) flows.items) }

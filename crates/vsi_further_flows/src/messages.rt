@@ -5,47 +5,15 @@ ghost use Rattle.std.specs.List.{All};
 ghost use Rattle.vsi_lattice.specs.Order.{IsClass};
 ghost use Rattle.vsi_lattice.specs.LatticeView.{order};
 ghost use Rattle.vsi_types.specs.Security.{program as program_of};
-ghost use Rattle.vsi_infer.specs.Explanation.{name_of, rule_text};
 ghost use Rattle.vsi_infer.specs.Inference.{AreClasses};
 ghost use Rattle.vsi_further_flows.specs.Messages as spec;
 
 use std::alloc::{AllocError, Global};
 use vsi_compiler::Source;
-use vsi_infer::put_variable;
-use vsi_scope::{Resolved, Var};
+use vsi_infer::{put_variable, rule_text, variable_name};
+use vsi_scope::Var;
 use vsi_syntax::put_line_column;
-use vsi_types::{LOOP, Rule, Step};
-
-/// The name of the rule by which a step flows.
-fn rule_name(rule: Rule) -> &'static [u8]
-    ensures { result.now ≡ rule_text rule }
-{
-    match rule {
-        Rule::Assign => b"ASSIGN",
-        Rule::If => b"IF",
-        Rule::While => b"WHILE",
-        Rule::Letvar => b"LETVAR",
-        Rule::Loop => b"LOOP",
-    }
-}
-
-/// The name of a variable, or that of the ending of loops.
-fn variable_name<'a>(program: &'a Resolved<'_>, variable: Var) -> &'a [u8]
-    ensures { result.now ≡ name_of program.now variable }
-{
-    if variable == LOOP {
-        return b"(loop)";
-    }
-    let number = variable.0 as usize;
-    let globals = program.globals();
-    if number < globals.len() {
-        return globals[number].name;
-    }
-    match program.letvars().get(number - globals.len()) {
-        Some(entry) => entry.name,
-        None => b"",
-    }
-}
+use vsi_types::Step;
 
 /// The message of a step that writes at a line and a column: its two variables, its rule and that
 /// position.
@@ -64,7 +32,7 @@ pub fn step_text(
     text.extend_from_slice(b" flows to ")?;
     text.extend_from_slice(variable_name(program, step.target))?;
     text.extend_from_slice(b" by ")?;
-    text.extend_from_slice(rule_name(step.rule))?;
+    text.extend_from_slice(rule_text(step.rule))?;
     text.extend_from_slice(b" at ")?;
     put_line_column(&mut text, line, column)?;
     Ok(text)

@@ -69,6 +69,6 @@ pub record IsArrived (ss : List Step) (last : ℕ) (row : List ℕ) (a count : �
 
 -- The walks down a row are found from the row and some of the steps of the list.
 pub record FindsWalks (ss : List Step) (last : ℕ) (row : List ℕ) (w : WalksTo) : Type 0 where
-  pub known : All (Contains ss) w.known.steps.items
+  pub known : All (Contains ss) w.known.now.steps.items
   pub same_row : w.row.now ≡ row
   pub same_last : w.last ≡ last

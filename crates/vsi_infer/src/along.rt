@@ -28,6 +28,14 @@ impl Wanted for Along {
         let source = step.source.0 as usize;
         source < self.targets.len() && self.targets[source] == step.target.0
     }
+
+    fn columns(&self) -> usize {
+        1
+    }
+
+    fn is_in(&self, _step: &Step, _column: usize) -> bool {
+        true
+    }
 }
 
 /// The next variable of the walk, for each of `count` variables.
@@ -57,7 +65,7 @@ pub(crate) fn steps_along(
     let kept = first_steps(alloc, profile, program, &Along { targets })?;
     let mut known = Vec::new(alloc);
     for step in walk {
-        let Some(first) = kept.from_source(step.source) else {
+        let Some(first) = kept.from_source(step.source, 0) else {
             return Ok(known);
         };
         known.push(first)?;

@@ -13,12 +13,13 @@ ghost use Rattle.vsi_infer.specs.Inference.{AreClasses};
 ghost use Rattle.vsi_infer.specs.Lines.{IsMarkOf};
 
 use crate::lines::{Mark, marks_of, place_among};
+use crate::names::{class_name, rule_text, variable_name};
 use crate::walk::{Walk, declared_class};
 use std::alloc::{AllocError, Global as Heap};
 use vsi_lattice::{Class, Lattice};
 use vsi_scope::{Resolved, Var};
 use vsi_syntax::put_line_column;
-use vsi_types::{LOOP, Rule, Step};
+use vsi_types::Step;
 
 /// Adds the line and the column of a position, or leaves the text unchanged.
 fn put_place(text: &mut Vec<u8>, source: &[u8], marks: &[Mark], at: usize) -> Result<(), AllocError>
@@ -30,36 +31,12 @@ fn put_place(text: &mut Vec<u8>, source: &[u8], marks: &[Mark], at: usize) -> Re
     put_line_column(text, line, column)
 }
 
-/// The name of a rule.
-fn rule_text(rule: Rule) -> &'static [u8]
-    ensures { result.now ≡ spec.rule_text rule }
-{
-    match rule {
-        Rule::Assign => b"ASSIGN",
-        Rule::If => b"IF",
-        Rule::While => b"WHILE",
-        Rule::Letvar => b"LETVAR",
-        Rule::Loop => b"LOOP",
-    }
-}
-
 /// Adds the name of a variable, or leaves the text unchanged.
 fn put_name(text: &mut Vec<u8>, program: &Resolved<'_>, variable: Var) -> Result<(), AllocError>
     ensures { text.new.items ≡ (if is_ok result
         then text.old.items ++ spec.name_of program.now variable else text.old.items) }
 {
-    if variable == LOOP {
-        return text.extend_from_slice(b"(loop)");
-    }
-    let number = variable.0 as usize;
-    let globals = program.globals();
-    if number < globals.len() {
-        return text.extend_from_slice(globals[number].name);
-    }
-    match program.letvars().get(number - globals.len()) {
-        Some(entry) => text.extend_from_slice(entry.name),
-        None => Ok(()),
-    }
+    text.extend_from_slice(variable_name(program, variable))
 }
 
 /// Adds the name of a class, or leaves the text unchanged.
@@ -68,10 +45,7 @@ fn put_class(text: &mut Vec<u8>, lattice: &Lattice, class: Option<Class>) -> Res
     ensures { text.new.items ≡ (if is_ok result
         then text.old.items ++ spec.class_text lattice.now class else text.old.items) }
 {
-    match class {
-        Some(class) => text.extend_from_slice(lattice.name(class)),
-        None => Ok(()),
-    }
+    text.extend_from_slice(class_name(lattice, class))
 }
 
 /// Adds ` : ` and the name of a class, or leaves the text unchanged.

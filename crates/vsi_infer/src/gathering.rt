@@ -232,7 +232,7 @@ fn gather<W: Wanted>(
         guards: Vec::new(alloc),
         next: first,
     };
-    let mut log = start(alloc, count, every)?;
+    let mut log = start(alloc, count, wanted.columns(), every)?;
     gather_commands(
         wanted,
         profile,

@@ -1,4 +1,5 @@
-//! The steps that a walk over a program keeps: the first wanted step from each variable.
+//! The steps that a walk over a program keeps: the first wanted step from each variable, for each
+//! of a test's columns.
 //!
 //! A search for one step goes over all flow steps of a program, and there are as many as guards
 //! times assignments. This walk looks at each pair of variables once. Among the guards in force
@@ -27,14 +28,17 @@ use vsi_types::{Guard, LOOP, Profile, Rule, Step};
 /// The distance between the turns of two commands; it is larger than the number of guards.
 pub(crate) const STRIDE: u64 = 4_294_967_296;
 
-/// The first wanted step from each variable.
+/// The first wanted step from each variable, in each column of a test.
 #[derive(Drop)]
-pub(crate) struct FirstSteps {
+pub struct FirstSteps {
     /// The steps that were kept.
     pub(crate) steps: Vec<Step>,
     /// The turns of the kept steps, which give their order in the program.
     turns: Vec<u64>,
-    /// For each variable, the index of its step in `steps`, or an index past the end.
+    /// The number of variables.
+    width: usize,
+    /// For each column and each variable, the index of its step in `steps`, or an index past the
+    /// end.
     places: Vec<usize>,
 }
 
@@ -55,11 +59,11 @@ pub(crate) struct Gathering {
 }
 
 impl FirstSteps {
-    /// The step that is kept for a source.
-    pub(crate) fn from_source(&self, source: Var) -> Option<Step>
+    /// The step that is kept for a source in a column.
+    pub(crate) fn from_source(&self, source: Var, column: usize) -> Option<Step>
         ensures { IfSome result (Contains self.now.steps.items) }
     {
-        match self.places.get(source.0 as usize) {
+        match self.places.get(place_of(self.width, column, source)) {
             Some(place) => self.at(*place),
             None => None,
         }
@@ -91,15 +95,30 @@ impl FirstSteps {
     }
 }
 
-/// An empty state for `count` variables.
-pub(crate) fn start(alloc: Heap, count: u16, every: bool) -> Result<Gathering, AllocError>
+/// The index of a variable's place in a column, or one past the end.
+fn place_of(width: usize, column: usize, source: Var) -> usize {
+    let place = source.0 as usize;
+    if place >= width {
+        return usize::MAX;
+    }
+    column.saturating_mul(width).saturating_add(place)
+}
+
+/// An empty state for `count` variables and a number of columns.
+pub(crate) fn start(
+    alloc: Heap,
+    count: u16,
+    columns: usize,
+    every: bool,
+) -> Result<Gathering, AllocError>
     ensures kept { IfOk result (λ g. g.kept.steps.items ≡ []) }
     ensures every { IfOk result (λ g. g.every ≡ every) }
 {
     let kept = FirstSteps {
         steps: Vec::new(alloc),
         turns: Vec::new(alloc),
-        places: vec![in alloc; usize::MAX; count as usize]?,
+        width: count as usize,
+        places: vec![in alloc; usize::MAX; columns.saturating_mul(count as usize)]?,
     };
     Ok(Gathering {
         kept,
@@ -111,22 +130,57 @@ pub(crate) fn start(alloc: Heap, count: u16, every: bool) -> Result<Gathering, A
     })
 }
 
-/// Keeps a step if none is kept from its source, or only one of a later turn.
-fn keep(kept: &mut FirstSteps, step: Step, turn: u64) -> Result<(), AllocError>
+/// The turn of the step that is kept at a place, or the last turn if none is.
+fn turn_at(places: &[usize], turns: &[u64], place: usize) -> u64 {
+    let Some(number) = places.get(place) else {
+        return 0;
+    };
+    match turns.get(*number) {
+        Some(turn) => *turn,
+        None => u64::MAX,
+    }
+}
+
+/// Gives the next step its places: those of its source in its columns where no step is kept, or
+/// only one of a later turn. Says whether there are any.
+fn take_places<W: Wanted>(
+    wanted: &W,
+    places: &mut [usize],
+    turns: &[u64],
+    width: usize,
+    step: &Step,
+    turn: u64,
+) -> bool {
+    let mut is_first = false;
+    for column in 0..wanted.columns() {
+        if !wanted.is_in(step, column) {
+            continue;
+        }
+        let place = place_of(width, column, step.source);
+        if turn_at(places, turns, place) <= turn {
+            continue;
+        }
+        if let Some(taken) = places.get_mut(place) {
+            *taken = turns.len();
+            is_first = true;
+        }
+    }
+    is_first
+}
+
+/// Keeps a step if it is the first from its source in one of its columns.
+fn keep<W: Wanted>(
+    wanted: &W,
+    kept: &mut FirstSteps,
+    step: Step,
+    turn: u64,
+) -> Result<(), AllocError>
     ensures { OnOk result (MayKeep step kept.old.steps.items kept.new.steps.items) }
 {
-    let source = step.source.0 as usize;
-    if source >= kept.places.len() {
+    let width = kept.width;
+    if !take_places(wanted, &mut kept.places, &kept.turns, width, &step, turn) {
         return Ok(());
     }
-    let other = match kept.turns.get(kept.places[source]) {
-        Some(other) => *other,
-        None => u64::MAX,
-    };
-    if other <= turn {
-        return Ok(());
-    }
-    kept.places[source] = kept.steps.len();
     kept.turns.push(turn)?;
     kept.steps.push(step)?;
     Ok(())
@@ -161,7 +215,7 @@ fn keep_wanted<W: Wanted>(
         keep_one(&mut log.kept, step)?;
         return Ok(());
     }
-    keep(&mut log.kept, step, turn)?;
+    keep(wanted, &mut log.kept, step, turn)?;
     Ok(())
 }
 

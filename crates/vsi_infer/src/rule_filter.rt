@@ -14,7 +14,7 @@ pub(crate) enum RuleFilter {
 }
 
 /// Whether two rules are equal.
-pub(crate) fn same_rule(first: Rule, second: Rule) -> bool
+pub fn same_rule(first: Rule, second: Rule) -> bool
     ensures { result ≡ same_rule_of first second }
 {
     match (first, second) {

@@ -1,6 +1,6 @@
 //! A shortest bad walk of a program that has one.
 
-ghost use Rattle.std.specs.Prelude.{◌≡◌, ◌+◌, ◌<◌, ℕ, Bool, List, map, slice_index, slice_index_or, None, [], IsTrue, IfOk, IfSome, ◌∷◌};
+ghost use Rattle.std.specs.Prelude.{◌≡◌, ◌+◌, ◌<◌, ℕ, Bool, true, List, map, slice_index, slice_index_or, None, [], IsTrue, IfOk, IfSome, ◌∷◌};
 ghost use Rattle.std.specs.List.{All, Contains};
 ghost use Rattle.vsi_lattice.specs.Order.{IsClass};
 ghost use Rattle.vsi_types.specs.Security.{program as program_of, steps_of};
@@ -52,6 +52,14 @@ impl<'a> Wanted for Begins<'a> {
         let there = far_at(self.rows, *class, row_of(self.last, step.target) as usize);
         here == self.now && there == self.after
     }
+
+    fn columns(&self) -> usize {
+        1
+    }
+
+    fn is_in(&self, _step: &Step, _column: usize) -> bool {
+        true
+    }
 }
 
 /// The steps that go from a variable to one at distance `after`.
@@ -70,6 +78,23 @@ impl<'a> Wanted for GoesOn<'a> {
         step.source == self.at
             && level(self.row, row_of(self.last, step.target) as usize) == self.after
     }
+
+    fn columns(&self) -> usize {
+        1
+    }
+
+    fn is_in(&self, _step: &Step, _column: usize) -> bool {
+        true
+    }
+}
+
+/// Whether a step leads to a variable that is one step nearer.
+fn leads_nearer(row: &[u16], last: u16, step: &Step) -> bool
+    ensures { result ≡ nearer_of row.now last step.now }
+{
+    let here = level(row, step.source.0 as usize);
+    let there = level(row, row_of(last, step.target) as usize);
+    here < 65535 && here as u32 == there as u32 + 1
 }
 
 /// The steps that lead to a variable that is one step nearer.
@@ -83,9 +108,42 @@ impl<'a> Wanted for Nearer<'a> {
     ghost wants = { λ w s. nearer_of w.row.now w.last s };
 
     fn is_wanted(&self, step: &Step) -> bool {
-        let here = level(self.row, step.source.0 as usize);
-        let there = level(self.row, row_of(self.last, step.target) as usize);
-        here < 65535 && here as u32 == there as u32 + 1
+        leads_nearer(self.row, self.last, step)
+    }
+
+    fn columns(&self) -> usize {
+        1
+    }
+
+    fn is_in(&self, _step: &Step, _column: usize) -> bool {
+        true
+    }
+}
+
+/// The steps that lead to a variable that is one step nearer by one of the rows; each row has a
+/// column.
+#[derive(Drop)]
+pub(crate) struct NearerBy<'a> {
+    rows: &'a [Vec<u16>],
+    last: u16,
+}
+
+impl<'a> Wanted for NearerBy<'a> {
+    ghost wants = { λ w s. true };
+
+    fn is_wanted(&self, _step: &Step) -> bool {
+        true
+    }
+
+    fn columns(&self) -> usize {
+        self.rows.len()
+    }
+
+    fn is_in(&self, step: &Step, column: usize) -> bool {
+        match self.rows.get(column) {
+            Some(row) => leads_nearer(row, self.last, step),
+            None => false,
+        }
     }
 }
 
@@ -139,6 +197,7 @@ fn next_step(
     profile: Profile,
     program: &Resolved<'_>,
     known: &FirstSteps,
+    column: usize,
     row: &[u16],
     last: u16,
     at: Var,
@@ -157,32 +216,69 @@ fn next_step(
         last,
         after,
     };
-    first_wanted(alloc, profile, program, &wanted, known.from_source(at))
+    first_wanted(
+        alloc,
+        profile,
+        program,
+        &wanted,
+        known.from_source(at, column),
+    )
 }
 
-/// Finds shortest walks to the variables where a row of distances is 0. For each variable, the
-/// program's first step that leads nearer is found once and serves all walks that pass there.
-#[derive(Drop)]
-pub struct WalksTo<'a> {
-    known: FirstSteps,
-    row: &'a [u16],
-    last: u16,
-}
-
-/// The walks to the variables where a row of distances is 0; the last place of the row belongs to
-/// the ending of loops. This takes one walk over the program.
-pub fn walks_to<'a>(
+/// The steps that lead down a row of distances, in its only column: for each variable the program's
+/// first step that leads nearer. The last place of the row belongs to the ending of loops. This takes
+/// one walk over the program.
+pub fn steps_down(
     alloc: Heap,
     profile: Profile,
     program: &Resolved<'_>,
+    row: &[u16],
+    last: u16,
+) -> Result<FirstSteps, AllocError>
+    ensures { IfOk result
+        (λ f. All (Contains (steps_of profile (program_of program.now))) f.steps.items) }
+{
+    first_steps(alloc, profile, program, &Nearer { row, last })
+}
+
+/// The steps that lead down each of these rows, in the column of the row's number, by `steps_down`.
+/// All rows together take one walk over the program.
+pub fn steps_down_each(
+    alloc: Heap,
+    profile: Profile,
+    program: &Resolved<'_>,
+    rows: &[Vec<u16>],
+    last: u16,
+) -> Result<FirstSteps, AllocError>
+    ensures { IfOk result
+        (λ f. All (Contains (steps_of profile (program_of program.now))) f.steps.items) }
+{
+    first_steps(alloc, profile, program, &NearerBy { rows, last })
+}
+
+/// Finds shortest walks to the variables where a row of distances is 0. For each variable, the
+/// program's first step that leads nearer is known and serves all walks that pass there.
+#[derive(Drop)]
+pub struct WalksTo<'a> {
+    known: &'a FirstSteps,
+    column: usize,
     row: &'a [u16],
     last: u16,
-) -> Result<WalksTo<'a>, AllocError>
-    ensures { IfOk result
-        (λ w. FindsWalks (steps_of profile (program_of program.now)) last row.now w) }
+}
+
+/// The walks to the variables where a row of distances is 0, from the steps that lead down the row,
+/// which are in this column. Other steps of the program serve too, but then each step of a walk takes
+/// a walk over the program.
+pub fn walks_to<'a>(known: &'a FirstSteps, column: usize, row: &'a [u16], last: u16) -> WalksTo<'a>
+    ensures { (ss : List Step) → All (Contains ss) known.now.steps.items
+        → FindsWalks ss last row.now result }
 {
-    let known = first_steps(alloc, profile, program, &Nearer { row, last })?;
-    Ok(WalksTo { known, row, last })
+    WalksTo {
+        known,
+        column,
+        row,
+        last,
+    }
 }
 
 impl<'a> WalksTo<'a> {
@@ -197,7 +293,7 @@ impl<'a> WalksTo<'a> {
         count: u16,
     ) -> Result<Vec<Step>, AllocError>
         requires known { All (Contains (steps_of profile (program_of program.now)))
-            self.now.known.steps.items }
+            self.now.known.now.steps.items }
         requires down { LeadsDown (steps_of profile (program_of program.now)) self.now.last
             self.now.row.now }
         requires at { slice_index self.now.row.now (row_of_variable self.now.last from) ≡ count }
@@ -210,9 +306,16 @@ impl<'a> WalksTo<'a> {
         let mut left = count;
         while left > 0 {
             left -= 1;
-            let known = &self.known;
             let step = next_step(
-                alloc, profile, program, known, self.row, self.last, at, left,
+                alloc,
+                profile,
+                program,
+                self.known,
+                self.column,
+                self.row,
+                self.last,
+                at,
+                left,
             )?;
             at = step.target;
             steps.push(step)?;
@@ -239,7 +342,8 @@ fn follow(
         × IsArrived (steps_of profile (program_of program.now)) last row.now first.source
         (length + 1) (first ∷ rest)) }
 {
-    let walks = walks_to(alloc, profile, program, row, last)?;
+    let known = steps_down(alloc, profile, program, row, last)?;
+    let walks = walks_to(&known, 0, row, last);
     let mut steps = walks.walk_from(alloc, profile, program, first.target, length)?;
     steps.insert(0, first)?;
     Ok(steps)

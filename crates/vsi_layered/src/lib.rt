@@ -26,3 +26,4 @@ mod ways;
 pub use badges::badges_of;
 pub use drawing::drawing_of;
 pub use graph::{Drawing, Graph, Node, Place, Point};
+pub use lists::{at, filled, write_at};

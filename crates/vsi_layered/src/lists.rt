@@ -3,7 +3,7 @@
 use std::alloc::{AllocError, Global};
 
 /// A list with the same number at each index.
-pub(crate) fn filled(alloc: Global, count: usize, number: usize) -> Result<Vec<usize>, AllocError> {
+pub fn filled(alloc: Global, count: usize, number: usize) -> Result<Vec<usize>, AllocError> {
     let mut list = Vec::new(alloc);
     for _ in 0..count {
         list.push(number)?;
@@ -12,7 +12,7 @@ pub(crate) fn filled(alloc: Global, count: usize, number: usize) -> Result<Vec<u
 }
 
 /// The number at an index, or 0 past the end.
-pub(crate) fn at(list: &[usize], place: usize) -> usize {
+pub fn at(list: &[usize], place: usize) -> usize {
     match list.get(place) {
         Some(number) => *number,
         None => 0,
@@ -20,7 +20,7 @@ pub(crate) fn at(list: &[usize], place: usize) -> usize {
 }
 
 /// Writes a number at an index, if there is one.
-pub(crate) fn write_at(list: &mut Vec<usize>, place: usize, number: usize) {
+pub fn write_at(list: &mut Vec<usize>, place: usize, number: usize) {
     if let Some(cell) = list.get_mut(place) {
         *cell = number;
     }

@@ -8,7 +8,8 @@ use Rattle.vsi_image.specs.Fields.{Global, global, globals}
 use Rattle.vsi_lattice.specs.Order.{Lattice, Below}
 use Rattle.vsi_scope.specs.Meaning.{Store}
 use Rattle.vsi_lattice.specs.Known.{Known}
-use Rattle.vsi_leak.specs.Agreement.{is_seen, AgreeIn}
+use Rattle.vsi_store.specs.View.{is_seen}
+use Rattle.vsi_leak.specs.Agreement.{AgreeIn}
 
 -- The global at a position, as the code reads it.
 pub global_at : (vs : List (Vec ℕ × Vec ℕ)) (i : ℕ) (v : Vec ℕ × Vec ℕ) → i < length vs → v ≡ get_or vs i v →

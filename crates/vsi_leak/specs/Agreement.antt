@@ -1,14 +1,9 @@
 -- The part of a store that a class sees.
-use Rattle.std.specs.Prelude.{◌≡◌, ℕ, pos, List, Bool, false, Some, slice_get, slice_index_or}
-use Rattle.std.specs.Option.{option_map_or}
+use Rattle.std.specs.Prelude.{◌≡◌, ℕ, pos, List, Some, slice_get, slice_index_or}
 use Rattle.vsi_image.specs.Fields.{Global}
 use Rattle.vsi_lattice.specs.Order.{Lattice, Below}
 use Rattle.vsi_scope.specs.Meaning.{Store}
 use Rattle.vsi_lattice.specs.Known.{Known}
-
--- A class sees a global whose class name denotes a class at or below it.
-abbrev pub is_seen : Known → Lattice → ℕ → List ℕ → Bool
-is_seen known L a name = option_map_or (λ c. L.leq c a) (known name) false
 
 -- Two stores have equal words in each of these globals whose class is at or below a.
 abbrev pub AgreeIn : Known → Lattice → List Global → ℕ → Store → Store → Type 0

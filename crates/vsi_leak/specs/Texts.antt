@@ -7,7 +7,7 @@ use Rattle.vsi_lattice.specs.declared.lattice.Lattice as named
 use Rattle.vsi_scope.specs.Meaning.{Store}
 use Rattle.vsi_lattice.specs.Known.{Known}
 use Rattle.vsi_machine.specs.Cells.{word_cell, halted_cell}
-use Rattle.vsi_leak.specs.Agreement.{is_seen}
+use Rattle.vsi_store.specs.View.{is_seen}
 use Rattle.vsi_leak.specs.declared.found.Ending.{Ending}
 use Rattle.vsi_leak.specs.declared.found.Ending.TheVariants.{Halted, OutOfBudget}
 use Rattle.vsi_leak.specs.declared.found.Leak.{Leak}

@@ -5,22 +5,13 @@ ghost use Rattle.vsi_image.specs.Fields.{globals};
 ghost use Rattle.vsi_lattice.specs.LatticeView.{class_named, order};
 ghost use Rattle.vsi_lattice.specs.Order.{IsClass};
 ghost use Rattle.vsi_compiler.specs.Observation.{AgreeAt};
-ghost use Rattle.vsi_leak.specs.Agreement.{is_seen, AgreeIn};
+ghost use Rattle.vsi_store.specs.View.{is_seen};
+ghost use Rattle.vsi_leak.specs.Agreement.{AgreeIn};
 
 use crate::values::word_at;
 use vsi_image::Image;
-use vsi_lattice::{Class, Classes, Lattice};
-
-/// Whether the class sees a global with this class name.
-pub(crate) fn sees(lattice: &Lattice, class: Class, name: &[u8]) -> bool
-    requires { IsClass (order lattice.now) class }
-    ensures { result ≡ is_seen (class_named lattice.now) (order lattice.now) class name.now }
-{
-    match lattice.class_named(name) {
-        Some(found) => lattice.leq(found, class),
-        None => false,
-    }
-}
+use vsi_lattice::{Class, Lattice};
+use vsi_store::sees;
 
 /// Whether the class sees a global of this class name, and its words differ at this position.
 fn differs(

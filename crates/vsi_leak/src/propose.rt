@@ -4,12 +4,12 @@ ghost use Rattle.vsi_lattice.specs.LatticeView.{order};
 ghost use Rattle.vsi_lattice.specs.Order.{IsClass};
 
 use crate::found::{Ending, Sign};
-use crate::observer::sees;
 use crate::runs::{ending, started};
 use std::alloc::{AllocError, Global};
 use vsi_image::{Image, Instr, Verified};
 use vsi_lattice::{Class, Lattice};
 use vsi_machine::Outcome;
+use vsi_store::sees;
 
 /// The conditions of a search for a pair of runs: an image, the globals that the class sees, a sign
 /// and a budget.

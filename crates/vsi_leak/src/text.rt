@@ -7,11 +7,11 @@ ghost use Rattle.vsi_lattice.specs.Order.{IsClass};
 ghost use Rattle.vsi_leak.specs.Texts as spec;
 
 use crate::found::{Ending, Leak};
-use crate::observer::sees;
 use std::alloc::{AllocError, Global};
 use vsi_image::Image;
 use vsi_lattice::{Class, Lattice};
 use vsi_machine::{halted_cell, word_cell};
+use vsi_store::sees;
 
 /// A cell filled up with spaces to the width.
 fn padded(alloc: Global, width: usize, cell: &[u8]) -> Result<Vec<u8>, AllocError>
@@ -61,7 +61,7 @@ fn end_cell(alloc: Global, ending: &Ending) -> Result<Vec<u8>, AllocError>
 
 /// Whether a global of this class name is shown: those that the class sees or, without a class,
 /// all.
-fn is_shown(lattice: &Lattice, to: &Option<Class>, name: &[u8]) -> bool
+pub fn is_shown(lattice: &Lattice, to: &Option<Class>, name: &[u8]) -> bool
     requires { IfSome to.now (IsClass (order lattice.now)) }
     ensures { result ≡ spec.is_shown (class_named lattice.now) (order lattice.now) to.now name.now }
 {

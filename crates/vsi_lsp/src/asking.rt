@@ -12,7 +12,7 @@ use vsi_choices::{
 };
 use vsi_client::{Change, Range};
 use vsi_compiler::{CompileError, read_source};
-use vsi_errors::{Page, location_object};
+use vsi_errors::{DocumentText, location_object};
 use vsi_lattice::Lattice;
 use vsi_names::{Mention, rename};
 use vsi_syntax::Span;
@@ -26,13 +26,13 @@ pub(crate) fn is_of_text(method: &str) -> bool {
 /// The answer to a request about a text alone.
 pub(crate) fn text_answer(
     alloc: Global,
-    page: Page<'_>,
+    document: DocumentText<'_>,
     method: &str,
 ) -> Result<Value, AllocError> {
     if method == "textDocument/foldingRange" {
-        return folds(alloc, page.text);
+        return folds(alloc, document.text);
     }
-    layout_edits(alloc, page.encoding, page.text)
+    layout_edits(alloc, document.encoding, document.text)
 }
 
 /// Whether a request is about a text and its lattice.
@@ -56,15 +56,15 @@ pub(crate) fn lattice_answer(
     alloc: Global,
     profile: Profile,
     lattice: &Lattice,
-    page: Page<'_>,
+    document: DocumentText<'_>,
     method: &str,
     value: &Value,
 ) -> Result<Result<Value, Fault>, AllocError> {
-    let Page {
+    let DocumentText {
         uri,
         text,
         encoding,
-    } = page;
+    } = document;
     match method {
         "textDocument/completion" => match place_at(value, "/params/position") {
             Some(place) => Ok(Ok(completion(alloc, encoding, lattice, text, place)?)),
@@ -73,7 +73,7 @@ pub(crate) fn lattice_answer(
         "textDocument/codeAction" => Ok(Ok(fixes(
             alloc, encoding, profile, lattice, uri, text, value,
         )?)),
-        _ => names_answer(alloc, profile, lattice, page, method, value),
+        _ => names_answer(alloc, profile, lattice, document, method, value),
     }
 }
 
@@ -82,13 +82,13 @@ fn names_answer(
     alloc: Global,
     profile: Profile,
     lattice: &Lattice,
-    page: Page<'_>,
+    document: DocumentText<'_>,
     method: &str,
     value: &Value,
 ) -> Result<Result<Value, Fault>, AllocError> {
-    match read_source(alloc, lattice, page.text) {
+    match read_source(alloc, lattice, document.text) {
         Ok(source) => {
-            let reading = reading_of(alloc, profile, page, source)?;
+            let reading = reading_of(alloc, profile, document, source)?;
             answer(alloc, &reading, method, value)
         }
         Err(CompileError::Memory) => Err(AllocError),
@@ -147,7 +147,7 @@ fn hover(alloc: Global, reading: &Reading<'_>, mention: Mention) -> Result<Value
     }
     put_relations(alloc, &mut shown, reading, mention.variable)?;
     let contents = text_value(alloc, &shown)?;
-    let range = range_object(alloc, reading.page.range(mention.span))?;
+    let range = range_object(alloc, reading.document.range(mention.span))?;
     json!(in alloc; {"contents": contents, "range": range})
 }
 
@@ -155,18 +155,27 @@ fn hover(alloc: Global, reading: &Reading<'_>, mention: Mention) -> Result<Value
 fn definition(alloc: Global, reading: &Reading<'_>, mention: Mention) -> Result<Value, AllocError> {
     for other in &reading.mentions {
         if other.is_declaration && other.variable == mention.variable {
-            return location_object(alloc, reading.page.uri, reading.page.range(other.span));
+            return location_object(
+                alloc,
+                reading.document.uri,
+                reading.document.range(other.span),
+            );
         }
     }
     Ok(Value::Null)
 }
 
 /// A part of a document, with the name of the document or without.
-fn part(alloc: Global, page: Page<'_>, span: Span, is_named: bool) -> Result<Value, AllocError> {
+fn part(
+    alloc: Global,
+    document: DocumentText<'_>,
+    span: Span,
+    is_named: bool,
+) -> Result<Value, AllocError> {
     if is_named {
-        return location_object(alloc, page.uri, page.range(span));
+        return location_object(alloc, document.uri, document.range(span));
     }
-    let range = range_object(alloc, page.range(span))?;
+    let range = range_object(alloc, document.range(span))?;
     json!(in alloc; {"range": range})
 }
 
@@ -180,7 +189,7 @@ fn parts(
     let mut list = Vec::new(alloc);
     for other in &reading.mentions {
         if other.variable == mention.variable {
-            list.push(part(alloc, reading.page, other.span, is_named)?)?;
+            list.push(part(alloc, reading.document, other.span, is_named)?)?;
         }
     }
     Ok(Value::Array(list))
@@ -203,7 +212,7 @@ fn hints(alloc: Global, reading: &Reading<'_>) -> Result<Value, AllocError> {
         let mut label = Vec::new(alloc);
         put_class(&mut label, reading, mention.variable)?;
         if !label.is_empty() {
-            list.push(hint(alloc, reading.page.range(mention.span), &label)?)?;
+            list.push(hint(alloc, reading.document.range(mention.span), &label)?)?;
         }
     }
     Ok(Value::Array(list))
@@ -213,7 +222,7 @@ fn hints(alloc: Global, reading: &Reading<'_>) -> Result<Value, AllocError> {
 fn symbol(alloc: Global, reading: &Reading<'_>, mention: Mention) -> Result<Value, AllocError> {
     let name = text_value(alloc, reading.text_of(mention.span))?;
     let class = text_value(alloc, reading.class_of(mention.variable).unwrap_or(b""))?;
-    let range = range_object(alloc, reading.page.range(mention.span))?;
+    let range = range_object(alloc, reading.document.range(mention.span))?;
     let copy = range.clone()?;
     json!(in alloc; {
         "name": name, "detail": class, "kind": 13, "range": range, "selectionRange": copy
@@ -254,7 +263,7 @@ fn renaming(
     let Some(name) = text_at(value, "/params/newName") else {
         return Ok(Err(Fault::Parameters));
     };
-    let encoding = reading.page.encoding;
+    let encoding = reading.document.encoding;
     let mentions = &reading.mentions;
     let name = name.as_bytes();
     match rename(
@@ -267,7 +276,7 @@ fn renaming(
     )? {
         Some(changes) => {
             let list = edits(alloc, &changes)?;
-            Ok(Ok(document_edits(alloc, reading.page.uri, list)?))
+            Ok(Ok(document_edits(alloc, reading.document.uri, list)?))
         }
         None => Ok(Err(Fault::Rename)),
     }

@@ -7,7 +7,7 @@ use std::alloc::{AllocError, Global};
 use vsi_choices::text_value;
 use vsi_client::Encoding;
 use vsi_diagnostics::{Fault, fault_diagnostic, fault_text};
-use vsi_errors::{Page, Shown, error_object, one_error, shown_in};
+use vsi_errors::{DocumentText, Shown, error_object, one_error, shown_in};
 use vsi_lattice::{LatticeError, read_lattice};
 use vsi_names::START;
 use vsi_policy::named_policy;
@@ -30,7 +30,7 @@ pub(crate) enum Policy {
 
 /// A kind of document.
 #[derive(Clone, Copy, Debug, PartialEq, Eq)]
-pub(crate) enum Kind {
+pub(crate) enum DocumentKind {
     Source,
     Lattice,
     Interface,
@@ -69,8 +69,8 @@ fn is_interface(text: &[u8]) -> bool {
 
 impl Document {
     /// The document as it is judged.
-    pub(crate) fn page(&self, encoding: Encoding) -> Page<'_> {
-        Page {
+    pub(crate) fn text_in(&self, encoding: Encoding) -> DocumentText<'_> {
+        DocumentText {
             uri: &self.uri,
             text: &self.text,
             encoding,
@@ -79,7 +79,7 @@ impl Document {
 
     /// The bytes of the lattice file of the document, if it is a text and the file can be read.
     pub(crate) fn policy_bytes(&self) -> Option<&[u8]> {
-        if self.kind() != Kind::Source {
+        if self.kind() != DocumentKind::Source {
             return None;
         }
         match &self.policy {
@@ -91,17 +91,17 @@ impl Document {
 
     /// The kind of the document: a TOML file that has a key of interfaces is an interface, and
     /// another one that has a key of lattice files is a lattice file.
-    pub(crate) fn kind(&self) -> Kind {
+    pub(crate) fn kind(&self) -> DocumentKind {
         if !self.uri.ends_with(b".toml") {
-            return Kind::Source;
+            return DocumentKind::Source;
         }
         if is_interface(&self.text) {
-            return Kind::Interface;
+            return DocumentKind::Interface;
         }
         if has_key(&self.text, b"classes") || has_key(&self.text, b"below") {
-            return Kind::Lattice;
+            return DocumentKind::Lattice;
         }
-        Kind::Other
+        DocumentKind::Other
     }
 }
 
@@ -131,19 +131,19 @@ fn naming_span(text: &[u8]) -> Span {
 /// The error of a lattice file that can't be read.
 pub(crate) fn lost_error(
     alloc: Global,
-    page: Page<'_>,
+    document: DocumentText<'_>,
     span: Span,
     path: &[u8],
 ) -> Result<Value, AllocError> {
     let mut message = Vec::from_slice(alloc, b"file fault: ")?;
     message.extend_from_slice(path)?;
-    error_object(alloc, page, span, 0, &message)
+    error_object(alloc, document, span, 0, &message)
 }
 
 /// The error of a lattice file that is refused.
 pub(crate) fn refused_object(
     alloc: Global,
-    page: Page<'_>,
+    document: DocumentText<'_>,
     span: Span,
     error: LatticeError,
 ) -> Result<Value, AllocError> {
@@ -152,16 +152,22 @@ pub(crate) fn refused_object(
         return Err(AllocError);
     };
     let text = fault_text(alloc, &fault)?;
-    error_object(alloc, page, span, diagnostic.code, text.trim_ascii_end())
+    error_object(
+        alloc,
+        document,
+        span,
+        diagnostic.code,
+        text.trim_ascii_end(),
+    )
 }
 
 /// The errors of a lattice file that is open.
-fn lattice_errors(alloc: Global, page: Page<'_>) -> Result<Vec<Value>, AllocError> {
-    let Err(error) = read_lattice(alloc, page.text) else {
+fn lattice_errors(alloc: Global, document: DocumentText<'_>) -> Result<Vec<Value>, AllocError> {
+    let Err(error) = read_lattice(alloc, document.text) else {
         return Ok(Vec::new(alloc));
     };
-    let span = line_span(page.text, 0);
-    one_error(alloc, refused_object(alloc, page, span, error)?)
+    let span = line_span(document.text, 0);
+    one_error(alloc, refused_object(alloc, document, span, error)?)
 }
 
 /// All that is shown of a text, the errors first.
@@ -177,18 +183,18 @@ fn all_shown(shown: Shown) -> Result<Vec<Value>, AllocError> {
 fn source_errors(
     alloc: Global,
     profile: Profile,
-    page: Page<'_>,
+    document: DocumentText<'_>,
     bytes: &[u8],
 ) -> Result<Vec<Value>, AllocError> {
     match read_lattice(alloc, bytes) {
         Ok(lattice) => {
-            let (uri, text) = (page.uri, page.text);
-            let shown = shown_in(alloc, page.encoding, profile, &lattice, uri, text)?;
+            let (uri, text) = (document.uri, document.text);
+            let shown = shown_in(alloc, document.encoding, profile, &lattice, uri, text)?;
             all_shown(shown)
         }
         Err(error) => {
-            let span = naming_span(page.text);
-            one_error(alloc, refused_object(alloc, page, span, error)?)
+            let span = naming_span(document.text);
+            one_error(alloc, refused_object(alloc, document, span, error)?)
         }
     }
 }
@@ -200,17 +206,17 @@ fn document_errors(
     profile: Profile,
     document: &Document,
 ) -> Result<Vec<Value>, AllocError> {
-    let page = document.page(encoding);
+    let judged = document.text_in(encoding);
     match document.kind() {
-        Kind::Lattice => lattice_errors(alloc, page),
-        Kind::Interface => interface_errors(alloc, page, &document.policy),
-        Kind::Other => Ok(Vec::new(alloc)),
-        Kind::Source => match &document.policy {
-            Policy::Two => source_errors(alloc, profile, page, TWO_CLASSES),
-            Policy::File(bytes) => source_errors(alloc, profile, page, bytes),
+        DocumentKind::Lattice => lattice_errors(alloc, judged),
+        DocumentKind::Interface => interface_errors(alloc, judged, &document.policy),
+        DocumentKind::Other => Ok(Vec::new(alloc)),
+        DocumentKind::Source => match &document.policy {
+            Policy::Two => source_errors(alloc, profile, judged, TWO_CLASSES),
+            Policy::File(bytes) => source_errors(alloc, profile, judged, bytes),
             Policy::Lost(path) => {
-                let span = naming_span(page.text);
-                one_error(alloc, lost_error(alloc, page, span, path)?)
+                let span = naming_span(judged.text);
+                one_error(alloc, lost_error(alloc, judged, span, path)?)
             }
         },
     }

@@ -5,10 +5,10 @@ use serde_json::Value;
 use std::alloc::{AllocError, Global};
 use vsi_client::path_beside;
 use vsi_conform::{
-    Asked, InterfaceError, Policy as Place, interface_text, read_interface, unknown_class,
+    InterfaceError, InterfaceFile, Policy as Place, interface_text, read_interface, unknown_class,
     unknown_cycle,
 };
-use vsi_errors::{Page, error_object, one_error};
+use vsi_errors::{DocumentText, error_object, one_error};
 use vsi_lattice::{Lattice, read_lattice};
 
 /// The path of the lattice file that an interface names, if it does.
@@ -30,19 +30,19 @@ pub(crate) fn interface_path(
 /// The errors of an interface file that is open, with the lattice file that was read for it.
 pub(crate) fn interface_errors(
     alloc: Global,
-    page: Page<'_>,
+    document: DocumentText<'_>,
     policy: &Policy,
 ) -> Result<Vec<Value>, AllocError> {
-    match read_interface(alloc, page.text) {
-        Ok(asked) => asked_errors(alloc, page, &asked, policy),
-        Err(error) => refused(alloc, page, &error),
+    match read_interface(alloc, document.text) {
+        Ok(asked) => asked_errors(alloc, document, &asked, policy),
+        Err(error) => refused(alloc, document, &error),
     }
 }
 
 /// The error of an interface that is refused.
 fn refused(
     alloc: Global,
-    page: Page<'_>,
+    document: DocumentText<'_>,
     error: &InterfaceError,
 ) -> Result<Vec<Value>, AllocError> {
     if let InterfaceError::Memory = error {
@@ -55,7 +55,7 @@ fn refused(
     };
     one_error(
         alloc,
-        error_object(alloc, page, line_span(page.text, 0), 0, line)?,
+        error_object(alloc, document, line_span(document.text, 0), 0, line)?,
     )
 }
 
@@ -63,17 +63,17 @@ fn refused(
 /// the interface itself is judged.
 fn asked_errors(
     alloc: Global,
-    page: Page<'_>,
-    asked: &Asked,
+    document: DocumentText<'_>,
+    asked: &InterfaceFile,
     policy: &Policy,
 ) -> Result<Vec<Value>, AllocError> {
     match &asked.policy {
-        Place::Tables(text) => errors_under(alloc, page, asked, text),
+        Place::Tables(text) => errors_under(alloc, document, asked, text),
         Place::File(_) => match policy {
-            Policy::File(bytes) => errors_under(alloc, page, asked, bytes),
+            Policy::File(bytes) => errors_under(alloc, document, asked, bytes),
             Policy::Lost(path) => one_error(
                 alloc,
-                lost_error(alloc, page, line_span(page.text, 0), path)?,
+                lost_error(alloc, document, line_span(document.text, 0), path)?,
             ),
             Policy::Two => Ok(Vec::new(alloc)),
         },
@@ -83,18 +83,18 @@ fn asked_errors(
 /// The errors of an interface under a lattice file.
 fn errors_under(
     alloc: Global,
-    page: Page<'_>,
-    asked: &Asked,
+    document: DocumentText<'_>,
+    asked: &InterfaceFile,
     bytes: &[u8],
 ) -> Result<Vec<Value>, AllocError> {
     match read_lattice(alloc, bytes) {
         Ok(lattice) => match unknown_name(alloc, &lattice, asked)? {
-            Some(error) => refused(alloc, page, &error),
+            Some(error) => refused(alloc, document, &error),
             None => Ok(Vec::new(alloc)),
         },
         Err(error) => {
-            let span = line_span(page.text, 0);
-            one_error(alloc, refused_object(alloc, page, span, error)?)
+            let span = line_span(document.text, 0);
+            one_error(alloc, refused_object(alloc, document, span, error)?)
         }
     }
 }
@@ -103,7 +103,7 @@ fn errors_under(
 fn unknown_name(
     alloc: Global,
     lattice: &Lattice,
-    asked: &Asked,
+    asked: &InterfaceFile,
 ) -> Result<Option<InterfaceError>, AllocError> {
     if let Some(place) = unknown_class(lattice, &asked.interface)
         && let Some(entry) = asked.interface.globals.get(place)

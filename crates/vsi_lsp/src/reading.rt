@@ -9,7 +9,7 @@ use serde_json::Value;
 use std::alloc::{AllocError, Global};
 use vsi_client::offset_of;
 use vsi_compiler::{CompileError, Source, judge};
-use vsi_errors::Page;
+use vsi_errors::DocumentText;
 use vsi_lattice::{Class, Lattice};
 use vsi_names::{Mention, mention_at, mentions_of};
 use vsi_syntax::Span;
@@ -19,7 +19,7 @@ use vsi_types::Profile;
 /// letvars, which are none if a flow is refused.
 #[derive(Drop)]
 pub(crate) struct Reading<'a> {
-    pub(crate) page: Page<'a>,
+    pub(crate) document: DocumentText<'a>,
     pub(crate) profile: Profile,
     pub(crate) source: Source<'a>,
     pub(crate) mentions: Vec<Mention>,
@@ -58,13 +58,13 @@ fn classes_of<'a>(
 pub(crate) fn reading_of<'a>(
     alloc: Global,
     profile: Profile,
-    page: Page<'a>,
+    document: DocumentText<'a>,
     source: Source<'a>,
 ) -> Result<Reading<'a>, AllocError> {
     let mentions = mentions_of(alloc, &source)?;
     let classes = classes_of(alloc, profile, &source)?;
     Ok(Reading {
-        page,
+        document,
         profile,
         source,
         mentions,
@@ -78,13 +78,13 @@ impl Reading<'_> {
         let place = place_at(value, "/params/position")?;
         mention_at(
             &self.mentions,
-            offset_of(self.page.encoding, self.page.text, place),
+            offset_of(self.document.encoding, self.document.text, place),
         )
     }
 
     /// The text of a part.
     pub(crate) fn text_of(&self, span: Span) -> &[u8] {
-        match self.page.text.get(span.start..span.stop) {
+        match self.document.text.get(span.start..span.stop) {
             Some(text) => text,
             None => b"",
         }

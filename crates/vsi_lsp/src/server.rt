@@ -4,7 +4,7 @@ ghost use Rattle.std.specs.Prelude.{IfOk};
 ghost use Rattle.vsi_lsp.specs.Frames.{AreFrames};
 
 use crate::asking::{is_of_lattice, is_of_text, lattice_answer, text_answer};
-use crate::documents::{Document, Kind, Policy, cleared, published, said};
+use crate::documents::{Document, DocumentKind, Policy, cleared, published, said};
 use crate::frames::framed;
 use crate::interfaces::interface_path;
 use crate::objects::{range_at, text_at};
@@ -214,15 +214,22 @@ impl Server {
         let Some(document) = self.documents.get(place) else {
             return Ok(Err(Fault::Parameters));
         };
-        let page = document.page(self.encoding);
+        let judged = document.text_in(self.encoding);
         if is_of_text(method) {
-            return Ok(Ok(text_answer(self.alloc, page, method)?));
+            return Ok(Ok(text_answer(self.alloc, judged, method)?));
         }
         let Some(bytes) = document.policy_bytes() else {
             return Ok(Ok(Value::Null));
         };
         match read_lattice(self.alloc, bytes) {
-            Ok(lattice) => lattice_answer(self.alloc, self.profile, &lattice, page, method, value),
+            Ok(lattice) => lattice_answer(
+                self.alloc,
+                self.profile,
+                &lattice,
+                judged,
+                method,
+                value,
+            ),
             Err(LatticeError::Memory) => Err(AllocError),
             Err(_) => Ok(Ok(Value::Null)),
         }
@@ -336,10 +343,10 @@ impl Server {
 
     /// The path of the lattice file of a document, if it has one.
     fn policy_path(&self, document: &Document) -> Result<Option<String>, AllocError> {
-        if document.kind() == Kind::Interface {
+        if document.kind() == DocumentKind::Interface {
             return interface_path(self.alloc, &document.uri, &document.text);
         }
-        if document.kind() != Kind::Source {
+        if document.kind() != DocumentKind::Source {
             return Ok(None);
         }
         match named_policy(&document.text) {
@@ -370,7 +377,7 @@ impl Server {
     /// Says once that a text is judged with two classes.
     fn say_two(&mut self, place: usize) -> Result<(), AllocError> {
         let is_text = match self.documents.get(place) {
-            Some(document) => document.kind() == Kind::Source,
+            Some(document) => document.kind() == DocumentKind::Source,
             None => false,
         };
         if self.has_said || !is_text {

@@ -1,27 +1,17 @@
 //! The least class that each declaration can have.
 
-ghost use Rattle.std.specs.Prelude.{◌≡◌, ◌≤◌, IfOk};
+ghost use Rattle.std.specs.Prelude.{◌≡◌, IfOk};
 ghost use Rattle.std.specs.List.{All};
 ghost use Rattle.vsi_lattice.specs.Order.{IsClass};
 ghost use Rattle.vsi_types.specs.Security.{program as program_of};
-ghost use Rattle.vsi_infer.specs.Flowing.{size_of};
 ghost use Rattle.vsi_infer.specs.Inference.{AreClasses};
 ghost use Rattle.vsi_raise.specs.Reaching.{floor, AreFloors};
 
 use std::alloc::{AllocError, Global as Heap};
+use vsi_flows::declarations;
 use vsi_infer::declared_class;
 use vsi_lattice::{Class, Classes};
 use vsi_scope::{Resolved, Var};
-
-/// The number of declarations.
-pub(crate) fn declarations(program: &Resolved<'_>) -> u16
-    ensures count { result ≡ size_of (program_of program.now) }
-    ensures small { result ≤ 1024 }
-{
-    // `body` ensures that the program is resolved, so its number of declarations is limited.
-    let _body = program.body();
-    program.globals().len() as u16 + program.letvars().len() as u16
-}
 
 /// The declared class of a variable, or the bottom if none is declared.
 fn floor_of<C: Classes>(lattice: &C, program: &Resolved<'_>, variable: Var) -> Class

@@ -10,11 +10,12 @@ ghost use Rattle.vsi_infer.specs.Inference.{AreClasses};
 ghost use Rattle.vsi_raise.specs.Raising.{Answers, AreLeastRaises};
 ghost use Rattle.vsi_raise.specs.Reaching.{AreFloors, IsQuiet};
 
-use crate::floors::{declarations, floors};
+use crate::floors::floors;
 use crate::raise::{Raise, Raising};
 use crate::settling::{final_walk, settle};
 use std::alloc::{AllocError, Global as Heap};
 use vsi_compiler::Source;
+use vsi_flows::declarations;
 use vsi_infer::{Flow, FlowRows, flow_rows};
 use vsi_lattice::{Class, Classes};
 use vsi_scope::Resolved;

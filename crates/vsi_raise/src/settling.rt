@@ -9,11 +9,11 @@ ghost use Rattle.vsi_infer.specs.Inference.{AreClasses};
 ghost use Rattle.vsi_raise.specs.Raising.{IsFinal};
 ghost use Rattle.vsi_raise.specs.Reaching.{AreFloors, IsQuiet, IsSettled};
 
-use crate::floors::declarations;
 use crate::raise::Raise;
 use crate::reaching::{joined, nearest_over};
 use std::alloc::{AllocError, Global as Heap};
-use vsi_infer::{Flow, FlowRows, Walk, declared_class, fewest_flows, walks_to};
+use vsi_flows::declarations;
+use vsi_infer::{Flow, FlowRows, Walk, declared_class, fewest_flows, steps_down, walks_to};
 use vsi_lattice::{Class, Classes};
 use vsi_scope::{Resolved, Var};
 use vsi_types::Profile;
@@ -83,7 +83,8 @@ pub(crate) fn final_walk<C: Classes>(
     let Some(from) = nearest_over(lattice, floors, &row, lattice.bottom()) else {
         return Ok(None);
     };
-    let walks = walks_to(alloc, profile, program, &row, last)?;
+    let known = steps_down(alloc, profile, program, &row, last)?;
+    let walks = walks_to(&known, 0, &row, last);
     let steps = walks.walk_from(alloc, profile, program, Var(from as u16), row[from])?;
     Ok(Some(Walk { steps }))
 }

@@ -19,4 +19,5 @@ mod written;
 
 pub use error::RaisedError;
 pub use lines::{raise_lines_in, raise_lines_of};
+pub use names::name_start;
 pub use written::{raised_text_in, raised_text_of};

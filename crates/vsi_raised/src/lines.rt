@@ -12,10 +12,10 @@ ghost use Rattle.vsi_raise.specs.Raising.{AreLeastRaises};
 ghost use Rattle.vsi_raised.specs.Answers.{HasClassesIn, IsRaiseText, RefusesRaise};
 ghost use Rattle.vsi_raised.specs.Lines as spec;
 
-use crate::names::{name, name_start};
+use crate::names::name_start;
 use std::alloc::{AllocError, Global};
 use vsi_compiler::{CompileError, Source, read_source};
-use vsi_infer::put_variable;
+use vsi_infer::{put_variable, variable_name};
 use vsi_lattice::Lattice;
 use vsi_raise::{Raise, Raising, raises_of};
 use vsi_scope::Resolved;
@@ -62,7 +62,7 @@ fn put_raise(
     let start = name_start(declarations, program.letvars(), raise.variable);
     put_change(text, lattice, source, start, program, raise)?;
     text.extend_from_slice(b", since ")?;
-    text.extend_from_slice(name(program, raise.cause))?;
+    text.extend_from_slice(variable_name(program, raise.cause))?;
     text.extend_from_slice(b" reaches it\n")
 }
 

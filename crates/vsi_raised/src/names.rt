@@ -1,34 +1,14 @@
-//! Names of variables, and where their declarations are.
+//! Where declarations are.
 
 ghost use Rattle.std.specs.Prelude.{◌≡◌, map};
 ghost use Rattle.vsi_syntax.specs.CommandView.{declared};
-ghost use Rattle.vsi_infer.specs.Explanation.{name_of};
 ghost use Rattle.vsi_raised.specs.Lines as spec;
 
 use vsi_scope::{Entry, Resolved, Var};
 use vsi_syntax::Declaration;
-use vsi_types::LOOP;
-
-/// The name of a variable.
-pub(crate) fn name<'a>(program: &'a Resolved<'_>, variable: Var) -> &'a [u8]
-    ensures { result.now ≡ name_of program.now variable }
-{
-    if variable == LOOP {
-        return b"(loop)";
-    }
-    let number = variable.0 as usize;
-    let globals = program.globals();
-    if number < globals.len() {
-        return globals[number].name;
-    }
-    match program.letvars().get(number - globals.len()) {
-        Some(entry) => entry.name,
-        None => b"",
-    }
-}
 
 /// Where the name of a declaration begins.
-pub(crate) fn name_start(globals: &[Declaration<'_>], letvars: &[Entry<'_>], variable: Var) -> usize
+pub fn name_start(globals: &[Declaration<'_>], letvars: &[Entry<'_>], variable: Var) -> usize
     ensures { result ≡ spec.name_start (map declared globals.now) letvars.now variable }
 {
     let number = variable.0 as usize;

@@ -6,7 +6,7 @@ use Rattle.serde_json.specs.Written.{items_have_float, members_have_float}
 use Rattle.vsi_syntax.specs.CommandView.{declared}
 use Rattle.vsi_syntax.specs.Tree.{Declared, Whole}
 use Rattle.vsi_syntax.specs.declared.tree.Declaration.{Declaration}
-use Rattle.vsi_lattice.specs.LatticeView.{order}
+use Rattle.vsi_lattice.specs.LatticeView.{class_named, order}
 use Rattle.vsi_lattice.specs.declared.lattice.Lattice.{Lattice}
 use Rattle.vsi_scope.specs.Program.{Resolved}
 use Rattle.vsi_types.specs.Security.{program}
@@ -14,15 +14,22 @@ use Rattle.vsi_types.specs.Walks.{declared_class}
 use Rattle.vsi_types.specs.declared.rules.Profile.{Profile}
 use Rattle.vsi_infer.specs.Explanation.{class_text, name_of}
 use Rattle.vsi_infer.specs.declared.walk.Walk.{Walk}
+use Rattle.vsi_compiler.specs.declared.error.CompileError.{CompileError}
 use Rattle.vsi_compiler.specs.declared.error.CompileError.TheVariants.{Flow, Memory}
+use Rattle.vsi_compiler.specs.Refusal.{RefusesProgram}
 use Rattle.vsi_compiler.specs.Source.{Reads}
 use Rattle.vsi_compiler.specs.SourceView.{Source, IsSource}
+use Rattle.vsi_steady.specs.declared.unsteady.UnsteadyError.TheVariants as unsteady
 use Rattle.vsi_raise.specs.declared.raise.Raise.{Raise}
 use Rattle.vsi_raise.specs.Raising.{AreLeastRaises}
 use Rattle.vsi_raised.specs.Lines.{class_name, name_start}
+use Rattle.vsi_raised.proofs.AnswerLemmas.{OnlyMemory, read_refused}
 use Rattle.vsi_diagnostics.specs.Members.{with_text, with_natural}
 use Rattle.vsi_diagnostics.specs.Source.{line_of, column_of}
 use Rattle.vsi_diagnostics.proofs.Plain.{both, text_plain, natural_plain}
+use Rattle.vsi_conform.specs.Checking.{judgement_by, WritesRefusal}
+use Rattle.vsi_conform.proofs.Profiles.{tells_refused, unread_refused}
+use Rattle.vsi_raises_json.specs.Answers.{TellsUnserved}
 use Rattle.vsi_raises_json.specs.Json as json
 
 -- The object of a raise has no number that isn't whole.
@@ -54,6 +61,17 @@ raises_plain l source globals r (raise ∷ raises) =
 -- A refused flow isn't lack of memory.
 pub walk_apart : (walk : Walk) → Flow walk ≢ Memory
 walk_apart walk q = absurd cc
+
+-- A text that has no program is refused, and no raises serve it.
+pub unread_tells : (l : Lattice) (P : Profile) (text : List ℕ) (e : CompileError) (out : List ℕ) → e ≢ Memory →
+    RefusesProgram (class_named l) text e → OnlyMemory l text e →
+    WritesRefusal l (judgement_by P) text (unsteady.Compile e) out → TellsUnserved l P text out
+unread_tells l P text e out other refused only written =
+    record {
+      none = record { error = e; other = other; refused = read_refused l P text e refused only };
+      refused = tells_refused l (judgement_by P) text (unsteady.Compile e) out
+          (unread_refused l (judgement_by P) text e other refused only) written;
+    }
 
 module _ (s : Source) (is : IsSource s) (P : Profile) where
   -- The line of the least raises, with parts of the source under whatever names.

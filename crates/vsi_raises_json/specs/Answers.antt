@@ -2,19 +2,11 @@
 use Rattle.std.specs.Prelude.{◌≢◌, ℕ, Bool, true, false, List}
 use Rattle.vsi_lattice.specs.declared.lattice.Lattice.{Lattice}
 use Rattle.vsi_types.specs.declared.rules.Profile.{Profile}
-use Rattle.vsi_types.specs.declared.rules.Profile.TheVariants as profile
 use Rattle.vsi_compiler.specs.declared.error.CompileError.{CompileError}
 use Rattle.vsi_compiler.specs.declared.error.CompileError.TheVariants.{Memory}
 use Rattle.vsi_raised.specs.Answers.{RefusesRaise}
-use Rattle.vsi_conform.specs.declared.interface.Judgement.{Judgement}
-use Rattle.vsi_conform.specs.declared.interface.Judgement.TheVariants as judgement
-use Rattle.vsi_conform.specs.Checking.{TellsAnswer, TellsRefused}
+use Rattle.vsi_conform.specs.Checking.{judgement_by, TellsAnswer, TellsRefused}
 use Rattle.vsi_raises_json.specs.Json.{IsRaisesJson}
-
--- The judgement by a profile.
-abbrev pub judgement_by : Profile → Judgement
-judgement_by profile.Base = judgement.Base
-judgement_by profile.Strict = judgement.Strict
 
 -- There are no raises: the text has no program, or no raise serves.
 pub record HasNoRaises (l : Lattice) (P : Profile) (source : List ℕ) : Type 0 where

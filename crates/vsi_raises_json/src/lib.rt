@@ -8,7 +8,6 @@
 #![tactic(auto)]
 
 mod mending;
-mod names;
 mod objects;
 
 pub use mending::{Mended, mend_json};

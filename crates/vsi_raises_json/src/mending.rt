@@ -1,19 +1,19 @@
 //! The answer about the raises of a text as a line of JSON.
 
-ghost use Rattle.std.specs.Prelude.{◌≡◌, ◌≢◌, false, IfOk, MatchOption};
+ghost use Rattle.std.specs.Prelude.{◌≡◌, false, IfOk, MatchOption};
 ghost use Rattle.vsi_lattice.specs.LatticeView.{order};
 ghost use Rattle.vsi_types.specs.Security.{program as program_of};
 ghost use Rattle.vsi_types.specs.declared.rules.Profile.{Profile};
-ghost use Rattle.vsi_compiler.specs.declared.error.CompileError.TheVariants.{Memory};
 ghost use Rattle.vsi_raise.specs.Raising.{AreLeastRaises};
 ghost use Rattle.vsi_raised.specs.Answers.{HasClassesIn};
+ghost use Rattle.vsi_conform.specs.Checking.{judgement_by};
 ghost use Rattle.vsi_raises_json.specs.Json.{IsRaisesJson};
 ghost use Rattle.vsi_raises_json.specs.Answers as spec;
 
 use crate::objects::{raise_objects, raises_line};
 use std::alloc::{AllocError, Global};
 use vsi_compiler::{CompileError, Source, read_source};
-use vsi_conform::{Checked, Judgement, check_json};
+use vsi_conform::{Checked, Judgement, check_json_of, unread_json};
 use vsi_lattice::Lattice;
 use vsi_raise::{Raise, Raising, raises_of};
 use vsi_types::Profile;
@@ -29,7 +29,7 @@ pub struct Mended {
 
 /// The judgement by a profile.
 fn judgement(profile: Profile) -> Judgement
-    ensures { result ≡ spec.judgement_by profile }
+    ensures { result ≡ judgement_by profile }
 {
     match profile {
         Profile::Base => Judgement::Base,
@@ -82,36 +82,6 @@ fn raised_line(
     }
 }
 
-/// Whether the error is lack of memory.
-fn wants_memory(error: &CompileError) -> bool
-    ensures { result ≡ false → error.now ≢ Memory }
-{
-    matches!(error, CompileError::Memory)
-}
-
-/// The same for a text, which may have no program.
-fn line_in(
-    alloc: Global,
-    profile: Profile,
-    lattice: &Lattice,
-    text: &[u8],
-    is_accepted: bool,
-) -> Result<Option<Vec<u8>>, AllocError>
-    ensures { IfOk result (λ found. MatchOption found
-        (spec.HasNoRaises lattice.now profile text.now)
-        (λ out. IsRaisesJson lattice.now profile text.now is_accepted out.items)) }
-{
-    match read_source(alloc, lattice, text) {
-        Ok(source) => raised_line(alloc, profile, &source, is_accepted),
-        Err(error) => {
-            if wants_memory(&error) {
-                return Err(AllocError);
-            }
-            Ok(None)
-        }
-    }
-}
-
 /// The answer for a text that no raise serves. Only a refused text is one.
 fn unserved(checked: Checked) -> Result<Mended, AllocError>
     ensures { IfOk result (λ mended. (mended.is_served ≡ false) × (checked.is_accepted ≡ false)
@@ -126,10 +96,25 @@ fn unserved(checked: Checked) -> Result<Mended, AllocError>
     })
 }
 
-/// The answer of `vsi mend` to a text as a line of JSON: an object with `accepted`, whether the text
-/// is accepted as it is, and `raises`, an array with an object for each of the least raises, in the
-/// order of the lines of `raise_lines_in`. Where no raise serves, or the text has no program, it is
-/// the line of `check_json`. An error means that memory ran out.
+/// The answer for a source text that was read.
+fn source_mended(alloc: Global, profile: Profile, source: &Source<'_>) -> Result<Mended, AllocError>
+    ensures { IfOk result (λ mended. spec.TellsMended source.now.lattice profile source.now.text
+        mended.is_served mended.line.items) }
+{
+    let checked = check_json_of(alloc, judgement(profile), source)?;
+    match raised_line(alloc, profile, source, checked.is_accepted)? {
+        Some(line) => Ok(Mended {
+            is_served: true,
+            line,
+        }),
+        None => unserved(checked),
+    }
+}
+
+/// The answer of `vsi mend` to a text as a line of JSON: an object with `accepted`, whether the
+/// text is accepted as it is, and `raises`, an array with an object for each of the least raises, in
+/// the order of the lines of `raise_lines_in`. Where no raise serves, or the text has no program, it
+/// is the line of `check_json`. The text is read once. An error means that memory ran out.
 pub fn mend_json(
     alloc: Global,
     profile: Profile,
@@ -139,12 +124,15 @@ pub fn mend_json(
     ensures answer { IfOk result (λ mended.
         spec.TellsMended lattice.now profile text.now mended.is_served mended.line.items) }
 {
-    let checked = check_json(alloc, judgement(profile), lattice, text)?;
-    match line_in(alloc, profile, lattice, text, checked.is_accepted)? {
-        Some(line) => Ok(Mended {
-            is_served: true,
-            line,
-        }),
-        None => unserved(checked),
+    match read_source(alloc, lattice, text) {
+        Ok(source) => source_mended(alloc, profile, &source),
+        Err(CompileError::Memory) => Err(AllocError),
+        Err(error) => {
+            let line = unread_json(alloc, judgement(profile), lattice, text, error)?;
+            Ok(Mended {
+                is_served: false,
+                line,
+            })
+        }
     }
 }

@@ -12,13 +12,13 @@ ghost use Rattle.vsi_infer.specs.Inference.{AreClasses};
 ghost use Rattle.vsi_raised.specs.Answers.{HasClassesIn};
 ghost use Rattle.vsi_raises_json.specs.Json as spec;
 
-use crate::names::{class_name, name, name_start};
 use serde_json::{Map, Value, put};
 use std::alloc::{AllocError, Global};
 use vsi_diagnostics::members::{put_natural, put_text};
-use vsi_infer::declared_class;
+use vsi_infer::{class_name, declared_class, variable_name};
 use vsi_lattice::Lattice;
 use vsi_raise::Raise;
+use vsi_raised::name_start;
 use vsi_scope::Resolved;
 use vsi_syntax::{Declaration, line_column};
 
@@ -40,7 +40,12 @@ fn put_declared(
     let (line, column) = line_column(source, start);
     put_natural(alloc, members, "line", line)?;
     put_natural(alloc, members, "column", column)?;
-    put_text(alloc, members, "name", name(program, raise.variable))?;
+    put_text(
+        alloc,
+        members,
+        "name",
+        variable_name(program, raise.variable),
+    )?;
     let old = declared_class(lattice, program, raise.variable);
     put_text(alloc, members, "from", class_name(lattice, old))
 }
@@ -64,7 +69,12 @@ fn raise_object(
     let start = name_start(declarations, program.letvars(), raise.variable);
     put_declared(alloc, &mut members, lattice, source, start, program, raise)?;
     put_text(alloc, &mut members, "to", lattice.name(raise.new))?;
-    put_text(alloc, &mut members, "because", name(program, raise.cause))?;
+    put_text(
+        alloc,
+        &mut members,
+        "because",
+        variable_name(program, raise.cause),
+    )?;
     Ok(members)
 }
 

@@ -5,9 +5,10 @@
 //! picture.
 
 use crate::facts::{Facts, variable_class, variable_name};
-use crate::layout::{Layout, Spot, box_width};
-use crate::order::{Order, at, greatest};
+use crate::layout::{BoxMiddle, Layout, box_width};
+use crate::order::{Order, greatest};
 use std::alloc::{AllocError, Global};
+use vsi_layered::at;
 
 /// The height of a row of boxes.
 const ROW: usize = 118;
@@ -29,7 +30,7 @@ pub(crate) struct Band {
 /// The positions of the variables in the bands so far, and the position of the next one.
 #[derive(Drop)]
 struct Placing {
-    spots: Vec<Spot>,
+    spots: Vec<BoxMiddle>,
     bands: Vec<Band>,
     x: usize,
     y: usize,
@@ -50,7 +51,7 @@ fn place(placing: &mut Placing, facts: &Facts, number: usize) {
         placing.x = LEFT;
         placing.y = placing.y.saturating_add(ROW);
     }
-    let spot = Spot {
+    let spot = BoxMiddle {
         x: placing.x.saturating_add(wide / 2),
         y: placing.y,
         wide,
@@ -105,10 +106,10 @@ fn place_level(
 }
 
 /// The boxes of variables, before any is placed.
-fn no_spots(alloc: Global, count: usize) -> Result<Vec<Spot>, AllocError> {
+fn no_spots(alloc: Global, count: usize) -> Result<Vec<BoxMiddle>, AllocError> {
     let mut spots = Vec::new(alloc);
     for _ in 0..count {
-        spots.push(Spot {
+        spots.push(BoxMiddle {
             x: 0,
             y: 0,
             wide: 0,

@@ -9,6 +9,15 @@ use vsi_infer::{Flow, FlowRows, flow_rows_by};
 use vsi_scope::Resolved;
 use vsi_types::{Profile, Rule};
 
+/// The rules, in their order.
+pub(crate) const RULES: [Rule; 5] = [
+    Rule::Assign,
+    Rule::If,
+    Rule::While,
+    Rule::Letvar,
+    Rule::Loop,
+];
+
 /// The flows of a program by each of the rules.
 #[derive(Drop)]
 pub(crate) struct Flows {

@@ -1,16 +1,16 @@
 //! The contents of a graph of flows, and the looks of its nodes and edges.
 
-ghost use Rattle.std.specs.Prelude.{◌≡◌, ◌≤◌};
+ghost use Rattle.std.specs.Prelude.{◌≡◌};
 ghost use Rattle.vsi_lattice.specs.LatticeView.{order as order_of_lattice};
 ghost use Rattle.vsi_types.specs.Security.{program as program_of};
-ghost use Rattle.vsi_infer.specs.Explanation.{name_of as name_of_variable};
-ghost use Rattle.vsi_infer.specs.Flowing.{size_of, variable_at as variable_at_of};
-ghost use Rattle.vsi_infer.specs.StepsBetween.{leads_by, same_rule as same_rule_of};
+ghost use Rattle.vsi_infer.specs.Flowing.{variable_at as variable_at_of};
+ghost use Rattle.vsi_infer.specs.StepsBetween.{leads_by};
 ghost use Rattle.vsi_report.specs.Drawn.{shown};
 ghost use Rattle.vsi_report.specs.FlowsGraph as spec;
 
 use crate::order::Order;
-use vsi_infer::declared_class;
+use vsi_flows::declarations;
+use vsi_infer::{declared_class, same_rule};
 use vsi_lattice::{Class, Classes, Lattice};
 use vsi_scope::{Resolved, Var};
 use vsi_types::{LOOP, Rule, Step};
@@ -37,16 +37,6 @@ pub(crate) enum Course {
     Unclear,
 }
 
-/// The number of declarations.
-pub(crate) fn declarations(program: &Resolved<'_>) -> u16
-    ensures count { result ≡ size_of (program_of program.now) }
-    ensures small { result ≤ 1024 }
-{
-    // The contract of `body` says that the program is resolved, which bounds its declarations.
-    let _body = program.body();
-    program.globals().len() as u16 + program.letvars().len() as u16
-}
-
 /// The variable with a number; the last number belongs to the ending of loops.
 pub(crate) fn variable_at(drawn: &Drawn<'_>, number: u16) -> Var
     ensures { result ≡ variable_at_of (spec.size (shown drawn.now)) number }
@@ -55,24 +45,6 @@ pub(crate) fn variable_at(drawn: &Drawn<'_>, number: u16) -> Var
         LOOP
     } else {
         Var(number)
-    }
-}
-
-/// The name of a variable.
-pub(crate) fn variable_name<'a>(program: &Resolved<'a>, variable: Var) -> &'a [u8]
-    ensures { result.now ≡ name_of_variable program.now variable }
-{
-    if variable == LOOP {
-        return b"(loop)";
-    }
-    let number = variable.0 as usize;
-    let globals = program.globals();
-    if number < globals.len() {
-        return globals[number].name;
-    }
-    match program.letvars().get(number - globals.len()) {
-        Some(entry) => entry.name,
-        None => b"",
     }
 }
 
@@ -130,20 +102,6 @@ pub(crate) fn flow_course(drawn: &Drawn<'_>, source: u16, target: u16) -> Course
     let low = class_shown(drawn, variable_at(drawn, source));
     let high = class_shown(drawn, variable_at(drawn, target));
     course_between(drawn.lattice, low, high)
-}
-
-/// Whether two rules are equal.
-fn same_rule(first: Rule, second: Rule) -> bool
-    ensures { result ≡ same_rule_of first second }
-{
-    match (first, second) {
-        (Rule::Assign, Rule::Assign) => true,
-        (Rule::If, Rule::If) => true,
-        (Rule::While, Rule::While) => true,
-        (Rule::Letvar, Rule::Letvar) => true,
-        (Rule::Loop, Rule::Loop) => true,
-        _ => false,
-    }
 }
 
 /// Whether a step goes from a variable to another by a rule.

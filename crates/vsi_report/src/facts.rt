@@ -13,12 +13,15 @@ ghost use Rattle.vsi_report.specs.Labels.{AreLabels};
 use crate::by_rule::{Flows, flows_of, has_flow};
 use crate::labels::labels_of;
 use crate::order::Order;
-use crate::walking::{MOST_DRAWN, Use, uses_of};
 use std::alloc::{AllocError, Global};
 use vsi_flows::{FlowsError, Pair, flows_in};
 use vsi_lattice::{Class, Classes, Lattice};
+use vsi_names::Mention;
 use vsi_scope::{Resolved, Var};
 use vsi_types::{Profile, Rule};
+
+/// The most variables of a program whose flows are drawn.
+pub(crate) const MOST_DRAWN: usize = 200;
 
 /// A variable: its name, its class if it has one, and whether the text declares the class.
 #[derive(Drop)]
@@ -35,7 +38,7 @@ pub(crate) struct Variable {
 pub(crate) struct Facts {
     pub(crate) variables: Vec<Variable>,
     pub(crate) labels: Vec<Vec<u8>>,
-    pub(crate) uses: Vec<Use>,
+    pub(crate) mentions: Vec<Mention>,
     pub(crate) flows: Option<Flows>,
     pub(crate) pairs: Vec<Pair>,
 }
@@ -160,7 +163,7 @@ fn drawn_flows(
     Ok(Some(flows_of(alloc, profile, program)?))
 }
 
-/// The facts of a program, with the given classes, labels and flows.
+/// The facts of a program, with the given classes, labels, names and flows.
 fn gathered(
     alloc: Global,
     profile: Profile,
@@ -168,6 +171,7 @@ fn gathered(
     program: &Resolved<'_>,
     chosen: &[Class],
     labels: Vec<Vec<u8>>,
+    mentions: Vec<Mention>,
     pairs: Vec<Pair>,
 ) -> Result<Facts, AllocError>
     ensures pairs { IfOk result (λ facts. facts.pairs ≡ pairs) }
@@ -175,17 +179,16 @@ fn gathered(
 {
     let variables = variables_of(alloc, program, chosen, lattice.bottom().index())?;
     let flows = drawn_flows(alloc, profile, program, variables.len())?;
-    let uses = uses_of(alloc, program)?;
     Ok(Facts {
         variables,
         labels,
-        uses,
+        mentions,
         flows,
         pairs,
     })
 }
 
-/// The facts of a program, with these classes of its letvars.
+/// The facts of a program, with these classes of its letvars, and these names in its text.
 pub(crate) fn facts_of(
     alloc: Global,
     profile: Profile,
@@ -193,6 +196,7 @@ pub(crate) fn facts_of(
     order: &Order,
     program: &Resolved<'_>,
     chosen: &[Class],
+    mentions: Vec<Mention>,
 ) -> Result<Facts, AllocError>
     requires globals { All (IsClass (order_of_lattice lattice.now))
         (program_of program.now).globals }
@@ -206,7 +210,9 @@ pub(crate) fn facts_of(
 {
     let pairs = pairs_of(alloc, profile, lattice, program)?;
     let labels = labels_of(alloc, lattice, order, program, chosen)?;
-    gathered(alloc, profile, lattice, program, chosen, labels, pairs)
+    gathered(
+        alloc, profile, lattice, program, chosen, labels, mentions, pairs,
+    )
 }
 
 /// The number of a variable; the ending of loops has the last number.

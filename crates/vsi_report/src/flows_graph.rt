@@ -19,15 +19,16 @@ ghost use Rattle.vsi_report.specs.FlowsGraph as spec;
 use crate::by_rule::{Flows, flows_of, has_flow};
 use crate::dot::{graph_text, lattice_lines, put_between, put_paint};
 use crate::drawn::{
-    Drawn, class_declared, class_shown, declarations, edge_words, flow_course, step_number,
-    variable_at, variable_name,
+    Drawn, class_declared, class_shown, edge_words, flow_course, step_number, variable_at,
 };
+use crate::facts::MOST_DRAWN;
 use crate::judged::judged_classes;
 use crate::order::{name_of, order_of};
 use crate::placing::{nodes_shown, put_frame, put_node, put_numbered};
-use crate::walking::{MOST_DRAWN, rule_name};
 use std::alloc::{AllocError, Global};
 use vsi_compiler::{CompileError, resolved_program};
+use vsi_flows::declarations;
+use vsi_infer::{rule_text, variable_name};
 use vsi_lattice::{Class, Lattice};
 use vsi_scope::{Resolved, Var};
 use vsi_types::{Profile, Rule};
@@ -146,7 +147,7 @@ fn put_looks(
 {
     let number = step_number(drawn, rule, source, target);
     put_step_number(text, number)?;
-    put_between(text, rule_name(rule), b"\", style=", style(rule))?;
+    put_between(text, rule_text(rule), b"\", style=", style(rule))?;
     text.extend_from_slice(edge_words(number, flow_course(drawn, source, target)))
 }
 

@@ -1,14 +1,15 @@
 //! The picture of a program's flows.
 
 use crate::bands::{Band, Banded};
+use crate::by_rule::RULES;
 use crate::facts::{Facts, flows_between, is_inferred, number_of, variable_class, variable_name};
 use crate::lattice_picture::{colour, put_box, put_picture, spot_at};
-use crate::layout::Spot;
+use crate::layout::BoxMiddle;
 use crate::order::{Order, is_below, name_of};
 use crate::page::{Page, Part};
 use crate::passage::passage;
-use crate::walking::{RULES, rule_name};
 use std::alloc::AllocError;
+use vsi_infer::rule_text;
 use vsi_types::{Rule, Step};
 
 /// The two ends of an arrow, and its control points: the directions in which it leaves one end and
@@ -292,7 +293,7 @@ fn put_flow_told(
                 Part::Markup(b" flows to "),
                 Part::Text(variable_name(facts, target)),
                 Part::Markup(b" by "),
-                Part::Markup(rule_name(rule)),
+                Part::Markup(rule_text(rule)),
                 Part::Markup(b"."),
             ])?;
         }
@@ -330,7 +331,7 @@ d=\"M0 0L10 5L0 10z\"/></marker></defs>";
 pub(crate) fn put_variable_box(
     page: &mut Page,
     facts: &Facts,
-    spot: Spot,
+    spot: BoxMiddle,
     number: usize,
 ) -> Result<(), AllocError> {
     if is_inferred(facts, number) {

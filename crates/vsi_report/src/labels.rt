@@ -6,9 +6,9 @@ ghost use Rattle.vsi_types.specs.Security.{program as program_of};
 ghost use Rattle.vsi_report.specs.Graph.{texts};
 ghost use Rattle.vsi_report.specs.Labels.{AreLabels, label, label_words};
 
-use crate::drawn::declarations;
 use crate::order::{Order, name_of};
 use std::alloc::{AllocError, Global};
+use vsi_flows::declarations;
 use vsi_infer::declared_class;
 use vsi_lattice::{Class, Lattice};
 use vsi_scope::{Resolved, Var};

@@ -1,6 +1,6 @@
 //! The picture of a lattice.
 
-use crate::layout::{Layout, Spot};
+use crate::layout::{BoxMiddle, Layout};
 use crate::order::{Order, name_of};
 use crate::page::{Page, Part};
 use std::alloc::{AllocError, Global};
@@ -9,10 +9,10 @@ use std::alloc::{AllocError, Global};
 const HALF: usize = 17;
 
 /// The position of a class, or an empty position.
-pub(crate) fn spot_at(layout: &Layout, place: usize) -> Spot {
+pub(crate) fn spot_at(layout: &Layout, place: usize) -> BoxMiddle {
     match layout.spots.get(place) {
         Some(spot) => *spot,
-        None => Spot {
+        None => BoxMiddle {
             x: 0,
             y: 0,
             wide: 0,
@@ -60,7 +60,7 @@ pub(crate) fn put_short(page: &mut Page, name: &[u8]) -> Result<(), AllocError> 
 }
 
 /// Adds the frame of a box, up to its name.
-fn put_frame(page: &mut Page, spot: Spot) -> Result<(), AllocError> {
+fn put_frame(page: &mut Page, spot: BoxMiddle) -> Result<(), AllocError> {
     page.put_parts(&[
         Part::Value(
             b"\"><rect rx=\"8\" x=\"",
@@ -78,7 +78,7 @@ fn put_frame(page: &mut Page, spot: Spot) -> Result<(), AllocError> {
 /// Adds a box with a name.
 pub(crate) fn put_box(
     page: &mut Page,
-    spot: Spot,
+    spot: BoxMiddle,
     class: Option<usize>,
     name: &[u8],
 ) -> Result<(), AllocError> {

@@ -1,14 +1,14 @@
 //! The picture of a program's flows with the variables in the boxes of their classes.
 
+use crate::by_rule::RULES;
 use crate::facts::{Facts, flows_between, is_inferred, number_of, variable_class, variable_name};
 use crate::flows_picture::{
     TIPS, before_curve, is_against, looks, put_badge, put_step_path, put_told, put_variable_box,
 };
 use crate::lattice_picture::{colour, put_picture, put_short};
-use crate::layout::{Spot, box_width};
+use crate::layout::{BoxMiddle, box_width};
 use crate::order::{Order, name_of};
 use crate::page::{Page, Part};
-use crate::walking::RULES;
 use std::alloc::{AllocError, Global};
 use vsi_layered::{Drawing, Graph, Node, Place, Point, badges_of, drawing_of};
 use vsi_types::{Rule, Step};
@@ -348,8 +348,8 @@ fn put_badges(page: &mut Page, points: &[Point]) -> Result<(), AllocError> {
 }
 
 /// The middle and the width of a box.
-fn spot_of(place: Place) -> Spot {
-    Spot {
+fn spot_of(place: Place) -> BoxMiddle {
+    BoxMiddle {
         x: place.left.saturating_add(place.wide / 2),
         y: place.top.saturating_add(place.high / 2),
         wide: place.wide,

@@ -8,12 +8,11 @@ ghost use Rattle.vsi_types.specs.Walks as walks;
 ghost use Rattle.vsi_report.specs.Graph.{texts};
 ghost use Rattle.vsi_report.specs.Lead as spec;
 
-use crate::drawn::variable_name;
 use crate::order::{Order, name_of};
 use crate::page::Page;
 use std::alloc::AllocError;
 use vsi_flows::Pair;
-use vsi_infer::declared_class;
+use vsi_infer::{declared_class, variable_name};
 use vsi_lattice::Lattice;
 use vsi_scope::{Resolved, Var};
 use vsi_syntax::line_column;

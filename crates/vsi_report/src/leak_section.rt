@@ -5,13 +5,13 @@ ghost use Rattle.vsi_lattice.specs.LatticeView.{order};
 ghost use Rattle.vsi_lattice.specs.Order.{IsClass};
 
 use crate::facts::is_strict;
-use crate::leak_search::{Search, classes_upwards, found_in};
+use crate::leak_search::{Search, found_in};
 use crate::page::{Page, Part};
 use std::alloc::{AllocError, Global};
 use vsi_compiler::{Source, image_of};
 use vsi_image::{Image, Verified};
 use vsi_lattice::{Class, Classes, Lattice};
-use vsi_leak::{Effort, Ending, Finding, Leak, leak_text};
+use vsi_leak::{Effort, Ending, Finding, Leak, classes_upwards, leak_text};
 use vsi_types::Profile;
 
 /// The most instructions of a run in the search for a leak.

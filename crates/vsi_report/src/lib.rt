@@ -52,7 +52,6 @@ mod style;
 mod table;
 mod telling;
 mod verdict;
-mod walking;
 mod walks;
 mod warrant;
 

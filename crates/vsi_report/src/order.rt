@@ -8,6 +8,7 @@ ghost use Rattle.vsi_report.specs.Graph.{name_at, texts};
 
 use std::alloc::{AllocError, Global};
 use vsi_lattice::{Class, Classes, Lattice};
+use vsi_layered::{at, filled};
 
 /// The classes of a lattice by their numbers: the name of each; the covering pairs, with the lower
 /// class first; for each class, the length of the longest chain that leads up to it; and, for each
@@ -115,7 +116,7 @@ fn levels_of(
     count: usize,
     covers: &[(usize, usize)],
 ) -> Result<Vec<usize>, AllocError> {
-    let mut levels = zeros(alloc, count)?;
+    let mut levels = filled(alloc, count, 0)?;
     for _ in 0..count {
         for pair in covers {
             raise(&mut levels, pair.0, pair.1);
@@ -184,30 +185,6 @@ pub(crate) fn order_of(alloc: Global, lattice: &Lattice) -> Result<Order, AllocE
         levels,
         above,
     })
-}
-
-/// A list of zeros.
-pub(crate) fn zeros(alloc: Global, count: usize) -> Result<Vec<usize>, AllocError> {
-    let mut list = Vec::new(alloc);
-    for _ in 0..count {
-        list.push(0)?;
-    }
-    Ok(list)
-}
-
-/// The number at an index, or 0 past the end.
-pub(crate) fn at(list: &[usize], place: usize) -> usize {
-    match list.get(place) {
-        Some(number) => *number,
-        None => 0,
-    }
-}
-
-/// Writes a number at an index, if there is one.
-pub(crate) fn write_at(list: &mut Vec<usize>, place: usize, number: usize) {
-    if let Some(cell) = list.get_mut(place) {
-        *cell = number;
-    }
 }
 
 /// The name of a class, or an empty name for any other number.

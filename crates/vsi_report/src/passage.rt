@@ -1,6 +1,6 @@
 //! The point where an arrow of a picture passes the boxes of a row between its ends.
 
-use crate::layout::{Layout, Spot};
+use crate::layout::{BoxMiddle, Layout};
 
 /// The space between an arrow and the box that it passes: half of the space between two boxes.
 const BESIDE: usize = 17;
@@ -14,7 +14,7 @@ fn apart(a: usize, b: usize) -> usize {
 }
 
 /// Half of a box's width plus a space.
-fn reach(spot: &Spot, space: usize) -> usize {
+fn reach(spot: &BoxMiddle, space: usize) -> usize {
     (spot.wide / 2).saturating_add(space)
 }
 

@@ -7,9 +7,10 @@ ghost use Rattle.vsi_report.specs.Drawn.{shown};
 ghost use Rattle.vsi_report.specs.Graph.{texts};
 ghost use Rattle.vsi_report.specs.FlowsGraph as spec;
 
-use crate::drawn::{Drawn, class_shown, declarations, variable_at};
+use crate::drawn::{Drawn, class_shown, variable_at};
 use crate::order::Order;
 use std::alloc::AllocError;
+use vsi_flows::declarations;
 use vsi_lattice::Class;
 use vsi_syntax::put_number;
 use vsi_types::Profile;

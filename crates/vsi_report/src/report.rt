@@ -35,6 +35,7 @@ use std::alloc::{AllocError, Global};
 use vsi_compiler::{CompileError, Source, image_of, judge, read_source};
 use vsi_image::{Verified, listing};
 use vsi_lattice::{Class, Lattice};
+use vsi_names::mentions_of;
 use vsi_scope::Resolved;
 use vsi_types::{Profile, Step};
 
@@ -175,7 +176,8 @@ fn accepted_page(
     let source = read.text();
     let program = read.resolved();
     let order = order_of(alloc, lattice)?;
-    let facts = facts_of(alloc, profile, lattice, &order, program, chosen)?;
+    let mentions = mentions_of(alloc, read)?;
+    let facts = facts_of(alloc, profile, lattice, &order, program, chosen, mentions)?;
     let verified = image_of(alloc, read)?;
     let lines = listing(alloc, verified.image())?;
     page_with_image(
@@ -249,7 +251,8 @@ fn refused_page(
     let program = read.resolved();
     let order = order_of(alloc, lattice)?;
     let chosen = reached_classes(alloc, profile, lattice, program)?;
-    let facts = facts_of(alloc, profile, lattice, &order, program, &chosen)?;
+    let mentions = mentions_of(alloc, read)?;
+    let facts = facts_of(alloc, profile, lattice, &order, program, &chosen, mentions)?;
     let subject = Subject {
         profile,
         filing,

@@ -7,12 +7,13 @@ ghost use Rattle.vsi_report.specs.Graph.{name_at, texts};
 ghost use Rattle.vsi_report.specs.Marked.{IsLabelled, IsMarked, IsTokenAt, Marked};
 ghost use Rattle.vsi_report.specs.Reading.{Shows};
 
-use crate::drawn::{declarations, variable_name};
 use crate::facts::{Facts, label_at, variable_class};
 use crate::marks::{Mark, Word, mark_at};
 use crate::panel::{Panel, advanced, begun, closed, ended, named, opened, place_of, source_of};
-use crate::walking::Use;
 use std::alloc::{AllocError, Global};
+use vsi_flows::declarations;
+use vsi_infer::variable_name;
+use vsi_names::Mention;
 use vsi_scope::{Resolved, Var};
 use vsi_syntax::{Kind, LexError, Token, lex, put_number};
 use vsi_types::Step;
@@ -64,24 +65,15 @@ fn step_label(alloc: Global, walk: &[Step], start: usize) -> Result<Vec<u8>, All
     Ok(label)
 }
 
-/// The variable whose name starts at a position. The uses are in the order of the text; `next` is
+/// The variable whose name starts at a position. The names are in the order of the text; `next` is
 /// the first that can match.
-fn variable_at(uses: &[Use], next: usize, start: usize) -> Option<usize> {
-    let found = uses.get(next)?;
-    if found.start == start {
+fn variable_at(mentions: &[Mention], next: usize, start: usize) -> Option<usize> {
+    let found = mentions.get(next)?;
+    if found.span.start == start {
         Some(found.variable)
     } else {
         None
     }
-}
-
-/// The state for reading the tokens of a text: whether a global is being declared, and the uses so
-/// far.
-#[derive(Clone, Copy)]
-struct Reader {
-    next: usize,
-    globals: usize,
-    is_declaring: bool,
 }
 
 /// A panel with a part of the text up to a position that isn't a name, with its label.
@@ -226,22 +218,14 @@ fn is_keyword(kind: Kind) -> bool {
     }
 }
 
-/// The reader after a token, and the variable that the token names, if any.
-fn read_token(reader: Reader, uses: &[Use], token: &Token<'_>) -> (Reader, Option<usize>) {
-    let mut after = reader;
-    after.is_declaring = token.kind == Kind::Var;
-    if token.kind != Kind::Name {
-        return (after, None);
-    }
-    if reader.is_declaring {
-        after.globals = reader.globals.saturating_add(1);
-        return (after, Some(reader.globals));
-    }
-    let variable = variable_at(uses, reader.next, token.span.start);
+/// The next name after a token, and the variable that the token names, if any.
+fn read_token(next: usize, mentions: &[Mention], token: &Token<'_>) -> (usize, Option<usize>) {
+    let variable = variable_at(mentions, next, token.span.start);
     if variable.is_some() {
-        after.next = reader.next.saturating_add(1);
+        (next.saturating_add(1), variable)
+    } else {
+        (next, None)
     }
-    (after, variable)
 }
 
 /// A panel with a token.
@@ -288,14 +272,10 @@ fn with_tokens<'a>(
         p.page.items p.at p.line false) }
 {
     let mut panel = panel;
-    let mut reader = Reader {
-        next: 0,
-        globals: 0,
-        is_declaring: false,
-    };
+    let mut next: usize = 0;
     for token in tokens {
-        let (after, variable) = read_token(reader, &facts.uses, token);
-        reader = after;
+        let (after, variable) = read_token(next, &facts.mentions, token);
+        next = after;
         panel = with_token(alloc, panel, program, facts, walk, variable, token)?;
     }
     Ok(panel)

@@ -4,8 +4,8 @@ use crate::facts::{Facts, is_drawn, is_inferred, number_of, variable_class, vari
 use crate::lattice_picture::colour;
 use crate::order::{Order, name_of};
 use crate::page::{Page, Part};
-use crate::walking::rule_name;
 use std::alloc::AllocError;
+use vsi_infer::rule_text;
 use vsi_syntax::line_column;
 use vsi_types::{Rule, Step};
 
@@ -160,7 +160,7 @@ fn put_heading(
             Word::Plain(b" "),
             Word::Class(target),
             Word::Plain(b" by <strong>"),
-            Word::Plain(rule_name(rule)),
+            Word::Plain(rule_text(rule)),
             Word::Plain(b"</strong></p>"),
         ],
     )

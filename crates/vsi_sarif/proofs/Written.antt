@@ -21,19 +21,19 @@ use Rattle.vsi_sarif.specs.Findings.{bound_results, finding, image_finding, imag
 use Rattle.vsi_sarif.specs.Held.{text_held}
 use Rattle.vsi_sarif.specs.Kinds.{index_of, kind_of, kinds, name_of, rule_members, rules_of}
 use Rattle.vsi_sarif.specs.Location.{location_members, uri_of}
-use Rattle.vsi_sarif.specs.declared.kinds.Kind.{Kind}
-use Rattle.vsi_sarif.specs.declared.kinds.Kind.TheVariants as kind
+use Rattle.vsi_sarif.specs.declared.kinds.PointKind.{PointKind}
+use Rattle.vsi_sarif.specs.declared.kinds.PointKind.TheVariants as kind
 use Rattle.vsi_sarif.proofs.Plain.{document_plain, location_plain, lone_plain, one_plain, result_plain}
 
 -- The rules of kinds have no fractional number.
-rules_plain : (ks : List Kind) → items_have_float (items_of (rules_of ks)) ≡ false
+rules_plain : (ks : List PointKind) → items_have_float (items_of (rules_of ks)) ≡ false
 rules_plain [] = refl
 rules_plain (k ∷ ks) =
     both (members_have_float (rule_members k)) (items_have_float (items_of (rules_of ks)))
     (lone_plain (codes "id") (name_of k)) (rules_plain ks)
 
 -- Nor has a result.
-finding_plain : (uri : List ℕ) (k : Kind) (place : Option (ℕ × ℕ)) (lines : List ℕ) →
+finding_plain : (uri : List ℕ) (k : PointKind) (place : Option (ℕ × ℕ)) (lines : List ℕ) →
     members_have_float (finding uri k place lines) ≡ false
 finding_plain uri k place lines =
     result_plain (name_of k) (index_of k) (location_members uri place) None lines (location_plain uri place) refl

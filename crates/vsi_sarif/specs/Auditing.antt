@@ -1,5 +1,5 @@
 -- The answer of an audit as a document.
-use Rattle.std.specs.Prelude.{◌≡◌, ℕ, Bool, true, false, List, [], Option, Some, None, codes}
+use Rattle.std.specs.Prelude.{◌≡◌, ℕ, Bool, true, false, List, [], Option, Some}
 use Rattle.vsi_lattice.specs.LatticeView.{class_named, order}
 use Rattle.vsi_lattice.specs.declared.lattice.Lattice.{Lattice}
 use Rattle.vsi_types.specs.declared.rules.Profile.{Profile}
@@ -11,23 +11,12 @@ use Rattle.vsi_steady.specs.declared.error.SteadyError.{SteadyError}
 use Rattle.vsi_audit.specs.Refusal as audit
 use Rattle.vsi_audit.specs.Telling.{IsAuditText}
 use Rattle.vsi_audit.specs.declared.error.AuditError.{AuditError}
-use Rattle.vsi_audit.specs.declared.error.AuditError.TheVariants.{UnknownClass, Unstructured, WrongFields, NoText, Flow, Memory}
-use Rattle.vsi_diagnostics.specs.Diagnostic.{Diagnostic, nothing, number}
-use Rattle.vsi_diagnostics.specs.Source.{refused}
-use Rattle.vsi_conform.specs.Checking.{steady_diagnostic}
+use Rattle.vsi_diagnostics.specs.Diagnostic.{Diagnostic}
+use Rattle.vsi_conform.specs.Checking.{audit_diagnostic, steady_diagnostic}
 use Rattle.vsi_conform_image.specs.Conforms.{IsAudited}
 use Rattle.vsi_sarif.specs.Document.{document_text}
 use Rattle.vsi_sarif.specs.Location.{uri_of}
 use Rattle.vsi_sarif.specs.Refusals.{IsRefusalDocument}
-
--- The refusal of an image; none if memory ran out. Its steps have no position in a text.
-abbrev pub audit_diagnostic : AuditError → Option Diagnostic
-audit_diagnostic (UnknownClass n) = refused 43 (codes "ClassNotInLattice") (number n)
-audit_diagnostic (Unstructured n) = refused 49 (codes "NoCommands") (number n)
-audit_diagnostic WrongFields = refused 50 (codes "WrongFields") nothing
-audit_diagnostic NoText = refused 51 (codes "NoText") nothing
-audit_diagnostic (Flow walk) = refused 25 (codes "Refused") nothing
-audit_diagnostic Memory = None
 
 -- The document is that of a refusal of the file at a path, with lines of this kind.
 pub record WritesRefusal (l : Lattice) (path : List ℕ) (refusal : Option Diagnostic) (Printed : List ℕ → Type 0)

@@ -13,11 +13,11 @@ use Rattle.vsi_sarif.specs.Held.{Held, text_held}
 use Rattle.vsi_sarif.specs.Kinds.{index_of, kind_of, name_of}
 use Rattle.vsi_sarif.specs.Location.{location_members}
 use Rattle.vsi_sarif.specs.Refusals.{result_members}
-use Rattle.vsi_sarif.specs.declared.kinds.Kind.{Kind}
-use Rattle.vsi_sarif.specs.declared.kinds.Kind.TheVariants as kind
+use Rattle.vsi_sarif.specs.declared.kinds.PointKind.{PointKind}
+use Rattle.vsi_sarif.specs.declared.kinds.PointKind.TheVariants as kind
 
 -- The members of a result of this kind in the file with this URI: its position, if there is one, and its lines.
-abbrev pub finding : List ℕ → Kind → Option (ℕ × ℕ) → List ℕ → Members
+abbrev pub finding : List ℕ → PointKind → Option (ℕ × ℕ) → List ℕ → Members
 finding uri k place lines = result_members (name_of k) (index_of k) (location_members uri place) None lines
 
 -- The members of the result of a point of a text: the position of the global that it is about, and its line.

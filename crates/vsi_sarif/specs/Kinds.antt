@@ -4,11 +4,11 @@ use Rattle.serde_json.specs.Data.{Data, object, Members}
 use Rattle.vsi_conform.specs.declared.point.Point.{Point}
 use Rattle.vsi_conform.specs.declared.point.Point.TheVariants as point
 use Rattle.vsi_sarif.specs.Objects.{text_members}
-use Rattle.vsi_sarif.specs.declared.kinds.Kind.{Kind}
-use Rattle.vsi_sarif.specs.declared.kinds.Kind.TheVariants.{Refused, Missing, Unexpected, Class, Order, Budget, Word, Bound}
+use Rattle.vsi_sarif.specs.declared.kinds.PointKind.{PointKind}
+use Rattle.vsi_sarif.specs.declared.kinds.PointKind.TheVariants.{Refused, Missing, Unexpected, Class, Order, Budget, Word, Bound}
 
 -- The name of a kind, which is the identifier of its rule.
-abbrev pub name_of : Kind → List ℕ
+abbrev pub name_of : PointKind → List ℕ
 name_of Refused = codes "refused"
 name_of Missing = codes "missing"
 name_of Unexpected = codes "unexpected"
@@ -19,7 +19,7 @@ name_of Word = codes "word"
 name_of Bound = codes "bound"
 
 -- The index of a kind's rule.
-abbrev pub index_of : Kind → ℕ
+abbrev pub index_of : PointKind → ℕ
 index_of Refused = 0
 index_of Missing = 1
 index_of Unexpected = 2
@@ -30,19 +30,19 @@ index_of Word = 6
 index_of Bound = 7
 
 -- The kinds, in the order of their rules.
-abbrev pub kinds : List Kind
+abbrev pub kinds : List PointKind
 kinds = Refused ∷ Missing ∷ Unexpected ∷ Class ∷ Order ∷ Budget ∷ Word ∷ Bound ∷ []
 
 -- The members of the rule of a kind.
-abbrev pub rule_members : Kind → Members
+abbrev pub rule_members : PointKind → Members
 rule_members k = text_members (codes "id") (name_of k)
 
 -- The rules of kinds.
-abbrev pub rules_of : List Kind → List Data
+abbrev pub rules_of : List PointKind → List Data
 rules_of ks = map (λ k. object (rule_members k)) ks
 
 -- The kind of a point.
-abbrev pub kind_of : Point → Kind
+abbrev pub kind_of : Point → PointKind
 kind_of (point.Missing n) = Missing
 kind_of (point.Unexpected place) = Unexpected
 kind_of (point.WrongClass place n) = Class

@@ -1,9 +1,9 @@
 //! The answer of an audit as a document.
 
-ghost use Rattle.std.specs.Prelude.{◌≡◌, IfOk, option_map};
+ghost use Rattle.std.specs.Prelude.{◌≡◌, IfOk};
 ghost use Rattle.vsi_steady.specs.Telling.{IsUnsteadyText};
 ghost use Rattle.vsi_audit.specs.Telling.{IsAuditText};
-ghost use Rattle.vsi_diagnostics.specs.View.{diagnostic_of};
+ghost use Rattle.vsi_conform.specs.Checking.{audit_diagnostic as audit_of};
 ghost use Rattle.vsi_conform.specs.Checking.{steady_diagnostic as steady_of};
 ghost use Rattle.vsi_sarif.specs.Auditing as spec;
 
@@ -12,30 +12,11 @@ use crate::location::uri_of;
 use crate::refusal::refusal_document;
 use std::alloc::{AllocError, Global};
 use vsi_audit::{AuditError, audit_in, audit_text};
-use vsi_conform::steady_diagnostic;
-use vsi_diagnostics::{Diagnostic, Field};
+use vsi_conform::{audit_diagnostic, steady_diagnostic};
 use vsi_image::{Image, Verified};
 use vsi_lattice::Lattice;
 use vsi_steady::{SteadyError, steady_in, steady_text};
 use vsi_types::Profile;
-
-/// The refusal of an image; none if memory ran out.
-fn audit_diagnostic(error: &AuditError) -> Option<Diagnostic<'static>>
-    ensures { option_map diagnostic_of result ≡ spec.audit_diagnostic error.now }
-{
-    match error {
-        AuditError::UnknownClass(n) => {
-            Some(Diagnostic::new(43, b"ClassNotInLattice", Field::Number(*n)))
-        }
-        AuditError::Unstructured(n) => {
-            Some(Diagnostic::new(49, b"NoCommands", Field::Number(*n)))
-        }
-        AuditError::WrongFields => Some(Diagnostic::new(50, b"WrongFields", Field::Nothing)),
-        AuditError::NoText => Some(Diagnostic::new(51, b"NoText", Field::Nothing)),
-        AuditError::Flow(_) => Some(Diagnostic::new(25, b"Refused", Field::Nothing)),
-        AuditError::Memory => None,
-    }
-}
 
 /// The document of an image that an audit refuses.
 fn unaudited(
@@ -46,7 +27,7 @@ fn unaudited(
     error: &AuditError,
 ) -> Result<Vec<u8>, AllocError>
     ensures { IfOk result (λ out. spec.WritesRefusal lattice.now path.now
-        (spec.audit_diagnostic error.now) (IsAuditText lattice.now image.now error.now) out.items) }
+        (audit_of error.now) (IsAuditText lattice.now image.now error.now) out.items) }
 {
     let Some(diagnostic) = audit_diagnostic(error) else {
         return Err(AllocError);

@@ -7,7 +7,7 @@ ghost use Rattle.vsi_sarif.specs.Held.{held as held_of, page};
 ghost use Rattle.vsi_sarif.specs.Kinds as kinds;
 
 use crate::held::{Held, Pages, image_held, text_held};
-use crate::kinds::{Kind, index_of, kind_of, name_of};
+use crate::kinds::{PointKind, index_of, kind_of, name_of};
 use crate::location::location;
 use crate::refusal::result_object;
 use serde_json::{Map, Value};
@@ -104,7 +104,7 @@ fn put_line(
 fn finding(
     alloc: Global,
     uri: &[u8],
-    kind: Kind,
+    kind: PointKind,
     place: Option<(usize, usize)>,
     lines: &[u8],
 ) -> Result<Map<String, Value>, AllocError>
@@ -212,7 +212,7 @@ pub(crate) fn refusal_results(
 {
     let mut found = Vec::new(alloc);
     if is_refused {
-        found.push(Value::Object(finding(alloc, uri, Kind::Refused, None, lines)?))?;
+        found.push(Value::Object(finding(alloc, uri, PointKind::Refused, None, lines)?))?;
     }
     Ok(found)
 }
@@ -229,7 +229,7 @@ pub(crate) fn put_bound_result(
 {
     match unbounded {
         Some(line) => {
-            let made = finding(alloc, uri, Kind::Bound, None, line)?;
+            let made = finding(alloc, uri, PointKind::Bound, None, line)?;
             found.push(Value::Object(made))?;
             Ok(())
         }

@@ -1,15 +1,13 @@
 //! The globals that points are about.
 
-ghost use Rattle.std.specs.Prelude.{◌≡◌, map, slice_get, IfOk};
+ghost use Rattle.std.specs.Prelude.{◌≡◌, map, slice_get};
 ghost use Rattle.vsi_syntax.specs.CommandView.{declared};
-ghost use Rattle.vsi_syntax.specs.ProgramView.{whole};
-ghost use Rattle.vsi_conform.specs.Shown.{Declares, shown_of};
+ghost use Rattle.vsi_conform.specs.Shown.{shown_of};
 ghost use Rattle.vsi_sarif.specs.Held as spec;
 
-use std::alloc::{AllocError, Global};
 use vsi_conform::{Interface, Point};
 use vsi_image::Image;
-use vsi_syntax::{Declaration, LexError, ParseError, Program, lex, line_column, parse};
+use vsi_syntax::{Declaration, line_column};
 
 /// A source text, the globals that it declares, and the interface for it.
 #[derive(Clone, Copy)]
@@ -26,43 +24,6 @@ pub(crate) struct Held<'a> {
     pub(crate) name: &'a [u8],
     pub(crate) class: &'a [u8],
     pub(crate) place: Option<(usize, usize)>,
-}
-
-/// The globals of a program.
-fn globals_of<'a>(alloc: Global, program: &Program<'a>) -> Result<Vec<Declaration<'a>>, AllocError>
-    ensures { IfOk result (λ found. map declared found.items ≡ (whole program.now).globals) }
-{
-    let found = program.globals().to_vec(alloc)?;
-    Ok(found)
-}
-
-/// The globals of a text, in its order; a text without a tree has none.
-pub(crate) fn declarations<'a>(
-    alloc: Global,
-    text: &'a [u8],
-) -> Result<Vec<Declaration<'a>>, AllocError>
-    ensures { IfOk result (λ found. Declares text.now (map declared found.items)) }
-{
-    let tokens = match lex(alloc, text) {
-        Ok(tokens) => tokens,
-        Err(error) => {
-            return match error {
-                LexError::Memory => Err(AllocError),
-                _ => Ok(Vec::new(alloc)),
-            };
-        }
-    };
-    let program = match parse(alloc, &tokens) {
-        Ok(program) => program,
-        Err(error) => {
-            return match error {
-                ParseError::Memory => Err(AllocError),
-                _ => Ok(Vec::new(alloc)),
-            };
-        }
-    };
-    let found = globals_of(alloc, &program)?;
-    Ok(found)
 }
 
 /// No global.

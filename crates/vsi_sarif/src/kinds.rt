@@ -11,7 +11,7 @@ use vsi_conform::Point;
 
 /// The kind of a point. A refusal and a missing bound are points, too.
 #[derive(Clone, Copy)]
-pub(crate) enum Kind {
+pub(crate) enum PointKind {
     Refused,
     Missing,
     Unexpected,
@@ -23,65 +23,65 @@ pub(crate) enum Kind {
 }
 
 /// The kinds, in the order of their rules.
-const KINDS: [Kind; 8] = [
-    Kind::Refused,
-    Kind::Missing,
-    Kind::Unexpected,
-    Kind::Class,
-    Kind::Order,
-    Kind::Budget,
-    Kind::Word,
-    Kind::Bound,
+const KINDS: [PointKind; 8] = [
+    PointKind::Refused,
+    PointKind::Missing,
+    PointKind::Unexpected,
+    PointKind::Class,
+    PointKind::Order,
+    PointKind::Budget,
+    PointKind::Word,
+    PointKind::Bound,
 ];
 
 /// The name of a kind, which is the identifier of its rule.
-pub(crate) fn name_of(kind: Kind) -> &'static [u8]
+pub(crate) fn name_of(kind: PointKind) -> &'static [u8]
     ensures { result.now ≡ spec.name_of kind }
 {
     match kind {
-        Kind::Refused => b"refused",
-        Kind::Missing => b"missing",
-        Kind::Unexpected => b"unexpected",
-        Kind::Class => b"class",
-        Kind::Order => b"order",
-        Kind::Budget => b"budget",
-        Kind::Word => b"word",
-        Kind::Bound => b"bound",
+        PointKind::Refused => b"refused",
+        PointKind::Missing => b"missing",
+        PointKind::Unexpected => b"unexpected",
+        PointKind::Class => b"class",
+        PointKind::Order => b"order",
+        PointKind::Budget => b"budget",
+        PointKind::Word => b"word",
+        PointKind::Bound => b"bound",
     }
 }
 
 /// The index of a kind's rule.
-pub(crate) fn index_of(kind: Kind) -> usize
+pub(crate) fn index_of(kind: PointKind) -> usize
     ensures { result ≡ spec.index_of kind }
 {
     match kind {
-        Kind::Refused => 0,
-        Kind::Missing => 1,
-        Kind::Unexpected => 2,
-        Kind::Class => 3,
-        Kind::Order => 4,
-        Kind::Budget => 5,
-        Kind::Word => 6,
-        Kind::Bound => 7,
+        PointKind::Refused => 0,
+        PointKind::Missing => 1,
+        PointKind::Unexpected => 2,
+        PointKind::Class => 3,
+        PointKind::Order => 4,
+        PointKind::Budget => 5,
+        PointKind::Word => 6,
+        PointKind::Bound => 7,
     }
 }
 
 /// The kind of a point.
-pub(crate) fn kind_of(point: Point) -> Kind
+pub(crate) fn kind_of(point: Point) -> PointKind
     ensures { result ≡ spec.kind_of point }
 {
     match point {
-        Point::Missing(_) => Kind::Missing,
-        Point::Unexpected(_) => Kind::Unexpected,
-        Point::WrongClass { .. } => Kind::Class,
-        Point::WrongOrder(_) => Kind::Order,
-        Point::OutOfBudget(_) => Kind::Budget,
-        Point::WrongWord { .. } | Point::NoWord { .. } => Kind::Word,
+        Point::Missing(_) => PointKind::Missing,
+        Point::Unexpected(_) => PointKind::Unexpected,
+        Point::WrongClass { .. } => PointKind::Class,
+        Point::WrongOrder(_) => PointKind::Order,
+        Point::OutOfBudget(_) => PointKind::Budget,
+        Point::WrongWord { .. } | Point::NoWord { .. } => PointKind::Word,
     }
 }
 
 /// The object of a kind's rule.
-fn rule(alloc: Global, kind: Kind) -> Result<Map<String, Value>, AllocError>
+fn rule(alloc: Global, kind: PointKind) -> Result<Map<String, Value>, AllocError>
     ensures { IfOk result (λ made. members_view made.entries ≡ spec.rule_members kind) }
 {
     let made = text_object(alloc, "id", name_of(kind))?;
@@ -89,7 +89,7 @@ fn rule(alloc: Global, kind: Kind) -> Result<Map<String, Value>, AllocError>
 }
 
 /// Adds the objects of the rules of kinds.
-fn put_rules(alloc: Global, found: &mut Vec<Value>, kinds: &[Kind]) -> Result<(), AllocError>
+fn put_rules(alloc: Global, found: &mut Vec<Value>, kinds: &[PointKind]) -> Result<(), AllocError>
     ensures { OnOk result
         (map view found.new.items ≡ map view found.old.items ++ spec.rules_of kinds.now) }
 {

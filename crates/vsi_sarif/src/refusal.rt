@@ -2,16 +2,19 @@
 
 ghost use Rattle.std.specs.Prelude.{◌≡◌, decimal, map, option_map, IfOk, OnOk};
 ghost use Rattle.serde_json.specs.View.{members_view, view};
+ghost use Rattle.vsi_lattice.specs.declared.lattice.Lattice.{Lattice as Named};
 ghost use Rattle.vsi_diagnostics.specs.View.{diagnostic_of, field_of};
 ghost use Rattle.vsi_diagnostics.specs.Json.{without_end as without_end_of};
 ghost use Rattle.vsi_sarif.specs.Refusals as spec;
+ghost use Rattle.vsi_sarif.specs.Steps.{LocatesFlow};
 
 use crate::document::document;
 use crate::location::location;
 use crate::objects::{array_object, only, put_array, put_object, text_object};
-use crate::steps::flow_objects;
+use crate::steps::{flow_objects, source_flow_objects};
 use serde_json::{Map, Value};
 use std::alloc::{AllocError, Global};
+use vsi_compiler::Source;
 use vsi_diagnostics::members::{put_natural, put_text};
 use vsi_diagnostics::{Diagnostic, Field};
 use vsi_lattice::Lattice;
@@ -127,28 +130,29 @@ pub(crate) fn result_object(
     Ok(made)
 }
 
-/// The document of a refusal whose rule has this identifier.
+/// The document of a refusal whose rule has this identifier and whose flow has these objects.
 fn identified(
     alloc: Global,
-    lattice: &Lattice,
     uri: &[u8],
-    source: &[u8],
+    text: &[u8],
     diagnostic: &Diagnostic,
+    steps: Option<Vec<Value>>,
     lines: &[u8],
     id: &[u8],
 ) -> Result<Vec<u8>, AllocError>
-    ensures { IfOk result (λ out. id.now ≡ decimal (diagnostic_of diagnostic.now).code
-        → spec.IsRefusalDocument lattice.now uri.now source.now
+    ensures { IfOk result (λ out. (l : Named) → id.now ≡ decimal (diagnostic_of diagnostic.now).code
+        → LocatesFlow l uri.now text.now (diagnostic_of diagnostic.now).steps
+        (option_map (λ v. map view v.items) steps)
+        → spec.IsRefusalDocument l uri.now text.now
         (diagnostic_of diagnostic.now) lines.now out.items) }
 {
-    let steps = flow_objects(alloc, lattice, uri, source, diagnostic.steps)?;
     let ruled = rule(alloc, id, diagnostic)?;
     let rules = only(alloc, ruled)?;
-    let place = location(alloc, uri, place_of(source, diagnostic))?;
+    let place = location(alloc, uri, place_of(text, diagnostic))?;
     let found = result_object(alloc, id, 0, place, steps, lines)?;
     let results = only(alloc, found)?;
-    let text = document(alloc, rules, results)?;
-    Ok(text)
+    let written = document(alloc, rules, results)?;
+    Ok(written)
 }
 
 /// The document of a refusal of the text in the file with this URI, with the lines that are printed
@@ -157,14 +161,33 @@ pub(crate) fn refusal_document(
     alloc: Global,
     lattice: &Lattice,
     uri: &[u8],
-    source: &[u8],
+    text: &[u8],
     diagnostic: &Diagnostic,
     lines: &[u8],
 ) -> Result<Vec<u8>, AllocError>
-    ensures { IfOk result (λ out. spec.IsRefusalDocument lattice.now uri.now source.now
+    ensures { IfOk result (λ out. spec.IsRefusalDocument lattice.now uri.now text.now
         (diagnostic_of diagnostic.now) lines.now out.items) }
 {
     let id = rule_id(alloc, diagnostic)?;
-    let text = identified(alloc, lattice, uri, source, diagnostic, lines, &id)?;
-    Ok(text)
+    let steps = flow_objects(alloc, lattice, uri, text, diagnostic.steps)?;
+    let written = identified(alloc, uri, text, diagnostic, steps, lines, &id)?;
+    Ok(written)
+}
+
+/// The document of `refusal_document` for a source text that was read.
+pub(crate) fn refusal_document_of(
+    alloc: Global,
+    uri: &[u8],
+    source: &Source<'_>,
+    diagnostic: &Diagnostic,
+    lines: &[u8],
+) -> Result<Vec<u8>, AllocError>
+    ensures { IfOk result (λ out. spec.IsRefusalDocument source.now.lattice uri.now source.now.text
+        (diagnostic_of diagnostic.now) lines.now out.items) }
+{
+    let id = rule_id(alloc, diagnostic)?;
+    let steps = source_flow_objects(alloc, uri, source, diagnostic.steps)?;
+    let text = source.text();
+    let written = identified(alloc, uri, text, diagnostic, steps, lines, &id)?;
+    Ok(written)
 }

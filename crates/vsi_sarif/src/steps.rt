@@ -3,49 +3,18 @@
 ghost use Rattle.std.specs.Prelude.{◌≡◌, ◌≢◌, ◌++◌, false, map, option_map, IfOk, OnOk};
 ghost use Rattle.serde_json.specs.View.{members_view, view};
 ghost use Rattle.vsi_compiler.specs.declared.error.CompileError.TheVariants.{Memory};
-ghost use Rattle.vsi_infer.specs.Explanation.{name_of, rule_text};
 ghost use Rattle.vsi_sarif.specs.Steps as spec;
 
 use crate::location::location;
 use crate::objects::{put_object, text_object};
 use serde_json::{Map, Value};
 use std::alloc::{AllocError, Global};
-use vsi_compiler::{CompileError, resolved_program};
+use vsi_compiler::{CompileError, Source, read_source};
+use vsi_infer::{rule_text, variable_name};
 use vsi_lattice::Lattice;
-use vsi_scope::{Resolved, Var};
+use vsi_scope::Resolved;
 use vsi_syntax::line_column;
-use vsi_types::{LOOP, Rule, Step};
-
-/// The name of the rule by which a step flows.
-fn rule_name(rule: Rule) -> &'static [u8]
-    ensures { result.now ≡ rule_text rule }
-{
-    match rule {
-        Rule::Assign => b"ASSIGN",
-        Rule::If => b"IF",
-        Rule::While => b"WHILE",
-        Rule::Letvar => b"LETVAR",
-        Rule::Loop => b"LOOP",
-    }
-}
-
-/// The name of a variable, or that of the ending of loops.
-fn variable_name<'a>(program: &'a Resolved<'_>, variable: Var) -> &'a [u8]
-    ensures { result.now ≡ name_of program.now variable }
-{
-    if variable == LOOP {
-        return b"(loop)";
-    }
-    let number = variable.0 as usize;
-    let globals = program.globals();
-    if number < globals.len() {
-        return globals[number].name;
-    }
-    match program.letvars().get(number - globals.len()) {
-        Some(entry) => entry.name,
-        None => b"",
-    }
-}
+use vsi_types::Step;
 
 /// The message of a step: its two variables and its rule.
 fn step_text(alloc: Global, program: &Resolved<'_>, step: &Step) -> Result<Vec<u8>, AllocError>
@@ -55,7 +24,7 @@ fn step_text(alloc: Global, program: &Resolved<'_>, step: &Step) -> Result<Vec<u
     text.extend_from_slice(b" flows to ")?;
     text.extend_from_slice(variable_name(program, step.target))?;
     text.extend_from_slice(b" by ")?;
-    text.extend_from_slice(rule_name(step.rule))?;
+    text.extend_from_slice(rule_text(step.rule))?;
     Ok(text)
 }
 
@@ -106,29 +75,42 @@ fn wants_memory(error: &CompileError) -> bool
     matches!(error, CompileError::Memory)
 }
 
-/// The objects of the steps of a walk, by the names of the text's program, or none if it has no
-/// program.
+/// The objects of the steps of a walk, by the names of the program of a source text.
+fn source_objects(
+    alloc: Global,
+    uri: &[u8],
+    source: &Source<'_>,
+    steps: &[Step],
+) -> Result<Vec<Value>, AllocError>
+    ensures { IfOk result (λ found. spec.LocatesWalk source.now.lattice uri.now source.now.text
+        steps.now (map view found.items)) }
+{
+    let text = source.text();
+    let program = source.resolved();
+    let found = step_objects(alloc, uri, text, program, steps)?;
+    Ok(found)
+}
+
+/// The same for a text, which may have no program; then there is no object.
 fn walk_objects(
     alloc: Global,
     lattice: &Lattice,
     uri: &[u8],
-    source: &[u8],
+    text: &[u8],
     steps: &[Step],
 ) -> Result<Vec<Value>, AllocError>
     ensures { IfOk result (λ found.
-        spec.LocatesWalk lattice.now uri.now source.now steps.now (map view found.items)) }
+        spec.LocatesWalk lattice.now uri.now text.now steps.now (map view found.items)) }
 {
-    let program = match resolved_program(alloc, lattice, source) {
-        Ok(program) => program,
+    match read_source(alloc, lattice, text) {
+        Ok(source) => source_objects(alloc, uri, &source, steps),
         Err(error) => {
             if wants_memory(&error) {
                 return Err(AllocError);
             }
-            return Ok(Vec::new(alloc));
+            Ok(Vec::new(alloc))
         }
-    };
-    let found = step_objects(alloc, uri, source, &program, steps)?;
-    Ok(found)
+    }
 }
 
 /// The objects of the steps of a flow, or none for any other refusal.
@@ -145,6 +127,25 @@ pub(crate) fn flow_objects(
     match steps {
         Some(steps) => {
             let found = walk_objects(alloc, lattice, uri, source, steps)?;
+            Ok(Some(found))
+        }
+        None => Ok(None),
+    }
+}
+
+/// The objects of the steps of a flow of a source text, or none for any other refusal.
+pub(crate) fn source_flow_objects(
+    alloc: Global,
+    uri: &[u8],
+    source: &Source<'_>,
+    steps: Option<&[Step]>,
+) -> Result<Option<Vec<Value>>, AllocError>
+    ensures { IfOk result (λ found. spec.LocatesFlow source.now.lattice uri.now source.now.text
+        (option_map (λ s. s.now) steps.entry) (option_map (λ v. map view v.items) found)) }
+{
+    match steps {
+        Some(steps) => {
+            let found = source_objects(alloc, uri, source, steps)?;
             Ok(Some(found))
         }
         None => Ok(None),

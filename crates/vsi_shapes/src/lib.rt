@@ -13,5 +13,5 @@ mod signs;
 mod structure;
 
 pub use look::Look;
-pub use shapes::{Found, Shape, shape_at};
+pub use shapes::{Found, Shape, is_else_if, is_idle, is_type, shape_at};
 pub use structure::{halved_at, structure_at};

@@ -54,7 +54,7 @@ pub(crate) fn make_found(first: usize, next: usize, shape: Shape) -> Found {
 }
 
 /// Names for an `if` in an `else`.
-pub(crate) const ELSE_IF: [&[u8]; 3] = [b"elif", b"elsif", b"elseif"];
+const ELSE_IF: [&[u8]; 3] = [b"elif", b"elsif", b"elseif"];
 
 /// Names that begin a block.
 const BEGIN: [&[u8]; 2] = [b"begin", b"BEGIN"];
@@ -65,8 +65,8 @@ const NULL: [&[u8]; 5] = [b"null", b"None", b"nil", b"NULL", b"undefined"];
 /// Names that do nothing.
 const IDLE: [&[u8]; 6] = [b"skip", b"pass", b"nop", b"noop", b"nothing", b"SKIP"];
 
-/// Names that declare a variable.
-const TYPES: [&[u8]; 20] = [
+/// Names that declare a variable in many languages.
+const TYPES: [&[u8]; 13] = [
     b"let",
     b"const",
     b"local",
@@ -80,13 +80,11 @@ const TYPES: [&[u8]; 20] = [
     b"boolean",
     b"char",
     b"string",
-    b"val",
-    b"mut",
-    b"static",
-    b"global",
-    b"integer",
-    b"short",
-    b"dim",
+];
+
+/// Other names that declare a variable.
+const OTHER_TYPES: [&[u8]; 7] = [
+    b"val", b"mut", b"static", b"global", b"integer", b"short", b"dim",
 ];
 
 /// The signs that assign, or declare, after a name.
@@ -94,6 +92,26 @@ const ASSIGNING: [&[u8]; 16] = [
     b":=", b"=", b":", b",", b"+=", b"-=", b"*=", b"/=", b"%=", b"++", b"--", b"|=", b"&=", b"^=",
     b"<<=", b">>=",
 ];
+
+/// Whether a name is one for an `if` in an `else`.
+pub fn is_else_if(word: &[u8]) -> bool {
+    ELSE_IF.contains(&word)
+}
+
+/// Whether a name does nothing.
+pub fn is_idle(word: &[u8]) -> bool {
+    IDLE.contains(&word)
+}
+
+/// Whether a name declares a variable in many languages.
+pub fn is_type(word: &[u8]) -> bool {
+    TYPES.contains(&word)
+}
+
+/// Whether a name declares a variable.
+fn declares(word: &[u8]) -> bool {
+    is_type(word) || OTHER_TYPES.contains(&word)
+}
 
 /// The sentence with a saying's parts.
 fn said(saying: Saying) -> Shape {
@@ -104,7 +122,7 @@ fn said(saying: Saying) -> Shape {
 fn replaced_word(look: &Look, at: usize) -> Option<Found> {
     let word = look.text(at);
     let next = at.saturating_add(1);
-    if ELSE_IF.contains(&word) {
+    if is_else_if(word) {
         return Some(make_found(at, next, Shape::Put("else if", ".")));
     }
     if BEGIN.contains(&word) {
@@ -127,16 +145,16 @@ fn declaring_word(look: &Look, at: usize) -> Option<Found> {
         return None;
     }
     let word = look.text(at);
-    if TYPES.contains(&word) && look.is(at.saturating_add(2), b":") {
+    if declares(word) && look.is(at.saturating_add(2), b":") {
         let after = at.saturating_add(5);
         return Some(make_found(at, look.value_stop(after), Shape::Initial));
     }
-    if TYPES.contains(&word) && look.is_name(at.saturating_add(1)) {
+    if declares(word) && look.is_name(at.saturating_add(1)) {
         let rest = ": declare a variable with `var x : L;` at the beginning, where L is a class of \
             the lattice file, and set its value in the store.";
         return Some(make_found(at, look.command_stop(at), Shape::Say("there is no ", rest)));
     }
-    if IDLE.contains(&word) {
+    if is_idle(word) {
         let rest = ": assign a variable to itself to do nothing, as in `x := x`.";
         return Some(make_found(at, at.saturating_add(1), Shape::Say("there is no ", rest)));
     }

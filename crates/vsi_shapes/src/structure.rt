@@ -2,7 +2,7 @@
 
 use crate::look::Look;
 use crate::sayings::command_saying;
-use crate::shapes::{ELSE_IF, Found, Shape, make_found};
+use crate::shapes::{Found, Shape, is_else_if, make_found};
 
 /// The keywords with which an `if` goes on after its first branch.
 const ELSE: [&[u8]; 5] = [b"else", b"elif", b"elsif", b"elseif", b"ELSE"];
@@ -221,7 +221,7 @@ pub fn structure_at(look: &Look, at: usize) -> Option<Found> {
 /// An `if` without an `else` at a piece.
 pub fn halved_at(look: &Look, at: usize) -> Option<Found> {
     let text = look.text(at);
-    let is_if = text == b"if".as_slice() || ELSE_IF.contains(&text);
+    let is_if = text == b"if".as_slice() || is_else_if(text);
     if is_if && conditional(look, at).is_none() {
         halved(look, at)
     } else {

@@ -20,7 +20,7 @@ mod views;
 pub use comparing::compare;
 pub use comparison::{Comparison, RunEnding};
 pub use error::StoreError;
-pub use observer::view;
+pub use observer::{sees, view};
 pub use reader::{named_globals, read_store};
 pub use text::store_text;
 pub use views::{View, ViewError};

@@ -74,7 +74,7 @@ pub(crate) fn unknown_in(lattice: &Lattice, variables: &[(Vec<u8>, Vec<u8>)]) ->
 }
 
 /// Whether the class sees a global with this class name.
-pub(crate) fn sees(lattice: &Lattice, class: Class, name: &[u8]) -> bool
+pub fn sees(lattice: &Lattice, class: Class, name: &[u8]) -> bool
     requires { IsClass (order lattice.now) class }
     ensures { result ≡ is_seen (class_named lattice.now) (order lattice.now) class name.now }
 {

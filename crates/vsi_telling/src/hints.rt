@@ -1,6 +1,8 @@
 //! Hints for the commonest mistakes.
 
-use crate::spot::Spot;
+use crate::token_place::TokenPlace;
+use vsi_foreign::{is_false, is_true};
+use vsi_shapes::is_else_if;
 use vsi_syntax::Kind;
 
 /// Whether a text begins with a word, and then, after blanks, with a symbol.
@@ -28,17 +30,8 @@ pub(crate) fn file_hint(text: &[u8]) -> Option<&'static str> {
     None
 }
 
-/// The words of other languages for a number that is true.
-const TRUE: [&[u8]; 3] = [b"true", b"True", b"TRUE"];
-
-/// The words of other languages for a number that is false.
-const FALSE: [&[u8]; 3] = [b"false", b"False", b"FALSE"];
-
 /// The words of other languages around several commands.
 const BLOCK: [&[u8]; 4] = [b"begin", b"end", b"BEGIN", b"END"];
-
-/// The words of other languages for an `if` in an `else`.
-const ELSE_IF: [&[u8]; 3] = [b"elif", b"elsif", b"elseif"];
 
 /// The words of other languages for a loop.
 const LOOP: [&[u8]; 3] = [b"for", b"repeat", b"until"];
@@ -46,32 +39,12 @@ const LOOP: [&[u8]; 3] = [b"for", b"repeat", b"until"];
 /// The words of other languages for an answer.
 const ANSWER: [&[u8]; 3] = [b"return", b"print", b"printf"];
 
-/// The words that declare a variable in other languages.
-const TYPES: [&[u8]; 13] = [
-    b"let",
-    b"const",
-    b"local",
-    b"auto",
-    b"int",
-    b"long",
-    b"unsigned",
-    b"float",
-    b"double",
-    b"bool",
-    b"boolean",
-    b"char",
-    b"string",
-];
-
-/// The words that do nothing in other languages.
-const IDLE: [&[u8]; 6] = [b"skip", b"pass", b"nop", b"noop", b"nothing", b"SKIP"];
-
 /// The hint for a word of other languages that means a number or is around commands.
 fn value_hint(word: &[u8]) -> Option<&'static str> {
-    if TRUE.contains(&word) {
+    if is_true(word) {
         return Some("Hint: there is no `true`: write `1`.\n");
     }
-    if FALSE.contains(&word) {
+    if is_false(word) {
         return Some("Hint: there is no `false`: write `0`.\n");
     }
     if BLOCK.contains(&word) {
@@ -82,7 +55,7 @@ fn value_hint(word: &[u8]) -> Option<&'static str> {
 
 /// The hint for a word of other languages.
 pub(crate) fn word_hint(word: &[u8]) -> Option<&'static str> {
-    if ELSE_IF.contains(&word) {
+    if is_else_if(word) {
         return Some("Hint: write `else if`.\n");
     }
     if LOOP.contains(&word) {
@@ -96,22 +69,12 @@ pub(crate) fn word_hint(word: &[u8]) -> Option<&'static str> {
     value_hint(word)
 }
 
-/// Whether a word declares a variable in other languages.
-pub(crate) fn is_type(word: &[u8]) -> bool {
-    TYPES.contains(&word)
-}
-
-/// Whether a word does nothing in other languages.
-pub(crate) fn is_idle(word: &[u8]) -> bool {
-    IDLE.contains(&word)
-}
-
 /// The hint for a symbol after a name with which a command begins.
-fn target_hint(spot: &Spot) -> Option<&'static str> {
-    if !spot.is_behind_target() {
+fn target_hint(place: &TokenPlace) -> Option<&'static str> {
+    if !place.is_behind_target() {
         return None;
     }
-    match spot.kind() {
+    match place.kind() {
         Some(Kind::Equal) => Some("Hint: `=` compares. An assignment is written `:=`.\n"),
         Some(Kind::Colon) => Some(
             "Hint: an assignment is written `:=`, without a blank in it; a declaration begins with \
@@ -128,28 +91,28 @@ fn target_hint(spot: &Spot) -> Option<&'static str> {
 }
 
 /// The hint for a declaration that isn't whole.
-fn declaration_hint(spot: &Spot) -> Option<&'static str> {
-    if spot.kind_before(2) == Some(Kind::Var) && spot.kind_before(1) == Some(Kind::Name) {
+fn declaration_hint(place: &TokenPlace) -> Option<&'static str> {
+    if place.kind_before(2) == Some(Kind::Var) && place.kind_before(1) == Some(Kind::Name) {
         return Some(
             "Hint: a declaration gives the variable a class and no value: write `var x : L;`, and \
             assign to it in the body.\n",
         );
     }
-    if spot.kind_before(2) == Some(Kind::Letvar) && spot.kind() == Some(Kind::Equal) {
+    if place.kind_before(2) == Some(Kind::Letvar) && place.kind() == Some(Kind::Equal) {
         return Some("Hint: the initial value comes after `:=`.\n");
     }
-    if spot.kind_before(2) == Some(Kind::Colon) && spot.kind_before(4) == Some(Kind::Var) {
+    if place.kind_before(2) == Some(Kind::Colon) && place.kind_before(4) == Some(Kind::Var) {
         return Some("Hint: a `;` comes after each declaration.\n");
     }
-    if spot.kind() == Some(Kind::Var) {
+    if place.kind() == Some(Kind::Var) {
         return Some("Hint: all declarations come before the first command.\n");
     }
     None
 }
 
 /// The hint for a symbol where an operand is wanted.
-fn operand_hint(spot: &Spot) -> Option<&'static str> {
-    match (spot.kind_before(1), spot.kind()) {
+fn operand_hint(place: &TokenPlace) -> Option<&'static str> {
+    match (place.kind_before(1), place.kind()) {
         (Some(Kind::Less), Some(Kind::Less)) => Some("Hint: there are no shifts.\n"),
         (Some(Kind::Assign | Kind::Plus | Kind::Star | Kind::Equal), Some(Kind::Minus)) => {
             Some("Hint: there is no minus sign before a number: write `0 - 1` for -1.\n")
@@ -165,13 +128,15 @@ fn operand_hint(spot: &Spot) -> Option<&'static str> {
 }
 
 /// The hint for a `;`, or a command that lacks one.
-fn separator_hint(spot: &Spot) -> Option<&'static str> {
-    match (spot.kind_before(1), spot.kind()) {
+fn separator_hint(place: &TokenPlace) -> Option<&'static str> {
+    match (place.kind_before(1), place.kind()) {
         (None, None) => {
             Some("Hint: a program has at least one command, as in `var x : L; x := 1`.\n")
         }
         (Some(Kind::Semicolon), None) => {
-            if spot.kind_before(5) == Some(Kind::Var) && spot.kind_before(3) == Some(Kind::Colon) {
+            if place.kind_before(5) == Some(Kind::Var)
+                && place.kind_before(3) == Some(Kind::Colon)
+            {
                 return Some(
                     "Hint: at least one command follows the declarations, as in `x := 1`.\n",
                 );
@@ -182,7 +147,7 @@ fn separator_hint(spot: &Spot) -> Option<&'static str> {
             Some("Hint: only one `;` goes between two commands: remove this one.\n")
         }
         (_, Some(Kind::Semicolon)) => {
-            if spot.kind_behind() == Some(Kind::Else) {
+            if place.kind_behind() == Some(Kind::Else) {
                 return Some("Hint: remove this `;`: there is none before `else`.\n");
             }
             None
@@ -192,11 +157,11 @@ fn separator_hint(spot: &Spot) -> Option<&'static str> {
 }
 
 /// The hint if a guard or an initial value has ended without the word after it.
-fn guard_hint(spot: &Spot) -> Option<&'static str> {
-    if !spot.is_behind_operand() {
+fn guard_hint(place: &TokenPlace) -> Option<&'static str> {
+    if !place.is_behind_operand() {
         return None;
     }
-    match spot.last_word() {
+    match place.last_word() {
         Some(Kind::If) => Some("Hint: `then` comes after the guard of an `if`.\n"),
         Some(Kind::While) => Some("Hint: `do` comes after the guard of a `while`.\n"),
         Some(Kind::Letvar) => Some(
@@ -208,8 +173,8 @@ fn guard_hint(spot: &Spot) -> Option<&'static str> {
 }
 
 /// The hint for a comparison after a comparison, or an assignment within an expression.
-fn comparison_hint(spot: &Spot) -> Option<&'static str> {
-    match spot.kind() {
+fn comparison_hint(place: &TokenPlace) -> Option<&'static str> {
+    match place.kind() {
         Some(Kind::Equal | Kind::Less) => Some(
             "Hint: each comparison needs brackets of its own, as in `(P < Q) * (Q < R)`.\n",
         ),
@@ -219,8 +184,8 @@ fn comparison_hint(spot: &Spot) -> Option<&'static str> {
 }
 
 /// The hint if commands are side by side.
-fn command_hint(spot: &Spot) -> Option<&'static str> {
-    match spot.kind() {
+fn command_hint(place: &TokenPlace) -> Option<&'static str> {
+    match place.kind() {
         Some(Kind::Name | Kind::If | Kind::While | Kind::Letvar | Kind::OpenBrace) => {
             Some("Hint: a `;` goes between two commands.\n")
         }
@@ -233,33 +198,33 @@ fn command_hint(spot: &Spot) -> Option<&'static str> {
 
 /// The hint for the place of an unexpected token, where none is known by names. `lacks_else` says
 /// whether an `if` before it still wants its `else`, which is explained elsewhere.
-pub(crate) fn place_hint(spot: &Spot, lacks_else: bool) -> Option<&'static str> {
-    if let Some(hint) = separator_hint(spot) {
+pub(crate) fn place_hint(place: &TokenPlace, lacks_else: bool) -> Option<&'static str> {
+    if let Some(hint) = separator_hint(place) {
         return Some(hint);
     }
-    if let Some(hint) = declaration_hint(spot) {
+    if let Some(hint) = declaration_hint(place) {
         return Some(hint);
     }
-    if let Some(hint) = operand_hint(spot) {
+    if let Some(hint) = operand_hint(place) {
         return Some(hint);
     }
-    if let Some(hint) = target_hint(spot) {
+    if let Some(hint) = target_hint(place) {
         return Some(hint);
     }
-    if !spot.is_behind_operand() {
+    if !place.is_behind_operand() {
         return None;
     }
-    if let Some(hint) = comparison_hint(spot) {
+    if let Some(hint) = comparison_hint(place) {
         return Some(hint);
     }
-    if spot.has_open_bracket() {
+    if place.has_open_bracket() {
         return Some("Hint: a `(` before this place has no `)` yet.\n");
     }
-    if let Some(hint) = guard_hint(spot) {
+    if let Some(hint) = guard_hint(place) {
         return Some(hint);
     }
     if lacks_else {
         return None;
     }
-    command_hint(spot)
+    command_hint(place)
 }

@@ -21,10 +21,10 @@ pub mod nearest;
 mod operands;
 mod orders;
 mod scoping;
-mod spot;
 pub mod stores;
 mod syntactic;
 pub mod tables;
+mod token_place;
 mod wrapping;
 
 use names::{class_names, put_names_between};
@@ -41,7 +41,7 @@ use vsi_syntax::{LexError, ParseError, Span};
 
 /// A refusal: a file by its path and its bytes, and why.
 #[derive(Clone, Copy)]
-pub enum Refused<'a> {
+pub enum RefusedFile<'a> {
     /// A source text over a lattice.
     Source {
         path: &'a [u8],
@@ -66,7 +66,7 @@ pub enum Refused<'a> {
 
 /// The explanation of a file: a part of it, if one is known, and words.
 #[derive(Drop)]
-pub(crate) struct Telling {
+pub(crate) struct FileExplanation {
     pub(crate) place: Option<Span>,
     pub(crate) words: Vec<u8>,
 }
@@ -254,10 +254,15 @@ fn put_file(
 }
 
 /// The explanation of a refused lattice file, image or other file.
-fn of_file(alloc: Global, path: &[u8], bytes: &[u8], fault: &Fault) -> Result<Telling, AllocError> {
+fn of_file(
+    alloc: Global,
+    path: &[u8],
+    bytes: &[u8],
+    fault: &Fault,
+) -> Result<FileExplanation, AllocError> {
     let mut words = Vec::new(alloc);
     let place = put_file(alloc, &mut words, path, bytes, fault)?;
-    Ok(Telling { place, words })
+    Ok(FileExplanation { place, words })
 }
 
 /// The explanation of a refused store file for an image.
@@ -266,10 +271,10 @@ fn of_store(
     bytes: &[u8],
     image: &Image,
     error: &StoreError,
-) -> Result<Telling, AllocError> {
+) -> Result<FileExplanation, AllocError> {
     let mut words = Vec::new(alloc);
     let place = stores::put_store(alloc, &mut words, bytes, &image.globals, error)?;
-    Ok(Telling { place, words })
+    Ok(FileExplanation { place, words })
 }
 
 /// The explanation that follows a refusal: the place in the file, its line and carets where a place
@@ -278,29 +283,29 @@ fn of_store(
 pub fn explanation<'a>(
     alloc: Global,
     mode: ColourMode,
-    refused: &Refused<'a>,
+    refused: &RefusedFile<'a>,
 ) -> Result<Vec<u8>, AllocError>
     ensures plain { mode ≡ Plain → IfOk result (λ text. all_plain text.items ≡ true) }
 {
     match refused {
-        Refused::Source {
+        RefusedFile::Source {
             path,
             bytes,
             lattice,
             error,
         } => { source_explanation(alloc, mode, path, lattice, bytes, error) }
-        Refused::Store {
+        RefusedFile::Store {
             path,
             bytes,
             image,
             error,
         } => {
-            let telling = of_store(alloc, bytes, image, error)?;
-            shown(alloc, mode, path, bytes, telling.place, &telling.words)
+            let told = of_store(alloc, bytes, image, error)?;
+            shown(alloc, mode, path, bytes, told.place, &told.words)
         }
-        Refused::File { path, bytes, fault } => {
-            let telling = of_file(alloc, path, bytes, fault)?;
-            shown(alloc, mode, path, bytes, telling.place, &telling.words)
+        RefusedFile::File { path, bytes, fault } => {
+            let told = of_file(alloc, path, bytes, fault)?;
+            shown(alloc, mode, path, bytes, told.place, &told.words)
         }
     }
 }

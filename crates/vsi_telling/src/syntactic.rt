@@ -1,15 +1,16 @@
 //! The explanation of tokens that are no program.
 
-use crate::hints::{file_hint, is_idle, is_type, place_hint, word_hint};
+use crate::hints::{file_hint, place_hint, word_hint};
 use crate::names::{
     Part, is_declared, part_of, put_parts, put_pattern, put_quoted, put_word_between, tokens_in,
 };
 use crate::nearest::{KEYWORDS, put_nearest};
 use crate::operands::put_operator;
-use crate::spot::{Spot, spot_at};
+use crate::token_place::{TokenPlace, token_place};
 use std::alloc::{AllocError, Global};
 use vsi_expected::expected_after;
 use vsi_hints::{hint_at, put_hint};
+use vsi_shapes::{is_idle, is_type};
 use vsi_syntax::{Kind, ParseError, Span, Token};
 
 /// Whether an `if` among the tokens, in the block that they end in, still wants its `else`.
@@ -59,8 +60,8 @@ fn put_expected(alloc: Global, words: &mut Vec<u8>, tokens: &[Token]) -> Result<
 }
 
 /// Adds the token at a place.
-fn put_standing(words: &mut Vec<u8>, spot: &Spot) -> Result<(), AllocError> {
-    match spot.here() {
+fn put_standing(words: &mut Vec<u8>, place: &TokenPlace) -> Result<(), AllocError> {
+    match place.here() {
         Some(token) => {
             put_quoted(words, token.text)?;
             words.extend_from_slice(b" can't be here.\n")
@@ -70,9 +71,9 @@ fn put_standing(words: &mut Vec<u8>, spot: &Spot) -> Result<(), AllocError> {
 }
 
 /// The token, where it is a name that the text declares nowhere.
-fn strange<'a>(spot: &Spot<'a, '_>, token: Option<Token<'a>>) -> Option<Token<'a>> {
+fn strange<'a>(place: &TokenPlace<'a, '_>, token: Option<Token<'a>>) -> Option<Token<'a>> {
     let token = token?;
-    if token.kind != Kind::Name || is_declared(spot.tokens, token.text) {
+    if token.kind != Kind::Name || is_declared(place.tokens, token.text) {
         return None;
     }
     Some(token)
@@ -94,8 +95,8 @@ fn put_declaration(words: &mut Vec<u8>, word: &[u8], name: &[u8]) -> Result<(), 
 }
 
 /// Adds what does nothing.
-fn put_idle(words: &mut Vec<u8>, spot: &Spot, before: &[u8]) -> Result<(), AllocError> {
-    let name = spot.last_target().unwrap_or(b"x");
+fn put_idle(words: &mut Vec<u8>, place: &TokenPlace, before: &[u8]) -> Result<(), AllocError> {
+    let name = place.last_target().unwrap_or(b"x");
     words.extend_from_slice(b" To do nothing there, write `")?;
     words.extend_from_slice(before)?;
     put_pattern(words, "P := P`.\n", name, b"", b"")
@@ -103,15 +104,19 @@ fn put_idle(words: &mut Vec<u8>, spot: &Spot, before: &[u8]) -> Result<(), Alloc
 
 /// Adds how a variable is declared or nothing is done, in place of a word of other languages, and
 /// returns whether the word is of these.
-fn put_foreign_word(words: &mut Vec<u8>, spot: &Spot, token: Token) -> Result<bool, AllocError> {
+fn put_foreign_word(
+    words: &mut Vec<u8>,
+    place: &TokenPlace,
+    token: Token,
+) -> Result<bool, AllocError> {
     if is_type(token.text) {
-        let name = spot.name_behind(token).unwrap_or(b"x");
+        let name = place.name_behind(token).unwrap_or(b"x");
         put_declaration(words, token.text, name)?;
         return Ok(true);
     }
     if is_idle(token.text) {
         put_word_between(words, b"Hint: there is no ", token.text, b".")?;
-        put_idle(words, spot, b"")?;
+        put_idle(words, place, b"")?;
         return Ok(true);
     }
     let Some(hint) = word_hint(token.text) else {
@@ -125,16 +130,16 @@ fn put_foreign_word(words: &mut Vec<u8>, spot: &Spot, token: Token) -> Result<bo
 fn put_foreign(
     words: &mut Vec<u8>,
     source: &[u8],
-    spot: &Spot,
+    place: &TokenPlace,
     token: Option<Token>,
 ) -> Result<bool, AllocError> {
-    let Some(token) = strange(spot, token) else {
+    let Some(token) = strange(place, token) else {
         return Ok(false);
     };
     if put_operator(words, source, token.text, token.span.start)? {
         return Ok(true);
     }
-    put_foreign_word(words, spot, token)
+    put_foreign_word(words, place, token)
 }
 
 /// Adds a hint where the tokens in front of a place are misread, and returns whether they are: a
@@ -143,9 +148,9 @@ fn put_misread(
     alloc: Global,
     words: &mut Vec<u8>,
     source: &[u8],
-    spot: &Spot,
+    place: &TokenPlace,
 ) -> Result<bool, AllocError> {
-    if let (Some(first), Some(Kind::Equal)) = (spot.before(1), spot.kind()) {
+    if let (Some(first), Some(Kind::Equal)) = (place.before(1), place.kind()) {
         if first.kind == Kind::Equal {
             return put_operator(words, source, b"==", first.span.start);
         }
@@ -153,11 +158,11 @@ fn put_misread(
             return put_operator(words, source, b"<=", first.span.start);
         }
     }
-    if put_foreign(words, source, spot, spot.before(1))? {
+    if put_foreign(words, source, place, place.before(1))? {
         return Ok(true);
     }
-    match strange(spot, spot.before(1)) {
-        Some(token) if spot.is_behind_target() => {
+    match strange(place, place.before(1)) {
+        Some(token) if place.is_behind_target() => {
             put_nearest(alloc, words, token.text, &KEYWORDS)
         }
         _ => Ok(false),
@@ -165,14 +170,18 @@ fn put_misread(
 }
 
 /// Adds a hint for a `;` in front of a place that is one too many, and returns whether it is.
-fn put_superfluous(words: &mut Vec<u8>, source: &[u8], spot: &Spot) -> Result<bool, AllocError> {
-    let Some(last) = spot.before(1) else {
+fn put_superfluous(
+    words: &mut Vec<u8>,
+    source: &[u8],
+    place: &TokenPlace,
+) -> Result<bool, AllocError> {
+    let Some(last) = place.before(1) else {
         return Ok(false);
     };
     if last.kind != Kind::Semicolon {
         return Ok(false);
     }
-    match spot.kind() {
+    match place.kind() {
         Some(Kind::CloseBrace | Kind::Else) | None => {}
         _ => return Ok(false),
     }
@@ -190,17 +199,17 @@ fn put_superfluous(words: &mut Vec<u8>, source: &[u8], spot: &Spot) -> Result<bo
 }
 
 /// Adds a hint where a branch or a block is empty, and returns whether it is.
-fn put_empty(words: &mut Vec<u8>, spot: &Spot) -> Result<bool, AllocError> {
-    let is_block_end = spot.kind() == Some(Kind::CloseBrace);
-    match spot.kind_before(1) {
+fn put_empty(words: &mut Vec<u8>, place: &TokenPlace) -> Result<bool, AllocError> {
+    let is_block_end = place.kind() == Some(Kind::CloseBrace);
+    match place.kind_before(1) {
         Some(Kind::Else) => {
             words.extend_from_slice(b"Hint: a command comes after `else`.")?;
-            put_idle(words, spot, b"")?;
+            put_idle(words, place, b"")?;
             Ok(true)
         }
         Some(Kind::OpenBrace) if is_block_end => {
             words.extend_from_slice(b"Hint: a block has at least one command.")?;
-            put_idle(words, spot, b"")?;
+            put_idle(words, place, b"")?;
             Ok(true)
         }
         _ => Ok(false),
@@ -208,12 +217,12 @@ fn put_empty(words: &mut Vec<u8>, spot: &Spot) -> Result<bool, AllocError> {
 }
 
 /// Adds a hint for an `else` that is missing.
-fn put_missing_else(words: &mut Vec<u8>, spot: &Spot) -> Result<(), AllocError> {
+fn put_missing_else(words: &mut Vec<u8>, place: &TokenPlace) -> Result<(), AllocError> {
     words.extend_from_slice(b"Hint: every `if` has an `else`.")?;
-    if spot.kind() == Some(Kind::Semicolon) {
+    if place.kind() == Some(Kind::Semicolon) {
         words.extend_from_slice(b" Put { } around several commands of a branch.")?;
     }
-    put_idle(words, spot, b"else ")
+    put_idle(words, place, b"else ")
 }
 
 /// Adds a hint by the place alone, where one is known.
@@ -221,21 +230,21 @@ fn put_place_hint(
     alloc: Global,
     words: &mut Vec<u8>,
     source: &[u8],
-    spot: &Spot,
+    place: &TokenPlace,
 ) -> Result<(), AllocError> {
-    if put_empty(words, spot)? {
+    if put_empty(words, place)? {
         return Ok(());
     }
-    let before = &spot.tokens[..spot.at.min(spot.tokens.len())];
+    let before = &place.tokens[..place.at.min(place.tokens.len())];
     let wants_else = lacks_else(alloc, before)?;
-    if let Some(hint) = place_hint(spot, wants_else) {
+    if let Some(hint) = place_hint(place, wants_else) {
         return words.extend_from_slice(hint.as_bytes());
     }
-    if put_superfluous(words, source, spot)? {
+    if put_superfluous(words, source, place)? {
         return Ok(());
     }
-    if wants_else && spot.is_behind_operand() {
-        return put_missing_else(words, spot);
+    if wants_else && place.is_behind_operand() {
+        return put_missing_else(words, place);
     }
     Ok(())
 }
@@ -245,38 +254,42 @@ fn put_advice(
     alloc: Global,
     words: &mut Vec<u8>,
     source: &[u8],
-    spot: &Spot,
+    place: &TokenPlace,
 ) -> Result<(), AllocError> {
     if let Some(hint) = file_hint(source) {
         return words.extend_from_slice(hint.as_bytes());
     }
-    if put_hint(words, &hint_at(alloc, source, spot.place())?)? {
+    if put_hint(words, &hint_at(alloc, source, place.start())?)? {
         return Ok(());
     }
-    if put_foreign(words, source, spot, spot.here())? {
+    if put_foreign(words, source, place, place.here())? {
         return Ok(());
     }
-    if put_misread(alloc, words, source, spot)? {
+    if put_misread(alloc, words, source, place)? {
         return Ok(());
     }
-    put_expected(alloc, words, &spot.tokens[..spot.at.min(spot.tokens.len())])?;
-    if let Some(token) = strange(spot, spot.here()) {
+    put_expected(
+        alloc,
+        words,
+        &place.tokens[..place.at.min(place.tokens.len())],
+    )?;
+    if let Some(token) = strange(place, place.here()) {
         if put_nearest(alloc, words, token.text, &KEYWORDS)? {
             return Ok(());
         }
     }
-    put_place_hint(alloc, words, source, spot)
+    put_place_hint(alloc, words, source, place)
 }
 
 /// Adds the token at a place, those that could be there, and a hint.
-fn put_at_spot(
+fn put_at_place(
     alloc: Global,
     words: &mut Vec<u8>,
     source: &[u8],
-    spot: &Spot,
+    place: &TokenPlace,
 ) -> Result<(), AllocError> {
-    put_standing(words, spot)?;
-    put_advice(alloc, words, source, spot)
+    put_standing(words, place)?;
+    put_advice(alloc, words, source, place)
 }
 
 /// Adds the explanation if a token is where it can't be.
@@ -287,7 +300,7 @@ fn put_unexpected(
     span: Span,
 ) -> Result<(), AllocError> {
     let tokens = tokens_in(alloc, source)?;
-    put_at_spot(alloc, words, source, &spot_at(&tokens, span))
+    put_at_place(alloc, words, source, &token_place(&tokens, span))
 }
 
 /// Adds the explanation of a program that is nested too deep.

@@ -3,9 +3,9 @@ use Rattle.vsi_answers.specs.Requests.{ChecksTo}
 use Rattle.vsi.proofs.subcommands.checked.Goals as goal
 
 pub returns-then-asked : goal.returns-then-asked
-returns-then-asked c = rw c.if-asked.true c.check_steady.ensures.checks
+returns-then-asked g c = rw c.if-asked.true c.check_steady.ensures.checks
 
 pub returns : goal.returns
-returns c = rw c.if-asked.false
+returns g c = rw c.if-asked.false
     (subst (λ P. ChecksTo c.args.classes.now P c.args.text.now c.check.result) c.profile-profile.ensures
     c.check.ensures.checks)

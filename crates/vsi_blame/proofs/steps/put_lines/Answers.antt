@@ -7,14 +7,14 @@ use Rattle.vsi_blame.proofs.steps.put_lines.Goals as goal
 
 pub loop-step-init : goal.loop-step-init
 loop-step-init c =
-    no_lines c.args.lattice.now c.args.page.now.path.now c.args.page.now.source.now c.args.program.now c.args.source
+    no_lines c.args.lattice.now c.args.file.now.path.now c.args.file.now.source.now c.args.program.now c.args.source
     c.args.text.now.items
 
 pub loop-step-preserved : goal.loop-step-preserved
 loop-step-preserved c =
     let l = c.args.lattice.now in
-    let path = c.args.page.now.path.now in
-    let source = c.args.page.now.source.now in
+    let path = c.args.file.now.path.now in
+    let source = c.args.file.now.source.now in
     let r = c.args.program.now in
     let a = c.args.source in
     let steps = c.args.steps.now in

@@ -4,4 +4,4 @@ use Rattle.vsi_blame.proofs.telling.told_of.Given as goal
 
 abbrev pub invariant-loop-entry : goal.invariant-loop-entry
 invariant-loop-entry l =
-    AreTold l.lattice l.page.path.now l.page.source.now l.program l.walks (take l.entry-index l.walks) l.text.items
+    AreTold l.lattice l.file.path.now l.file.source.now l.program l.walks (take l.entry-index l.walks) l.text.items

@@ -1,4 +1,5 @@
-use Rattle.std.proofs.Common.{All, ℕ, map, subst}
+use Rattle.std.proofs.Common.{All, ℕ, map, sym, subst}
+use Rattle.std.specs.List.{Contains}
 use Rattle.vsi_lattice.specs.LatticeView.{order}
 use Rattle.vsi_types.specs.Security.{program, steps_of}
 use Rattle.vsi_infer.specs.Flowing.{size_of}
@@ -20,12 +21,16 @@ returns-clause-walks c =
     let p = program s.resolved in
     let rows = map (λ v. v.items) t.rows.items in
     let found = c.in_ok-found.found.items in
+    let known : All (Contains (steps_of P (program c.resolved-resolved.result.now))) t.known.steps.items =
+    subst (λ r. All (Contains (steps_of P (program r))) t.known.steps.items) (sym c.resolved-resolved.ensures.value)
+    c.requires.known in
     let find : FindWalks (steps_of P p) (size_of p) rows found =
     subst (λ r. FindWalks (steps_of P (program r)) (size_of (program r)) rows found) c.resolved-resolved.ensures.value
     (subst (λ (n : ℕ). FindWalks (steps_of P (program c.resolved-resolved.result.now)) n rows found)
     c.declarations-last.ensures.count
     (subst (λ v. FindWalks (steps_of P (program c.resolved-resolved.result.now)) c.declarations-last.result
-    (map (λ x. x.items) v) found) c.deref.ensures.value c.in_ok-found.ensures)) in
+    (map (λ x. x.items) v) found) c.deref.ensures.value
+    (c.in_ok-found.ensures (steps_of P (program c.resolved-resolved.result.now)) known))) in
     record {
       table = c.requires;
       finds = found_all L (lawful s.lattice) P p (ready s is) (declared_classes L s.resolved is.classes) rows

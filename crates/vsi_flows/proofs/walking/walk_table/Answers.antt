@@ -1,6 +1,7 @@
-use Rattle.std.proofs.Common.{map, sym, subst}
+use Rattle.std.proofs.Common.{All, map, sym, subst}
+use Rattle.std.specs.List.{Contains}
 use Rattle.vsi_lattice.specs.LatticeView.{order}
-use Rattle.vsi_types.specs.Security.{program}
+use Rattle.vsi_types.specs.Security.{program, steps_of}
 use Rattle.vsi_compiler.proofs.Held.{globals_at, declared_at}
 use Rattle.vsi_flows.specs.Rows.{AreRowsOf}
 use Rattle.vsi_flows.specs.Table.{IsTable}
@@ -37,4 +38,6 @@ returns-clause-table c =
           (c.in_ok-pairs.ensures P
           (subst (λ v. AreRowsOf L P (program c.resolved-resolved.result.now) (map (λ x. x.items) v))
           (sym c.deref.ensures.value) c.in_ok-rows.ensures)));
+      known = subst (λ r. All (Contains (steps_of P (program r))) c.in_ok-known.known.steps.items)
+          c.resolved-resolved.ensures.value c.in_ok-known.ensures;
     }

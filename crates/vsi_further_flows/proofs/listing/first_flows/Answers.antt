@@ -5,18 +5,18 @@ use Rattle.vsi_flows.specs.Table.{IsTold}
 use Rattle.vsi_further_flows.proofs.FurtherLemmas.{further_told, first_told, first_walks}
 use Rattle.vsi_further_flows.proofs.listing.first_flows.Goals as goal
 
-pub flows_of-requires-clause-globals : goal.flows_of-requires-clause-globals
-flows_of-requires-clause-globals c =
+pub walks_of-requires-clause-globals : goal.walks_of-requires-clause-globals
+walks_of-requires-clause-globals c =
     globals_at _ c.resolved-resolved.ensures.kept _ _ c.lattice-lattice.ensures
     c.resolved-resolved.ensures.value
 
-pub flows_of-requires-clause-declared : goal.flows_of-requires-clause-declared
-flows_of-requires-clause-declared c =
+pub walks_of-requires-clause-declared : goal.walks_of-requires-clause-declared
+walks_of-requires-clause-declared c =
     declared_at _ c.resolved-resolved.ensures.kept _ _ c.lattice-lattice.ensures
     c.resolved-resolved.ensures.value
 
-pub flows_of-requires-clause-told : goal.flows_of-requires-clause-told
-flows_of-requires-clause-told c =
+pub walks_of-requires-clause-told : goal.walks_of-requires-clause-told
+walks_of-requires-clause-told c =
     let s = c.args.source.now in
     rw (c.lattice-lattice.ensures, c.resolved-resolved.ensures.value)
     (first_told (IsTold (order s.lattice) c.args.profile (program s.resolved)) _ _ c.deref.result.now
@@ -28,4 +28,4 @@ returns c =
     first_walks c.args.source.now c.args.profile c.args.from c.args.to c.resolved-resolved.result.now
     c.resolved-resolved.ensures.value c.text.result.now c.text.ensures _ c.deref.result.now
     c.first_of-first.result.now c.deref.ensures.value
-    c.first_of-first.ensures c.in_ok-pairs.ensures (λ v. v.items) c.flows_of.result c.flows_of.ensures
+    c.first_of-first.ensures c.in_ok-pairs.ensures (λ v. v.items) c.walks_of.result c.walks_of.ensures

@@ -3,7 +3,7 @@ use Rattle.std.proofs.lemmas.Bool.{both_ways}
 use Rattle.std.proofs.lemmas.List.{length-map}
 use Rattle.vsi_image.specs.Fields.{global, globals}
 use Rattle.vsi_lattice.specs.LatticeView.{class_named, order}
-use Rattle.vsi_leak.specs.Agreement.{is_seen}
+use Rattle.vsi_store.specs.View.{is_seen}
 use Rattle.vsi_leak.proofs.Agreement.{agree_all, agree_more, apart, global_at}
 use Rattle.vsi_leak.proofs.observer.agree_words.Goals as goal
 

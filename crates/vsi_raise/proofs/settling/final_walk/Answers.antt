@@ -25,6 +25,10 @@ returns-in_default g c =
     (subst (λ (b : ℕ). AreUnder L c.args.floors.now row b) c.bottom.ensures
     (subst (λ r. AreUnder L c.args.floors.now r c.bottom.result) c.deref.ensures.value c.in_default.ensures.none))
 
+pub walk_from-requires-clause-known : goal.walk_from-requires-clause-known
+walk_from-requires-clause-known g c =
+    (c.walks_to-walks.ensures (steps_of c.args.profile (program c.args.program.now)) c.in_ok-known.ensures).known
+
 pub walk_from-requires-clause-down : goal.walk_from-requires-clause-down
 walk_from-requires-clause-down g c =
     let L = g.C.Classes.lattice c.args.lattice.now in
@@ -39,12 +43,13 @@ walk_from-requires-clause-down g c =
     subst (λ (b : ℕ). IsOver L c.args.floors.now row b c.in-Some.from) c.bottom.ensures
     (subst (λ r. IsOver L c.args.floors.now r c.bottom.result c.in-Some.from) c.deref.ensures.value
     c.in-Some.ensures.some) in
-    let f : FindsWalks (steps_of c.args.profile p) (size_of p) row c.in_ok-walks.walks =
-    subst (λ r. FindsWalks (steps_of c.args.profile p) (size_of p) r c.in_ok-walks.walks) c.deref-2.ensures.value
-    (subst (λ (n : ℕ). FindsWalks (steps_of c.args.profile p) n c.deref-2.result.now c.in_ok-walks.walks)
-    c.declarations-last.ensures.count c.in_ok-walks.ensures) in
+    let f : FindsWalks (steps_of c.args.profile p) (size_of p) row c.walks_to-walks.result =
+    subst (λ r. FindsWalks (steps_of c.args.profile p) (size_of p) r c.walks_to-walks.result) c.deref-3.ensures.value
+    (subst (λ (n : ℕ). FindsWalks (steps_of c.args.profile p) n c.deref-3.result.now c.walks_to-walks.result)
+    c.declarations-last.ensures.count
+    (c.walks_to-walks.ensures (steps_of c.args.profile p) c.in_ok-known.ensures)) in
     over_down L laws c.args.profile p res c.requires.declared fl c.requires.flows row d c.args.floors.now c.requires.floors
-    c.in-Some.from over c.in_ok-walks.walks f
+    c.in-Some.from over c.walks_to-walks.result f
 
 pub returns : goal.returns
 returns g c =
@@ -60,12 +65,13 @@ returns g c =
     subst (λ (b : ℕ). IsOver L c.args.floors.now row b c.in-Some.from) c.bottom.ensures
     (subst (λ r. IsOver L c.args.floors.now r c.bottom.result c.in-Some.from) c.deref.ensures.value
     c.in-Some.ensures.some) in
-    let f : FindsWalks (steps_of c.args.profile p) (size_of p) row c.in_ok-walks.walks =
-    subst (λ r. FindsWalks (steps_of c.args.profile p) (size_of p) r c.in_ok-walks.walks) c.deref-2.ensures.value
-    (subst (λ (n : ℕ). FindsWalks (steps_of c.args.profile p) n c.deref-2.result.now c.in_ok-walks.walks)
-    c.declarations-last.ensures.count c.in_ok-walks.ensures) in
+    let f : FindsWalks (steps_of c.args.profile p) (size_of p) row c.walks_to-walks.result =
+    subst (λ r. FindsWalks (steps_of c.args.profile p) (size_of p) r c.walks_to-walks.result) c.deref-3.ensures.value
+    (subst (λ (n : ℕ). FindsWalks (steps_of c.args.profile p) n c.deref-3.result.now c.walks_to-walks.result)
+    c.declarations-last.ensures.count
+    (c.walks_to-walks.ensures (steps_of c.args.profile p) c.in_ok-known.ensures)) in
     let lt : c.in-Some.from < length row = omega (arith, over.within, c.requires.floors.len, d.len) in
     over_final L laws c.args.profile p res c.requires.declared fl c.requires.flows row d c.args.floors.now c.requires.floors
-    c.in-Some.from over c.in_ok-walks.walks f c.index.result.now
+    c.in-Some.from over c.walks_to-walks.result f c.index.result.now
     (sym (c.index.ensures ∙ get_or_default row c.in-Some.from c.index.result.now 0 lt)) c.in_ok-steps.steps.items
     c.in_ok-steps.ensures

@@ -22,5 +22,5 @@ returns c =
     c.extend_from_slice.new.self.items c.extend_from_slice-2.new.self.items c.extend_from_slice-3.new.self.items
     (c.in_ok-put_change.ensures ∙ ap (λ (s : ℕ). text ++ change_text l source s r raise) start)
     c.in_ok-extend_from_slice.ensures.items
-    (c.in_ok-extend_from_slice-2.ensures.items ∙ ap (λ n. c.extend_from_slice.new.self.items ++ n) c.name.ensures) last)
+    (c.in_ok-extend_from_slice-2.ensures.items ∙ ap (λ n. c.extend_from_slice.new.self.items ++ n) c.variable_name.ensures) last)
     (on_added c.extend_from_slice-3.result _ _ _ c.extend_from_slice-3.ensures.items)
