@@ -56,7 +56,11 @@ fn message(alloc: Global, text: &str) -> Result<String, AllocError> {
 
 /// Parses the arguments.
 fn parsed<'a>(alloc: Global, arguments: &'a [String]) -> Result<Asked<'a>, Error> {
-    let mut command = program(alloc)?;
+    let first = match arguments.first() {
+        Some(first) => first.as_str(),
+        None => "",
+    };
+    let mut command = program(alloc, first)?;
     answered(alloc, &mut command, arguments)
 }
 

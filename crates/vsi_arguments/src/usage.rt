@@ -308,21 +308,56 @@ fn with_argument<'a>(
     }
 }
 
-/// The program with its subcommands.
-pub(crate) fn program<'a>(alloc: Global) -> Result<Command<'a>, AllocError> {
-    let mut program = Command::new(alloc, "vsi")
+/// The subcommand of a list with this name.
+fn subcommand_of<'b>(list: &'b [Subcommand], name: &str) -> Option<&'b Subcommand> {
+    for subcommand in list {
+        if subcommand.name == name {
+            return Some(subcommand);
+        }
+    }
+    None
+}
+
+/// Builds a subcommand whose refusals can be explained.
+fn explained<'a>(alloc: Global, subcommand: &Subcommand) -> Result<Command<'a>, AllocError> {
+    let command = subcommand.made(alloc)?;
+    taking(alloc, command, &MANNER)
+}
+
+/// The program without its subcommands.
+fn bare<'a>(alloc: Global) -> Result<Command<'a>, AllocError> {
+    Command::new(alloc, "vsi")
         .about("Compiles programs whose information flows are typed, and runs them")
         .long_about(help::PROGRAM)
         .after_help(help::PROGRAM_EXAMPLE)
         .no_binary_name(true)
         .version(VERSION)
-        .bin_name("vsi")?;
+        .bin_name("vsi")
+}
+
+/// The program with all its subcommands.
+fn whole<'a>(alloc: Global) -> Result<Command<'a>, AllocError> {
+    let mut program = bare(alloc)?;
     for subcommand in &SUBCOMMANDS {
-        let command = subcommand.made(alloc)?;
-        program = program.subcommand(taking(alloc, command, &MANNER)?)?;
+        program = program.subcommand(explained(alloc, subcommand)?)?;
     }
     for subcommand in &UNREFUSED {
         program = program.subcommand(subcommand.made(alloc)?)?;
     }
     Ok(program)
+}
+
+/// The program with the subcommands that the parser needs for arguments that begin with this one.
+/// If it names a subcommand, this one reads all the others, and no message is about another one.
+/// Building all subcommands would take most of the time of a short run.
+pub(crate) fn program<'a>(alloc: Global, first: &str) -> Result<Command<'a>, AllocError> {
+    if let Some(subcommand) = subcommand_of(&SUBCOMMANDS, first) {
+        let command = explained(alloc, subcommand)?;
+        return bare(alloc)?.subcommand(command);
+    }
+    if let Some(subcommand) = subcommand_of(&UNREFUSED, first) {
+        let command = subcommand.made(alloc)?;
+        return bare(alloc)?.subcommand(command);
+    }
+    whole(alloc)
 }
