@@ -12,7 +12,7 @@ use crate::point::{Answer, Point};
 use crate::texts::{Pages, asked, expected, is_steady, refusal_lines};
 use serde_json::{Map, Value, put};
 use std::alloc::{AllocError, Global};
-use vsi_diagnostics::members::{put_natural, put_text};
+use vsi_diagnostics::members::{object_line, put_natural, put_text};
 use vsi_lattice::Lattice;
 use vsi_steady::UnsteadyError;
 
@@ -258,8 +258,7 @@ pub fn answer_line(
     let mut map = Map::new(alloc);
     put(&mut map, alloc, "conforms", Value::Bool(conforms))?;
     put(&mut map, alloc, "points", Value::Array(objects))?;
-    let mut line = Value::Object(map).to_vec(alloc)?;
-    line.extend_from_slice(b"\n")?;
+    let line = object_line(alloc, map)?;
     Ok(line)
 }
 

@@ -11,7 +11,7 @@ use Rattle.vsi_scope.specs.Program.{Resolved}
 use Rattle.vsi_types.specs.declared.rules.Step.{Step}
 use Rattle.vsi_infer.specs.Explanation.{name_of, rule_text}
 use Rattle.vsi_diagnostics.specs.Diagnostic as diagnostic
-use Rattle.vsi_diagnostics.specs.Members.{with_text, with_natural}
+use Rattle.vsi_diagnostics.specs.Members.{with_text, with_natural, without_end}
 use Rattle.vsi_diagnostics.specs.Source.{line_of, column_of}
 use Rattle.vsi_diagnostics.specs.Json as json
 
@@ -124,7 +124,7 @@ refusal_plain l source d steps lines names =
     let numbered = with_natural (codes "number") d.code refused in
     let named = with_text (codes "name") d.name numbered in
     let placed = json.with_place d.field named in
-    text_plain (codes "text") (json.without_end lines) (json.with_steps steps placed)
+    text_plain (codes "text") (without_end lines) (json.with_steps steps placed)
     (flow_plain l source d.steps steps placed names
     (place_plain d.field named (text_plain (codes "name") d.name numbered
     (natural_plain (codes "number") d.code refused (put_plain (codes "accepted") (boolean false) no_members refl refl)))))

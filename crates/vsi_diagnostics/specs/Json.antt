@@ -1,8 +1,7 @@
 -- A refusal as a line of JSON.
-use Rattle.std.specs.Prelude.{◌≡◌, ◌⊎◌, ℕ, ◌-◌, false, List, [], ◌++◌, map, take, length, codes, Option, Some, None}
+use Rattle.std.specs.Prelude.{◌≡◌, ◌⊎◌, ℕ, false, List, [], map, codes, Option, Some, None}
 use Rattle.serde_json.specs.Data.{Data, boolean, array, object, Members, no_members, put}
 use Rattle.serde_json.specs.View.{items_of}
-use Rattle.serde_json.specs.Written.{compact_text}
 use Rattle.vsi_lattice.specs.declared.lattice.Lattice.{Lattice}
 use Rattle.vsi_lattice.specs.LatticeView.{class_named}
 use Rattle.vsi_scope.specs.Program.{Resolved}
@@ -10,7 +9,7 @@ use Rattle.vsi_types.specs.declared.rules.Step.{Step}
 use Rattle.vsi_infer.specs.Explanation.{name_of, rule_text}
 use Rattle.vsi_compiler.specs.Stands.{Stands}
 use Rattle.vsi_diagnostics.specs.Diagnostic.{Field, nothing, number, pair, place, word, numbered, Diagnostic}
-use Rattle.vsi_diagnostics.specs.Members.{with_text, with_natural}
+use Rattle.vsi_diagnostics.specs.Members.{with_text, with_natural, without_end, object_line}
 use Rattle.vsi_diagnostics.specs.Source.{line_of, column_of}
 
 -- ---- the steps of a flow.
@@ -64,10 +63,6 @@ abbrev pub with_steps : Option (List Data) → Members → Members
 with_steps None ms = ms
 with_steps (Some objects) ms = put (codes "steps") (array (items_of objects)) ms
 
--- Lines without the last line feed.
-abbrev pub without_end : List ℕ → List ℕ
-without_end lines = take (length lines - 1) lines
-
 -- The members of the object of a refusal with these lines.
 abbrev pub refusal_members : Diagnostic → Option (List Data) → List ℕ → Members
 refusal_members d steps lines =
@@ -77,7 +72,7 @@ refusal_members d steps lines =
 
 -- The line of that object.
 abbrev pub refusal_line : Diagnostic → Option (List Data) → List ℕ → List ℕ
-refusal_line d steps lines = compact_text (object (refusal_members d steps lines)) ++ codes "\n"
+refusal_line d steps lines = object_line (refusal_members d steps lines)
 
 -- The line of JSON of a refusal with these lines.
 pub record IsRefusalJson (l : Lattice) (source : List ℕ) (d : Diagnostic) (lines out : List ℕ) : Type 0 where

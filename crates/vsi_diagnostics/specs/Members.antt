@@ -1,7 +1,8 @@
--- Members of JSON objects, with keys in byte order.
-use Rattle.std.specs.Prelude.{ℕ, List}
+-- Members of JSON objects, with keys in byte order, and lines.
+use Rattle.std.specs.Prelude.{ℕ, ◌-◌, List, ◌++◌, length, take, codes}
 use Rattle.std.specs.Str.Lossy.{utf8_lossy}
-use Rattle.serde_json.specs.Data.{string, number, unsigned, Members, put}
+use Rattle.serde_json.specs.Data.{object, string, number, unsigned, Members, put}
+use Rattle.serde_json.specs.Written.{compact_text}
 
 -- A text at a key, with bytes that aren't UTF-8 replaced.
 abbrev pub with_text : List ℕ → List ℕ → Members → Members
@@ -10,3 +11,11 @@ with_text key bytes ms = put key (string (utf8_lossy bytes)) ms
 -- A number of at least 0 at a key.
 abbrev pub with_natural : List ℕ → ℕ → Members → Members
 with_natural key n ms = put key (number (unsigned n)) ms
+
+-- Lines without the last line feed.
+abbrev pub without_end : List ℕ → List ℕ
+without_end lines = take (length lines - 1) lines
+
+-- The line of an object with these members.
+abbrev pub object_line : Members → List ℕ
+object_line ms = compact_text (object ms) ++ codes "\n"

@@ -1,20 +1,17 @@
 //! A refusal as a line of JSON.
 
-ghost use Rattle.std.specs.Prelude.{◌≡◌, ◌≢◌, ◌++◌, ℕ, List, codes, false};
-ghost use Rattle.std.specs.Prelude.{map, option_map, IfOk, OnOk};
-ghost use Rattle.serde_json.specs.Data.{object};
+ghost use Rattle.std.specs.Prelude.{◌≡◌, ◌++◌, ℕ, List, map, option_map, IfOk, OnOk};
 ghost use Rattle.serde_json.specs.View.{members_view, view};
-ghost use Rattle.serde_json.specs.Written.{compact_text, members_have_float};
 ghost use Rattle.vsi_lattice.specs.declared.lattice.Lattice.{Lattice as Named};
-ghost use Rattle.vsi_compiler.specs.declared.error.CompileError.TheVariants.{Memory};
 ghost use Rattle.vsi_diagnostics.specs.Json as spec;
 ghost use Rattle.vsi_diagnostics.specs.View.{diagnostic_of, field_of};
 
 use crate::diagnostic::{Diagnostic, Field};
-use crate::members::{put_natural, put_text};
+use crate::members::{object_line, put_natural, put_text, without_end};
+use crate::source::wants_memory;
 use serde_json::{Map, Value, put};
 use std::alloc::{AllocError, Global};
-use vsi_compiler::{CompileError, Source, read_source};
+use vsi_compiler::{Source, read_source};
 use vsi_infer::{rule_text, variable_name};
 use vsi_lattice::Lattice;
 use vsi_scope::Resolved;
@@ -57,13 +54,6 @@ fn put_step_objects(
         found.push(Value::Object(step_object(alloc, source, program, step)?))?;
     }
     Ok(())
-}
-
-/// Whether the error is lack of memory.
-fn wants_memory(error: &CompileError) -> bool
-    ensures { result ≡ false → error.now ≢ Memory }
-{
-    matches!(error, CompileError::Memory)
 }
 
 /// The objects of the steps of a walk, by the names of the program of a source text.
@@ -170,13 +160,6 @@ fn put_steps(
     }
 }
 
-/// The lines without the last line feed.
-fn without_end(lines: &[u8]) -> &[u8]
-    ensures { result.now ≡ spec.without_end lines.now }
-{
-    &lines[..lines.len().saturating_sub(1)]
-}
-
 /// The members of the object of a refusal with these lines.
 fn refusal_members(
     alloc: Global,
@@ -196,16 +179,6 @@ fn refusal_members(
     put_steps(alloc, &mut map, steps)?;
     put_text(alloc, &mut map, "text", without_end(lines))?;
     Ok(map)
-}
-
-/// The line of an object.
-fn object_line(alloc: Global, map: Map<String, Value>) -> Result<Vec<u8>, AllocError>
-    ensures { IfOk result (λ line. members_have_float (members_view map.entries) ≡ false
-        → line.items ≡ compact_text (object (members_view map.entries)) ++ codes "\n") }
-{
-    let mut line = Value::Object(map).to_vec(alloc)?;
-    line.extend_from_slice(b"\n")?;
-    Ok(line)
 }
 
 /// The line of a refusal whose flow has these objects.

@@ -23,5 +23,5 @@ pub use diagnostic::{Diagnostic, Field, line_text};
 pub use fault::Fault;
 pub use files::fault_diagnostic;
 pub use json::{accepted_json, refusal_json, refusal_json_of};
-pub use source::refusal_diagnostic;
+pub use source::{refusal_diagnostic, wants_memory};
 pub use texts::{fault_text, refusal_text, refusal_text_of};

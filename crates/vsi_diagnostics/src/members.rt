@@ -1,7 +1,8 @@
-//! Members of JSON objects.
+//! Members of JSON objects, and the lines of objects.
 
-ghost use Rattle.std.specs.Prelude.{◌≡◌, OnOk};
+ghost use Rattle.std.specs.Prelude.{◌≡◌, false, IfOk, OnOk};
 ghost use Rattle.serde_json.specs.View.{members_view};
+ghost use Rattle.serde_json.specs.Written.{members_have_float};
 ghost use Rattle.vsi_diagnostics.specs.Members as spec;
 
 use serde_json::{Map, Value, put};
@@ -32,4 +33,22 @@ pub fn put_natural(
         ≡ spec.with_natural key.now number (members_view map.old.entries)) }
 {
     put(map, alloc, key, Value::from(number))
+}
+
+/// The lines without their last byte, which is a line feed: a text that a member has.
+pub fn without_end(lines: &[u8]) -> &[u8]
+    ensures lines { result.now ≡ spec.without_end lines.now }
+{
+    &lines[..lines.len().saturating_sub(1)]
+}
+
+/// The line of an object, with its line feed. No object of the program has a number that isn't an
+/// integer.
+pub fn object_line(alloc: Global, map: Map<String, Value>) -> Result<Vec<u8>, AllocError>
+    ensures line { IfOk result (λ line. members_have_float (members_view map.entries) ≡ false
+        → line.items ≡ spec.object_line (members_view map.entries)) }
+{
+    let mut line = Value::Object(map).to_vec(alloc)?;
+    line.extend_from_slice(b"\n")?;
+    Ok(line)
 }

@@ -1,6 +1,7 @@
 //! The refusals of a source text.
 
-ghost use Rattle.std.specs.Prelude.{◌≡◌, option_map};
+ghost use Rattle.std.specs.Prelude.{◌≡◌, ◌≢◌, false, option_map, true};
+ghost use Rattle.vsi_compiler.specs.declared.error.CompileError.TheVariants.{Memory};
 ghost use Rattle.vsi_diagnostics.specs.View.{diagnostic_of, field_of};
 ghost use Rattle.vsi_diagnostics.specs.Diagnostic.{refusal};
 ghost use Rattle.vsi_diagnostics.specs.Source as spec;
@@ -9,6 +10,14 @@ use crate::diagnostic::{Diagnostic, Field};
 use vsi_compiler::CompileError;
 use vsi_scope::ScopeError;
 use vsi_syntax::{LexError, ParseError, line_column};
+
+/// Whether the error is lack of memory, which refuses no text.
+pub fn wants_memory(error: &CompileError) -> bool
+    ensures memory { result ≡ true → error.now ≡ Memory }
+    ensures refusal { result ≡ false → error.now ≢ Memory }
+{
+    matches!(error, CompileError::Memory)
+}
 
 /// The line and the column of a position in the text.
 fn place_in(text: &[u8], at: usize) -> Field<'static>

@@ -16,8 +16,7 @@ use Rattle.vsi_flows.specs.declared.pair.Pair.{Pair}
 use Rattle.vsi_bound.specs.declared.bound.Bound.{Bound}
 use Rattle.vsi_bound.specs.declared.bound.Bound.TheVariants.{Halts, Endless, Unstructured, TooLarge}
 use Rattle.vsi_answers.specs.Bounds.{is_bounded}
-use Rattle.vsi_diagnostics.specs.Json.{without_end}
-use Rattle.vsi_diagnostics.specs.Members.{with_text, with_natural}
+use Rattle.vsi_diagnostics.specs.Members.{without_end, with_text, with_natural}
 use Rattle.vsi_diagnostics.specs.Source.{line_of, column_of}
 use Rattle.vsi_diagnostics.proofs.Plain.{append_plain, both, put_plain, text_plain, natural_plain}
 use Rattle.std.specs.Prelude.{slice_get, unwrap_or}

@@ -5,8 +5,8 @@ use Rattle.serde_json.specs.Written.{members_have_float}
 use Rattle.vsi_conform.specs.Faulty.{name_of}
 use Rattle.vsi_conform.specs.declared.error.InterfaceError.{InterfaceError}
 use Rattle.vsi_diagnostics.specs.Diagnostic as spec
-use Rattle.vsi_diagnostics.specs.Json.{refusal_members, with_place, without_end}
-use Rattle.vsi_diagnostics.specs.Members.{with_natural, with_text}
+use Rattle.vsi_diagnostics.specs.Json.{refusal_members, with_place}
+use Rattle.vsi_diagnostics.specs.Members.{without_end, with_natural, with_text}
 use Rattle.vsi_diagnostics.proofs.Plain.{natural_plain, put_plain, text_plain}
 use Rattle.vsi_documents.specs.Refused.{interface_members}
 

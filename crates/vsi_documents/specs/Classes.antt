@@ -12,10 +12,9 @@ use Rattle.vsi_types.specs.declared.rules.Profile.{Profile}
 use Rattle.vsi_infer.specs.Inference.{IsLeast}
 use Rattle.vsi_compiler.specs.Source.{Reads}
 use Rattle.vsi_compiler.specs.Acceptance.{IsAccepted, program_of}
-use Rattle.vsi_diagnostics.specs.Members.{with_text, with_natural}
+use Rattle.vsi_diagnostics.specs.Members.{with_text, with_natural, object_line}
 use Rattle.vsi_diagnostics.specs.Source.{line_of, column_of}
 use Rattle.vsi_conform.specs.Checking.{judgement_by, TellsRefused}
-use Rattle.vsi_documents.specs.Lines.{object_line}
 
 -- The members of the object of a declaration: the position of its name, its name and its class.
 abbrev pub class_members : List ℕ → Span → List ℕ → List ℕ → Members

@@ -14,8 +14,7 @@ use Rattle.vsi_store.specs.declared.comparison.RunEnding.TheVariants.{Halted, Ou
 use Rattle.vsi_answers.specs.Answers.{Judges}
 use Rattle.vsi_answers.specs.Judged.{IsViewFault, TellsFault}
 use Rattle.vsi_answers.specs.declared.unanswered.Unanswered.{Unanswered}
-use Rattle.vsi_diagnostics.specs.Members.{with_text}
-use Rattle.vsi_documents.specs.Lines.{object_line}
+use Rattle.vsi_diagnostics.specs.Members.{with_text, object_line}
 use Rattle.vsi_documents.specs.Words.{with_end, with_pairs}
 use Rattle.vsi_documents.specs.declared.answer.Documented.{Documented}
 

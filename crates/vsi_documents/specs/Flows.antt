@@ -15,9 +15,8 @@ use Rattle.vsi_compiler.specs.Stands.{Stands}
 use Rattle.vsi_flows.specs.declared.pair.Pair.{Pair}
 use Rattle.vsi_flows.specs.Table.{IsTable}
 use Rattle.vsi_flows.specs.Text.{DecideAcceptance, ShowDependence}
-use Rattle.vsi_diagnostics.specs.Members.{with_text, with_natural}
+use Rattle.vsi_diagnostics.specs.Members.{with_text, with_natural, object_line}
 use Rattle.vsi_conform.specs.Checking.{judgement_by, TellsRefused}
-use Rattle.vsi_documents.specs.Lines.{object_line}
 
 -- The members with the name of a variable and the name of its declared class added, at these keys.
 abbrev pub with_variable : List ℕ → List ℕ → Lattice → Resolved → ℕ → Members → Members

@@ -15,8 +15,7 @@ use Rattle.vsi_leak.specs.declared.found.Ending.TheVariants.{Halted, OutOfBudget
 use Rattle.vsi_leak.specs.declared.found.Finding.TheVariants as finding
 use Rattle.vsi_leak.specs.declared.found.Leak.{Leak}
 use Rattle.vsi_leak.specs.declared.whole.Wanted.{Wanted}
-use Rattle.vsi_diagnostics.specs.Members.{with_text, with_natural}
-use Rattle.vsi_documents.specs.Lines.{object_line}
+use Rattle.vsi_diagnostics.specs.Members.{with_text, with_natural, object_line}
 use Rattle.vsi_documents.specs.Words.{with_end, with_pairs}
 
 -- The members with the objects of the globals that the class sees at the ends of both runs, if both halt.

@@ -1,4 +1,3 @@
-pub mod Lines
 pub mod Classes
 pub mod Flows
 pub mod Bounds

@@ -4,9 +4,8 @@ use Rattle.serde_json.specs.Data.{boolean, Members, no_members, put}
 use Rattle.vsi_conform.specs.Faulty.{name_of}
 use Rattle.vsi_conform.specs.declared.error.InterfaceError.{InterfaceError}
 use Rattle.vsi_diagnostics.specs.Diagnostic.{Diagnostic}
-use Rattle.vsi_diagnostics.specs.Json.{refusal_line, without_end}
-use Rattle.vsi_diagnostics.specs.Members.{with_text}
-use Rattle.vsi_documents.specs.Lines.{object_line}
+use Rattle.vsi_diagnostics.specs.Json.{refusal_line}
+use Rattle.vsi_diagnostics.specs.Members.{without_end, with_text, object_line}
 
 -- The line of a refusal with this text, which is that of `check --json` without the steps of a flow.
 abbrev pub refused_line : Diagnostic → List ℕ → List ℕ

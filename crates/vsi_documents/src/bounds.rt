@@ -3,16 +3,15 @@
 ghost use Rattle.std.specs.Prelude.{◌≡◌, IfOk, OnOk};
 ghost use Rattle.serde_json.specs.View.{members_view};
 ghost use Rattle.vsi_answers.specs.Bounds.{TellsBound, is_bounded as is_bounded_of};
-ghost use Rattle.vsi_diagnostics.specs.Json.{without_end as without_end_of};
 ghost use Rattle.vsi_documents.specs.Bounds as spec;
-ghost use Rattle.vsi_documents.specs.Lines as lines;
+ghost use Rattle.vsi_diagnostics.specs.Members as lines;
 
-use crate::answer::{Documented, object_line};
+use crate::answer::Documented;
 use serde_json::{Map, Value, put};
 use std::alloc::{AllocError, Global};
 use vsi_answers::BoundAnswer;
 use vsi_bound::{Bound, bound_of};
-use vsi_diagnostics::members::{put_natural, put_text};
+use vsi_diagnostics::members::{object_line, put_natural, put_text, without_end};
 use vsi_image::Verified;
 use vsi_lattice::Lattice;
 
@@ -46,13 +45,6 @@ fn put_bound(
         Bound::Unstructured(at) => put_natural(alloc, members, "instruction", at),
         Bound::TooLarge => Ok(()),
     }
-}
-
-/// A line without its line feed.
-pub(crate) fn without_end(line: &[u8]) -> &[u8]
-    ensures { result.now ≡ without_end_of line.now }
-{
-    &line[..line.len().saturating_sub(1)]
 }
 
 /// The object of an answer with this text.

@@ -12,12 +12,13 @@ ghost use Rattle.vsi_syntax.specs.Tree.{Whole};
 ghost use Rattle.vsi_compiler.specs.Source.{Reads};
 ghost use Rattle.vsi_documents.specs.Classes as spec;
 
-use crate::answer::{Documented, refused, wants_memory};
+use crate::answer::{Documented, refused};
 use serde_json::{Map, Value, put};
 use std::alloc::{AllocError, Global};
 use vsi_compiler::{Source, judge, read_source};
 use vsi_conform::{check_json, judgement_by};
-use vsi_diagnostics::members::{put_natural, put_text};
+use vsi_diagnostics::members::{object_line, put_natural, put_text};
+use vsi_diagnostics::wants_memory;
 use vsi_lattice::{Class, Lattice};
 use vsi_scope::Entry;
 use vsi_syntax::{Declaration, Span, line_column};
@@ -92,8 +93,7 @@ fn classes_line(alloc: Global, objects: Vec<Value>) -> Result<Vec<u8>, AllocErro
     let mut members = Map::new(alloc);
     put(&mut members, alloc, "accepted", Value::Bool(true))?;
     put(&mut members, alloc, "classes", Value::Array(objects))?;
-    let mut line = Value::Object(members).to_vec(alloc)?;
-    line.extend_from_slice(b"\n")?;
+    let line = object_line(alloc, members)?;
     Ok(line)
 }
 

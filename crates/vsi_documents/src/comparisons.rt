@@ -6,14 +6,14 @@ ghost use Rattle.vsi_image.specs.Fields.{globals};
 ghost use Rattle.vsi_lattice.specs.LatticeView.{class_named, names, order};
 ghost use Rattle.vsi_lattice.specs.Order.{IsClass};
 ghost use Rattle.vsi_documents.specs.Comparisons as spec;
-ghost use Rattle.vsi_documents.specs.Lines as lines;
+ghost use Rattle.vsi_diagnostics.specs.Members as lines;
 
-use crate::answer::{Documented, object_line};
+use crate::answer::Documented;
 use crate::words::{put_end, put_pairs};
 use serde_json::{Map, Value, put};
 use std::alloc::{AllocError, Global};
 use vsi_answers::Unanswered;
-use vsi_diagnostics::members::put_text;
+use vsi_diagnostics::members::{object_line, put_text};
 use vsi_image::{Image, Verified};
 use vsi_lattice::{Class, Lattice};
 use vsi_store::{Comparison, RunEnding};

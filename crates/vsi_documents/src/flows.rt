@@ -10,12 +10,13 @@ ghost use Rattle.vsi_types.specs.Security.{program as program_of};
 ghost use Rattle.vsi_infer.specs.Inference.{AreClasses};
 ghost use Rattle.vsi_documents.specs.Flows as spec;
 
-use crate::answer::{Documented, refused, wants_memory};
+use crate::answer::{Documented, refused};
 use serde_json::{Map, Value, put};
 use std::alloc::{AllocError, Global};
 use vsi_compiler::{Source, read_source};
 use vsi_conform::{check_json, judgement_by};
-use vsi_diagnostics::members::{put_natural, put_text};
+use vsi_diagnostics::members::{object_line, put_natural, put_text};
+use vsi_diagnostics::wants_memory;
 use vsi_flows::{FlowsError, Pair, flows_in};
 use vsi_infer::{class_name, declared_class, variable_name};
 use vsi_lattice::Lattice;
@@ -105,8 +106,7 @@ fn flows_line(alloc: Global, is_accepted: bool, objects: Vec<Value>) -> Result<V
     let mut members = Map::new(alloc);
     put(&mut members, alloc, "accepted", Value::Bool(is_accepted))?;
     put(&mut members, alloc, "flows", Value::Array(objects))?;
-    let mut line = Value::Object(members).to_vec(alloc)?;
-    line.extend_from_slice(b"\n")?;
+    let line = object_line(alloc, members)?;
     Ok(line)
 }
 

@@ -9,14 +9,14 @@ ghost use Rattle.vsi_compiler.specs.Readable.{HasProgram};
 ghost use Rattle.vsi_compiler.specs.Refusal.{RefusesProgram};
 ghost use Rattle.vsi_compiler.specs.declared.error.CompileError.TheVariants.{Memory};
 ghost use Rattle.vsi_documents.specs.Leaks as spec;
-ghost use Rattle.vsi_documents.specs.Lines as lines;
+ghost use Rattle.vsi_diagnostics.specs.Members as lines;
 
-use crate::answer::{Documented, object_line};
+use crate::answer::Documented;
 use crate::words::{put_end, put_pairs};
 use serde_json::{Map, Value, put};
 use std::alloc::{AllocError, Global};
 use vsi_compiler::CompileError;
-use vsi_diagnostics::members::{put_natural, put_text};
+use vsi_diagnostics::members::{object_line, put_natural, put_text};
 use vsi_image::Image;
 use vsi_lattice::Lattice;
 use vsi_leak::{Ending, Finding, Leak, Wanted, leak_of_text};

@@ -6,12 +6,10 @@ ghost use Rattle.vsi_diagnostics.specs.Json.{refusal_members, with_place};
 ghost use Rattle.vsi_diagnostics.specs.View.{diagnostic_of, field_of};
 ghost use Rattle.vsi_documents.specs.Refused as spec;
 
-use crate::answer::object_line;
-use crate::bounds::without_end;
 use serde_json::{Map, Value, put};
 use std::alloc::{AllocError, Global};
 use vsi_conform::{InterfaceError, fault_name};
-use vsi_diagnostics::members::{put_natural, put_text};
+use vsi_diagnostics::members::{object_line, put_natural, put_text, without_end};
 use vsi_diagnostics::{Diagnostic, Field};
 
 /// Puts the line and the column of a refusal that has a position.

@@ -3,14 +3,15 @@
 ghost use Rattle.std.specs.Prelude.{◌≡◌, length, IfOk, false};
 ghost use Rattle.serde_json.specs.View.{members_view};
 ghost use Rattle.vsi_image.specs.Fields.{globals};
-ghost use Rattle.vsi_documents.specs.Lines as lines;
+ghost use Rattle.vsi_diagnostics.specs.Members as lines;
 ghost use Rattle.vsi_documents.specs.Runs as spec;
 ghost use Rattle.vsi_documents.specs.Words as words_spec;
 
-use crate::answer::{Documented, object_line};
+use crate::answer::Documented;
 use crate::words::{end_object, word_objects};
 use serde_json::{Map, Value, put};
 use std::alloc::{AllocError, Global};
+use vsi_diagnostics::members::object_line;
 use vsi_image::{Image, Verified};
 use vsi_machine::{Outcome, counted};
 

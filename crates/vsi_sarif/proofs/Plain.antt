@@ -7,8 +7,7 @@ use Rattle.vsi_lattice.specs.declared.lattice.Lattice.{Lattice}
 use Rattle.vsi_scope.specs.Program.{Resolved}
 use Rattle.vsi_types.specs.declared.rules.Step.{Step}
 use Rattle.vsi_diagnostics.specs.Diagnostic.{Diagnostic}
-use Rattle.vsi_diagnostics.specs.Json.{without_end}
-use Rattle.vsi_diagnostics.specs.Members.{with_text, with_natural}
+use Rattle.vsi_diagnostics.specs.Members.{without_end, with_text, with_natural}
 use Rattle.vsi_diagnostics.proofs.Plain.{both, put_plain, text_plain, natural_plain}
 use Rattle.vsi_sarif.specs.Document as document
 use Rattle.vsi_sarif.specs.Location as location

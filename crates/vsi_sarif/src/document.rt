@@ -1,15 +1,14 @@
 //! A document, from its rules and results.
 
-ghost use Rattle.std.specs.Prelude.{◌≡◌, ◌++◌, codes, false, map, IfOk};
-ghost use Rattle.serde_json.specs.Data.{object};
+ghost use Rattle.std.specs.Prelude.{◌≡◌, false, map, IfOk};
 ghost use Rattle.serde_json.specs.View.{members_view, view};
-ghost use Rattle.serde_json.specs.Written.{compact_text, members_have_float};
+ghost use Rattle.serde_json.specs.Written.{members_have_float};
 ghost use Rattle.vsi_sarif.specs.Document as spec;
 
 use crate::objects::{array_object, only, put_array, put_object};
 use serde_json::{Map, Value};
 use std::alloc::{AllocError, Global};
-use vsi_diagnostics::members::put_text;
+use vsi_diagnostics::members::{object_line, put_text};
 
 /// The object of the tool, with its rules.
 fn tool(alloc: Global, rules: Vec<Value>) -> Result<Map<String, Value>, AllocError>
@@ -64,16 +63,6 @@ fn schema() -> &'static [u8]
     ensures { result.now ≡ spec.schema }
 {
     b"https://json.schemastore.org/sarif-2.1.0.json"
-}
-
-/// The line of an object.
-fn object_line(alloc: Global, map: Map<String, Value>) -> Result<Vec<u8>, AllocError>
-    ensures { IfOk result (λ line. members_have_float (members_view map.entries) ≡ false
-        → line.items ≡ compact_text (object (members_view map.entries)) ++ codes "\n") }
-{
-    let mut line = Value::Object(map).to_vec(alloc)?;
-    line.extend_from_slice(b"\n")?;
-    Ok(line)
 }
 
 /// The text of the document of these rules and results, a line.

@@ -4,7 +4,6 @@ ghost use Rattle.std.specs.Prelude.{◌≡◌, decimal, map, option_map, IfOk, O
 ghost use Rattle.serde_json.specs.View.{members_view, view};
 ghost use Rattle.vsi_lattice.specs.declared.lattice.Lattice.{Lattice as Named};
 ghost use Rattle.vsi_diagnostics.specs.View.{diagnostic_of, field_of};
-ghost use Rattle.vsi_diagnostics.specs.Json.{without_end as without_end_of};
 ghost use Rattle.vsi_sarif.specs.Refusals as spec;
 ghost use Rattle.vsi_sarif.specs.Steps.{LocatesFlow};
 
@@ -15,7 +14,7 @@ use crate::steps::{flow_objects, source_flow_objects};
 use serde_json::{Map, Value};
 use std::alloc::{AllocError, Global};
 use vsi_compiler::Source;
-use vsi_diagnostics::members::{put_natural, put_text};
+use vsi_diagnostics::members::{put_natural, put_text, without_end};
 use vsi_diagnostics::{Diagnostic, Field};
 use vsi_lattice::Lattice;
 use vsi_syntax::{line_column, put_number};
@@ -94,13 +93,6 @@ fn put_flow(
         }
         None => Ok(()),
     }
-}
-
-/// The lines without the last line feed.
-fn without_end(lines: &[u8]) -> &[u8]
-    ensures { result.now ≡ without_end_of lines.now }
-{
-    &lines[..lines.len().saturating_sub(1)]
 }
 
 /// The object of a result of the rule with an identifier and an index.

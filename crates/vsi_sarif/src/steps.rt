@@ -1,15 +1,15 @@
 //! The steps of a refused flow as a flow of the document.
 
-ghost use Rattle.std.specs.Prelude.{◌≡◌, ◌≢◌, ◌++◌, false, map, option_map, IfOk, OnOk};
+ghost use Rattle.std.specs.Prelude.{◌≡◌, ◌++◌, map, option_map, IfOk, OnOk};
 ghost use Rattle.serde_json.specs.View.{members_view, view};
-ghost use Rattle.vsi_compiler.specs.declared.error.CompileError.TheVariants.{Memory};
 ghost use Rattle.vsi_sarif.specs.Steps as spec;
 
 use crate::location::location;
 use crate::objects::{put_object, text_object};
 use serde_json::{Map, Value};
 use std::alloc::{AllocError, Global};
-use vsi_compiler::{CompileError, Source, read_source};
+use vsi_compiler::{Source, read_source};
+use vsi_diagnostics::wants_memory;
 use vsi_infer::{rule_text, variable_name};
 use vsi_lattice::Lattice;
 use vsi_scope::Resolved;
@@ -66,13 +66,6 @@ fn step_objects(
         found.push(Value::Object(made))?;
     }
     Ok(found)
-}
-
-/// Whether the error is lack of memory.
-fn wants_memory(error: &CompileError) -> bool
-    ensures { result ≡ false → error.now ≢ Memory }
-{
-    matches!(error, CompileError::Memory)
 }
 
 /// The objects of the steps of a walk, by the names of the program of a source text.

@@ -1,7 +1,7 @@
-use Rattle.std.proofs.Common.{◌≡◌, ◌++◌, ap, ◌∙◌, codes, false, map, option_map}
-use Rattle.serde_json.specs.Data.{Members, object}
+use Rattle.std.proofs.Common.{◌≡◌, ap, ◌∙◌, false, map, option_map}
 use Rattle.serde_json.specs.View.{members_view, view}
-use Rattle.serde_json.specs.Written.{compact_text, members_have_float}
+use Rattle.serde_json.specs.Written.{members_have_float}
+use Rattle.vsi_diagnostics.specs.Members.{object_line}
 use Rattle.vsi_diagnostics.specs.View.{diagnostic_of}
 use Rattle.vsi_diagnostics.proofs.Plain.{refusal_plain}
 use Rattle.vsi_diagnostics.proofs.json.steps_json.Goals as goal
@@ -15,6 +15,5 @@ returns c = λ l text names.
     record {
       steps = steps;
       names = names;
-      line = c.in_ok-line.ensures plain
-          ∙ ap (λ (ms : Members). compact_text (object ms) ++ codes "\n") c.in_ok-map.ensures;
+      line = c.in_ok-line.ensures.line plain ∙ ap object_line c.in_ok-map.ensures;
     }

@@ -8,7 +8,7 @@ returns-in-Ok c = rw (← c.in-Ok.ensures.lattice, ← c.in-Ok.ensures.text) c.s
 pub returns-else-wants_memory : goal.returns-else-wants_memory
 returns-else-wants_memory c =
     inr (record {
-      unreadable = λ r stands. c.wants_memory.ensures c.if-wants_memory.false
+      unreadable = λ r stands. c.wants_memory.ensures.refusal c.if-wants_memory.false
           (c.in-Err.ensures.exact stands.tree _ stands.reads stands.resolves.resolution);
       nothing = ap (map view) c.new.ensures.items;
     })

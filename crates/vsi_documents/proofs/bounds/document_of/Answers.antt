@@ -1,6 +1,6 @@
 use Rattle.std.proofs.Common.{◌∙◌, ap}
 use Rattle.vsi_documents.specs.Bounds.{bound_members}
-use Rattle.vsi_documents.specs.Lines.{object_line}
+use Rattle.vsi_diagnostics.specs.Members.{object_line}
 use Rattle.vsi_documents.proofs.bounds.document_of.Goals as goal
 
 pub returns : goal.returns

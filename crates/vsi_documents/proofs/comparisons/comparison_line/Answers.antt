@@ -2,7 +2,7 @@ use Rattle.std.proofs.Common.{◌∙◌, ap}
 use Rattle.serde_json.specs.Written.{members_have_float}
 use Rattle.vsi_image.specs.Fields.{globals}
 use Rattle.vsi_lattice.specs.LatticeView.{class_named, order}
-use Rattle.vsi_documents.specs.Lines.{object_line}
+use Rattle.vsi_diagnostics.specs.Members.{object_line}
 use Rattle.vsi_documents.proofs.Sides.{comparison_plain}
 use Rattle.vsi_documents.proofs.comparisons.comparison_line.Goals as goal
 
@@ -13,7 +13,7 @@ returns c =
     let gs = globals c.args.image.now.globals.items in (
       found.0,
       found.1,
-      c.in_ok-line.ensures
+      c.in_ok-line.ensures.line
           (ap members_have_float found.2
           ∙ comparison_plain (class_named l) (order l) found.0 c.args.class gs c.args.stores.0.now
           c.args.stores.1.now c.args.budget c.args.found.now)

@@ -1,14 +1,14 @@
 use Rattle.std.proofs.Common.{◌∙◌, ap}
 use Rattle.serde_json.specs.Written.{members_have_float}
 use Rattle.vsi_diagnostics.specs.View.{diagnostic_of}
-use Rattle.vsi_documents.specs.Lines.{object_line}
+use Rattle.vsi_diagnostics.specs.Members.{object_line}
 use Rattle.vsi_documents.proofs.Refusing.{refused_plain}
 use Rattle.vsi_documents.proofs.refused.refused_json.Goals as goal
 
 pub returns : goal.returns
 returns c =
     record {
-      line = c.in_ok-line.ensures
+      line = c.in_ok-line.ensures.line
           (ap members_have_float c.in_ok-members.ensures
           ∙ refused_plain (diagnostic_of c.args.diagnostic.now) c.args.text.now)
           ∙ ap object_line c.in_ok-members.ensures;
