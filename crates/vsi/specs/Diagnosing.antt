@@ -1,7 +1,5 @@
--- The refusals of settings, of runs that don't begin, and of images whose commands are judged, as values.
-use Rattle.std.specs.Prelude.{Option, None, codes}
-use Rattle.vsi_audit.specs.declared.error.AuditError.{AuditError}
-use Rattle.vsi_audit.specs.declared.error.AuditError.TheVariants as audit
+-- The refusals of settings and of runs that don't begin, as values.
+use Rattle.std.specs.Prelude.{codes}
 use Rattle.vsi_drive.specs.declared.boundary.BoundaryFault.{BoundaryFault}
 use Rattle.vsi_drive.specs.declared.boundary.BoundaryFault.TheVariants as boundary
 use Rattle.vsi_drive.specs.declared.fault.LineFault.{LineFault}
@@ -9,7 +7,6 @@ use Rattle.vsi_drive.specs.declared.fault.LineFault.TheVariants.{TooLong, BadSet
 use Rattle.vsi_drive.specs.declared.starts.StartFault.{StartFault}
 use Rattle.vsi_drive.specs.declared.starts.StartFault.TheVariants as start
 use Rattle.vsi_diagnostics.specs.Diagnostic.{Diagnostic, nothing, number, refusal}
-use Rattle.vsi_diagnostics.specs.Source.{refused}
 
 -- The diagnostic of a wrong setting.
 abbrev pub setting_diagnostic : LineFault → Diagnostic
@@ -33,12 +30,3 @@ abbrev pub start_diagnostic : StartFault → Diagnostic
 start_diagnostic (start.Setting f) = setting_diagnostic f
 start_diagnostic (start.Boundary f) = boundary_diagnostic f
 start_diagnostic (start.Unnamed i) = refusal 56 (codes "GlobalNotNamed") (number i)
-
--- The diagnostic of an image whose commands are judged; none if memory ran out.
-abbrev pub audit_diagnostic : AuditError → Option Diagnostic
-audit_diagnostic (audit.UnknownClass i) = refused 43 (codes "ClassNotInLattice") (number i)
-audit_diagnostic (audit.Unstructured i) = refused 49 (codes "NoCommands") (number i)
-audit_diagnostic audit.WrongFields = refused 50 (codes "WrongFields") nothing
-audit_diagnostic audit.NoText = refused 51 (codes "NoText") nothing
-audit_diagnostic (audit.Flow walk) = refused 25 (codes "Refused") nothing
-audit_diagnostic audit.Memory = None

@@ -1,14 +1,13 @@
 //! The refusal of a failure as a value.
 
-ghost use Rattle.std.specs.Prelude.{◌≡◌, option_map, IfSome};
+ghost use Rattle.std.specs.Prelude.{◌≡◌, IfSome};
 ghost use Rattle.vsi.specs.Diagnosing as spec;
 ghost use Rattle.vsi.specs.FaultyFiles.{IsRefusalBy};
 ghost use Rattle.vsi_diagnostics.specs.View.{diagnostic_of};
 
 use crate::failure::Failure;
 use vsi_answers::Cause;
-use vsi_audit::AuditError;
-use vsi_conform::{steady_diagnostic, unsteady_diagnostic};
+use vsi_conform::{audit_diagnostic, steady_diagnostic, unsteady_diagnostic};
 use vsi_diagnostics::{Diagnostic, Field, fault_diagnostic, refusal_diagnostic};
 use vsi_drive::{BoundaryFault, LineFault, StartFault};
 
@@ -53,24 +52,6 @@ fn start_diagnostic(fault: StartFault) -> Diagnostic<'static>
         StartFault::Setting(fault) => setting_diagnostic(fault),
         StartFault::Boundary(fault) => boundary_diagnostic(fault),
         StartFault::Unnamed(i) => Diagnostic::new(56, b"GlobalNotNamed", Field::Number(i)),
-    }
-}
-
-/// The refusal of an image whose commands are judged; none if memory ran out.
-fn audit_diagnostic(error: &AuditError) -> Option<Diagnostic<'static>>
-    ensures { option_map diagnostic_of result ≡ spec.audit_diagnostic error.now }
-{
-    match error {
-        AuditError::UnknownClass(i) => {
-            Some(Diagnostic::new(43, b"ClassNotInLattice", Field::Number(*i)))
-        }
-        AuditError::Unstructured(at) => {
-            Some(Diagnostic::new(49, b"NoCommands", Field::Number(*at)))
-        }
-        AuditError::WrongFields => Some(Diagnostic::new(50, b"WrongFields", Field::Nothing)),
-        AuditError::NoText => Some(Diagnostic::new(51, b"NoText", Field::Nothing)),
-        AuditError::Flow(_) => Some(Diagnostic::new(25, b"Refused", Field::Nothing)),
-        AuditError::Memory => None,
     }
 }
 

@@ -78,12 +78,8 @@ kept (r ∷ pairs) = by r.allowed refl (kept pairs)
         (λ q k d. rest_there r q (refused_of pairs) (k d)) pairs h)
 
 module _ (L : Lattice) (P : Profile) (p : Program) where
-  -- A truth value that is false isn't true.
-  down_of : (b : Bool) → b ≡ false → b ≡ true → ⊥
-  down_of b e t = false≢true (sym e ∙ t)
-
   -- A pair of the table that isn't allowed is refused.
-  refused_told : (r : Pair) → IsTold L P p r → r.allowed ≡ false → IsRefused L P p r.source r.target
+  pub refused_told : (r : Pair) → IsTold L P p r → r.allowed ≡ false → IsRefused L P p r.source r.target
   refused_told r t e = record {
     joined = record {
       apart = t.apart;
@@ -94,7 +90,7 @@ module _ (L : Lattice) (P : Profile) (p : Program) where
       walk = t.steps.walk;
       path = t.steps.path;
     };
-    down = down_of (L.leq t.low t.high) (sym t.verdict ∙ e);
+    down = λ below. false≢true (sym (sym t.verdict ∙ e) ∙ below);
   }
 
   -- A pair of the table with two variables that are refused isn't allowed.

@@ -5,19 +5,19 @@ use Rattle.std.specs.List.{All, filter}
 use Rattle.std.proofs.lemmas.Bool.{false≢true}
 use Rattle.std.proofs.lemmas.List.{map_push, length-map}
 use Rattle.std.proofs.lemmas.List.Elements.{All-nil, All-cons, All-head, All-tail, All-take, All-push, All-filter, filter_passes}
-use Rattle.vsi_lattice.specs.Order.{Lattice}
 use Rattle.vsi_lattice.specs.declared.lattice.Lattice as policy
 use Rattle.vsi_lattice.specs.LatticeView.{order}
 use Rattle.vsi_types.specs.declared.rules.Profile.{Profile}
 use Rattle.vsi_types.specs.declared.rules.Step.{Step}
 use Rattle.vsi_scope.specs.Program.{Resolved}
-use Rattle.vsi_types.specs.Security.{Program, program, steps_of}
+use Rattle.vsi_types.specs.Security.{program, steps_of}
 use Rattle.vsi_compiler.specs.SourceView.{Source}
 use Rattle.vsi_flows.specs.declared.pair.Pair.{Pair}
 use Rattle.vsi_flows.specs.Table.{IsTold, IsTable, Precedes, AreSorted}
 use Rattle.vsi_flows.specs.Text.{IsWalkOf}
 use Rattle.vsi_flows.specs.Refused.{IsRefused, AreWalked}
 use Rattle.vsi_flows.specs.declared.walked.WalkedPair.{WalkedPair}
+use Rattle.vsi_flows.proofs.RefusedLemmas.{refused_told}
 use Rattle.vsi_further_flows.specs.Further.{has_ends, is_further, further_of, most_flows, first_of, is_small, IsRefusedFlow, HasOtherEnds, AreFurther, AreFirst, AreListed}
 
 -- A part of a sorted list is sorted.
@@ -60,22 +60,6 @@ passed false false f h = (refl, refl)
 apart_ends : (a b : ℕ) (r : Pair) → has_ends a b r ≡ false → r.source ≡ a → r.target ≡ b → ⊥
 apart_ends a b r h s t =
     false≢true (sym h ∙ ap (λ (x : Bool). x && eqb r.target b) (eq-eqb r.source a s) ∙ eq-eqb r.target b t)
-
-module _ (L : Lattice) (P : Profile) (p : Program) where
-  -- A pair of the table that isn't allowed is refused.
-  refused_told : (r : Pair) → IsTold L P p r → r.allowed ≡ false → IsRefused L P p r.source r.target
-  refused_told r t e = record {
-    joined = record {
-      apart = t.apart;
-      low = t.low;
-      high = t.high;
-      source = t.source;
-      target = t.target;
-      walk = t.steps.walk;
-      path = t.steps.path;
-    };
-    down = λ below. false≢true (sym (sym t.verdict ∙ e) ∙ below);
-  }
 
 -- At most 19 flows are listed for any text.
 most_few : (n : ℕ) → most_flows n ≤ 19
