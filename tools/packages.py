@@ -6,6 +6,8 @@ import subprocess
 
 # How long each call of apt-get may take.
 SECONDS = 900
+# A package that is only half on the disk after a crash does no harm here, so dpkg needn't wait for the disk.
+INSTALL = ["-o", "Dpkg::Options::=--force-unsafe-io", "install", "-y", "--no-install-recommends"]
 # The programs that the scripts call, with the packages that have them.
 PACKAGES = {
     "aarch64-linux-gnu-gcc": ["gcc-aarch64-linux-gnu", "libc6-dev-arm64-cross"],
@@ -35,7 +37,7 @@ def install(programs):
     if not packages or not shutil.which("apt-get") or os.geteuid() != 0:
         return
     environment = {**os.environ, "DEBIAN_FRONTEND": "noninteractive"}
-    for words in (["update"], ["install", "-y", "--no-install-recommends", *packages]):
+    for words in (["update"], [*INSTALL, *packages]):
         try:
             subprocess.run(["apt-get", *words], stdin=subprocess.DEVNULL, stdout=subprocess.DEVNULL,
                            stderr=subprocess.DEVNULL, timeout=SECONDS, env=environment)
