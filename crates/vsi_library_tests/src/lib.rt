@@ -1,7 +1,7 @@
 //! The tests of the library that rows and transcripts can't hold: devices that fail mid-stream,
 //! images with changed bytes, leaks over given stores, controllers that share a store, refused
 //! flows and counts, bounds of small codes, raises of declared classes, continuations of unfinished
-//! texts, layouts that keep comments, and positions with carets.
+//! texts, layouts that keep comments, positions with carets, names, and lines of JSON.
 #![tactic(auto)]
 
 #[cfg(test)]
@@ -19,7 +19,11 @@ mod layouts;
 #[cfg(test)]
 mod leaks;
 #[cfg(test)]
+mod names;
+#[cfg(test)]
 mod near;
+#[cfg(test)]
+mod objects;
 #[cfg(test)]
 mod places;
 #[cfg(test)]
