@@ -4,10 +4,11 @@ import os
 import shutil
 import subprocess
 
-# How long each call of apt-get may take.
-SECONDS = 900
-# A package that is only half on the disk after a crash does no harm here, so dpkg needn't wait for the disk.
-INSTALL = ["-o", "Dpkg::Options::=--force-unsafe-io", "install", "-y", "--no-install-recommends"]
+# A server that doesn't answer is left after some seconds. A package that is only half on the disk after a crash does no
+# harm here, so dpkg needn't wait for the disk.
+OPTIONS = ["-o", "Acquire::http::Timeout=20", "-o", "Acquire::Retries=0", "-o", "Dpkg::Options::=--force-unsafe-io"]
+# How many seconds the lists of packages may take, and the packages.
+LISTS, ALL = 120, 900
 # The programs that the scripts call, with the packages that have them.
 PACKAGES = {
     "aarch64-linux-gnu-gcc": ["gcc-aarch64-linux-gnu", "libc6-dev-arm64-cross"],
@@ -37,9 +38,11 @@ def install(programs):
     if not packages or not shutil.which("apt-get") or os.geteuid() != 0:
         return
     environment = {**os.environ, "DEBIAN_FRONTEND": "noninteractive"}
-    for words in (["update"], [*INSTALL, *packages]):
+    for seconds, words in ((LISTS, ["update"]), (ALL, ["install", "-y", "--no-install-recommends", *packages])):
         try:
-            subprocess.run(["apt-get", *words], stdin=subprocess.DEVNULL, stdout=subprocess.DEVNULL,
-                           stderr=subprocess.DEVNULL, timeout=SECONDS, env=environment)
+            done = subprocess.run(["apt-get", *OPTIONS, *words], stdin=subprocess.DEVNULL, stdout=subprocess.DEVNULL,
+                                  stderr=subprocess.DEVNULL, timeout=seconds, env=environment)
         except subprocess.TimeoutExpired:
+            return
+        if done.returncode:
             return
