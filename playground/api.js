@@ -1,4 +1,10 @@
 // The requests of the page to its server.
+import { at } from "./dom.js";
+
+// A request that a busy server refuses is sent again: so often, after such a pause. So is one that takes too long
+// though it takes the program only some milliseconds.
+const TIMES = 6, PAUSE = 1500, SHORT = new Set(["check", "classes", "explain", "fmt", "lattice"]);
+let waiting = 0;
 
 async function send(request, body) {
   const response = await fetch(`api/${request}`, {
@@ -6,11 +12,11 @@ async function send(request, body) {
     headers: { "Content-Type": "application/json" },
     body: JSON.stringify(body),
   });
-  return response.json();
+  const answer = await response.json();
+  return { ...answer, isBusy: response.status === 503 || (answer.stopped === "time" && SHORT.has(request)) };
 }
 
-/** Sends a request; answers the run of the program, or a run with `refused` if the server has none. */
-export async function ask(request, body) {
+async function once(request, body) {
   try {
     // A connection that was idle may just have been closed; a request changes nothing, so it can be sent again.
     return await send(request, body).catch(() => send(request, body));
@@ -19,8 +25,32 @@ export async function ask(request, body) {
   }
 }
 
+/** Counts the requests that wait for a busy server; the page says so while there is one. */
+function wait(change) {
+  waiting += change;
+  at("busy").hidden = waiting === 0;
+}
+
+/**
+ * Sends a request, and again while the server is busy and the answer is wanted; answers the run of the program, or a
+ * run with `refused` if the server has none.
+ */
+export async function ask(request, body, isWanted = () => true) {
+  let answer = await once(request, body);
+  if (!answer.isBusy) return answer;
+  wait(1);
+  for (let times = 1; answer.isBusy && times < TIMES && isWanted(); times += 1) {
+    // Pages that were refused together come back at different times.
+    await new Promise((resolve) => setTimeout(resolve, PAUSE * (0.5 + Math.random())));
+    if (isWanted()) answer = await once(request, body);
+  }
+  wait(-1);
+  return answer;
+}
+
 const STOPPED = {
-  time: "The run took too long, so the server stopped it. Use a smaller budget or fewer pairs.",
+  time: "The run took too long, so the server stopped it. Use a smaller budget or fewer pairs, or try "
+    + "again if the server is busy.",
   memory: "The run used up its memory, so the server stopped it.",
   output: "The run wrote too much, so the server stopped it. Use a smaller budget.",
 };

@@ -27,9 +27,18 @@ export function fill(element, ...children) {
   element.replaceChildren(...children.flat(Infinity).filter((child) => child !== null && child !== undefined));
 }
 
-/** A button with a label and what it does. */
-export const button = (label, press, attributes = {}) =>
-  h("button", { type: "button", ...attributes, on: { click: press } }, label);
+/** A button with a label and what it does; it is marked as busy until that is done. */
+export function button(label, press, attributes = {}) {
+  const element = h("button", { type: "button", ...attributes, on: { click: async (event) => {
+    element.setAttribute("aria-busy", "true");
+    try {
+      await press(event);
+    } finally {
+      element.removeAttribute("aria-busy");
+    }
+  } } }, label);
+  return element;
+}
 
 /** A class as a small label in its colour. */
 export const chip = (name, number) => h("span", { class: `chip k${number % 8}` }, name);

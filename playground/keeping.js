@@ -21,6 +21,16 @@ export function keep(name, value) {
   }
 }
 
+/** Gives the reader a file of this name, which holds a text. */
+export function save(name, text) {
+  const address = URL.createObjectURL(new Blob([text], { type: "application/json" }));
+  const link = Object.assign(document.createElement("a"), { href: address, download: name });
+  document.body.append(link);
+  link.click();
+  link.remove();
+  setTimeout(() => URL.revokeObjectURL(address), 1000);
+}
+
 /** The fragment of an address that holds a text, its lattice and its profile. */
 export function packed(value) {
   const bytes = new TextEncoder().encode(JSON.stringify(value));

@@ -72,14 +72,14 @@ export class Policy {
     this.show();
   }
 
-  /** Reads the lattice from its text; answers whether it is one. */
-  async read(text) {
-    if (text === this.text) return this.lattice.classes.length > 0;
-    const answer = await ask("lattice", { lattice: text });
+  /** Reads the lattice from its text; answers what the server said if it had no answer, else nothing. */
+  async read(text, isWanted) {
+    if (text === this.text) return null;
+    const answer = await ask("lattice", { lattice: text }, isWanted);
     if (answer.status !== 0) {
       this.text = null;
       say(answer);
-      return false;
+      return trouble(answer) ? answer : null;
     }
     this.text = text;
     this.lattice = readLattice(answer.output);
@@ -87,7 +87,7 @@ export class Policy {
     at("observer").disabled = this.lattice.classes.length < 2;
     this.look(this.lattice.classes.includes(this.wanted) ? this.wanted : this.lattice.upwards[0]);
     this.changed();
-    return true;
+    return null;
   }
 
   show() {

@@ -46,6 +46,14 @@ export class Panes {
     return Number.isInteger(number) && number >= 0 && number <= 1000000 ? number : 10000;
   }
 
+  /** The class of the observer, once the lattice has been read; if there is none, the result says so. */
+  async observer(result) {
+    await this.app.policy.read(this.app.lattice);
+    const { observer } = this.app.policy;
+    if (!observer) fill(at(result), h("p", { class: "no", role: "alert" }, "There is no observer: see the lattice."));
+    return observer;
+  }
+
   /** Shows the globals of the text, and forgets results of another one. */
   refresh() {
     const list = globals(this.app.text);
@@ -126,7 +134,9 @@ export class Panes {
 
   async leak() {
     fill(at("leak-result"), h("p", {}, "The search runs."));
-    const only = at("leak-only").checked ? { class: this.app.policy.observer } : {};
+    const observer = at("leak-only").checked ? await this.observer("leak-result") : null;
+    if (observer === "") return;
+    const only = observer ? { class: observer } : {};
     const answer = await ask("leak", { ...this.body, ...only, budget: this.budget,
       tries: Number(at("leak-tries").value), endings: at("leak-endings").checked, steps: at("leak-steps").checked });
     if (answer.status === 0 && !trouble(answer)) {
@@ -155,7 +165,8 @@ export class Panes {
 
   /** Compares two runs; answers the rows, or nothing. */
   async compare() {
-    const observer = this.app.policy.observer;
+    const observer = await this.observer("pair-result");
+    if (!observer) return null;
     const answer = await ask("compare", { ...this.body, store: this.pair.text(0), other: this.pair.text(1),
       class: observer, budget: this.budget });
     if (!/ sees before$/m.test(answer.output ?? "")) {
@@ -172,8 +183,10 @@ export class Panes {
 
   async drive() {
     const lines = at("cycles-lines").value;
+    const observer = await this.observer("cycles-result");
+    if (!observer) return;
     const answer = await ask("drive", { ...this.body, store: this.store.text(0), lines, budget: this.budget,
-      class: this.app.policy.observer });
+      class: observer });
     if (answer.status !== 0) {
       fill(at("cycles-result"), complaint(answer));
       return;

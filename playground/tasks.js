@@ -4,7 +4,7 @@ import { at, button, fill, h } from "./dom.js";
 import { markdown } from "./markdown.js";
 import { complaint } from "./panes.js";
 import { twoRuns } from "./reading.js";
-import { keep, kept } from "./keeping.js";
+import { keep, kept, save } from "./keeping.js";
 
 const GOALS = {
   words: "Find two stores that look the same to the observer, and whose ends don't.",
@@ -79,20 +79,23 @@ export class Tasks {
   startExercise(exercise) {
     const { files, kind } = exercise;
     const draft = kept("drafts", {})[exercise.name];
+    const stores = draft?.one === undefined ? [files["start_one.toml"], files["start_other.toml"]]
+      : [draft.one, draft.other];
     const text = files["start.vsi"] ?? files["broken.vsi"] ?? files["accepted_round.vsi"];
     const lattice = kind === "policy" ? files["start.toml"] : files[exercise.lattice];
     const profile = /profile = "(\w+)"/.exec(files["interface.toml"] ?? "")?.[1] ?? "base";
     this.app.show({ text: kind === "text" && draft ? draft : text,
       lattice: kind === "policy" && draft ? draft : lattice, files, profile,
       observer: kind === "leak" ? "L" : "", isFixed: kind === "leak", isLatticeFixed: kind !== "policy",
-      stores: kind === "leak" ? [files["start_one.toml"], files["start_other.toml"]] : null,
-      budget: (files["budget.txt"] ?? files["start_budget.txt"] ?? "10000").trim(),
+      stores: kind === "leak" ? stores : null,
+      budget: (files["budget.txt"] ?? draft?.budget ?? files["start_budget.txt"] ?? "10000").trim(),
       tab: kind === "leak" ? "pair" : "run" });
     fill(at("task-body"), h("p", { class: "note" }, `${HERE[kind]} Type no command: the verdict is below the text, `
       + "and the panes do the rest."),
     markdown(exercise.task, { level: 1, command: (line) => command(this.app, line) }));
     fill(at("task-buttons"), button("Mark my answer", () => this.mark(), { class: "main", id: "mark-button" }),
-      button("Begin again", () => this.again()), this.next());
+      button("Begin again", () => this.again()), button("Download my answers", () => this.download(),
+        { id: "download-answers" }), this.next());
   }
 
   startLevel(level) {
@@ -120,15 +123,24 @@ export class Tasks {
     this.start(this.open.name);
   }
 
-  /** Keeps the answer as it is typed. */
-  keepDraft() {
-    if (!this.open || !this.open.kind || this.open.kind === "leak") return;
-    keep("drafts", { ...kept("drafts", {}),
-      [this.open.name]: this.open.kind === "policy" ? this.app.lattice : this.app.text });
+  /** Keeps the answer as it is typed; that of two stores when it is marked or downloaded. */
+  keepDraft(hasStores = false) {
+    if (!this.open || !this.open.kind || (this.open.kind === "leak" && !hasStores)) return;
+    const { text, lattice, panes } = this.app;
+    const answer = { text, policy: lattice,
+      leak: { one: panes.pair.text(0), other: panes.pair.text(1), budget: String(panes.budget) } }[this.open.kind];
+    keep("drafts", { ...kept("drafts", {}), [this.open.name]: answer });
+  }
+
+  /** Gives all answers as one file, which `exercises/grade` reads. */
+  download() {
+    this.keepDraft(true);
+    save("vsi-answers.json", JSON.stringify({ "vsi-answers": 1, answers: handedIn(this.exercises) }, null, 1));
   }
 
   async mark() {
     const exercise = this.open;
+    this.keepDraft(true);
     const { text, lattice, panes } = this.app;
     const answer = await ask("conform", { exercise: exercise.name, ...({ text: { text }, policy: { lattice },
       leak: { store: panes.pair.text(0), other: panes.pair.text(1), budget: panes.budget } })[exercise.kind] });
@@ -189,6 +201,17 @@ export class Tasks {
     keep("done", { ...kept("done", {}), [this.open.name]: true });
     this.app.listItems();
   }
+}
+
+/** The answers that the browser keeps, by exercise and file, as the exercises' pages name them. */
+export function handedIn(exercises) {
+  const drafts = kept("drafts", {});
+  const files = ({ kind, files }, draft) => (kind === "text" ? { "answer.vsi": draft }
+    : kind === "policy" ? { "answer.toml": draft }
+      : { "one.toml": draft.one, "other.toml": draft.other,
+        ...(files["budget.txt"] ? {} : { "budget.txt": `${draft.budget}\n` }) });
+  return Object.fromEntries(exercises.filter(({ name }) => drafts[name] !== undefined)
+    .map((exercise) => [exercise.name, files(exercise, drafts[exercise.name])]));
 }
 
 /** The title of an exercise: the heading of its page. */

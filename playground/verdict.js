@@ -3,7 +3,8 @@ import { ask, trouble } from "./api.js";
 import { at, button, fill, h } from "./dom.js";
 import { classLines, declarations, joined, steps, tokens } from "./reading.js";
 
-const PAUSE = 250;
+// Milliseconds: after the last key, and until the verdict of the text before is taken away.
+const PAUSE = 250, LATE = 2000;
 
 /** The changes of the text that the program's own explanation offers, each with a label. */
 export function fixes(text, explained) {
@@ -51,37 +52,42 @@ export class Verdict {
       return;
     }
     this.isBusy = true;
-    do {
-      this.isStale = false;
-      await this.judge();
-    } while (this.isStale);
-    this.isBusy = false;
+    try {
+      do {
+        this.isStale = false;
+        await this.judge();
+      } while (this.isStale);
+    } finally {
+      this.isBusy = false;
+    }
   }
 
   async judge() {
     const { text, lattice, profile } = this.app;
-    await this.app.policy.read(lattice);
-    const answer = await ask("check", { text, lattice, profile });
-    if (text !== this.app.text || lattice !== this.app.lattice || profile !== this.app.profile) {
+    const isWanted = () => text === this.app.text && lattice === this.app.lattice && profile === this.app.profile;
+    const late = setTimeout(() => this.show("doubt", "Reading", h("p", {}, "The server hasn't answered yet.")), LATE);
+    const answer = await this.app.policy.read(lattice, isWanted)
+      ?? await ask("check", { text, lattice, profile }, isWanted);
+    clearTimeout(late);
+    if (!isWanted()) {
       this.isStale = true;
       return;
     }
     const problem = trouble(answer);
     const json = problem ? null : readJson(answer.output);
     this.accepted = json ? json.accepted : null;
-    if (problem) this.show("doubt", "No verdict", h("p", {}, problem));
+    if (problem) this.show("doubt", "No verdict", h("p", {}, problem), button("Ask again", () => this.now()));
     else if (!json) this.show("bad", "Refused", this.explanation(answer.explained || answer.errors, ""));
-    else if (json.accepted) await this.accept(text, lattice, profile);
+    else if (json.accepted) await this.accept({ text, lattice, profile }, isWanted);
     else this.refuse(json, answer.explained);
   }
 
-  async accept(text, lattice, profile) {
-    const how = { base: "base", strict: "strict", steady: "steady" }[profile];
-    this.show("good", "Accepted", h("p", {}, `By the ${how} profile.`));
+  async accept(asked, isWanted) {
+    this.show("good", "Accepted", h("p", {}, `By the ${asked.profile} profile.`));
     this.app.program.mark(new Map());
-    const answer = await ask("classes", { text, lattice, profile });
-    if (text !== this.app.text || answer.status !== 0) return;
-    const declared = new Set(declarations(tokens(text)).filter((one) => one.class)
+    const answer = await ask("classes", asked, isWanted);
+    if (!isWanted() || answer.status !== 0) return;
+    const declared = new Set(declarations(tokens(asked.text)).filter((one) => one.class)
       .map((one) => `${one.place.line}:${one.place.column}`));
     this.app.program.infer(new Map(classLines(answer.output).map((one) => [`${one.line}:${one.column}`, one.class])
       .filter(([place]) => !declared.has(place))));
@@ -117,10 +123,13 @@ export class Verdict {
     return json.line ? h("p", {}, "At ", go(json)) : null;
   }
 
+  /** The changes that are offered, as buttons. A change of another text than the present one would undo the typing. */
   fixes(explained) {
-    const found = fixes(this.app.text, explained);
-    return found.length && !this.app.isFixed ? h("p", { class: "fixes" }, found.map((fix) => button(fix.label, () =>
-      this.app.change(fix.apply())))) : null;
+    const { text } = this.app;
+    const found = fixes(text, explained);
+    return found.length && !this.app.isFixed ? h("p", { class: "fixes" }, found.map((fix) => button(fix.label, () => {
+      if (this.app.text === text) this.app.change(fix.apply());
+    }))) : null;
   }
 
   explanation(explained, fixed) {

@@ -1,7 +1,12 @@
 """Looks for conditional jumps in the machine code of emitted C: each must be at a test of the budget or a guard.
 
+Compilers turn arithmetic into predicated instructions, too, which jump nowhere: the blocks of IT of Thumb-2, `csel` and
+its kin of AArch64, `cmov` of x86-64. Whatever isn't at a test of the budget or a guard may only move a value between
+registers there: a predicated load, store, comparison or jump is reported.
+
 Without a budget blocks are joined, and a compiler may turn a guard into a choice of values, for which it jumps at no
-line of the C. Such jumps are allowed, any number of them, if some guard of the file has no jump at its own line.
+line of the C, or loads one of two. Such jumps and predicated instructions are allowed, any number of them, if some
+guard of the file has no jump at its own line.
 """
 
 import bisect
@@ -11,14 +16,24 @@ import subprocess
 
 from c_compilers import LEVELS, SILENT, Fault
 
-# Where a line of a disassembly begins that names a place of the C, and one with a conditional jump of ARM or RISC-V.
+# Where a line of a disassembly begins that names a place of the C, and one with an instruction and its operands.
 PLACE = re.compile(r"^\S.*\.c:(\d+)")
-JUMP = re.compile(r"^\s*[0-9a-f]+:\s+(?:[0-9a-f]{4,8}\s)+\s*"
-                  r"(b(?:eq|ne|cs|hs|cc|lo|mi|pl|vs|vc|hi|ls|ge|lt|gt|le)(?:\.[nw])?|cbn?z|tb[bh]"
-                  r"|b(?:eqz|nez|lez|gez|ltz|gtz|ltu|geu|gtu|leu)|c\.b\w+)\s")
+INSTRUCTION = re.compile(r"^\s*[0-9a-f]+:\s+(?:[0-9a-f]{2,8}\s)+\s*([a-z][a-z0-9.]*)\s*(.*)$")
+CONDITION = "(?:eq|ne|cs|hs|cc|lo|mi|pl|vs|vc|hi|ls|ge|lt|gt|le)"
+# The conditional jumps of ARM, RISC-V and x86-64.
+JUMP = re.compile(rf"b\.?{CONDITION}(?:\.[nw])?|cbn?z(?:\.[nw])?|tb[bh]|tbn?z"
+                  r"|b(?:eqz|nez|lez|gez|ltz|gtz|ltu|geu|gtu|leu)|c\.b\w+|j(?!mp|alr?$|r$)\w+|loop\w*")
+# The instruction that begins a block of Thumb-2, with a letter for each further one, and a move in such a block.
+BLOCK = re.compile(r"it[te]{0,3}")
+BLOCK_MOVE = re.compile(rf"(?:mov[wt]?|mvn){CONDITION}(?:\.[nw])?")
+# The predicated instructions of AArch64 and x86-64, and those among them that move a value, or a constant.
+PREDICATED = re.compile(r"cs(?:el|et|etm|inc|inv|neg)|c(?:inc|inv|neg)|fcsel|f?ccm[pn]e?|cmov\w+|fcmov\w+")
+MOVE = re.compile(r"cs(?:el|et|etm|inc|inv|neg)|c(?:inc|inv|neg)|cmov\w+")
+# An operand in memory, and the program counter, which a move would make a jump.
+NO_REGISTER = re.compile(r"[\[(]|\bpc\b")
 # A row of the table of lines: the line and the address.
 ROW = re.compile(r"^\S+\.c\s+(\d+)\s+(0x[0-9a-f]+|0)\b")
-CALL = re.compile(r"R_(?:ARM_THM_CALL|ARM_CALL|RISCV_CALL(?:_PLT)?)\s+(\S+)")
+CALL = re.compile(r"R_(?:ARM_THM_CALL|ARM_CALL|RISCV_CALL(?:_PLT)?|AARCH64_CALL26|X86_64_PLT32)\s+(\S+)")
 ALLOWED = "if ("
 # The levels, and one at which the barrier is that of a compiler which isn't GNU's.
 WAYS = [[level] for level in LEVELS] + [["-O2", "-U__GNUC__", "-ffreestanding"]]
@@ -48,28 +63,54 @@ def has_no_line(rows, text):
     return at > 0 and rows[at - 1][2] == 0
 
 
+def wanders(block, operation, operands):
+    """Whether an instruction that is predicated, in a block of IT or by itself, does more than move a value."""
+    if block:
+        return not BLOCK_MOVE.fullmatch(operation) or NO_REGISTER.search(operands) is not None
+    return PREDICATED.fullmatch(operation) is not None and (
+        not MOVE.fullmatch(operation) or NO_REGISTER.search(operands) is not None)
+
+
+def instructions(texts):
+    """Each line of a disassembly with an instruction or a call: its line of the C, or that of its block of IT, the text,
+    the instruction, its operands, whether it is in such a block, and the name that is called."""
+    line, block, begun = 0, 0, 0
+    for text in texts:
+        place, instruction, call = PLACE.match(text), INSTRUCTION.match(text), CALL.search(text)
+        if place:
+            line = int(place[1])
+        elif instruction and BLOCK.fullmatch(instruction[1]):
+            block, begun = len(instruction[1]) - 1, line
+        elif instruction:
+            yield begun if block else line, text, instruction[1], instruction[2], block > 0, None
+            block = max(block - 1, 0)
+        elif call:
+            yield line, text, "", "", False, call[1]
+
+
 def strange(controller, way, folder, name, joins=False):
-    """The conditional jumps of no test in the C, and the calls, each with its line; and the count of other jumps."""
+    """The conditional jumps of no test in the C, the predicated instructions there that aren't moves, and the calls,
+    each with its line; and the count of other jumps."""
     with open(os.path.join(folder, f"{name}.c"), encoding="ascii") as file:
         source = [line.strip() for line in file]
-    found, allowed, lineless, line = [], [], [], 0
+    found, allowed, joined = [], [], []
     texts = disassembled(controller, way, folder, name)
     matches = filter(None, map(ROW.match, asked(controller, folder, "--dwarf=decodedline")))
     rows = sorted((int(row[2], 16), at, int(row[1])) for at, row in enumerate(matches))
-    for text in texts:
-        place, jump, call = PLACE.match(text), JUMP.match(text), CALL.search(text)
-        if place:
-            line = int(place[1])
-        elif jump and line and source[line - 1].startswith(ALLOWED):
-            allowed.append(line)
-        elif jump and joins and has_no_line(rows, text):
-            lineless.append((jump[1], "no line"))
-        elif jump:
-            found.append((jump[1], source[line - 1] if line else "?"))
-        elif call and call[1] != PRODUCT:
-            found.append((call[1], source[line - 1]))
+    for line, text, operation, operands, block, call in instructions(texts):
+        is_jump = JUMP.fullmatch(operation) and not block
+        if call:
+            found += [] if call == PRODUCT else [(call, source[line - 1])]
+        elif not is_jump and not wanders(block, operation, operands):
+            continue
+        elif line and source[line - 1].startswith(ALLOWED):
+            allowed += [line] if is_jump else []
+        elif joins and (not is_jump or has_no_line(rows, text)):
+            joined.append((operation, "no guard's line"))
+        else:
+            found.append((operation, source[line - 1] if line else "?"))
     guards = sum(text.startswith(ALLOWED) for text in source) - len(set(allowed))
-    return found + ([] if guards > 0 else lineless), len(allowed)
+    return found + ([] if guards > 0 else joined), len(allowed)
 
 
 def look(controller, folder, names, has_budget=True):

@@ -44,6 +44,8 @@ class Fault(Exception):
 
 
 HOSTS = [Target("gcc", ["gcc", APART, *SANITIZED], [], LEVELS), Target("clang", ["clang", *SANITIZED], [], LEVELS)]
+# These compile the headers alone.
+HEADERS = [Target(name, [name], [], []) for name in ("g++", "clang++")]
 # Another order of bytes, other sizes of words and other code: two levels of each show the compiler's ways.
 OTHERS = [
     Target(f"{processor} gcc", [f"{processor}-linux-{system}-gcc", "-static", APART], [emulator], ["-O0", "-O2", "-Os"])
@@ -53,7 +55,7 @@ OTHERS = [
 
 
 class Controller(NamedTuple):
-    """A compiler for small processors, whose files are looked at and not run."""
+    """A compiler for a processor, whose files are looked at and not run."""
 
     name: str
     compiler: list
@@ -64,16 +66,21 @@ class Controller(NamedTuple):
 
 
 CONTROLLERS = [
-    Controller("gcc Cortex-M0", ["arm-none-eabi-gcc", "-mcpu=cortex-m0", "-mthumb"], ["arm-none-eabi-objdump"]),
-    Controller("gcc Cortex-M4", ["arm-none-eabi-gcc", "-mcpu=cortex-m4", "-mthumb"], ["arm-none-eabi-objdump"]),
+    *(Controller(f"gcc Cortex-{core}", ["arm-none-eabi-gcc", f"-mcpu=cortex-{core.lower()}", "-mthumb"],
+                 ["arm-none-eabi-objdump"])
+      for core in ("M0", "M3", "M4", "M7", "M33")),
     Controller("gcc RV32", ["riscv64-unknown-elf-gcc", "-ffreestanding", "-march=rv32imc", "-mabi=ilp32"],
                ["riscv64-unknown-elf-objdump"]),
-    Controller("clang Cortex-M0", ["clang", "--target=armv6m-none-eabi", "-mcpu=cortex-m0", "-ffreestanding"],
-               ["arm-none-eabi-objdump"]),
-    Controller("clang Cortex-M4", ["clang", "--target=armv7em-none-eabi", "-mcpu=cortex-m4", "-ffreestanding"],
-               ["arm-none-eabi-objdump"]),
+    Controller("gcc AArch64", ["aarch64-linux-gnu-gcc"], ["aarch64-linux-gnu-objdump"]),
+    Controller("gcc x86-64", ["x86_64-linux-gnu-gcc"], ["x86_64-linux-gnu-objdump"]),
+    *(Controller(f"clang Cortex-{core}", ["clang", f"--target={target}-none-eabi", f"-mcpu=cortex-{core.lower()}",
+                                          "-ffreestanding"], ["arm-none-eabi-objdump"])
+      for core, target in (("M0", "armv6m"), ("M4", "armv7em"), ("M33", "thumbv8m.main"))),
     Controller("clang RV32", ["clang", "--target=riscv32-unknown-elf", "-march=rv32imc", "-ffreestanding"],
                ["riscv64-unknown-elf-objdump"]),
+    Controller("clang AArch64", ["clang", "--target=aarch64-none-elf", "-ffreestanding"],
+               ["aarch64-linux-gnu-objdump"]),
+    Controller("clang x86-64", ["clang", "--target=x86_64-none-elf", "-ffreestanding"], ["x86_64-linux-gnu-objdump"]),
 ]
 
 

@@ -289,6 +289,10 @@ class Case:
         yield ["classes", "lattice", "source"]
         if rng.random() < 0.2:
             yield ["classes", "lattice", "source", "--strict"]
+        for words in (["flows"], ["mend"]):
+            yield [*words, "lattice", "source", *rng.choice(([], ["--strict"]))]
+        yield ["flows", "lattice", "source", *rng.choice((["--walks"], ["--json"], ["--walks", "--strict"]))]
+        yield ["mend", "lattice", "source", *rng.choice((["--apply"], ["--apply", "--strict"]))]
         if rng.random() < 0.05:
             yield []
         yield ["build", "lattice", "source", "written"]
@@ -303,3 +307,26 @@ class Case:
             yield words + (["--trace"] if rng.random() < 0.3 else []), a_store(rng, self.names)
         words = ["view", "lattice", "image", "--budget=3000", "--class", rng.choice(self.order.names)]
         yield words + ["--store=store"], a_store(rng, self.names)
+
+    def interface(self, declared):
+        """An interface for a text with these globals and their classes, sometimes with differences."""
+        rng, wanted = self.rng, list(declared)
+        if wanted and rng.random() < 0.2:
+            wanted.pop(rng.randrange(len(wanted)))
+        if rng.random() < 0.2 and len(wanted) < 256:
+            wanted.insert(rng.randrange(len(wanted) + 1), ("zz9", rng.choice(self.order.names)))
+        if rng.random() < 0.2:
+            wanted = [(name, rng.choice((label, rng.choice(self.order.names)))) for name, label in wanted]
+        if rng.random() < 0.2:
+            rng.shuffle(wanted)
+        names = [name for name, _ in wanted]
+        lines = ['lattice = "lattice"', f'profile = "{rng.choice(("base", "strict"))}"']
+        lines += [f'order = "{rng.choice(("exact", "set"))}"'] if rng.random() < 0.5 else []
+        lines.append("globals = [" + ", ".join(f'["{name}", "{label}"]' for name, label in wanted) + "]")
+        for _ in range(rng.randrange(3)):
+            some, budget = rng.sample(names, min(len(names), rng.randrange(4))), rng.choice((0, 3, 20, 400, 3000))
+            store = ", ".join(f"{name} = {rng.choice((-1, 0, 1, 7))}" for name in some)
+            expect = ", ".join(f"{name} = {rng.choice((-1, 0, 0, 1, 7))}" for name in some)
+            ends = rng.choice(("halts = true", f"expect = {{ {expect} }}"))
+            lines += ["[[runs]]", f"store = {{ {store} }}", f"budget = {budget}", ends]
+        return ("\n".join(lines) + "\n").encode()

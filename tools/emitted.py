@@ -3,15 +3,15 @@
 
 usage: tools/emitted.py [PROGRAM] [--count N] [--first N] [--builds N]
 
-PROGRAM is crates/vsi_program/out/vsi_program unless another is named. Half of the images are compiled from texts by the
-generator of tools/generated.py, half are valid images that no compiler made (tools/emitted_images.py). Each is printed
-by `vsi emit-c`, and run from three stores with the budgets 0, 1, one below what the run takes, what it takes, and a
-large one: the answers and the globals must be those of `vsi run`. Where an image has a bound, the function of
-`emit-c --bounded` must leave the same globals as each run that halts. A hundred images are compiled at a time, without a
-warning: by gcc and clang at each level with the sanitizer of undefined behaviour, and by the compilers for other
-processors, whose programs run under qemu-user. With `--builds` each hundred is compiled only N times, in turn by each
-compiler at each of its levels. What isn't installed is left out, and named in a line. A difference ends the trial with
-its case; else nothing is written.
+PROGRAM is crates/vsi_program/out/vsi_program unless another is named. Half of the images are compiled from texts by
+the generator of tools/generated.py, half are valid images that no compiler made (tools/emitted_images.py). Each is
+printed by `vsi emit-c`, and run from three stores with the budgets 0, 1, one below what the run takes, what it takes,
+and a large one: the answers and the globals must be those of `vsi run`. Where an image has a bound, the function of
+`emit-c --bounded` must leave the same globals as each run that halts. A hundred images are compiled at a time,
+without a warning: by gcc and clang at each level with the sanitizer of undefined behaviour, and by the compilers for
+other processors, whose programs run under qemu-user. With `--builds` each hundred is compiled only N times, in turn
+by each compiler at each of its levels. What isn't installed is left out, and named in a line; without any compiler
+the trial fails. A difference ends it with its case; else nothing is written.
 """
 
 import argparse
@@ -19,7 +19,6 @@ import itertools
 import os
 import random
 import re
-import shutil
 import subprocess
 import sys
 import tempfile
@@ -29,7 +28,7 @@ HERE = os.path.dirname(os.path.abspath(__file__))
 sys.path.insert(1, os.path.join(HERE, "second"))
 
 import image as images  # noqa: E402
-from c_compilers import HOSTS, OTHERS, SILENT, Fault, Target, installed  # noqa: E402
+from c_compilers import HEADERS, HOSTS, OTHERS, SILENT, Fault, installed  # noqa: E402
 from emitted_images import NUMBERS, odd_image  # noqa: E402
 from generated import Trial  # noqa: E402
 
@@ -158,14 +157,12 @@ def write_harness(folder, batch):
             "rows": ",\n".join(map(row_of, batch))})
 
 
-def compile_headers(folder, batch):
+def compile_headers(compilers, folder, batch):
     """Compiles the headers as C++ too, silently."""
     with open(os.path.join(folder, "headers.cpp"), "w", encoding="ascii") as file:
         file.writelines(f'#include "{name}.h"\n' for name in files_of(batch))
-    for name in ("g++", "clang++"):
-        if shutil.which(name):
-            options = ["-std=c++11", *SILENT[1:], "-c", "headers.cpp", "-o", "headers.o"]
-            Target(name, [name], [], []).compile(options, folder)
+    for compiler in compilers:
+        compiler.compile(["-std=c++11", *SILENT[1:], "-c", "headers.cpp", "-o", "headers.o"], folder)
 
 
 def compare(target, level, folder, batch):
@@ -194,7 +191,10 @@ def read_options():
 def main():
     options = read_options()
     program = os.path.abspath(options.program)
+    of_headers = installed(HEADERS)
     builds = [(target, level) for target in installed(HOSTS + OTHERS) for level in target.levels]
+    if not builds:
+        raise Fault("nothing runs, since no compiler is installed")
     wanted = min(options.builds or len(builds), len(builds))
     turns = itertools.cycle(builds)
     end = options.first + options.count
@@ -205,7 +205,7 @@ def main():
             if len(batch) == BATCH and sum(each.is_bounded for each in batch) < BOUNDED:
                 raise Fault(f"of the images from {first} on too few have a bound")
             write_harness(folder, batch)
-            compile_headers(folder, batch)
+            compile_headers(of_headers, folder, batch)
             for target, level in itertools.islice(turns, wanted):
                 compare(target, level, folder, batch)
         os.chdir("/")

@@ -18,6 +18,7 @@ PACKAGES = {
     "chromium": ["chromium", "python3-selenium"],
     "clang": ["clang"],
     "fish": ["fish"],
+    "g++": ["g++"],
     "gcc": ["gcc", "libc6-dev"],
     "make": ["make"],
     "man": ["man-db"],

@@ -7,10 +7,11 @@ usage: tools/playground_browser.py PROGRAM [--short] [--width N] [--scheme NAME]
 PROGRAM is the built program; `playground/serve` serves it on a free port. Chromium types a text, sees the refusal,
 takes the quick fix, runs it, finds a leak, solves exercise 02 and level 3, shares a link and opens it again: at widths
 of 360, 800 and 1,600, light and dark. No page may be wider than its window, each control has a name, text has a
-contrast of at least 4.5 to 1, and the console shows no error. --short goes through one width; --width and --scheme
-name the one to go through; --unproved takes the limits of memory and time from the server, for a program that
-`tools/build` has made; --pictures writes the pages as pictures. --readme writes the two pictures of README instead, as
-playground-light.png and playground-dark.png.
+contrast of at least 4.5 to 1, and the console shows no error. A request may take 20 seconds, a button is pressed again
+where the server was busy, and what the page shows is waited for three minutes: a busy machine is no fault. --short goes
+through one width; --width and --scheme name the one to go through; --unproved takes the limit of memory from the
+server, for a program that `tools/build` has made; --pictures writes the pages as pictures. --readme writes the two
+pictures of README instead, as playground-light.png and playground-dark.png.
 Silent where all is well. It needs chromium, chromium-driver and python3-selenium of Debian; where one of them is
 missing, it says so in one line and ends with status 0.
 """
@@ -69,6 +70,17 @@ return page.scrollWidth <= window.innerWidth ? [] : [...document.querySelectorAl
   element.getBoundingClientRect().right > window.innerWidth + 1)
   .map((element) => `${element.tagName}#${element.id}.${element.className}`).slice(0, 8);
 """
+# Lets the page get the answer of a busy server to so many of its next checks.
+REFUSE = """
+const real = window.fetch;
+let left = arguments[0];
+window.fetch = (path, ...more) => path !== "api/check" || left-- <= 0 ? real(path, ...more) : Promise.resolve(
+  new Response(JSON.stringify({ status: -1, refused: "the server is busy; try again" }), { status: 503 }));
+"""
+# Parts of the answer of a server that was too busy for a request.
+BUSY = ("took too long", "No answer")
+# Seconds: for a request, and until the page must show what it should, on a busy machine.
+REQUEST, PATIENCE = 20, 180
 faults = 0
 
 
@@ -80,8 +92,8 @@ def complain(*parts: object) -> None:
 
 
 def serve(program: str, is_unproved: bool) -> "tuple[subprocess.Popen[str], str]":
-    """Starts the server on a free port; answers it with its address."""
-    more = ["--memory", "0", "--seconds", "20"] if is_unproved else []
+    """Starts the server on a free port, with time for each request on a busy machine; answers it with its address."""
+    more = ["--seconds", str(REQUEST), *(["--memory", "0"] if is_unproved else [])]
     words = [sys.executable, os.path.join(ROOT, "playground", "serve"), "--port", "0", "--vsi", program, *more]
     server = subprocess.Popen(words, stdout=subprocess.PIPE, text=True)
     assert server.stdout
@@ -139,16 +151,30 @@ class Student:
                 time.sleep(0.2)
         complain(f"{self.size[0]} {self.scheme}: {selector} can't be clicked")
 
-    def wait(self, what: str, happens: Callable[[], Any], seconds: float = 20) -> bool:
+    def wait(self, what: str, happens: Callable[[], Any]) -> bool:
         """Waits until something happens; complains if it doesn't."""
-        end = time.monotonic() + seconds
+        end = time.monotonic() + PATIENCE
         while time.monotonic() < end:
             if happens():
                 return True
             time.sleep(0.1)
-        complain(f"{self.size[0]} {self.scheme}: not in {seconds} seconds: {what}; the verdict is",
-                 repr(self.text("verdict-title")))
+        shown = self.js("return [...document.querySelectorAll('#verdict, [role=tabpanel]:not([hidden])')]"
+                        ".map((part) => part.innerText)")
+        complain(f"{self.size[0]} {self.scheme}: not in {PATIENCE} seconds: {what}; the page shows {shown}")
         return False
+
+    def ask(self, identifier: str, result: str, what: str, happens: Callable[[], Any]) -> bool:
+        """Presses a button and waits for its answer; presses again where the result says that the server was busy."""
+        self.press(identifier)
+
+        def has_happened() -> bool:
+            if happens():
+                return True
+            is_asking = self.at(identifier).get_attribute("aria-busy") == "true"
+            if not is_asking and any(words in self.text(result) for words in BUSY) and not happens():
+                self.press(identifier)
+            return False
+        return self.wait(what, has_happened)
 
     def write(self, text: str) -> None:
         """Types a text in place of the present one, with the keyboard."""
@@ -181,45 +207,63 @@ class Student:
                         deviceScaleFactor=1, mobile=False)
 
     def verdict(self, begins: str) -> None:
-        self.wait(f"the verdict {begins}", lambda: self.text("verdict-title").startswith(begins))
+        """Waits for a verdict; asks again where the server was too busy."""
+        def is_shown() -> bool:
+            self.js("document.querySelector('#verdict.doubt button:not([aria-busy])')?.click()")
+            return self.text("verdict-title").startswith(begins)
+        self.wait(f"the verdict {begins}", is_shown)
 
     def fix(self) -> None:
         """Types a text that leaks, finds the leak, and takes the quick fix."""
         self.go(self.address)
         self.write(LEAK)
         self.verdict("Refused: number 25")
+        self.wait("the verdict about this text", lambda: "to shown" in self.text("verdict-body"))
         self.look("refused")
         self.press("tab-leak")
-        self.press("leak-button")
-        self.wait("a leak", lambda: "A leak at L" in self.text("leak-result"))
+        self.ask("leak-button", "leak-result", "a leak", lambda: "A leak at L" in self.text("leak-result"))
         self.look("leak")
         self.click(".fixes button")
         self.verdict("Accepted")
         if "var shown : H;" not in self.js("return document.getElementById('text').value"):
             complain("the quick fix didn't change the class")
         self.press("tab-run")
-        self.press("run-button")
-        self.wait("a run", lambda: "halted after 5 instructions" in self.text("run-result"))
+        self.ask("run-button", "run-result", "a run",
+                 lambda: "halted after 5 instructions" in self.text("run-result"))
         self.look("run")
 
     def panes(self) -> None:
         """Goes through the other panes."""
         self.press("tab-flows")
-        self.press("flows-button")
-        self.wait("the flows", lambda: "allowed" in self.text("flows-result"))
+        self.ask("flows-button", "flows-result", "the flows", lambda: "allowed" in self.text("flows-result"))
         self.look("flows")
         self.press("tab-machine")
-        self.press("machine-button")
-        self.wait("the steps", lambda: "Step 1 of 5" in self.text("step-now"))
-        self.press("next-step")
-        self.press("next-step")
-        self.wait("the stack", lambda: self.text("stack") == "10")
-        self.look("machine")
+        if self.ask("machine-button", "machine-result", "the steps",
+                    lambda: "Step 1 of 5" in self.text("step-now") and self.at("next-step").is_displayed()):
+            self.press("next-step")
+            self.press("next-step")
+            self.wait("the stack", lambda: self.text("stack") == "10")
+            self.look("machine")
         self.press("tab-report")
         self.press("report-button")
         self.wait("the report", lambda: self.js("return document.getElementById('report-frame').hidden === false"))
         time.sleep(1)
         self.look("report")
+
+    def busy(self) -> None:
+        """Has the server refuse checks as busy: the page asks again, and at last has a button for that."""
+        self.go(self.address)
+        self.js(REFUSE, 3)
+        self.write(LEAK)
+        self.wait("the sign of a busy server", lambda: self.at("busy").is_displayed())
+        self.look("busy")
+        self.wait("a verdict at last", lambda: self.text("verdict-title").startswith("Refused: number 25"))
+        self.js(REFUSE, 6)
+        self.write("var l : L; l := 1")
+        self.wait("no verdict", lambda: self.text("verdict-title") == "No verdict")
+        self.verdict("Accepted")
+        if self.at("busy").is_displayed():
+            complain("the page says that the server is busy, and it isn't")
 
     def keys(self) -> None:
         """Goes to a pane and moves the observer by the keyboard alone."""
@@ -253,13 +297,12 @@ class Student:
         """Solves exercise 02."""
         self.go(self.address + "#02-direct-flow")
         self.verdict("Refused: number 25")
-        self.press("mark-button")
-        self.wait("a mark", lambda: "Not right yet" in self.text("task-result"))
+        self.ask("mark-button", "task-result", "a mark", lambda: "Not right yet" in self.text("task-result")
+                 and not any(words in self.text("task-result") for words in BUSY))
         self.look("exercise")
         self.write(ANSWER)
         self.verdict("Accepted")
-        self.press("mark-button")
-        self.wait("a right mark", lambda: "Right" in self.text("task-result"))
+        self.ask("mark-button", "task-result", "a right mark", lambda: "Right" in self.text("task-result"))
         self.go(self.address + "#02-direct-flow")
         self.wait("the progress", lambda: self.js(
             "return document.querySelector('option[value=\"02-direct-flow\"]').textContent.startsWith('✓')"))
@@ -267,12 +310,10 @@ class Student:
     def level(self) -> None:
         """Solves level 3."""
         self.go(self.address + "#level-3")
-        self.press("show-button")
-        self.wait("no leak", lambda: "Not right yet" in self.text("task-result"))
+        self.ask("show-button", "pair-result", "no leak", lambda: "Not right yet" in self.text("task-result"))
         self.put("high-0", "7")
         self.put("high-1", "8")
-        self.press("show-button")
-        self.wait("the level", lambda: "Right" in self.text("task-result"))
+        self.ask("show-button", "pair-result", "the level", lambda: "Right" in self.text("task-result"))
         self.look("level")
 
     def portrait(self, folder: str) -> None:
@@ -280,8 +321,7 @@ class Student:
         self.go(self.address + "#two-parties/told.vsi")
         self.verdict("Refused: number 25")
         self.press("tab-leak")
-        self.press("leak-button")
-        self.wait("a leak", lambda: "A leak at A" in self.text("leak-result"))
+        self.ask("leak-button", "leak-result", "a leak", lambda: "A leak at A" in self.text("leak-result"))
         self.js("""const observer = document.getElementById("observer");
             observer.value = "1";
             observer.dispatchEvent(new Event("input"));
@@ -294,9 +334,9 @@ class Student:
         self.driver.save_screenshot(os.path.join(folder, f"playground-{self.scheme}.png"))
 
     def end(self) -> None:
-        """Complains of errors in the console, and closes the browser."""
+        """Complains of errors in the console, but for answers of a busy server, and closes the browser."""
         for entry in self.driver.get_log("browser"):
-            if entry["level"] in ("SEVERE", "WARNING"):
+            if entry["level"] in ("SEVERE", "WARNING") and "status of 503" not in entry["message"]:
                 complain(f"{self.size[0]} {self.scheme}: the console shows {json.dumps(entry['message'])}")
         self.driver.quit()
 
@@ -349,8 +389,8 @@ def main() -> None:
                 if options.readme:
                     student.portrait(options.readme)
                 else:
-                    for part in (student.fix, student.panes, student.share, student.keys, student.exercise,
-                                 student.level):
+                    for part in (student.fix, student.panes, student.share, student.busy, student.keys,
+                                 student.exercise, student.level):
                         part()
             finally:
                 student.end()

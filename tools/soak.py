@@ -77,9 +77,10 @@ TOLD = {"compare": re.compile(COMPARED), "bound": re.compile(NO_BOUND), "fmt": r
         "conform": re.compile(rb'\{"conforms":false,"points":\[.*\]\}\n|(?:[^{\n].*\n)+')}
 MESSAGES = rb"(?:Content-Length: \d+\r\n\r\n\{.*\})*"
 # The notes of an answer on standard error at status 0, or 1 for `lsp`, and refusals that no number has.
-NOTES = {"drive": re.compile(rb"(?:" + NO_BOUND + rb"|budget below the bound: \d+ of \d+ instructions\n)?"),
+BUDGET = re.compile(rb"(?:" + NO_BOUND + rb"|budget below the bound: \d+ of \d+ instructions\n)?")
+NOTES = {"drive": BUDGET, "compare": BUDGET,
          "policy": re.compile(rb"(?:warning: .*\n)*"), "lsp": re.compile(rb"(?:[ -~]+\n){0,2}")}
-UNNUMBERED = {"drive": NOTES["drive"], "emit-c": re.compile(NO_BOUND), "lsp": NOTES["lsp"]}
+UNNUMBERED = {"drive": BUDGET, "compare": BUDGET, "emit-c": re.compile(NO_BOUND), "lsp": NOTES["lsp"]}
 TRACE = rb"(?:\d+: [A-Z]+(?: -?\d+)? \|(?: -?\d+)*\n)*"
 DONE = {command: re.compile(form) for command, form in {
     "": STORE_TEXT, "view": STORE_TEXT, "run": TRACE + STORE_TEXT, "check": rb"accepted\n", "build": rb"",
@@ -203,7 +204,8 @@ def faults_of(given, answer):
         return [f"status {answer.status}"]
     faults = [error_fault(given, answer)]
     form = DONE[given.command] if answer.status == 0 else None
-    if answer.status == 1 and not answer.error:
+    is_noted = given.command == "compare" and "--unbounded" in given.words
+    if answer.status == 1 and (is_noted and answer.output or not answer.error):
         form = DONE["?"] if given.command == "mend" and "--json" in given.words else TOLD.get(given.command)
     if given.command == "?":
         form = DONE["?"]

@@ -378,8 +378,9 @@ class Input:
     def with_compare(self, rng):
         self.files["image"], self.files["lattice"] = some_image(rng), a_lattice(rng)
         self.files["store"], self.files["other"] = a_store(rng), a_store(rng)
-        self.words += ["lattice", "image", "--class", a_class(rng), "--budget", a_budget(rng), "--store", "store",
-                       "--store", "other"]
+        self.words += ["lattice", "image", "--class", a_class(rng), "--store", "store", "--store", "other"]
+        self.words += ["--budget", rng.choice((a_budget(rng), "auto"))]
+        self.words += ["--unbounded"] if rng.random() < 0.7 else []
 
     def with_drive(self, rng):
         """Its lines are standard input, which is the file `source`."""

@@ -2,8 +2,11 @@
 
 from typing import NamedTuple
 
-PATHS = {b"check": 2, b"classes": 2, b"build": 3, b"list": 1, b"run": 1, b"view": 2, b"fmt": 1}
-FLAGS = {b"check": {b"--strict"}, b"classes": {b"--strict"}, b"build": {b"--strict"}, b"run": {b"--trace"}}
+PATHS = {b"check": 2, b"classes": 2, b"build": 3, b"list": 1, b"run": 1, b"view": 2, b"fmt": 1,
+         b"flows": 2, b"mend": 2}
+FLAGS = {b"check": {b"--strict"}, b"classes": {b"--strict"}, b"build": {b"--strict"}, b"run": {b"--trace"},
+         b"flows": {b"--strict", b"--walks", b"--json"}, b"mend": {b"--strict", b"--apply", b"--json"}}
+APART = [{b"--json", b"--walks"}, {b"--json", b"--apply"}]
 OPTIONS = {b"run": {b"--budget", b"--store"}, b"view": {b"--budget", b"--store", b"--class"}}
 REQUIRED = {b"run": {b"--budget"}, b"view": {b"--budget", b"--class"}}
 LARGEST_BUDGET = 18446744073709551615
@@ -66,6 +69,8 @@ class Reader:
         if len(self.read.paths) < PATHS[self.read.command]:
             raise Mistake
         if not REQUIRED.get(self.read.command, set()) <= set(self.read.options):
+            raise Mistake
+        if any(apart <= set(self.read.options) for apart in APART):
             raise Mistake
         return self.read
 

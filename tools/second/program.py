@@ -1,5 +1,7 @@
 """The subcommands: what is read and judged, in which order, and what is written."""
 
+import json
+import re
 import sys
 
 import flows
@@ -7,13 +9,14 @@ import image as images
 import verifier
 from canonical import canonical_text
 from command_line import Help, Mistake, read_words
-from faults import Refusal
+from faults import NAMES, Refusal
 from grammar import parse
 from instructions import compile_image
 from lattice import Lattice, read_lattice
 from machine import run
 from scopes import resolve
 from stores import class_numbers, read_store, store_text
+from tables import Flows
 
 READ_LIMIT = 1_048_577
 TOML_LIMIT = 1_048_576
@@ -30,6 +33,10 @@ class FileFault(Exception):
 
 class NoClass(Exception):
     """The lattice lacks the class that is to look."""
+
+
+class Answered(Exception):
+    """An answer as a line of JSON, with its status and what goes to standard error."""
 
 
 class OutOfBudget(Exception):
@@ -99,6 +106,53 @@ def classes(words, trace):
     return flows.class_lines(resolved, text, lattice, found)
 
 
+def object_of(refusal):
+    """The object of a refusal that is no flow."""
+    text = refusal.text().decode().removesuffix("\n")
+    position = re.search(r"(\d+):(\d+)$", text)
+    found = {"accepted": False, "name": NAMES[refusal.number], "number": refusal.number, "text": text}
+    return found | ({"line": int(position[1]), "column": int(position[2])} if position else {})
+
+
+def line_of(document):
+    return json.dumps(document, sort_keys=True, separators=(",", ":")).encode() + b"\n"
+
+
+def table_words(words):
+    """The flows of a text, whether it is accepted or not; with --json a refusal is an object too."""
+    is_json, is_strict = b"--json" in words.options, b"--strict" in words.options
+    try:
+        lattice = read_lattice(read_toml(words.paths[0]))
+    except Refusal as refusal:
+        if not is_json:
+            raise
+        raise Answered(1, line_of(object_of(refusal)), refusal.text()) from None
+    text = read_file(words.paths[1])
+    try:
+        return Flows(resolve(parse(text), lattice), text, lattice, is_strict)
+    except Refusal as refusal:
+        if not is_json:
+            raise
+        raise Answered(1, line_of(object_of(refusal)), b"") from None
+
+
+def flow_lines(words, trace):
+    found = table_words(words)
+    return line_of(found.objects()) if b"--json" in words.options else found.lines(b"--walks" in words.options)
+
+
+def mend(words, trace):
+    """The printed text is accepted, since it is judged before."""
+    found = table_words(words)
+    if b"--json" in words.options:
+        return line_of(found.raise_objects())
+    if b"--apply" not in words.options:
+        return found.raise_lines()
+    text = found.raised_text()
+    judged(found.lattice, text, b"--strict" in words.options)
+    return text
+
+
 def build(words, trace):
     """IMAGE is opened only when all bytes of the image are there."""
     lattice, _, resolved, _ = source_words(words)
@@ -143,7 +197,7 @@ def fmt(words, trace):
 
 
 SUBCOMMANDS = {b"check": check, b"classes": classes, b"build": build, b"list": list_image, b"run": run_image,
-               b"view": view, b"fmt": fmt}
+               b"view": view, b"fmt": fmt, b"flows": flow_lines, b"mend": mend}
 
 
 def answer(words, stdin):
@@ -159,6 +213,8 @@ def answer(words, stdin):
         return 2, b"", b"error: a mistake in the words\n"
     except NoClass as fault:
         return 2, b"", b"no class " + fault.args[0] + b"\n"
+    except Answered as answered:
+        return answered.args
     except Refusal as refusal:
         return 1, b"", refusal.text()
     except OutOfBudget:

@@ -13,10 +13,11 @@ SIZE_LIMIT = 65_534
 class Variable:
     """A variable is a declaration; its label is the number of its declared class, or None."""
 
-    def __init__(self, name, at, label, is_global):
+    def __init__(self, name, at, label, is_global, label_at=None):
         self.name = name
         self.at = at
         self.label = label
+        self.label_at = label_at
         self.is_global = is_global
 
 
@@ -102,7 +103,7 @@ class Resolver:
         label = self.lattice.number(tree.label.name) if tree.label else None
         if tree.label and label is None:
             self.refuse("UnknownClass", tree.label.at)
-        self.declared.append(Variable(tree.name, tree.at, label, is_global))
+        self.declared.append(Variable(tree.name, tree.at, label, is_global, tree.label and tree.label.at))
         return self.declared[-1]
 
     def named(self, name, at):

@@ -14,6 +14,7 @@ use Rattle.vsi.specs.declared.failure.Failure.TheVariants.{Memory}
 use Rattle.vsi.specs.Done.{IsFailureOf, Failed, FailsAt}
 use Rattle.vsi.specs.Holding.{Holding}
 use Rattle.vsi.specs.Input.{TellsFailure}
+use Rattle.vsi.specs.Noted.{NotesFailure}
 use Rattle.vsi.specs.Partly.{Answers}
 use Rattle.vsi.specs.Refusals.{FailsBy}
 use Rattle.vsi.specs.Reasons.{Why, WhyCheck, WhyMend}
@@ -109,15 +110,22 @@ pub fails_at : (holds : Holding) (given : Option (List ℕ)) (words : List (Stri
 fails_at holds given [] old new failure so = tt
 fails_at holds given (word ∷ words) old new failure so = so
 
--- Without arguments, nothing is claimed about the reported failure.
+-- Two properties of a failure hold together.
+pub both_failed : {T : Type 0} (A B : Failure → Type 0) (result : Result T Failure) → IfErr result A → IfErr result B →
+    IfErr result (λ failure. A failure × B failure)
+both_failed A B (Ok x) a b = tt
+both_failed A B (Err failure) a b = (a, b)
+
+-- Without arguments, nothing is claimed about the reported failure but that nothing follows it.
 pub tells_without_words : {E : Type 0} (holds : Holding) (given : Option (List ℕ)) (words : List (String Global))
     (old new : Option (List ℕ)) (status : ℕ) (contents : E → Option (List ℕ)) (before after : Counted E) →
-    words ≡ [] → TellsFailure (λ failure. Unit {0}) status contents before after →
-    TellsFailure (FailsAt holds given words old new) status contents before after
+    words ≡ [] → TellsFailure (λ failure note. note ≡ []) status contents before after →
+    TellsFailure (λ failure note. FailsAt holds given words old new failure × NotesFailure holds words failure note)
+    status contents before after
 tells_without_words holds given words old new status contents before after none tells = record {
   failure = tells.failure;
   note = tells.note;
-  so = subst (λ w. FailsAt holds given w old new tells.failure) (sym none) tt;
+  so = (subst (λ w. FailsAt holds given w old new tells.failure) (sym none) tt, λ unasked. inl tells.so);
   failed = tells.failed;
   tame = tells.tame;
   told = tells.told;

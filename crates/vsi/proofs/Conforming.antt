@@ -1,14 +1,20 @@
 -- Whether a source text conforms to an interface, and under which lattice.
-use Rattle.std.proofs.Common.{◌≡◌, ℕ, List, Bool, true, false, Option, Some, None, IfSome, refl, subst}
+use Rattle.std.proofs.Common.{◌≡◌, ℕ, List, Bool, true, false, Option, Some, None, Err, IfSome, refl, sym, subst}
 use Rattle.std.specs.Global.{Vec}
 use Rattle.std.proofs.lemmas.Bool.{false≢true}
 use Rattle.vsi_lattice.specs.declared.lattice.Lattice.{Lattice}
 use Rattle.vsi_conform.specs.Conforms.{Conforms, IsUnbounded}
 use Rattle.vsi_conform.specs.declared.interface.Interface.{Interface}
 use Rattle.vsi_conform.specs.declared.reader.InterfaceFile.{InterfaceFile}
+use Rattle.vsi_conform.specs.declared.reader.Policy.{Policy}
+use Rattle.vsi_conform.specs.declared.reader.Policy.TheVariants.{File, Tables}
+use Rattle.vsi_answers.specs.Judged.{Declares}
+use Rattle.vsi_answers.specs.Requests.{ReadsLattice}
+use Rattle.vsi_answers.specs.declared.unanswered.Unanswered.{Unanswered}
 use Rattle.vsi.specs.declared.failure.Failure.{Failure}
+use Rattle.vsi.specs.Filed.{policy_bytes}
 use Rattle.vsi.specs.Holding.{Holding}
-use Rattle.vsi.specs.Interfaces.{IsAskedAt}
+use Rattle.vsi.specs.Interfaces.{ArePolicyBytes, IsAskedAt, IsPolicyAt}
 use Rattle.vsi.specs.Performed.{IsVerdict}
 use Rattle.vsi.specs.Refusals.{NoOther, FailsBy}
 use Rattle.vsi.specs.Undriven.{RefusesAsked, RefusesPolicy}
@@ -34,3 +40,23 @@ refuses_asked old new path asked other same is failure told =
       refused = subst (λ h. RefusesPolicy h path asked.policy reason) same refused;
     })
     failure told
+
+-- The lattice that an interface's bytes declare is that of the interface.
+pub policy_at : (holds : Holding) (interface : List ℕ) (p : Policy) (l : Lattice) (bytes : List ℕ) →
+    ArePolicyBytes holds interface p bytes → Declares bytes l → IsPolicyAt holds interface p l
+policy_at holds interface (File path) l bytes are declared = record { policy = bytes; read = are; declared = declared }
+policy_at holds interface (Tables text) l bytes are declared = subst (λ b. Declares b l) are declared
+
+-- Its bytes are these.
+pub policy_bytes_at : (holds : Holding) (interface : List ℕ) (p : Policy) (l : Lattice) (bytes : List ℕ) →
+    (are : ArePolicyBytes holds interface p bytes) → (declared : Declares bytes l) →
+    policy_bytes holds interface p l (policy_at holds interface p l bytes are declared) ≡ bytes
+unfolding policy_at
+policy_bytes_at holds interface (File path) l bytes are declared = refl
+policy_bytes_at holds interface (Tables text) l bytes are declared = sym are
+
+-- The lattice of an interface is refused if its bytes are.
+pub refuses_policy : (holds : Holding) (interface : List ℕ) (p : Policy) (bytes : List ℕ) (reason : Unanswered) →
+    ArePolicyBytes holds interface p bytes → ReadsLattice bytes (Err reason) → RefusesPolicy holds interface p reason
+refuses_policy holds interface (File path) bytes reason are is = record { bytes = bytes; read = are; is = is }
+refuses_policy holds interface (Tables text) bytes reason are is = subst (λ b. ReadsLattice b (Err reason)) are is

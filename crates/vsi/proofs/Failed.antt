@@ -160,8 +160,9 @@ heard_fault contents old new note W F (Err failure) status none done is why told
     ∙ stream_text W F failure why (sym is ∙ four)) told
 
 -- If a failure is reported, it is reported at a status that isn't 0.
-pub tells_failure : {T E : Type 0} (So : Failure → Type 0) (contents : E → Option (List ℕ)) (old new : Counted E)
-    (lines : List ℕ) (answer : Result T Failure) (status : ℕ) → IfErr answer So → IfOk answer (λ _. status ≡ 0) →
+pub tells_failure : {T E : Type 0} (So : Failure → List ℕ → Type 0) (contents : E → Option (List ℕ))
+    (old new : Counted E) (lines : List ℕ) (answer : Result T Failure) (status : ℕ) →
+    IfErr answer (λ failure. So failure (tamed lines)) → IfOk answer (λ _. status ≡ 0) →
     IfErr answer (λ failure. status ≡ status_of failure) →
     IfErr answer (λ failure. Gets contents old new (text_of_failure failure ++ note_after failure (tamed lines))) →
     status ≢ 0 → TellsFailure So status contents old new

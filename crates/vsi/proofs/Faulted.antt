@@ -44,7 +44,7 @@ pub record IsEarly (is_json : Bool) (first : Failure) : Type 0 where
   pub other : first ≢ Differs
   pub one : status_of first ≡ 1
 
-has_early : (is_json : Bool) (first : Failure) → has_line is_json first ≡ true → IsEarly is_json first
+pub has_early : (is_json : Bool) (first : Failure) → has_line is_json first ≡ true → IsEarly is_json first
 has_early is_json (Refused text (Some cause)) has = record { json = has; other = λ same. absurd (cc); one = refl }
 has_early is_json (Refused text None) has = absurd (cc)
 has_early is_json (Interface text error) has = record { json = has; other = λ same. absurd (cc); one = refl }
@@ -147,40 +147,40 @@ pub told_failure : (holds : Holding) (given : Option (List ℕ)) (asked : Reques
 told_failure holds given asked old mid new first failure so told =
     told_by (has_line (answers_json asked) first) holds given asked old mid new first failure so refl told
 
--- A drive writes no line, so its state stays.
+-- The line of a refusal changes no file, and a drive writes none.
 pub told_state : (asked : Request) (holds : Holding) (given : Option (List ℕ)) (left : Holding)
     (old mid new : Option (List ℕ)) (first failure : Failure) → KeepsState holds given asked left old mid →
     TellsRefusal (has_line (answers_json asked) first) first mid new failure → KeepsState holds given asked left old new
-told_state (request.Try attempt) holds given left old mid new first failure so told = tt
-told_state (request.Check asked) holds given left old mid new first failure so told = tt
-told_state (request.Document asked) holds given left old mid new first failure so told = tt
-told_state (request.Conform asked) holds given left old mid new first failure so told = tt
-told_state (request.Classes c) holds given left old mid new first failure so told = tt
-told_state (request.Flows c has_walks) holds given left old mid new first failure so told = tt
-told_state (request.Mend asked) holds given left old mid new first failure so told = tt
-told_state (request.Build c image) holds given left old mid new first failure so told = tt
-told_state (request.List image) holds given left old mid new first failure so told = tt
-told_state (request.Audit asked) holds given left old mid new first failure so told = tt
-told_state (request.Source image) holds given left old mid new first failure so told = tt
-told_state (request.EmitC asked) holds given left old mid new first failure so told = tt
-told_state (request.Bound asked) holds given left old mid new first failure so told = tt
-told_state (request.Run e o has_trace has_count) holds given left old mid new first failure so told = tt
-told_state (request.View lattice class e o) holds given left old mid new first failure so told = tt
-told_state (request.ViewWithin asked) holds given left old mid new first failure so told = tt
+told_state (request.Try attempt) holds given left old mid new first failure so told = so
+told_state (request.Check asked) holds given left old mid new first failure so told = so
+told_state (request.Document asked) holds given left old mid new first failure so told = so
+told_state (request.Conform asked) holds given left old mid new first failure so told = so
+told_state (request.Classes c) holds given left old mid new first failure so told = so
+told_state (request.Flows c has_walks) holds given left old mid new first failure so told = so
+told_state (request.Mend asked) holds given left old mid new first failure so told = so
+told_state (request.Build c image) holds given left old mid new first failure so told = so
+told_state (request.List image) holds given left old mid new first failure so told = so
+told_state (request.Audit asked) holds given left old mid new first failure so told = so
+told_state (request.Source image) holds given left old mid new first failure so told = so
+told_state (request.EmitC asked) holds given left old mid new first failure so told = so
+told_state (request.Bound asked) holds given left old mid new first failure so told = so
+told_state (request.Run e o has_trace has_count) holds given left old mid new first failure so told = so
+told_state (request.View lattice class e o) holds given left old mid new first failure so told = so
+told_state (request.ViewWithin asked) holds given left old mid new first failure so told = so
 told_state (request.Drive driving) holds given left old mid new first failure so told =
     let quiet = subst (λ b. TellsRefusal b first mid new failure) (both_false (is_refusal first)) told in
     subst (LeavesState holds driving given left old) (sym quiet.1) so
-told_state (request.Compare comparison) holds given left old mid new first failure so told = tt
-told_state (request.Leak search) holds given left old mid new first failure so told = tt
-told_state (request.Report c) holds given left old mid new first failure so told = tt
-told_state (request.Draw drawing) holds given left old mid new first failure so told = tt
-told_state (request.Policy looking) holds given left old mid new first failure so told = tt
-told_state (request.Visible asked) holds given left old mid new first failure so told = tt
-told_state (request.Format source) holds given left old mid new first failure so told = tt
-told_state (request.Layout asked) holds given left old mid new first failure so told = tt
-told_state (request.Lattice arguments) holds given left old mid new first failure so told = tt
-told_state (request.Lsp serving) holds given left old mid new first failure so told = tt
-told_state (request.Explain page) holds given left old mid new first failure so told = tt
+told_state (request.Compare comparison) holds given left old mid new first failure so told = so
+told_state (request.Leak search) holds given left old mid new first failure so told = so
+told_state (request.Report c) holds given left old mid new first failure so told = so
+told_state (request.Draw drawing) holds given left old mid new first failure so told = so
+told_state (request.Policy looking) holds given left old mid new first failure so told = so
+told_state (request.Visible asked) holds given left old mid new first failure so told = so
+told_state (request.Format source) holds given left old mid new first failure so told = so
+told_state (request.Layout asked) holds given left old mid new first failure so told = so
+told_state (request.Lattice arguments) holds given left old mid new first failure so told = so
+told_state (request.Lsp serving) holds given left old mid new first failure so told = so
+told_state (request.Explain page) holds given left old mid new first failure so told = so
 
 -- ---- the count of faults.
 

@@ -6,13 +6,14 @@ use Rattle.std.proofs.KnownBytes.{Keeps-refl}
 use Rattle.vsi_lattice.specs.declared.lattice.Lattice.{Lattice}
 use Rattle.vsi_image.specs.declared.instr.Image.{Image}
 use Rattle.vsi_drive.specs.Boundary.{Boundary}
+use Rattle.vsi_drive.specs.BoundaryFaults.{boundary_fault}
 use Rattle.vsi_drive.specs.Control.{Control, controlled}
 use Rattle.vsi_arguments.specs.declared.request.Driving.{Driving}
 use Rattle.vsi.specs.Admitted.{IsAdmitted}
-use Rattle.vsi.specs.Files.{IsBudgetOf, IsStoredAt}
+use Rattle.vsi.specs.Files.{IsBudgetOf, IsFullAt, IsStoredAt}
 use Rattle.vsi.specs.Holding.{Delivers, Holding, IsImageAt}
 use Rattle.vsi.specs.Saved.{CutsInput, LeavesState, SavesInput}
-use Rattle.vsi.specs.State.{HoldsState, StaysAt, Touches, state_text}
+use Rattle.vsi.specs.State.{HoldsState, StaysAt, StaysBeside, Touches, state_text}
 use Rattle.vsi.specs.Steering.{IsSteered}
 use Rattle.vsi.proofs.Cut.{StaysAt-same, Touches-same, Touches-trans, cut_saves}
 
@@ -30,6 +31,15 @@ delivered_after (Some path) text h g k touched done = record {
   filled = done.filled;
   others = λ other away beside. done.others other away beside ∙ touched other away beside;
 }
+
+-- Where no file has changed, none but the one beside the requested one has.
+pub beside_same : (out : Option (Bor (List ℕ))) (old new : Holding) → new ≡ old → StaysBeside out old new
+beside_same out old new same = (StaysAt-same out old new same, Touches-same out old new same)
+
+-- The same where files that have stayed as they were are followed by such a change.
+pub beside_after : (out : Option (Bor (List ℕ))) (old mid new : Holding) → mid ≡ old → StaysAt out mid new →
+    Touches out mid new → StaysBeside out old new
+beside_after out old mid new same stays touched = subst (λ h. StaysBeside out h new) same (stays, touched)
 
 -- A drive that hasn't begun leaves every file.
 pub early_state : (holds : Holding) (d : Driving) (given : Option (List ℕ)) (left : Holding) (old : Option (List ℕ)) →
@@ -53,12 +63,13 @@ pub driven_state : (holds mid h left : Holding) (d : Driving) (given old new : O
     (driver : ℕ) (image : Image) (b : Boundary) (first : List ℤ) (budget most : ℕ) (k : Control) →
     IsBudgetOf d.execution.budget image budget → IsSteered holds d l driver image b →
     IsImageAt holds d.execution.image.now image → IsStoredAt holds d.execution.store image first →
-    k ≡ controlled l driver image budget b → IsAdmitted d.is_unbounded l image budget → mid ≡ holds →
+    k ≡ controlled l driver image budget b → IsAdmitted d.is_unbounded l image budget →
+    boundary_fault k ≡ None → IsFullAt holds d.execution.store image d.is_full → mid ≡ holds →
     Touches d.save mid h → Delivers d.save (state_text image first) mid h → Touches d.save h left →
     most ≡ d.every - 1 → CutsInput d.save image k first most given old new h left →
     LeavesState holds d given left old new
 driven_state holds mid h left d given old new l driver image b first budget most k within steered held stored same
-    admitted kept begun saved touched is cut = record {
+    admitted sound full kept begun saved touched is cut = record {
       touches = Touches-trans d.save holds h left (subst (λ f. Touches d.save f h) kept begun) touched;
       state = inr (record {
         lattice = l;
@@ -72,6 +83,8 @@ driven_state holds mid h left d given old new l driver image b first budget most
         budget = budget;
         within = within;
         admitted = admitted;
+        sound = subst (λ c. boundary_fault c ≡ None) same sound;
+        full = full;
         saves = subst (λ c. SavesInput d.save image c first d.every given old new left) same
             (cut_saves d.save image k first most d.every given old new h left is
             (delivered_state d.save (state_text image first) mid h saved) cut);

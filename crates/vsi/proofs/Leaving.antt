@@ -1,5 +1,5 @@
 -- The output that requests leave if they fail.
-use Rattle.std.proofs.Common.{◌≡◌, ◌+◌, ◌-◌, ◌≤◌, ◌<◌, ◌⊎◌, ◌++◌, ◌∙◌, ℕ, ℤ, List, [], Bool, true, false, Option, Some, Result, Ok, Err, inl, inr, refl, sym, ap, subst, arith}
+use Rattle.std.proofs.Common.{◌≡◌, ◌+◌, ◌-◌, ◌≤◌, ◌<◌, ◌⊎◌, ◌++◌, ◌∙◌, ℕ, ℤ, List, [], Bool, true, false, Option, Some, None, Result, Ok, Err, inl, inr, refl, sym, ap, subst, arith}
 use Rattle.std.specs.Prelude.{◌≢◌, IfOk, IfErr}
 use Rattle.std.specs.Global.{Vec}
 use Rattle.std.specs.Io.KnownBytes.{Appends}
@@ -8,6 +8,7 @@ use Rattle.vsi_image.specs.declared.instr.Image.{Image}
 use Rattle.vsi_image.specs.declared.instr.Instr.{Instr}
 use Rattle.vsi_image.specs.Meaning.{State, start}
 use Rattle.vsi_drive.specs.Boundary.{Boundary}
+use Rattle.vsi_drive.specs.BoundaryFaults.{boundary_fault}
 use Rattle.vsi_drive.specs.Control.{Control, controlled}
 use Rattle.vsi_devices.specs.Engine.{IsOfWriting}
 use Rattle.vsi_devices.specs.Running.{RunsApart, WrittenSteps, trace_of, trace_text}
@@ -28,7 +29,7 @@ use Rattle.vsi.specs.declared.failure.Failure.TheVariants.{Memory}
 use Rattle.vsi.specs.Admitted.{IsAdmitted}
 use Rattle.vsi.specs.Holding.{Holding, IsImageAt}
 use Rattle.vsi.specs.Partly.{AnswersCheck, AnswersDrive, AnswersRun, DrivenText, Leaves, Partly, WritesPart, cut_from, document_cut_from}
-use Rattle.vsi.specs.Files.{BeginsAt, IsBudgetOf, IsStoredAt, OfFiles, shown}
+use Rattle.vsi.specs.Files.{BeginsAt, IsBudgetOf, IsFullAt, IsStoredAt, OfFiles, shown}
 use Rattle.vsi.specs.Performed.{ToldJson, judgement_of}
 use Rattle.vsi.specs.Reasons.{ToldRefusal}
 use Rattle.vsi.specs.Failures.{status_of}
@@ -220,8 +221,9 @@ pub driven_answers : (holds : Holding) (d : Driving) (given old new : Option (Li
     IsBudgetOf d.execution.budget image budget → IsSteered holds d l driver image b →
     IsImageAt holds d.execution.image.now image → IsStoredAt holds d.execution.store image first →
     k ≡ controlled l driver image budget b → IsAdmitted d.is_unbounded l image budget →
+    boundary_fault k ≡ None → IsFullAt holds d.execution.store image d.is_full →
     Partly (DrivenText k first given) old new → Partly (AnswersDrive holds d given) old new
-driven_answers holds d given old new l driver image b first budget k within steered held stored same admitted =
+driven_answers holds d given old new l driver image b first budget k within steered held stored same admitted sound full =
     Partly-weaker (DrivenText k first given) (AnswersDrive holds d given) old new
     (λ text is. record {
       lattice = l;
@@ -235,5 +237,7 @@ driven_answers holds d given old new l driver image b first budget k within stee
       budget = budget;
       within = within;
       admitted = admitted;
+      sound = subst (λ c. boundary_fault c ≡ None) same sound;
+      full = full;
       driven = subst (λ c. DrivenText c first given text) same is;
     })

@@ -1,5 +1,5 @@
 -- The views that a class has of two runs of an image, with the files as `build` has left them.
-use Rattle.std.proofs.Common.{◌≡◌, ◌≢◌, ◌∙◌, ℕ, ℤ, ◌++◌, List, length, Option, Some, None, inl, inr, refl, sym, ap, subst, unwrap_or}
+use Rattle.std.proofs.Common.{◌≡◌, ◌≢◌, ◌∙◌, ℕ, ℤ, ◌++◌, true, List, length, Option, Some, None, inl, inr, refl, sym, ap, subst, unwrap_or}
 use Rattle.std.specs.Prelude.{Ok, String, IsSome, codes}
 use Rattle.std.specs.Borrow.{Bor}
 use Rattle.std.specs.Global.{Vec}
@@ -23,6 +23,7 @@ use Rattle.vsi_answers.specs.Judged.{AreImage, Declares}
 use Rattle.vsi_answers.specs.Requests.{BuildsTo, ViewsTo}
 use Rattle.vsi_answers.proofs.Agreement as answers
 use Rattle.vsi_answers.proofs.Views.{same_fields, view_moved}
+use Rattle.vsi_state.specs.Seal.{is_whole}
 use Rattle.vsi_arguments.specs.declared.request.Compilation.{Compilation}
 use Rattle.vsi_arguments.specs.declared.request.Execution.{Execution}
 use Rattle.vsi_arguments.specs.declared.request.InitialStore.{InitialStore}
@@ -164,7 +165,7 @@ store_at holds None None file same is = is
 store_at holds None (Some p) file same is = absurd cc
 store_at holds (Some p) None file same is = absurd cc
 store_at holds (Some p) (Some q) file same is =
-    let path : p.now ≡ q.now = cc in subst (λ n. IsReadAt holds n file) path is
+    let path : p.now ≡ q.now = cc in subst (λ n. IsReadAt holds n file × (is_whole file ≡ true)) path is
 
 -- The part of a text that goes to the output.
 shown_at : (old new : Option (Bor (List ℕ))) (text : List ℕ) → given old ≡ given new → shown old text ≡ shown new text

@@ -31,5 +31,7 @@ pub mod Left
 pub mod Loading
 pub mod Looked
 pub mod Viewed
+pub mod Fed
 pub mod Wrong
 pub mod Faulted
+pub mod Hushed

@@ -1,6 +1,6 @@
 -- The lines on standard error after a request that has been performed.
-use Rattle.std.proofs.Common.{◌≡◌, ◌++◌, ◌∙◌, ℕ, ℤ, ◌+◌, ◌-◌, ◌%◌, ◌^◌, ◌≤◌, ◌<◌, ◌==◌, ◌&&◌, Bool, true, false, List, [], ◌∷◌, Option, Some, None, Result, Ok, Err, inl, inr, refl, sym, ap, subst, codes, arith}
-use Rattle.std.specs.Prelude.{IfErr, IfOk, IsTrue, OnOk, String, decimal, if◌then◌else◌}
+use Rattle.std.proofs.Common.{◌≡◌, ◌⊎◌, ◌++◌, ◌∙◌, ℕ, ℤ, ◌+◌, ◌-◌, ◌%◌, ◌^◌, ◌≤◌, ◌<◌, ◌==◌, ◌&&◌, Bool, true, false, List, [], ◌∷◌, Option, Some, None, Result, Ok, Err, inl, inr, refl, sym, ap, subst, codes, arith}
+use Rattle.std.specs.Prelude.{IfErr, IfOk, IsErrAnd, IsTrue, OnOk, String, decimal, if◌then◌else◌}
 use Rattle.std.specs.List.{list_all}
 use Rattle.std.specs.declared.alloc.Global.{Global}
 use Rattle.std.proofs.lemmas.Bool.{and_from, and_parts}
@@ -17,7 +17,9 @@ use Rattle.vsi_machine.specs.declared.interpreter.Outcome.TheVariants.{Halted, O
 use Rattle.vsi_devices.specs.Running.{RunsApart, text_at}
 use Rattle.vsi_devices.specs.declared.counted.Counted.{Counted}
 use Rattle.vsi.specs.Holding.{Holding}
-use Rattle.vsi.specs.Noted.{Count, Counts, IsNote, Nothing, Notes, NotesOf, Noting, Sentences, TellsNote, noting}
+use Rattle.vsi_arguments.specs.declared.request.Document.{Document}
+use Rattle.vsi_arguments.specs.declared.request.Document.TheVariants as document
+use Rattle.vsi.specs.Noted.{CompareBudget, Count, Counts, DriveBudget, IsNote, IsNoteBefore, Nothing, Notes, NotesCompare, NotesDrive, NotesOf, NotesStop, NotesView, Noting, Sentences, TellsNote, ViewBudget, Warning, document_noting}
 use Rattle.vsi.specs.Screen.{colour_length, is_tame, is_tame_after, tamed}
 use Rattle.vsi.specs.Failures.{Gets, status_of}
 use Rattle.vsi.specs.declared.failure.Failure.{Failure}
@@ -94,43 +96,113 @@ counts_kept : (has_count : Bool) (image : Image) (words : List ℤ) (note : List
 counts_kept false image words note is = ap tamed is
 counts_kept true image words note is = (is.0, is.1, is.2, ap tamed is.3 ∙ count_kept is.0 is.2)
 
--- The lines of a kind are still so when untamed ones are left out.
-note_kept : (holds : Holding) (n : Noting) (note : List ℕ) → IsNote holds n note → IsNote holds n (tamed note)
-note_kept holds (Count e o has_count) note is = record {
-  image = is.image;
-  words = is.words;
-  begins = is.begins;
-  counts = counts_kept has_count is.image is.words note is.counts;
-}
-note_kept holds Sentences note is = tt
-note_kept holds Nothing note is = ap tamed is
-
--- So are those of arguments.
-notes_kept : (holds : Holding) (words : List (String Global)) (note : List ℕ) → NotesOf holds words note →
-    NotesOf holds words (tamed note)
-notes_kept holds words note (inl help) = inl (help.0, ap tamed help.1)
-notes_kept holds words note (inr is) = inr (is.0, is.1, note_kept holds (noting is.0) note is.2)
-
 -- A fact is a fact after every answer.
 pub each_done : {T : Type 0} (A : Type 0) (answer : Result T Failure) → A → OnOk answer A
 each_done A (Ok x) fact = fact
 each_done A (Err failure) fact = tt
 
--- The lines after an answer without a failure are those of their kind.
+-- The lines after an answer without a failure are those of their kind, once untamed ones are left out.
 pub noted_ok : {T : Type 0} (holds : Holding) (n : Noting) (x : T) (note : List ℕ) → Notes holds n (Ok x) note →
-    IsNote holds n note
-noted_ok holds (Count e o has_count) x note is = is
-noted_ok holds Sentences x note is = is
-noted_ok holds Nothing x note is = is
+    IsNote holds n (tamed note)
+noted_ok holds (Count e o has_count) x note is = record {
+  image = is.image;
+  words = is.words;
+  begins = is.begins;
+  counts = counts_kept has_count is.image is.words note is.counts;
+}
+noted_ok holds (DriveBudget d) x note is = (note, is.0, refl)
+noted_ok holds (ViewBudget v) x note is = (note, is.0, refl)
+noted_ok holds (CompareBudget c) x note is = (note, is.0, refl)
+noted_ok holds Sentences x note is = tt
+noted_ok holds Warning x note (inl none) = inl (ap tamed none)
+noted_ok holds Warning x note (inr warning) = inr (ap tamed warning)
+noted_ok holds Nothing x note is = ap tamed is
+
+-- The lines after a failure are those of their kind before it.
+pub noted_err : (T : Type 0) (holds : Holding) (n : Noting) (failure : Failure) (note : List ℕ) →
+    Notes {T = T} holds n (Err failure) note → IsNoteBefore holds n failure note
+noted_err T holds (Count e o has_count) failure note is = tt
+noted_err T holds (DriveBudget d) failure note is = is.1
+noted_err T holds (ViewBudget v) failure note is = is.1
+noted_err T holds (CompareBudget c) failure note is = is.1
+noted_err T holds Sentences failure note is = tt
+noted_err T holds Warning failure note is = is
+noted_err T holds Nothing failure note is = is
+
+-- Lines of a kind are so after any answer, and before any failure.
+pub noted_both : {U : Type 0} (Kind : List ℕ → Type 0) (later : Result U Failure) (note : List ℕ) → Kind note →
+    OnOk later (Kind note) × IfErr later (λ failure. (note ≡ []) ⊎ Kind note)
+noted_both Kind (Ok x) note is = (is, tt)
+noted_both Kind (Err failure) note is = (tt, inr is)
+
+-- The lines aren't those of a drive.
+abbrev pub IsNoDrive : Noting → Type 0
+IsNoDrive (Count e o has_count) = Unit {0}
+IsNoDrive (DriveBudget d) = ⊥
+IsNoDrive (ViewBudget v) = Unit {0}
+IsNoDrive (CompareBudget c) = Unit {0}
+IsNoDrive Sentences = Unit {0}
+IsNoDrive Warning = Unit {0}
+IsNoDrive Nothing = Unit {0}
+
+-- Those after a request for a document aren't.
+pub document_no_drive : (asked : Document) → IsNoDrive (document_noting asked)
+document_no_drive (document.Sarif judging) = tt
+document_no_drive (document.Classes compilation) = tt
+document_no_drive (document.Flows compilation) = tt
+document_no_drive (document.Audit audit) = tt
+document_no_drive (document.AuditSarif audit) = tt
+document_no_drive (document.Bound bounding) = tt
+document_no_drive (document.Run execution initial_store) = tt
+document_no_drive (document.Compare comparison) = tt
+document_no_drive (document.Leak search) = tt
+
+-- The lines after an answer without a failure are those after a later answer, unless they are those of a drive.
+pub noted_then : {T U : Type 0} (holds : Holding) (n : Noting) (x : T) (later : Result U Failure) (note : List ℕ) →
+    IsNoDrive n → Notes holds n (Ok x) note → Notes holds n later note
+noted_then holds (Count e o has_count) x later note other is = each_done _ later is
+noted_then holds (DriveBudget d) x later note other is = absurd other
+noted_then holds (ViewBudget v) x later note other is = noted_both (NotesView holds v) later note is.0
+noted_then holds (CompareBudget c) x later note other is = noted_both (NotesCompare holds c) later note is.0
+noted_then holds Sentences x later note other is = is
+noted_then holds Warning x later note other is = is
+noted_then holds Nothing x later note other is = is
+
+-- Nothing is claimed of a failure.
+none_done : {U : Type 0} (A : Type 0) (later : Result U Failure) (failure : Failure) →
+    IsErrAnd later (λ s. s ≡ failure) → OnOk later A
+none_done A (Ok x) failure is = absurd is
+none_done A (Err f) failure is = tt
+
+-- A fact about a failure is one about an answer that passes it on.
+both_failed : {U : Type 0} (A : Type 0) (P : Failure → Type 0) (later : Result U Failure) (failure : Failure) →
+    IsErrAnd later (λ s. s ≡ failure) → P failure → OnOk later A × IfErr later P
+both_failed A P (Ok x) failure is so = absurd is
+both_failed A P (Err f) failure is so = (tt, subst P (sym is) so)
+
+-- The lines after a failure are those after an answer that passes it on.
+pub noted_failed : {U : Type 0} (T : Type 0) (holds : Holding) (n : Noting) (later : Result U Failure) (failure : Failure)
+    (note : List ℕ) → IsErrAnd later (λ s. s ≡ failure) → Notes {T = T} holds n (Err failure) note →
+    Notes holds n later note
+noted_failed T holds (Count e o has_count) later failure note is told = none_done _ later failure is
+noted_failed T holds (DriveBudget d) later failure note is told =
+    both_failed (NotesDrive holds d note) (λ f. NotesStop holds d f note) later failure is told.1
+noted_failed T holds (ViewBudget v) later failure note is told =
+    both_failed (NotesView holds v note) (λ f. (note ≡ []) ⊎ NotesView holds v note) later failure is told.1
+noted_failed T holds (CompareBudget c) later failure note is told =
+    both_failed (NotesCompare holds c note) (λ f. (note ≡ []) ⊎ NotesCompare holds c note) later failure is told.1
+noted_failed T holds Sentences later failure note is told = tt
+noted_failed T holds Warning later failure note is told = told
+noted_failed T holds Nothing later failure note is told = told
 
 -- The lines after a request are written at status 0.
 pub tells_note : {T E : Type 0} (holds : Holding) (words : List (String Global)) (contents : E → Option (List ℕ))
     (old new : Counted E) (lines : List ℕ) (answer : Result T Failure) (status : ℕ) →
-    OnOk answer (NotesOf holds words lines) → OnOk answer (Gets contents old new (tamed lines)) →
+    OnOk answer (NotesOf holds words (tamed lines)) → OnOk answer (Gets contents old new (tamed lines)) →
     IfErr answer (λ failure. status ≡ status_of failure) → status ≡ 0 → TellsNote holds words contents old new
 tells_note holds words contents old new lines answer status noted gets is zero = record {
   note = tamed lines;
   tame = tamed_tame lines;
-  is = notes_kept holds words lines (done_at_zero answer status noted is zero);
+  is = done_at_zero answer status noted is zero;
   told = done_at_zero answer status gets is zero;
 }

@@ -24,6 +24,7 @@ use Rattle.vsi_answers.specs.Judged.{IsViewFault, TellsFault, TellsStartFault}
 use Rattle.vsi_answers.specs.declared.unanswered.Cause.TheVariants as cause
 use Rattle.vsi_answers.specs.declared.unanswered.Unanswered.{Unanswered}
 use Rattle.vsi_answers.specs.declared.unanswered.Unanswered.TheVariants as unanswered
+use Rattle.vsi_arguments.specs.declared.request.Budget.{Budget}
 use Rattle.vsi_arguments.specs.declared.request.DrivePolicy.{DrivePolicy}
 use Rattle.vsi_arguments.specs.declared.request.DrivePolicy.TheVariants as policy
 use Rattle.vsi_arguments.specs.declared.request.Driving.{Driving}
@@ -31,8 +32,9 @@ use Rattle.vsi.specs.declared.failure.Failure.{Failure}
 use Rattle.vsi.specs.Holding.{Holding, IsImageAt, IsStoreAt}
 use Rattle.vsi.specs.Files.{IsBudgetOf, IsFullAt, IsStoredAt}
 use Rattle.vsi.specs.Refusals.{IsNoMemory, NoOther, RefusesFirst, RefusesImage, FailsBy}
+use Rattle.vsi.specs.Noted.{NotesDrive, TellsBudget}
 use Rattle.vsi.specs.Steering.{IsLatticeOf, IsSteered, IsSteeredBy}
-use Rattle.vsi.specs.Undriven.{IsBoundaryStart, LacksDrive, LacksSteering, RefusesControl, RefusesSteering, SaysShort, WhyDrive}
+use Rattle.vsi.specs.Undriven.{FallsShort, IsBoundaryStart, LacksDrive, LacksSteering, RefusesControl, RefusesSteering, SaysShort, WhyDrive}
 use Rattle.vsi.proofs.Reasons.{FailsBy-weaker, handed, failed_by, fails_by}
 use Rattle.vsi.proofs.Unrun.{held_failed, kind_told}
 
@@ -108,7 +110,7 @@ controller_fails b l driver image budget error failure lacks told =
     failure told
 
 -- A report of one fault of a start is a report of a fault of its kind.
-start_told : (Kind : StartFault → Type 0) (f : StartFault) → Kind f → (reason : Unanswered) →
+pub start_told : (Kind : StartFault → Type 0) (f : StartFault) → Kind f → (reason : Unanswered) →
     Because (TellsStartFault (λ g. g ≡ f)) ⊥ reason → Because (TellsStartFault Kind) ⊥ reason
 start_told Kind f kind (unanswered.Refused text (cause.Source e)) told = absurd told
 start_told Kind f kind (unanswered.Refused text (cause.File g)) told = absurd told
@@ -163,10 +165,26 @@ control_failed holds d l driver image b budget result failure steered held withi
     result failure is told
 
 -- The lattice by which a class drives an image is that of the drive.
-steered_lattice : (holds : Holding) (class : List ℕ) (p : DrivePolicy) (l : Lattice) (driver : ℕ) (image : Image)
-    (b : Boundary) → IsSteeredBy holds class p l driver image b → IsLatticeOf holds p l
-steered_lattice holds class (policy.Lattice path lists) l driver image b steered = steered.looks.lattice
-steered_lattice holds class (policy.Interface path) l driver image b steered = (steered.asked, steered.force)
+pub steered_lattice : (holds : Holding) (class : List ℕ) (p : DrivePolicy) (is_unbounded : Bool) (l : Lattice)
+    (driver : ℕ) (image : Image) (b : Boundary) → IsSteeredBy holds class p is_unbounded l driver image b →
+    IsLatticeOf holds p l
+steered_lattice holds class (policy.Lattice path lists) is_unbounded l driver image b steered = steered.looks.lattice
+steered_lattice holds class (policy.Interface path) is_unbounded l driver image b steered =
+    (steered.asked, steered.force)
+
+-- The lines about the budget of a drive are those of the drive.
+pub noted_drive : (holds : Holding) (d : Driving) (l : Lattice) (driver : ℕ) (image : Image) (b : Boundary) (budget : ℕ)
+    (note : List ℕ) → IsSteered holds d l driver image b → IsImageAt holds d.execution.image.now image →
+    IsBudgetOf d.execution.budget image budget → TellsBudget d.is_unbounded l image budget note → NotesDrive holds d note
+noted_drive holds d l driver image b budget note steered held within is = record {
+  lattice = l;
+  declared = steered_lattice holds d.class.now d.policy d.is_unbounded l driver image b steered;
+  image = image;
+  held = held;
+  budget = budget;
+  within = within;
+  is = is;
+}
 
 -- A drive that nobody steers fails for that reason, or because something is missing.
 pub unsteered_failed : {T : Type 0} (holds : Holding) (d : Driving) (result : Result T Failure) (failure : Failure) →
@@ -186,21 +204,22 @@ unsteered_failed holds d result failure is told =
     ])
     (λ s lacks. inl (inl lacks)) failure told)
 
--- If the budget isn't enough for the image of a file, the caller that passes the failure on says so.
-pub short_failed : {T : Type 0} (holds : Holding) (d : Driving) (why : Unanswered → Type 0) (l : Lattice)
-    (driver : ℕ) (image : Image) (b : Boundary) (budget : ℕ) (result : Result T Failure) (failure : Failure) →
-    IsSteered holds d l driver image b → IsImageAt holds d.execution.image.now image →
-    IsBudgetOf d.execution.budget image budget → IsErrAnd result (λ s. s ≡ failure) →
-    FailsBy (λ reason. ⊥) (λ s. (d.is_unbounded ≡ false) × SaysShort l image budget s) failure →
-    IfErr result (FailsBy why (LacksDrive holds d))
-short_failed holds d why l driver image b budget result failure steered held within is told =
-    handed (FailsBy why (LacksDrive holds d)) failure result is
-    (FailsBy-weaker (λ reason. ⊥) why (λ s. (d.is_unbounded ≡ false) × SaysShort l image budget s)
-    (LacksDrive holds d) (λ reason none. absurd none)
-    (λ s short. inr (record {
+-- If the budget isn't enough for the image of a file, a request that passes the failure on says so.
+pub falls_short : {T : Type 0} (holds : Holding) (is_unbounded : Bool) (Kind : Lattice → Type 0) (path : List ℕ)
+    (given : Budget) (why : Unanswered → Type 0) (other : Failure → Type 0) (l : Lattice) (image : Image) (budget : ℕ)
+    (result : Result T Failure) (failure : Failure) → Kind l → IsImageAt holds path image →
+    IsBudgetOf given image budget →
+    ((s : Failure) → FallsShort holds is_unbounded Kind path given s → other s) → IsErrAnd result (λ s. s ≡ failure) →
+    FailsBy (λ reason. ⊥) (λ s. (is_unbounded ≡ false) × SaysShort l image budget s) failure →
+    IfErr result (FailsBy why other)
+falls_short holds is_unbounded Kind path given why other l image budget result failure declared held within f is told =
+    handed (FailsBy why other) failure result is
+    (FailsBy-weaker (λ reason. ⊥) why (λ s. (is_unbounded ≡ false) × SaysShort l image budget s) other
+    (λ reason none. absurd none)
+    (λ s short. f s (record {
       bounded = short.0;
       lattice = l;
-      declared = steered_lattice holds d.class.now d.policy l driver image b steered;
+      declared = declared;
       image = image;
       held = held;
       budget = budget;
@@ -208,3 +227,16 @@ short_failed holds d why l driver image b budget result failure steered held wit
       is = short.1;
     }))
     failure told)
+
+-- So does a drive.
+pub short_failed : {T : Type 0} (holds : Holding) (d : Driving) (why : Unanswered → Type 0) (l : Lattice)
+    (driver : ℕ) (image : Image) (b : Boundary) (budget : ℕ) (result : Result T Failure) (failure : Failure) →
+    IsSteered holds d l driver image b → IsImageAt holds d.execution.image.now image →
+    IsBudgetOf d.execution.budget image budget → IsErrAnd result (λ s. s ≡ failure) →
+    FailsBy (λ reason. ⊥) (λ s. (d.is_unbounded ≡ false) × SaysShort l image budget s) failure →
+    IfErr result (FailsBy why (LacksDrive holds d))
+short_failed holds d why l driver image b budget result failure steered held within is told =
+    falls_short holds d.is_unbounded (IsLatticeOf holds d.policy) d.execution.image.now d.execution.budget why
+    (LacksDrive holds d) l image budget result failure
+    (steered_lattice holds d.class.now d.policy d.is_unbounded l driver image b steered) held within
+    (λ s short. inr short) is told

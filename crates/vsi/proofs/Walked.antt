@@ -94,7 +94,8 @@ module _ (w : Walks) (is : AreWalks w) (old : Option (List ℕ)) where
   cut_text number total lines mid new h part =
       let t = w.table.now in
       let s = t.source.now in
-      let rest = lines_begin s.lattice t.profile s.text s.resolved is.table.stands t.pairs.items is.table.table number
+      let rest = lines_begin s.lattice t.profile s.text s.resolved is.table.source t.pairs.items is.table.table
+      is.table.verdict number
       (h.before ++ lines) h.made in (
         (h.before ++ lines) ++ rest.0,
         rest.1,
@@ -112,7 +113,8 @@ module _ (w : Walks) (is : AreWalks w) (old : Option (List ℕ)) where
       subst (λ ps. Makes w ps h.before) (take_all number t.pairs.items all)
       (subst (Makes w (take number t.pairs.items)) (ap (λ x. h.before ++ x) empty ∙ append-nil h.before) h.made) in (
         h.before,
-        walks_text s.lattice t.profile s.text s.resolved is.table.stands t.pairs.items is.table.table h.before made,
+        walks_text s.lattice t.profile s.text s.resolved is.table.source t.pairs.items is.table.table is.table.verdict
+            h.before made,
         omega (arith, h.count, h.few),
         h.written,
       )

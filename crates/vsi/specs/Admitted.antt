@@ -1,4 +1,4 @@
--- The budgets of a drive.
+-- The budgets of a drive, of a view within a boundary and of a comparison.
 use Rattle.std.specs.Prelude.{◌≡◌, ◌≢◌, ◌<◌, ◌≤◌, ◌⊎◌, ◌++◌, ℕ, Bool, true, false, List, codes, decimal}
 use Rattle.vsi_lattice.specs.LatticeView.{class_named, order}
 use Rattle.vsi_lattice.specs.declared.lattice.Lattice.{Lattice}
@@ -16,7 +16,7 @@ pub record IsEnough (l : Lattice) (image : Image) (budget : ℕ) : Type 0 where
   pub halts : IsBound image most
   pub covers : (most ≤ budget) ⊎ IsSteady (class_named l) (order l) image
 
--- A drive takes a budget that is enough, and with `--unbounded` any.
+-- A budget that is enough is taken, and with `--unbounded` any.
 abbrev pub IsAdmitted : Bool → Lattice → Image → ℕ → Type 0
 IsAdmitted true l image budget = Unit {0}
 IsAdmitted false l image budget = IsEnough l image budget

@@ -17,6 +17,7 @@ use Rattle.vsi_arguments.specs.declared.request.Audit.{Audit}
 use Rattle.vsi_arguments.specs.declared.request.Comparison.{Comparison}
 use Rattle.vsi_arguments.specs.declared.request.Execution.{Execution}
 use Rattle.vsi_arguments.specs.declared.request.InitialStore.{InitialStore}
+use Rattle.vsi.specs.Admitted.{IsAdmitted}
 use Rattle.vsi.specs.Files.{BeginsAt, IsBudgetOf, IsStoredAt, LooksAt}
 use Rattle.vsi.specs.Holding.{Holding, IsImageAt, IsLatticeAt}
 
@@ -74,7 +75,8 @@ pub record RunsJson (holds : Holding) (e : Execution) (o : InitialStore) (good :
   pub within : IsBudgetOf e.budget image budget
   pub is : TellsRun image words budget good text.items
 
--- The line of JSON for the comparison that a class makes of the runs of an image from two store files.
+-- The line of JSON for the comparison that a class makes of the runs of an image from two store files. The budget is
+-- enough or `--unbounded` is given.
 pub record ComparesJson (holds : Holding) (c : Comparison) (good : Bool) (text : Vec ℕ) : Type 0 where
   pub lattice : Lattice
   pub viewer : ℕ
@@ -87,4 +89,5 @@ pub record ComparesJson (holds : Holding) (c : Comparison) (good : Bool) (text :
   pub from_second : IsStoredAt holds (Some c.stores.1) image second
   pub budget : ℕ
   pub within : IsBudgetOf c.budget image budget
+  pub admitted : IsAdmitted c.is_unbounded lattice image budget
   pub is : IsComparisonJson lattice viewer image first second budget good text.items

@@ -1,10 +1,11 @@
 -- The contents of files, and the bytes read from them.
-use Rattle.std.specs.Prelude.{◌≡◌, ◌≢◌, ◌++◌, ℕ, List, [], Option, Some, None, IfSome, codes}
+use Rattle.std.specs.Prelude.{◌≡◌, ◌≢◌, ◌++◌, ℕ, true, List, [], Option, Some, None, IfSome, codes}
 use Rattle.std.specs.Borrow.{Bor}
 use Rattle.vsi_lattice.specs.declared.lattice.Lattice.{Lattice}
 use Rattle.vsi_image.specs.declared.instr.Image.{Image}
 use Rattle.vsi_devices.specs.Engine.{IsReadFrom}
 use Rattle.vsi_answers.specs.Judged.{AreImage, Declares}
+use Rattle.vsi_state.specs.Seal.{is_whole}
 
 -- The bytes of the file at each path, if they are known.
 abbrev pub Holding : Type 0
@@ -26,10 +27,11 @@ pub record IsImageAt (holds : Holding) (path : List ℕ) (image : Image) : Type 
   pub read : IsReadAt holds path bytes
   pub are : AreImage bytes image
 
--- These are the bytes of a store file; without a path there are none.
+-- These are the bytes of a store file, which is whole: its first line, if it is a checksum, is that of the rest. Without
+-- a path there are none.
 abbrev pub IsStoreAt : Holding → Option (Bor (List ℕ)) → List ℕ → Type 0
 IsStoreAt holds None bytes = bytes ≡ []
-IsStoreAt holds (Some path) bytes = IsReadAt holds path.now bytes
+IsStoreAt holds (Some path) bytes = IsReadAt holds path.now bytes × (is_whole bytes ≡ true)
 
 -- ---- what is put into them.
 

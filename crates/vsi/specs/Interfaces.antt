@@ -1,5 +1,5 @@
 -- The interface that a file holds, and its lattice.
-use Rattle.std.specs.Prelude.{ℕ, List}
+use Rattle.std.specs.Prelude.{◌≡◌, ℕ, List}
 use Rattle.std.specs.Global.{Vec}
 use Rattle.std.specs.Str.Lossy.{utf8_lossy}
 use Rattle.vsi_lattice.specs.declared.lattice.Lattice.{Lattice}
@@ -26,3 +26,8 @@ named_path interface path = utf8_lossy (beside interface path.items)
 abbrev pub IsPolicyAt : Holding → List ℕ → Policy → Lattice → Type 0
 IsPolicyAt holds interface (File path) l = IsLatticeAt holds (named_path interface path) l
 IsPolicyAt holds interface (Tables text) l = Declares text.items l
+
+-- The bytes of an interface's lattice: those of the file that it names, or of its own tables.
+abbrev pub ArePolicyBytes : Holding → List ℕ → Policy → List ℕ → Type 0
+ArePolicyBytes holds interface (File path) bytes = IsReadAt holds (named_path interface path) bytes
+ArePolicyBytes holds interface (Tables text) bytes = bytes ≡ text.items

@@ -1,5 +1,6 @@
 -- The output of `fmt`, given the contents of its file.
-use Rattle.std.specs.Prelude.{◌≡◌, ◌≢◌, ◌⊎◌, ℕ, Bool, true, false, List, Option}
+use Rattle.std.specs.Prelude.{◌≡◌, ◌≢◌, ◌⊎◌, ℕ, Bool, true, false, List, Option, Some, None}
+use Rattle.std.specs.Borrow.{Bor}
 use Rattle.std.specs.Global.{Vec}
 use Rattle.std.specs.Io.KnownBytes.{Appends, Keeps}
 use Rattle.vsi_compiler.specs.Source.{IsCanonicalText}
@@ -50,6 +51,12 @@ pub record WritesLayout (holds : Holding) (source : List ℕ) (left : Holding) :
   pub layout : List ℕ
   pub lays : LaysOut holds source text layout
   pub put : PutsBack source text layout holds left
+
+-- The file that the request replaces, by whether `--check` and `--write` are given: that of its text, with `--write`.
+abbrev pub written_by : Bool → Bool → Bor (List ℕ) → Option (Bor (List ℕ))
+written_by true is_written source = None
+written_by false true source = Some source
+written_by false false source = None
 
 -- The request is performed, by whether `--check` and `--write` are given; only `--write` changes a file.
 abbrev pub PerformsLayout : Bool → Bool → Holding → List ℕ → Holding → Option (List ℕ) → Option (List ℕ) → Type 0

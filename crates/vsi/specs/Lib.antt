@@ -1,6 +1,7 @@
 pub mod Failures
 pub mod Screen
 pub mod Input
+pub mod Objections
 pub mod Words
 pub mod Holding
 pub mod Loading
@@ -15,11 +16,13 @@ pub mod Raises
 pub mod Admitted
 pub mod Boundaries
 pub mod Interfaces
+pub mod Filed
 pub mod Visible
 pub mod Steering
 pub mod Files
 pub mod Documents
 pub mod State
+pub mod Feeding
 pub mod Viewing
 pub mod Supplied
 pub mod Performed

@@ -1,5 +1,5 @@
 -- The output that a failed request leaves: nothing new, or the beginning of one of its answers.
-use Rattle.std.specs.Prelude.{◌≡◌, ◌≢◌, ◌<◌, ◌⊎◌, ℕ, ◌++◌, ℤ, Bool, true, false, List, Option, IfSome, take}
+use Rattle.std.specs.Prelude.{◌≡◌, ◌≢◌, ◌<◌, ◌⊎◌, ℕ, ◌++◌, ℤ, Bool, true, false, List, Option, None, IfSome, take}
 use Rattle.std.specs.Global.{Vec}
 use Rattle.std.specs.Io.KnownBytes.{Appends, Keeps}
 use Rattle.vsi_lattice.specs.declared.lattice.Lattice.{Lattice}
@@ -9,6 +9,7 @@ use Rattle.vsi_lsp.specs.Frames.{AreFrames}
 use Rattle.vsi_flows.specs.Text.{IsWalksText}
 use Rattle.vsi_store.specs.declared.comparison.Comparison as found
 use Rattle.vsi_drive.specs.Boundary.{Boundary}
+use Rattle.vsi_drive.specs.BoundaryFaults.{boundary_fault}
 use Rattle.vsi_drive.specs.Control.{Control, controlled}
 use Rattle.vsi_drive.specs.Cycles.{text_of}
 use Rattle.vsi_devices.specs.Running.{trace_of}
@@ -31,7 +32,7 @@ use Rattle.vsi.specs.Admitted.{IsAdmitted}
 use Rattle.vsi.specs.Driven.{lines_of}
 use Rattle.vsi.specs.Holding.{Holding, IsImageAt}
 use Rattle.vsi.specs.Laying.{AnswersLayout, ToldCanonical}
-use Rattle.vsi.specs.Files.{AreFiles, BeginsAt, IsBudgetOf, IsStoredAt, OfFile, OfFiles, shown}
+use Rattle.vsi.specs.Files.{AreFiles, BeginsAt, IsBudgetOf, IsFullAt, IsStoredAt, OfFile, OfFiles, shown}
 use Rattle.vsi.specs.Performed.{AuditsTo, BoundsFile, ComparesFiles, ConformsFiles, DocumentOf, DrawsFiles, EmitsFile, RunsFiles, SearchesFiles, SourceOfFile, ToldAccepted, ToldClasses, ToldFlows, ToldJson, ToldListing, ToldPage, ToldRaises, ViewsFiles, judgement_of, profile_of}
 use Rattle.vsi.specs.Raises.{ToldUnserved}
 use Rattle.vsi.specs.Reasons.{ToldRefusal}
@@ -118,7 +119,8 @@ pub record DrivenText (c : Control) (m : List ℤ) (remaining : Option (List ℕ
   pub whole : IfSome remaining (λ all. bytes ≡ all)
   pub is : text ≡ text_of c m (lines_of bytes)
 
--- `drive`: the text that the cycles of all lines of the input write.
+-- `drive`: the text that the cycles of all lines of the input write, from a store that is full if it has to be, within a
+-- boundary without a fault.
 pub record AnswersDrive (holds : Holding) (d : Driving) (given : Option (List ℕ)) (text : List ℕ) : Type 0 where
   pub lattice : Lattice
   pub driver : ℕ
@@ -131,6 +133,8 @@ pub record AnswersDrive (holds : Holding) (d : Driving) (given : Option (List �
   pub budget : ℕ
   pub within : IsBudgetOf d.execution.budget image budget
   pub admitted : IsAdmitted d.is_unbounded lattice image budget
+  pub sound : boundary_fault (controlled lattice driver image budget boundary) ≡ None
+  pub full : IsFullAt holds d.execution.store image d.is_full
   pub driven : DrivenText (controlled lattice driver image budget boundary) first given text
 
 -- `compare`: what the class sees of both runs, the same or not.
@@ -163,7 +167,7 @@ Answers holds given (request.ViewWithin asked) = AnswersViewWithin holds asked
 Answers holds given (request.Drive driving) = AnswersDrive holds driving given
 Answers holds given (request.Compare comparison) = AnswersCompare holds comparison
 Answers holds given (request.Leak search) = BytesOf (SearchesFiles holds search)
-Answers holds given (request.Report c) = BytesOf (OfFiles holds c ToldPage)
+Answers holds given (request.Report c) = BytesOf (OfFiles holds c (ToldPage c.is_strict))
 Answers holds given (request.Draw drawing) = BytesOf (DrawsFiles holds drawing)
 Answers holds given (request.Policy looking) = BytesOf (SeesFiles holds looking)
 Answers holds given (request.Visible visibility) = BytesOf (ShowsFiles holds visibility)

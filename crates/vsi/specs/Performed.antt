@@ -1,5 +1,5 @@
 -- The output of each subcommand that ends well, given the contents of its files.
-use Rattle.std.specs.Prelude.{◌≡◌, ◌≤◌, ℕ, ◌++◌, ◌∷◌, ℤ, Bool, true, false, List, [], Option, Some, None, Ok, codes, decimal, if◌then◌else◌, IsSomeAnd}
+use Rattle.std.specs.Prelude.{◌≡◌, ◌≤◌, ℕ, ◌++◌, ◌∷◌, ℤ, Bool, true, false, List, [], Option, Some, None, Ok, codes, decimal, if◌then◌else◌, IsSomeAnd, IfSome, option_map}
 use Rattle.std.specs.Borrow.{Bor}
 use Rattle.std.specs.Global.{Vec}
 use Rattle.std.specs.Io.KnownBytes.{Appends, Keeps}
@@ -9,6 +9,9 @@ use Rattle.vsi_types.specs.declared.rules.Profile.{Profile}
 use Rattle.vsi_types.specs.declared.rules.Profile.TheVariants.{Base, Strict}
 use Rattle.vsi_image.specs.declared.instr.Image.{Image}
 use Rattle.vsi_image.specs.Fields.{globals}
+use Rattle.vsi_emit.specs.declared.origin.Build.{Build}
+use Rattle.vsi_emit.specs.declared.origin.Build.TheVariants.{Proved}
+use Rattle.vsi_emit.specs.declared.origin.Origin.{Origin}
 use Rattle.vsi_emit.specs.Bounded.{IsEmittedBounded}
 use Rattle.vsi_emit.specs.BoundedWriting.{bounded_header_text}
 use Rattle.vsi_emit.specs.Emitted.{IsEmitted}
@@ -25,12 +28,13 @@ use Rattle.vsi_documents.specs.Leaks.{TellsSearch}
 use Rattle.vsi_leak.specs.declared.whole.Wanted.{Wanted}
 use Rattle.vsi_audit.specs.Standing.{HasKnownClasses}
 use Rattle.vsi_audit.specs.Text.{IsSourceText}
-use Rattle.vsi_evidence.specs.Evidence.{evidence_text}
+use Rattle.vsi_evidence.specs.Evidence.{Filed, conformity_text, evidence_text}
 use Rattle.vsi_evidence.specs.declared.AuditProfile.{AuditProfile}
 use Rattle.vsi_evidence.specs.declared.AuditProfile.TheVariants as by
 use Rattle.vsi_report.specs.FlowsGraph.{IsFlowsGraph, IsPolicyGraph}
 use Rattle.vsi_report.specs.Graph.{IsLatticeGraph}
 use Rattle.vsi_report.specs.Page.{HasPanel}
+use Rattle.vsi_report.specs.Verdict.{HasVerdict}
 use Rattle.vsi_conform.specs.Conforms.{Conforms, IsUnbounded, Tells as TellsPoints}
 use Rattle.vsi_conform.specs.Json.{IsConformJson}
 use Rattle.vsi_conform.specs.Lines.{IsConformText}
@@ -69,6 +73,7 @@ use Rattle.vsi_arguments.specs.declared.request.Request.TheVariants as request
 use Rattle.vsi.specs.Admitted.{IsAdmitted}
 use Rattle.vsi.specs.Documents.{AuditsJson, AuditsSarif, BoundsJson, ComparesJson, RunsJson, ToldClassesJson, ToldFlowsJson, ToldSarif}
 use Rattle.vsi.specs.Driven.{DrivesInput}
+use Rattle.vsi.specs.Filed.{IsFiledBound, IsFollowed, IsJudged, filed_profile, lattice_file, policy_bytes}
 use Rattle.vsi.specs.Holding.{Delivers, Fills, Holding, IsImageAt, IsLatticeAt, IsReadAt}
 use Rattle.vsi.specs.Interfaces.{IsAskedAt, IsPolicyAt}
 use Rattle.vsi.specs.Laying.{PerformsLayout, ToldCanonical}
@@ -127,9 +132,10 @@ ToldImage is_strict l source bytes = BuildsTo l (profile_of is_strict) source (O
 abbrev pub ToldListing : List ℕ → Vec ℕ → Type 0
 ToldListing bytes text = ListsTo bytes (Ok text)
 
--- A page with a panel that shows the source text; nothing is claimed about the rest of the page.
-abbrev pub ToldPage : Lattice → List ℕ → Vec ℕ → Type 0
-ToldPage l source page = HasPanel page.items source
+-- A page that first shows the verdict of the profile, and has a panel that shows the source text.
+pub record ToldPage (is_strict : Bool) (l : Lattice) (source : List ℕ) (page : Vec ℕ) : Type 0 where
+  pub panel : HasPanel page.items source
+  pub verdict : HasVerdict l (profile_of is_strict) source page.items
 
 -- A run that halts: its trace, if it is traced, and the text of its store.
 pub record RunsFiles (holds : Holding) (e : Execution) (o : InitialStore) (traced : Bool) (trace text : List ℕ)
@@ -154,7 +160,8 @@ pub record ViewsFiles (holds : Holding) (path class : List ℕ) (e : Execution) 
   pub within : IsBudgetOf e.budget image budget
   pub views : ViewsTo lattice viewer image words budget (Ok text)
 
--- The comparison that a class makes of the runs of an image from two store files.
+-- The comparison that a class makes of the runs of an image from two store files. The budget is enough or `--unbounded`
+-- is given.
 pub record ComparesFiles (holds : Holding) (c : Comparison) (told : found.Comparison) : Type 0 where
   pub lattice : Lattice
   pub viewer : ℕ
@@ -167,6 +174,7 @@ pub record ComparesFiles (holds : Holding) (c : Comparison) (told : found.Compar
   pub from_second : IsStoredAt holds (Some c.stores.1) image second
   pub budget : ℕ
   pub within : IsBudgetOf c.budget image budget
+  pub admitted : IsAdmitted c.is_unbounded lattice image budget
   pub compares : ComparesTo lattice viewer image first second budget (Ok told)
 
 -- The text of the image of a file: the canonical text of a program whose commands are those of the image's code.
@@ -197,6 +205,10 @@ pub record AuditsFiles (holds : Holding) (a : Audit) : Type 0 where
 -- The version of the program.
 abbrev pub program_version : List ℕ
 program_version = codes "0.1.0"
+
+-- How the program was built.
+abbrev pub program_build : Build
+program_build = Proved
 
 -- How an audit judges.
 abbrev pub audit_profile : Audit → AuditProfile
@@ -280,32 +292,64 @@ abbrev pub IsEmittedFrom : Holding → Option (Bor (List ℕ)) → Bor (List ℕ
 IsEmittedFrom holds None file = IsImageAt holds file.now
 IsEmittedFrom holds (Some lattice) file = IsBuiltAt holds (compilation_of lattice file)
 
--- The header of an image's C, or the C.
-abbrev pub IsWrittenInC : Bool → Image → List ℕ → List ℕ → Type 0
-IsWrittenInC true im name text = text ≡ header_text name (globals im.globals.items)
-IsWrittenInC false im name text = IsEmitted im name text
+-- The bytes of that image: those of its file, or with a lattice those that `build` makes.
+abbrev pub emitted_bytes : (holds : Holding) → (lattice : Option (Bor (List ℕ))) → (file : Bor (List ℕ)) → (im : Image) →
+    IsEmittedFrom holds lattice file im → List ℕ
+emitted_bytes holds None file im held = held.bytes
+emitted_bytes holds (Some lattice) file im held = held.bytes.items
+
+-- The bytes of the lattice file, if there is one.
+abbrev pub AreLatticeBytes : Holding → Option (Bor (List ℕ)) → Option (List ℕ) → Type 0
+AreLatticeBytes holds None bytes = bytes ≡ None
+AreLatticeBytes holds (Some path) bytes = IsSomeAnd bytes (IsReadAt holds path.now)
+
+-- These bytes are those of the requested image.
+pub record IsEmittedAs (holds : Holding) (lattice : Option (Bor (List ℕ))) (file : Bor (List ℕ)) (im : Image)
+    (bytes : List ℕ) : Type 0 where
+  pub held : IsEmittedFrom holds lattice file im
+  pub same : bytes ≡ emitted_bytes holds lattice file im held
+
+-- The origin names the version and the build of this program.
+pub record IsOurs (origin : Origin) : Type 0 where
+  pub version : origin.version.now ≡ program_version
+  pub build : origin.build ≡ program_build
+
+-- The header of an image's C with a budget, or that C, with the most instructions of a run, if they are known.
+abbrev pub IsHeaderOrC : Bool → Image → Origin → Option ℕ → List ℕ → List ℕ → Type 0
+IsHeaderOrC true im origin bound name text = text ≡ header_text origin bound name (globals im.globals.items)
+IsHeaderOrC false im origin bound name text = IsEmitted im origin bound name text
+
+-- This is the header of an image's C with a budget, or that C, and its bound, if it has one, is right.
+pub record IsWrittenInC (is_header : Bool) (im : Image) (origin : Origin) (name text : List ℕ) : Type 0 where
+  pub bound : Option ℕ
+  pub halts : IfSome bound (IsBound im)
+  pub is : IsHeaderOrC is_header im origin bound name text
 
 -- The header of an image's C without a budget, or that C, with the most instructions of a run.
-abbrev pub IsWrittenBounded : Bool → Image → ℕ → List ℕ → List ℕ → Type 0
-IsWrittenBounded true im most name text = text ≡ bounded_header_text name (globals im.globals.items) most
-IsWrittenBounded false im most name text = IsEmittedBounded im name most text
+abbrev pub IsWrittenBounded : Bool → Image → Origin → ℕ → List ℕ → List ℕ → Type 0
+IsWrittenBounded true im origin most name text = text ≡ bounded_header_text origin most name (globals im.globals.items)
+IsWrittenBounded false im origin most name text = IsEmittedBounded im origin most name text
 
 -- The image has a bound, and this is the header of its C without a budget, or that C.
-pub record IsBoundedC (is_header : Bool) (im : Image) (name text : List ℕ) : Type 0 where
+pub record IsBoundedC (is_header : Bool) (im : Image) (origin : Origin) (name text : List ℕ) : Type 0 where
   pub most : ℕ
   pub halts : IsBound im most
-  pub is : IsWrittenBounded is_header im most name text
+  pub is : IsWrittenBounded is_header im origin most name text
 
 -- An image's C or its header, without a budget or with one.
-abbrev pub IsRequestedC : Bool → Bool → Image → List ℕ → List ℕ → Type 0
+abbrev pub IsRequestedC : Bool → Bool → Image → Origin → List ℕ → List ℕ → Type 0
 IsRequestedC true = IsBoundedC
 IsRequestedC false = IsWrittenInC
 
--- The C of the requested image, or its header.
+-- The C of the requested image, or its header. It says that it comes from this program, from the image's bytes and, with a
+-- lattice, from the bytes of the lattice file.
 pub record EmitsFile (holds : Holding) (asked : Emission) (text : Vec ℕ) : Type 0 where
   pub image : Image
-  pub held : IsEmittedFrom holds asked.lattice asked.file image
-  pub is : IsRequestedC asked.is_bounded asked.is_header image (function_name asked.name asked.file.now) text.items
+  pub origin : Origin
+  pub ours : IsOurs origin
+  pub bytes : IsEmittedAs holds asked.lattice asked.file image origin.image.now
+  pub lattice : AreLatticeBytes holds asked.lattice (option_map (λ b. b.now) origin.lattice)
+  pub is : IsRequestedC asked.is_bounded asked.is_header image origin (function_name asked.name asked.file.now) text.items
 
 -- The answer about the bound of an image of this kind.
 pub record BoundsImage (Kind : Image → Type 0) (told : BoundAnswer) : Type 0 where
@@ -351,15 +395,39 @@ abbrev pub TellsBytes : Bool → AnswerForm → List ℕ → Bool → Lattice �
 TellsBytes true = TellsSupplied
 TellsBytes false = TellsConforming
 
+-- The files of a conformance with these bytes: the interface, its lattice file if it names one, and the source text or
+-- the image.
+abbrev pub judged_files : Conformance → InterfaceFile → List ℕ → List ℕ → List ℕ → List Filed
+judged_files c asked interface policy source =
+    (c.interface.now, interface) ∷ lattice_file c.interface.now asked.policy policy ++ (c.source.now, source) ∷ []
+
+-- The evidence of a source text or an image that conforms to an interface: the version of the program, the profile, the
+-- bound if one is required, and the files.
+pub record IsConformity (asked : InterfaceFile) (l : Lattice) (source : List ℕ) (files : List Filed) (text : List ℕ)
+    : Type 0 where
+  pub most : Option ℕ
+  pub bound : IsFiledBound asked.interface.bounded (IsJudged (begins_image source) l source) most
+  pub is : text ≡ conformity_text program_version (filed_profile asked.interface.judgement) most files
+
+-- The same for the bytes that were read and judged.
+abbrev pub IsEvidence : (holds : Holding) → (c : Conformance) → (asked : InterfaceFile) → (l : Lattice) →
+    (source : List ℕ) → AreAsked holds c asked l source → List ℕ → Type 0
+IsEvidence holds c asked l source files =
+    IsConformity asked l source
+    (judged_files c asked files.interface.bytes (policy_bytes holds c.interface.now asked.policy l files.lattice) source)
+
 -- The text written for the files of a conformance, whose source text or image conforms to the interface under its
--- lattice or doesn't. The runs of the interface take together no more instructions than the budget has.
+-- lattice or doesn't: the answer, and the evidence after it. The runs of the interface take together no more
+-- instructions than the budget has.
 pub record ConformsFiles (holds : Holding) (c : Conformance) (conforms : Bool) (text : Vec ℕ) : Type 0 where
   pub asked : InterfaceFile
   pub lattice : Lattice
   pub source : List ℕ
   pub files : AreAsked holds c asked lattice source
   pub within : total_of asked.interface ≤ c.budget
-  pub tells : TellsBytes (begins_image source) c.form c.source.now conforms lattice source asked.interface text.items
+  pub answer : List ℕ
+  pub tells : TellsBytes (begins_image source) c.form c.source.now conforms lattice source asked.interface answer
+  pub followed : IsFollowed c.has_evidence conforms (IsEvidence holds c asked lattice source files) answer text.items
 
 -- The document that answers a request, and that says of its files that all is well or that something is wrong.
 abbrev pub DocumentOf : Holding → Document → Bool → Vec ℕ → Type 0
@@ -479,7 +547,7 @@ Performs holds given (request.ViewWithin asked) left = PerformsViewWithin holds 
 Performs holds given (request.Drive driving) left = PerformsDrive holds driving given left
 Performs holds given (request.Compare comparison) left = Alone (PerformsCompare holds comparison) holds left
 Performs holds given (request.Leak search) left = Alone (Writes (SearchesFiles holds search)) holds left
-Performs holds given (request.Report c) left = Alone (Writes (OfFiles holds c ToldPage)) holds left
+Performs holds given (request.Report c) left = Alone (Writes (OfFiles holds c (ToldPage c.is_strict))) holds left
 Performs holds given (request.Draw drawing) left = Alone (Writes (DrawsFiles holds drawing)) holds left
 Performs holds given (request.Policy looking) left = Alone (Writes (SeesFiles holds looking)) holds left
 Performs holds given (request.Visible visibility) left = Alone (Writes (ShowsFiles holds visibility)) holds left

@@ -60,10 +60,11 @@ use Rattle.vsi.specs.Served.{Serves, unended_line}
 use Rattle.vsi.specs.Supplied.{begins_image}
 use Rattle.vsi.specs.Steering.{IsViewed}
 use Rattle.vsi.specs.Tried.{AreTried, BeginsSet, IsMade, IsTriedUnder, RunsMade, policy_path}
+use Rattle.vsi.specs.Feeding.{RefusesSettings}
 use Rattle.vsi.specs.Files.{BeginsAt, IsBudgetOf, LooksAt, OfFiles, Writes}
 use Rattle.vsi.specs.Performed.{BoundsFile, ComparesFiles, ConformsFiles, DocumentOf, LooksFor, compilation_of, judgement_of, profile_of, wanted_of}
 use Rattle.vsi.specs.Refusals.{AsksCanonical, AsksCheck, AsksClasses, AsksFlows, AsksImage, AsksMend, IsDifference, LacksBoundAt, LacksClass, LacksClassAt, LacksEither, NoOther, RefusesFile, RefusesFiles, RefusesImage, RefusesLattice, RefusesSource, RefusesStart, RefusesStore, FailsBy}
-use Rattle.vsi.specs.Undriven.{IsUnusable, LacksDrive, LacksView, RefusesAsked, RefusesControl, RefusesSteering, SaysLine, WhyDrive}
+use Rattle.vsi.specs.Undriven.{FallsShort, IsUnusable, LacksDrive, LacksView, RefusesAsked, RefusesControl, RefusesSteering, SaysLine, WhyDrive}
 
 -- ---- why each subcommand has failed.
 
@@ -173,9 +174,11 @@ pub record DiffersCompare (holds : Holding) (c : Comparison) (old new : Option (
   pub differs : told.is_same ≡ false
   pub written : Appends old new told.text.items
 
--- `compare`: the lattice has no class of the name, or no bound was found for the image.
+-- `compare`: the lattice has no class of the name, no bound was found for the image, or the budget isn't enough.
 abbrev pub LacksCompare : Holding → Comparison → Failure → Type 0
-LacksCompare holds c = LacksEither holds c.lattice.now c.class.now c.image.now c.budget
+LacksCompare holds c failure =
+    LacksEither holds c.lattice.now c.class.now c.image.now c.budget failure
+    ⊎ FallsShort holds c.is_unbounded (IsLatticeAt holds c.lattice.now) c.image.now c.budget failure
 
 -- `compare`: something is missing, or a difference has been written.
 abbrev pub OtherCompare : Holding → Comparison → Option (List ℕ) → Option (List ℕ) → Failure → Type 0
@@ -335,8 +338,8 @@ WhyVisible holds interface None reason = RefusesAsked holds interface reason
 WhyVisible holds interface (Some old) reason =
     RefusesAsked holds interface reason ⊎ RefusesAsked holds old.now reason
 
--- `view` within a boundary: the lattice lacks the class of a global, the boundary has a fault, or the run is out of
--- budget.
+-- `view` within a boundary: the lattice lacks the class of a global, the boundary has a fault, the run is out of budget,
+-- or by an interface a setting sets what is no input.
 pub record RefusesViewWithin (holds : Holding) (asked : Viewing) (reason : Unanswered) : Type 0 where
   pub lattice : Lattice
   pub viewer : ℕ
@@ -350,6 +353,7 @@ pub record RefusesViewWithin (holds : Holding) (asked : Viewing) (reason : Unans
   pub is : RefusesControl boundary lattice viewer image budget reason
       ⊎ ((reason ≡ unanswered.OutOfBudget)
       × (view_of (controlled lattice viewer image budget boundary) budget words ≡ None))
+      ⊎ RefusesSettings lattice viewer image boundary asked.initial_store reason
 
 -- `view` within a boundary: the lattice is refused, or the image, or the words that it begins with, or the run has no
 -- answer.

@@ -7,18 +7,20 @@ use Rattle.std.specs.declared.alloc.Global.{Global}
 use Rattle.vsi_lattice.specs.declared.lattice.Lattice.{Lattice}
 use Rattle.vsi_image.specs.declared.instr.Image.{Image}
 use Rattle.vsi_drive.specs.Boundary.{Boundary}
+use Rattle.vsi_drive.specs.BoundaryFaults.{boundary_fault}
 use Rattle.vsi_drive.specs.Control.{Control, controlled}
 use Rattle.vsi_drive.specs.Cycles.{store_behind, text_of}
 use Rattle.vsi_arguments.specs.declared.request.Driving.{Driving}
 use Rattle.vsi_arguments.specs.declared.request.Request.{Request}
-use Rattle.vsi_arguments.specs.declared.request.Request.TheVariants.{Drive}
+use Rattle.vsi_arguments.specs.declared.request.Request.TheVariants.{Build, Drive, Layout, Run, View, ViewWithin}
 use Rattle.vsi_asked.specs.Asked.{AsksFor}
 use Rattle.vsi.specs.Admitted.{IsAdmitted}
 use Rattle.vsi.specs.Driven.{lines_of}
-use Rattle.vsi.specs.Files.{IsBudgetOf, IsStoredAt}
-use Rattle.vsi.specs.Holding.{Holding, HoldsAt, IsImageAt}
+use Rattle.vsi.specs.Files.{IsBudgetOf, IsFullAt, IsStoredAt}
+use Rattle.vsi.specs.Holding.{Holding, HoldsAt, IsImageAt, KeepsOthers}
+use Rattle.vsi.specs.Laying.{written_by}
 use Rattle.vsi.specs.Partly.{WritesPart}
-use Rattle.vsi.specs.State.{HoldsState, StaysAt, Touches, state_text}
+use Rattle.vsi.specs.State.{HoldsState, StaysAt, StaysBeside, Touches, state_text}
 use Rattle.vsi.specs.Steering.{IsSteered}
 
 -- ---- while lines are driven.
@@ -79,7 +81,8 @@ pub record SavesInput (save : Option (Bor (List ℕ))) (im : Image) (c : Control
   pub held : HoldsState save (state_text im (store_behind c m saved)) left
   pub part : WritesPart (text_of c m (saved ++ since)) before after
 
--- The drive of the image in a file has begun, and has saved its store so.
+-- The drive of the image in a file has begun, from a store that is full if it has to be and within a boundary without a
+-- fault, and has saved its store so.
 pub record SavesDrive (holds : Holding) (d : Driving) (given : Option (List ℕ)) (left : Holding)
     (old new : Option (List ℕ)) : Type 0 where
   pub lattice : Lattice
@@ -93,6 +96,8 @@ pub record SavesDrive (holds : Holding) (d : Driving) (given : Option (List ℕ)
   pub budget : ℕ
   pub within : IsBudgetOf d.execution.budget image budget
   pub admitted : IsAdmitted d.is_unbounded lattice image budget
+  pub sound : boundary_fault (controlled lattice driver image budget boundary) ≡ None
+  pub full : IsFullAt holds d.execution.store image d.is_full
   pub saves : SavesInput d.save image (controlled lattice driver image budget boundary) first d.every given old new left
 
 -- A drive that fails leaves its file as it was, and no answer, or with the store after some of the lines. No other file
@@ -102,10 +107,18 @@ pub record LeavesState (holds : Holding) (d : Driving) (given : Option (List ℕ
   pub touches : Touches d.save holds left
   pub state : (StaysAt d.save holds left × Keeps old new) ⊎ SavesDrive holds d given left old new
 
--- A request that fails and is a drive leaves the store's file in one of these states.
+-- A request that fails leaves the files so: a drive leaves its store's file in one of these states; `run`, `view` and
+-- `fmt` leave each file as it was but the one that is filled beside theirs, and `build` each but the image; a request that
+-- writes no file leaves each file as it was.
 abbrev pub KeepsState : Holding → Option (List ℕ) → Request → Holding → Option (List ℕ) → Option (List ℕ) → Type 0
 KeepsState holds given (Drive d) left old new = LeavesState holds d given left old new
-KeepsState holds given asked left old new = Unit {0}
+KeepsState holds given (Build c image) left old new = KeepsOthers image.now holds left
+KeepsState holds given (Run e o has_trace has_count) left old new = StaysBeside o.out holds left
+KeepsState holds given (View lattice class e o) left old new = StaysBeside o.out holds left
+KeepsState holds given (ViewWithin asked) left old new = StaysBeside asked.initial_store.out holds left
+KeepsState holds given (Layout asked) left old new =
+    StaysBeside (written_by asked.is_checked asked.is_written asked.source) holds left
+KeepsState holds given asked left old new = left ≡ holds
 
 -- Arguments that fail, without changing a file or with what their request leaves.
 abbrev pub KeepsStateOf : Holding → Option (List ℕ) → List (String Global) → Holding → Option (List ℕ) →

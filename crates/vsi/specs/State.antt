@@ -26,3 +26,7 @@ abbrev pub Touches : Option (Bor (List ℕ)) → Holding → Holding → Type 0
 Touches None old new = new ≡ old
 Touches (Some path) old new =
     (other : List ℕ) → other ≢ path.now → other ≢ path.now ++ codes ".new" → new other ≡ old other
+
+-- The requested file is as it was, and so is each other one but the one that is filled beside it.
+abbrev pub StaysBeside : Option (Bor (List ℕ)) → Holding → Holding → Type 0
+StaysBeside path old new = StaysAt path old new × Touches path old new

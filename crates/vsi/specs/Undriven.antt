@@ -1,5 +1,5 @@
 -- Why an image isn't driven, or why no class views it.
-use Rattle.std.specs.Prelude.{◌≡◌, ◌⊎◌, ℕ, false, List, map, Some, None, Err}
+use Rattle.std.specs.Prelude.{◌≡◌, ◌⊎◌, ℕ, Bool, true, false, List, map, Some, None, Err}
 use Rattle.vsi_lattice.specs.declared.lattice.Lattice.{Lattice}
 use Rattle.vsi_image.specs.declared.instr.Image.{Image}
 use Rattle.vsi_drive.specs.BoundaryFaults.{boundary_fault}
@@ -8,6 +8,7 @@ use Rattle.vsi_drive.specs.Control.{Control, controlled}
 use Rattle.vsi_drive.specs.declared.boundary.BoundaryFault.{BoundaryFault}
 use Rattle.vsi_drive.specs.declared.starts.StartFault.{StartFault}
 use Rattle.vsi_drive.specs.declared.starts.StartFault.TheVariants as start
+use Rattle.vsi_conform.specs.Bounded.{demands_bound}
 use Rattle.vsi_conform.specs.Faulty.{interface_line}
 use Rattle.vsi_conform_image.specs.Lines.{IsConformText}
 use Rattle.vsi_conform.specs.Reading.{ClassBoundary, cycle}
@@ -19,6 +20,7 @@ use Rattle.vsi_answers.specs.Answers.{Because}
 use Rattle.vsi_answers.specs.Judged.{IsViewFault, TellsFault, TellsStartFault}
 use Rattle.vsi_answers.specs.Requests.{ReadsLattice}
 use Rattle.vsi_answers.specs.declared.unanswered.Unanswered.{Unanswered}
+use Rattle.vsi_arguments.specs.declared.request.Budget.{Budget}
 use Rattle.vsi_arguments.specs.declared.request.DrivePolicy.{DrivePolicy}
 use Rattle.vsi_arguments.specs.declared.request.DrivePolicy.TheVariants as policy
 use Rattle.vsi_arguments.specs.declared.request.Driving.{Driving}
@@ -29,7 +31,7 @@ use Rattle.vsi.specs.Admitted.{IsShort}
 use Rattle.vsi.specs.Boundaries.{boundary_at}
 use Rattle.vsi.specs.Holding.{Holding, IsImageAt}
 use Rattle.vsi.specs.Interfaces.{IsAskedAt, named_path}
-use Rattle.vsi.specs.Steering.{IsInForce, IsLatticeOf, IsSteered, no_cycle_line}
+use Rattle.vsi.specs.Steering.{IsInForce, IsLatticeOf, IsSteered, insisting_line, no_cycle_line}
 use Rattle.vsi.specs.Supplied.{TellsImage}
 use Rattle.vsi.specs.Files.{IsBudgetOf}
 use Rattle.vsi.specs.Refusals.{LacksBoundAt, LacksClass, LacksClassAt, RefusesFirst, RefusesImage, RefusesLattice}
@@ -105,15 +107,16 @@ abbrev pub SaysShort : Lattice → Image → ℕ → Failure → Type 0
 SaysShort l image budget (fails.Refused text None) = IsShort l image budget text.items
 SaysShort l image budget failure = ⊥
 
--- `drive`: the budget isn't enough, and `--unbounded` isn't given.
-pub record FallsShort (holds : Holding) (d : Driving) (failure : Failure) : Type 0 where
-  pub bounded : d.is_unbounded ≡ false
+-- The budget isn't enough for the image of a file, under a lattice of this kind, and `--unbounded` isn't given.
+pub record FallsShort (holds : Holding) (is_unbounded : Bool) (Kind : Lattice → Type 0) (path : List ℕ) (given : Budget)
+    (failure : Failure) : Type 0 where
+  pub bounded : is_unbounded ≡ false
   pub lattice : Lattice
-  pub declared : IsLatticeOf holds d.policy lattice
+  pub declared : Kind lattice
   pub image : Image
-  pub held : IsImageAt holds d.execution.image.now image
+  pub held : IsImageAt holds path image
   pub budget : ℕ
-  pub within : IsBudgetOf d.execution.budget image budget
+  pub within : IsBudgetOf given image budget
   pub is : SaysShort lattice image budget failure
 
 -- The text of the failure has the lines that `conform` writes of an image that doesn't conform to an interface.
@@ -141,28 +144,42 @@ pub record LacksGovernedClass (holds : Holding) (interface class : List ℕ) (fa
   pub force : IsInForce holds interface asked lattice
   pub is : LacksClass lattice class failure ⊎ LacksCycle (map cycle asked.cycles.items) class failure
 
--- By an interface: it is refused, or it lacks the class, or the image doesn't conform to it.
-abbrev pub LacksGoverned : Holding → List ℕ → List ℕ → List ℕ → Failure → Type 0
-LacksGoverned holds interface class path failure =
+-- By an interface: it requires a bound, `--unbounded` is given, and the text of the failure says so.
+pub record InsistsGoverned (holds : Holding) (interface : List ℕ) (is_unbounded : Bool) (failure : Failure)
+    : Type 0 where
+  pub unbounded : is_unbounded ≡ true
+  pub asked : InterfaceFile
+  pub lattice : Lattice
+  pub force : IsInForce holds interface asked lattice
+  pub required : demands_bound asked.interface.bounded ≡ true
+  pub says : SaysLine insisting_line failure
+
+-- By an interface: it is refused, or it lacks the class, or the image doesn't conform to it, or it insists on a bound.
+abbrev pub LacksGoverned : Holding → List ℕ → List ℕ → List ℕ → Bool → Failure → Type 0
+LacksGoverned holds interface class path is_unbounded failure =
     IsUnusable failure ⊎ LacksGovernedClass holds interface class failure ⊎ DiffersGoverned holds interface path failure
+    ⊎ InsistsGoverned holds interface is_unbounded failure
 
 -- The lattice of a file has no class of this name, or an interface doesn't let the class drive or view the image.
-abbrev pub LacksPolicy : Holding → List ℕ → List ℕ → DrivePolicy → Failure → Type 0
-LacksPolicy holds class image (policy.Lattice path lists) failure = LacksClassAt holds path.now class failure
-LacksPolicy holds class image (policy.Interface path) failure = LacksGoverned holds path.now class image failure
+abbrev pub LacksPolicy : Holding → List ℕ → List ℕ → DrivePolicy → Bool → Failure → Type 0
+LacksPolicy holds class image (policy.Lattice path lists) is_unbounded failure = LacksClassAt holds path.now class failure
+LacksPolicy holds class image (policy.Interface path) is_unbounded failure =
+    LacksGoverned holds path.now class image is_unbounded failure
 
 -- The same by the policy of a drive.
 abbrev pub LacksSteering : Holding → Driving → Failure → Type 0
-LacksSteering holds d = LacksPolicy holds d.class.now d.execution.image.now d.policy
+LacksSteering holds d = LacksPolicy holds d.class.now d.execution.image.now d.policy d.is_unbounded
 
--- `view` within a boundary: the class doesn't view the image, or no bound was found for the image.
+-- `view` within a boundary: the class doesn't view the image, no bound was found for the image, or the budget isn't
+-- enough.
 abbrev pub LacksView : Holding → Viewing → Failure → Type 0
 LacksView holds v failure =
-    LacksPolicy holds v.class.now v.execution.image.now v.policy failure
-    ⊎ LacksBoundAt holds v.execution.image.now v.execution.budget failure
+    (LacksPolicy holds v.class.now v.execution.image.now v.policy v.is_unbounded failure
+    ⊎ LacksBoundAt holds v.execution.image.now v.execution.budget failure)
+    ⊎ FallsShort holds v.is_unbounded (IsLatticeOf holds v.policy) v.execution.image.now v.execution.budget failure
 
 -- `drive`: the class doesn't drive the image, no bound was found for the image, or the budget isn't enough.
 abbrev pub LacksDrive : Holding → Driving → Failure → Type 0
 LacksDrive holds d failure =
     (LacksSteering holds d failure ⊎ LacksBoundAt holds d.execution.image.now d.execution.budget failure)
-    ⊎ FallsShort holds d failure
+    ⊎ FallsShort holds d.is_unbounded (IsLatticeOf holds d.policy) d.execution.image.now d.execution.budget failure

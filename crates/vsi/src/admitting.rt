@@ -1,7 +1,8 @@
-//! Whether a drive may go on with its budget.
+//! Whether a drive, a view within a boundary or a comparison may go on with its budget.
 
-ghost use Rattle.std.specs.Prelude.{◌≡◌, false, IfErr, IfOk, MatchResult, OnOk};
+ghost use Rattle.std.specs.Prelude.{◌≡◌, [], false, IfErr, IfOk, MatchResult, OnOk};
 ghost use Rattle.vsi.specs.Admitted.{IsAdmitted, IsEnough, IsShort, short_line};
+ghost use Rattle.vsi.specs.Noted.{TellsBudget};
 ghost use Rattle.vsi.specs.Refusals.{FailsBy};
 ghost use Rattle.vsi.specs.Undriven.{SaysShort};
 ghost use Rattle.vsi_answers.specs.Bounds.{IsBound};
@@ -73,7 +74,7 @@ fn judged(
     }
 }
 
-/// Lets a drive go on with a budget that is enough, or with any budget if that is requested. The
+/// Lets a request go on with a budget that is enough, or with any budget if that is requested. The
 /// note then gets the line that says that it isn't enough.
 pub(crate) fn admit<'a>(
     alloc: Global,
@@ -85,6 +86,9 @@ pub(crate) fn admit<'a>(
 ) -> Result<(), Failure<'a>>
     ensures admitted { OnOk result
         (IsAdmitted is_unbounded classes.now verified.now budget) }
+    ensures told { note.old.items ≡ []
+        → OnOk result (TellsBudget is_unbounded classes.now verified.now budget note.new.items) }
+    ensures quiet { IfErr result (λ _. note.new.items ≡ note.old.items) }
     ensures failed { IfErr result (FailsBy (λ reason. ⊥) (λ failure.
         (is_unbounded ≡ false) × SaysShort classes.now verified.now budget failure)) }
 {

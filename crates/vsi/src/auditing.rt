@@ -172,7 +172,7 @@ fn policy_in<'a, F: Files>(
 }
 
 /// The bytes of an image, and the verified image.
-fn verified_in<'a, F: Files>(
+pub(crate) fn verified_in<'a, F: Files>(
     cache: &mut InputCache,
     path: &'a str,
     files: &mut F,

@@ -154,7 +154,7 @@ fn names_listed<'c, 'a>(list: &'c Option<Vec<&'a [u8]>>) -> Option<&'c [&'a [u8]
 
 impl<'a> Names<'a> {
     /// The boundary with these names.
-    fn boundary<'c>(&'c self) -> Boundary<'c>
+    pub(crate) fn boundary<'c>(&'c self) -> Boundary<'c>
         ensures { boundary_of result ≡ boundary_in self.now }
     {
         let inputs = names_listed(&self.inputs);

@@ -8,7 +8,7 @@ ghost use Rattle.vsi_answers.specs.Bounds.{IsBound};
 use crate::failure::Failure;
 use std::alloc::Global;
 use vsi_answers::enough_budget;
-use vsi_emit::{emit_bounded, emit_bounded_header};
+use vsi_emit::{Origin, emit_bounded, emit_bounded_header};
 use vsi_image::Verified;
 
 /// The most instructions of an image's runs, or the failure with the line of `bound` that says why
@@ -27,18 +27,19 @@ fn most_of<'a>(alloc: Global, verified: &Verified) -> Result<u64, Failure<'a>>
 pub(crate) fn bounded_in_c<'a>(
     alloc: Global,
     verified: &Verified,
+    origin: Origin<'_>,
     name: &[u8],
     is_header: bool,
 ) -> Result<Vec<u8>, Failure<'a>>
     ensures told { IfOk result
-        (λ text. IsBoundedC is_header verified.now name.now text.items) }
+        (λ text. IsBoundedC is_header verified.now origin.entry name.now text.items) }
     ensures failed { IfErr result (FailsBy (λ reason. ⊥) (IsUnbounded verified.now)) }
 {
     let most = most_of(alloc, verified)?;
     let answer = if is_header {
-        emit_bounded_header(alloc, verified, most, name)
+        emit_bounded_header(alloc, verified, origin, most, name)
     } else {
-        emit_bounded(alloc, verified, most, name)
+        emit_bounded(alloc, verified, origin, most, name)
     };
     match answer {
         Ok(text) => Ok(text),

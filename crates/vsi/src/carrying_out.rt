@@ -1,12 +1,15 @@
 //! Carries out arguments.
 
-ghost use Rattle.std.specs.Prelude.{◌≡◌, ◌<◌, ◌⊎◌, [], IfErr, OnOk};
+ghost use Rattle.std.specs.Prelude.{◌≡◌, ◌<◌, ◌⊎◌, ◌++◌, ℕ, List, [], false, None, IfErr, IfOk, OnOk};
 ghost use Rattle.std.specs.Io.KnownBytes.{Keeps};
 ghost use Rattle.vsi.specs.Done.{Done, EndsEarly, IsMistake, Failed, Unread};
-ghost use Rattle.vsi.specs.Noted.{IsNote, NotesOf, noting};
+ghost use Rattle.vsi.specs.Noted.{IsFailureNote, IsNote, NotesFailure, NotesOf, noting};
+ghost use Rattle.vsi.specs.Objections.{MayObject};
 ghost use Rattle.vsi.specs.Performed.{Performs};
 ghost use Rattle.vsi.specs.Saved.{KeepsState, KeepsStateOf};
+ghost use Rattle.vsi.specs.Screen.{tamed};
 ghost use Rattle.vsi.specs.Failures.{TellsFault, status_of};
+ghost use Rattle.vsi.specs.Words as words_spec;
 ghost use Rattle.vsi.specs.declared.failure.Failure.TheVariants.{Memory};
 ghost use Rattle.vsi_asked.specs.Help.{AsksHelp};
 ghost use Rattle.vsi_devices.specs.Counted.{device_of, faults_of};
@@ -18,13 +21,13 @@ use crate::faulty_files::{answers_json, tell_refusal};
 use crate::files::Files;
 use crate::performing::perform;
 use crate::telling::ErrorText;
-use std::alloc::Global;
+use std::alloc::{AllocError, Global};
 use std::io::{Read, Write};
-use vsi_arguments::{ArgumentsError, Asked, Reporting, request_of};
-use vsi_asked::{asks_for, asks_help};
+use vsi_arguments::{ArgumentsError, Manner, Reporting, Request, manner_of};
+use vsi_asked::{asks_help, request_of};
 use vsi_devices::Counted;
 
-/// The message if the arguments don't spell the request that was read from them.
+/// The message if the arguments spell no request, or don't ask for the help that the parser has.
 const MISUNDERSTOOD: &str = "error: these words are not understood\n";
 
 /// Carries out the arguments, or says what is wrong with them.
@@ -43,7 +46,10 @@ pub(crate) fn carry_out<'a, F: Files, R: Read, W: Write>(
     ensures output_fault { TellsFault (faults_of output.old) (faults_of output.new) result }
     ensures unfilled { IfErr result (λ failure. status_of failure < 4
         → F.holds files.new ≡ F.holds files.old) }
-    ensures noted { OnOk result (NotesOf (F.holds files.old) words.now error_text.new.lines.items) }
+    ensures noted { OnOk result
+        (NotesOf (F.holds files.old) words.now (tamed error_text.new.lines.items)) }
+    ensures hushed { IfErr result (λ failure. NotesFailure (F.holds files.old) words.now failure
+        (tamed error_text.new.lines.items)) }
     ensures done { OnOk result (Done (F.holds files.old)
         (R.remaining (device_of input.old)) words.now (F.holds files.new)
         (W.contents (device_of output.old)) (W.contents (device_of output.new))) }
@@ -54,22 +60,53 @@ pub(crate) fn carry_out<'a, F: Files, R: Read, W: Write>(
         (R.remaining (device_of input.old)) words.now
         (W.contents (device_of output.old)) (W.contents (device_of output.new))) }
 {
-    match request_of(alloc, words) {
-        Ok(asked) => {
-            if !asks_for(words, &asked.request) {
-                return Err(misunderstood(alloc));
-            }
-            carry_out_asked(alloc, asked, files, input, output, error_text)
+    let manner = match manner_of(alloc, words) {
+        Ok(manner) => manner,
+        Err(error) => return answer_arguments(alloc, words, error, output),
+    };
+    let Ok(asked) = request_of(alloc, words) else {
+        return answer_arguments(alloc, words, ArgumentsError::Memory, output);
+    };
+    match asked {
+        Some(request) => {
+            let asking = Asking {
+                request,
+                manner,
+                explains: has_explain(words),
+            };
+            carry_out_asked(alloc, asking, files, input, output, error_text)
         }
-        Err(error) => answer_arguments(alloc, words, error, output),
+        None => Err(misunderstood(alloc)),
     }
 }
 
-/// Performs the request with the requested explanations, and writes the line of JSON of a refused
-/// file.
+/// Whether `--explain` is among the arguments.
+fn has_explain(words: &[String]) -> bool
+    ensures { result ≡ words_spec.has_explain words.now }
+{
+    let mut rest = words;
+    while let [word, behind @ ..] = rest {
+        if word.as_bytes() == b"--explain".as_slice() {
+            return true;
+        }
+        rest = behind;
+    }
+    false
+}
+
+/// A request with how it is carried out, and whether `--explain` is among its arguments.
+#[derive(Drop)]
+struct Asking<'a> {
+    request: Request<'a>,
+    manner: Manner,
+    explains: bool,
+}
+
+/// Performs the request with the requested explanations, if there may be any, and writes the line of
+/// JSON of a refused file.
 fn carry_out_asked<'a, F: Files, R: Read, W: Write>(
     alloc: Global,
-    asked: Asked<'a>,
+    asking: Asking<'a>,
     files: &mut F,
     input: &mut Counted<R>,
     output: &mut Counted<W>,
@@ -82,22 +119,25 @@ fn carry_out_asked<'a, F: Files, R: Read, W: Write>(
     ensures output_fault { TellsFault (faults_of output.old) (faults_of output.new) result }
     ensures unfilled { IfErr result (λ failure. status_of failure < 4
         → F.holds files.new ≡ F.holds files.old) }
-    ensures noted { OnOk result
-        (IsNote (F.holds files.old) (noting asked.entry.request) error_text.new.lines.items) }
+    ensures noted { OnOk result (IsNote (F.holds files.old) (noting asking.entry.request)
+        (tamed error_text.new.lines.items)) }
+    ensures hushed { asking.entry.explains ≡ false
+        → IfErr result (λ failure. IsFailureNote (F.holds files.old)
+        asking.entry.request failure (tamed error_text.new.lines.items)) }
     ensures performed { OnOk result (Performs (F.holds files.old)
-        (R.remaining (device_of input.old)) asked.entry.request (F.holds files.new)
+        (R.remaining (device_of input.old)) asking.entry.request (F.holds files.new)
         (W.contents (device_of output.old)) (W.contents (device_of output.new))) }
     ensures state { IfErr result (λ _. KeepsState (F.holds files.old)
-        (R.remaining (device_of input.old)) asked.entry.request (F.holds files.new)
+        (R.remaining (device_of input.old)) asking.entry.request (F.holds files.new)
         (W.contents (device_of output.old)) (W.contents (device_of output.new))) }
     ensures failed { IfErr result (EndsEarly (F.holds files.old)
-        (R.remaining (device_of input.old)) asked.entry.request
+        (R.remaining (device_of input.old)) asking.entry.request
         (W.contents (device_of output.old)) (W.contents (device_of output.new))) }
 {
-    let explaining = explaining_of(&asked, files);
-    let is_json = answers_json(&asked.request);
+    let explaining = explaining_of(&asking, files);
+    let is_json = answers_json(&asking.request);
     let mut cache = cache_for(alloc, &explaining, is_json);
-    match perform(&mut cache, asked.request, files, input, output, error_text) {
+    match perform(&mut cache, asking.request, files, input, output, error_text) {
         Ok(()) => Ok(()),
         Err(failure) => {
             let explained = explain_failure(&cache, explaining, files, failure, error_text);
@@ -112,17 +152,19 @@ fn cache_for(alloc: Global, explaining: &Option<Explaining>, is_json: bool) -> I
 }
 
 /// The settings for explaining a refusal, if explanations are requested.
-fn explaining_of<F: Files>(asked: &Asked<'_>, files: &mut F) -> Option<Explaining>
-    ensures { F.holds files.new ≡ F.holds files.old }
+fn explaining_of<F: Files>(asking: &Asking<'_>, files: &mut F) -> Option<Explaining>
+    ensures kept { F.holds files.new ≡ F.holds files.old }
+    ensures none { asking.now.explains ≡ false → result ≡ None }
 {
-    match asked.reporting {
-        Reporting::Fixed => None,
-        Reporting::Explained(colour) => Some(Explaining::new(&asked.request, colour, files)),
+    match asking.manner.reporting {
+        Reporting::Explained(colour) if asking.explains => {
+            Some(Explaining::new(&asking.request, colour, files))
+        }
+        _ => None,
     }
 }
 
-/// The failure of a request, once its explanation has been added to the note, if one is requested, or
-/// else why its file isn't used, where each user has to know.
+/// The failure of a request, once the lines about it have been added to the note.
 fn explain_failure<'a, F: Files>(
     cache: &InputCache,
     explaining: Option<Explaining>,
@@ -133,15 +175,32 @@ fn explain_failure<'a, F: Files>(
     ensures kept { F.holds files.new ≡ F.holds files.old }
     ensures fault { status_of failure.entry ≡ 4 → status_of result ≡ 4 }
     ensures same { (result ≡ failure.entry) ⊎ (result ≡ Memory) }
+    ensures objects { explaining ≡ None → (line : List ℕ) × MayObject failure.entry line
+        × (error_text.new.lines.items ≡ error_text.old.lines.items ++ line) }
 {
-    let lines = match explaining {
-        Some(explaining) => explained(cache, explaining, files, &failure),
-        None => objection(cache, files, &failure),
-    };
+    let lines = lines_about(cache, explaining, files, &failure);
     failure.after(error_text.put(lines))
 }
 
-/// The failure for arguments that don't spell the request that was read from them.
+/// The explanation of a failure, if one is requested, or else why its file isn't used, where each user
+/// has to know.
+fn lines_about<F: Files>(
+    cache: &InputCache,
+    explaining: Option<Explaining>,
+    files: &mut F,
+    failure: &Failure<'_>,
+) -> Result<Vec<u8>, AllocError>
+    ensures kept { F.holds files.new ≡ F.holds files.old }
+    ensures objects { explaining ≡ None
+        → IfOk result (λ lines. MayObject failure.now lines.items) }
+{
+    match explaining {
+        Some(explaining) => explained(cache, explaining, files, failure),
+        None => objection(cache, files, failure),
+    }
+}
+
+/// The failure for arguments that aren't understood.
 fn misunderstood<'a>(alloc: Global) -> Failure<'a>
     ensures { IsMistake result ⊎ (3 < status_of result) }
 {

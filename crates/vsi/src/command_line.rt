@@ -4,7 +4,7 @@ ghost use Rattle.std.specs.Prelude.{◌≡◌, ◌≢◌, ◌<◌, ◌≤◌, �
 ghost use Rattle.std.specs.Io.KnownBytes.{Keeps};
 ghost use Rattle.vsi.specs.Done.{Done, Failed, FailsAt};
 ghost use Rattle.vsi.specs.Input.{AnswersInput, RefusesRun, SpendsRun, FailsRun, TellsFailure, WritesRun, WritesRunOf};
-ghost use Rattle.vsi.specs.Noted.{NotesOf, TellsNote};
+ghost use Rattle.vsi.specs.Noted.{NotesFailure, NotesOf, TellsNote};
 ghost use Rattle.vsi.specs.Partly.{BytesOf, Partly};
 ghost use Rattle.vsi.specs.Saved.{KeepsStateOf};
 ghost use Rattle.vsi.specs.Screen.{tamed};
@@ -73,9 +73,10 @@ pub fn command<F: Files, R: Read, W: Write, E: Write>(
         → Gets E.contents error.old error.new (codes "file fault: -\n") }
     ensures quiet { words.now ≡ [] → result ≡ 0 → Gets E.contents error.old error.new [] }
     ensures memory { result ≡ 5 → Gets E.contents error.old error.new (codes "out of memory\n") }
-    ensures told { result ≢ 0 → TellsFailure (FailsAt (F.holds files.old)
+    ensures told { result ≢ 0 → TellsFailure (λ failure note. FailsAt (F.holds files.old)
         (spec.given_to words.now (R.remaining (device_of input.old))) words.now
-        (W.contents (device_of output.old)) (W.contents (device_of output.new)))
+        (W.contents (device_of output.old)) (W.contents (device_of output.new)) failure
+        × NotesFailure (F.holds files.old) words.now failure note)
         result E.contents error.old error.new }
     ensures noted { words.now ≢ [] → result ≡ 0
         → TellsNote (F.holds files.old) words.now E.contents error.old error.new }
@@ -126,7 +127,8 @@ fn without_words<R: Read, W: Write, E: Write>(
         → Gets E.contents error.old error.new (codes "file fault: -\n") }
     ensures quiet { result ≡ 0 → Gets E.contents error.old error.new [] }
     ensures memory { result ≡ 5 → Gets E.contents error.old error.new (codes "out of memory\n") }
-    ensures told { result ≢ 0 → TellsFailure (λ failure. Unit {0}) result E.contents error.old error.new }
+    ensures told { result ≢ 0
+        → TellsFailure (λ _ note. note ≡ []) result E.contents error.old error.new }
 {
     let answer = run_input(alloc, input, output);
     ended(answer, &ErrorText::new(alloc), error)
@@ -144,7 +146,10 @@ fn carried_out<'a, F: Files, R: Read, W: Write>(
     requires input { faults_of input.old < u64.MAX }
     requires output { faults_of output.old < u64.MAX }
     requires unnoted { error_text.old.lines.items ≡ [] }
-    ensures noted { OnOk result (NotesOf (F.holds files.old) words.now error_text.new.lines.items) }
+    ensures noted { OnOk result
+        (NotesOf (F.holds files.old) words.now (tamed error_text.new.lines.items)) }
+    ensures hushed { IfErr result (λ failure. NotesFailure (F.holds files.old) words.now failure
+        (tamed error_text.new.lines.items)) }
     ensures input_fault { TellsFault (faults_of input.old) (faults_of input.new) result }
     ensures output_fault { TellsFault (faults_of output.old) (faults_of output.new) result }
     ensures unread { spec.reads_input words.now ≡ false → input.new ≡ input.old }

@@ -1,14 +1,16 @@
 //! A source text, or an image, beside an interface that is fixed from outside.
 
-ghost use Rattle.std.specs.Prelude.{◌≡◌, ◌<◌, ◌≤◌, Bool, Err, true, IfErr, IfOk, OnOk};
+ghost use Rattle.std.specs.Prelude.{◌≡◌, ◌<◌, ◌≤◌, Bool, Err, true, [], IfErr, IfOk, OnOk};
 ghost use Rattle.std.specs.Str.Lossy.{utf8_lossy};
 ghost use Rattle.vsi.specs.Holding.{IsReadAt};
 ghost use Rattle.vsi.specs.Files.{Writes};
-ghost use Rattle.vsi.specs.Interfaces.{IsAskedAt, IsPolicyAt};
+ghost use Rattle.vsi.specs.Interfaces.{ArePolicyBytes, IsAskedAt, IsPolicyAt};
+ghost use Rattle.vsi.specs.Noted.{MayWarn};
 ghost use Rattle.vsi.specs.Performed.{ConformsFiles, IsWrittenAs, TellsBytes, TellsConforming};
 ghost use Rattle.vsi.specs.Partly.{BytesOf, Leaves};
 ghost use Rattle.vsi.specs.Failures.{TellsFault};
-ghost use Rattle.vsi_conform.specs.Beside.{beside};
+ghost use Rattle.vsi_conform.specs.Beside.{IsInside, beside};
+ghost use Rattle.vsi_conform.specs.Reading.{IsReadAs};
 ghost use Rattle.vsi_conform.specs.Totals.{total_of};
 ghost use Rattle.vsi_devices.specs.Counted.{device_of, faults_of};
 ghost use Rattle.vsi.specs.Refusals.{NoOther, FailsBy};
@@ -22,20 +24,28 @@ ghost use Rattle.vsi_answers.specs.Requests.{ReadsImage};
 use crate::cache::{InputCache, InputKind};
 use crate::failure::{Failure, write_answer};
 use crate::files::Files;
+use crate::filing::{asked_files, lines_after, with_lines};
 use crate::reading::{bytes_in, declared_lattice, whole_in};
 use std::alloc::{AllocError, Global};
 use std::io::Write;
 use vsi_answers::judged_image;
 use vsi_arguments::{AnswerForm, Conformance};
+use vsi_audit::{AuditError, audit_in};
+use vsi_compiler::{CompileError, unjudged_image};
 use vsi_conform::{
-    Answer, Cycle, Interface, InterfaceError, InterfaceFile, Policy, interface_text, is_within,
-    path_beside, points_json, points_text, read_interface, unknown_class, unknown_cycle,
+    Answer, Cycle, Interface, InterfaceError, InterfaceFile, Judgement, Policy, interface_text,
+    is_within, path_beside, points_json, points_text, read_interface, unknown_class, unknown_cycle,
 };
 use vsi_conform_image::conform_image;
 use vsi_devices::Counted;
 use vsi_image::Image;
 use vsi_lattice::Lattice;
 use vsi_sarif::{image_sarif, points_sarif};
+use vsi_types::Profile;
+
+/// The warning about a text that conforms, and whose image doesn't.
+const IMAGE_WARNING: &[u8] =
+    b"warning: `conform` refuses an image of this text, in which variables share slots\n";
 
 /// The failure for a refused interface file.
 fn unusable<'a>(alloc: Global, error: InterfaceError) -> Failure<'a>
@@ -74,6 +84,24 @@ pub(crate) fn named_bytes<'a, F: Files>(
     Err(Failure::LostFile(beside))
 }
 
+/// The bytes of the lattice of an interface.
+pub(crate) fn policy_bytes<'a, F: Files>(
+    cache: &mut InputCache,
+    interface: &str,
+    policy: &Policy,
+    files: &mut F,
+) -> Result<Vec<u8>, Failure<'a>>
+    ensures kept { F.holds files.new ≡ F.holds files.old }
+    ensures are { IfOk result (λ bytes.
+        ArePolicyBytes (F.holds files.old) interface.now policy.now bytes.items) }
+    ensures failed { IfErr result (λ failure. 3 < status_of failure) }
+{
+    match policy {
+        Policy::File(path) => named_bytes(cache, interface, path, files),
+        Policy::Tables(text) => Ok(Vec::from_slice(cache.alloc, text)?),
+    }
+}
+
 /// The lattice of an interface.
 pub(crate) fn lattice_of<'a, F: Files>(
     cache: &mut InputCache,
@@ -86,12 +114,20 @@ pub(crate) fn lattice_of<'a, F: Files>(
     ensures failed { IfErr result
         (FailsBy (RefusesPolicy (F.holds files.old) interface.now policy.now) NoOther) }
 {
-    match policy {
-        Policy::File(path) => {
-            let bytes = named_bytes(cache, interface, path, files)?;
-            declared_lattice(cache.alloc, &bytes)
-        }
-        Policy::Tables(text) => declared_lattice(cache.alloc, text),
+    let bytes = policy_bytes(cache, interface, policy, files)?;
+    let lattice = declared_lattice(cache.alloc, &bytes)?;
+    Ok(lattice)
+}
+
+/// The interface with these bytes.
+pub(crate) fn interface_of<'a>(alloc: Global, bytes: &[u8]) -> Result<InterfaceFile, Failure<'a>>
+    ensures read { IfOk result (IsReadAs bytes.now) }
+    ensures inside { IfOk result (λ asked. IsInside asked.policy) }
+    ensures failed { IfErr result (FailsBy (λ reason. ⊥) IsUnusable) }
+{
+    match read_interface(alloc, bytes) {
+        Ok(asked) => Ok(asked),
+        Err(error) => Err(unusable(alloc, error)),
     }
 }
 
@@ -106,10 +142,8 @@ pub(crate) fn interface_in<'a, F: Files>(
     ensures failed { IfErr result (FailsBy (λ reason. ⊥) IsUnusable) }
 {
     let bytes = bytes_in(cache, InputKind::Interface, path, files)?;
-    match read_interface(cache.alloc, &bytes) {
-        Ok(asked) => Ok(asked),
-        Err(error) => Err(unusable(cache.alloc, error)),
-    }
+    let found = interface_of(cache.alloc, &bytes)?;
+    Ok(found)
 }
 
 /// Judges the classes of the boundaries of an interface.
@@ -150,7 +184,11 @@ pub(crate) fn know_classes<'a>(
 }
 
 /// Judges the budgets of an interface's runs.
-fn know_budgets<'a>(alloc: Global, interface: &Interface, budget: u64) -> Result<(), Failure<'a>>
+pub(crate) fn know_budgets<'a>(
+    alloc: Global,
+    interface: &Interface,
+    budget: u64,
+) -> Result<(), Failure<'a>>
     ensures within { OnOk result (total_of interface.now ≤ budget) }
     ensures failed { IfErr result (FailsBy (λ reason. ⊥) IsUnusable) }
 {
@@ -180,7 +218,53 @@ fn answer_text(
     }
 }
 
-/// The answer of a text as it is written, and whether it conforms.
+/// Whether an audit refuses the image of a text. A text that is accepted as steady has a steady image.
+fn is_image_refused(
+    alloc: Global,
+    judgement: Judgement,
+    lattice: &Lattice,
+    text: &[u8],
+) -> Result<bool, AllocError> {
+    let profile = match judgement {
+        Judgement::Base => Profile::Base,
+        Judgement::Strict => Profile::Strict,
+        Judgement::Steady => return Ok(false),
+    };
+    let verified = match unjudged_image(alloc, lattice, text) {
+        Ok(verified) => verified,
+        Err(CompileError::Memory) => return Err(AllocError),
+        Err(_) => return Ok(false),
+    };
+    match audit_in(alloc, profile, lattice, &verified) {
+        Ok(()) => Ok(false),
+        Err(AuditError::Memory) => Err(AllocError),
+        Err(_) => Ok(true),
+    }
+}
+
+/// Adds a warning if a text conforms, but an image built from it doesn't: variables that share a slot
+/// may be taken for one there.
+fn warn_of_image(
+    alloc: Global,
+    lattice: &Lattice,
+    text: &[u8],
+    interface: &Interface,
+    answer: &Answer,
+    note: &mut Vec<u8>,
+) -> Result<(), AllocError>
+    ensures warned { note.old.items ≡ [] → MayWarn note.new.items }
+{
+    if !answer.conforms() {
+        return Ok(());
+    }
+    if is_image_refused(alloc, interface.judgement, lattice, text)? {
+        note.extend_from_slice(IMAGE_WARNING)?;
+    }
+    Ok(())
+}
+
+/// The answer of a text as it is written, and whether it conforms. The note gets the warning about its
+/// image.
 fn answer_of<'a>(
     alloc: Global,
     form: AnswerForm,
@@ -188,19 +272,22 @@ fn answer_of<'a>(
     lattice: &Lattice,
     text: &[u8],
     interface: &Interface,
+    note: &mut Vec<u8>,
 ) -> Result<(bool, Vec<u8>), Failure<'a>>
+    ensures warned { note.old.items ≡ [] → MayWarn note.new.items }
     ensures told { IfOk result (λ pair.
         TellsConforming form path.now pair.0 lattice.now text.now interface.now pair.1.items) }
     ensures failed { IfErr result (λ failure. 3 < status_of failure) }
 {
     let answer = vsi_conform::conform(alloc, lattice, text, interface)?;
     let written = answer_text(alloc, form, path, lattice, text, interface, &answer)?;
+    warn_of_image(alloc, lattice, text, interface, &answer, note)?;
     Ok((answer.conforms(), written))
 }
 
 /// Whether bytes begin as those of an image do, with its magic bytes and a version. No source text
 /// does, since a version is a control byte that texts don't have.
-fn begins_image(bytes: &[u8]) -> bool
+pub(crate) fn begins_image(bytes: &[u8]) -> bool
     ensures { result ≡ supplied.begins_image bytes.now }
 {
     matches!(bytes, [b'V', b'S', b'I', version, ..] if *version < 9)
@@ -289,7 +376,9 @@ fn bytes_answer<'a>(
     lattice: &Lattice,
     bytes: &[u8],
     interface: &Interface,
+    note: &mut Vec<u8>,
 ) -> Result<(bool, Vec<u8>), Failure<'a>>
+    ensures warned { note.old.items ≡ [] → MayWarn note.new.items }
     ensures told { IfOk result (λ pair. TellsBytes (supplied.begins_image bytes.now) form path.now
         pair.0 lattice.now bytes.now interface.now pair.1.items) }
     ensures failed { IfErr result (FailsBy (RefusesBytes bytes.now) NoOther) }
@@ -298,7 +387,7 @@ fn bytes_answer<'a>(
     if is_image {
         image_answer(alloc, form, path, lattice, bytes, interface)
     } else {
-        answer_of(alloc, form, path, lattice, bytes, interface)
+        answer_of(alloc, form, path, lattice, bytes, interface, note)
     }
 }
 
@@ -318,12 +407,8 @@ pub(crate) fn asked_in<'a, F: Files>(
     ensures failed { IfErr result
         (FailsBy (RefusesAsked (F.holds files.old) path.now) IsUnusable) }
 {
-    let found = interface_in(cache, path, files)?;
-    let lattice = lattice_of(cache, path, &found.policy, files)?;
-    know_classes(cache.alloc, &lattice, &found.interface)?;
-    know_budgets(cache.alloc, &found.interface, budget)?;
-    know_cycles(cache.alloc, &lattice, &found.cycles)?;
-    Ok((found, lattice))
+    let asked = asked_files(cache, path, budget, files)?;
+    Ok((asked.found, asked.lattice))
 }
 
 /// Judges the source text or the image by the interface.
@@ -331,34 +416,43 @@ fn judged<'a, F: Files>(
     cache: &mut InputCache,
     asked: Conformance<'a>,
     files: &mut F,
+    note: &mut Vec<u8>,
 ) -> Result<(bool, Vec<u8>), Failure<'a>>
     ensures kept { F.holds files.new ≡ F.holds files.old }
+    ensures warned { note.old.items ≡ [] → MayWarn note.new.items }
     ensures told { IfOk result
         (λ pair. ConformsFiles (F.holds files.old) asked.entry pair.0 pair.1) }
     ensures failed { IfErr result
         (FailsBy (RefusesConform (F.holds files.old) asked.entry) IsUnusable) }
 {
-    let (found, lattice) = asked_in(cache, asked.interface, asked.budget, files)?;
+    let read = asked_files(cache, asked.interface, asked.budget, files)?;
     let bytes = operand_in(cache, asked.source, files)?;
-    bytes_answer(
+    let (conforms, answer) = bytes_answer(
         cache.alloc,
         asked.form,
         asked.source,
-        &lattice,
+        &read.lattice,
         &bytes,
-        &found.interface,
-    )
+        &read.found.interface,
+        note,
+    )?;
+    let lines = lines_after(cache.alloc, asked, conforms, &read, &bytes)?;
+    let text = with_lines(answer, &lines)?;
+    Ok((conforms, text))
 }
 
-/// Writes whether the source text or the image conforms to the interface, and where it differs.
+/// Writes whether the source text or the image conforms to the interface, and where it differs. The
+/// note gets the warning about the image of a text.
 pub(crate) fn conform<'a, F: Files, W: Write>(
     cache: &mut InputCache,
     asked: Conformance<'a>,
     files: &mut F,
     output: &mut Counted<W>,
+    note: &mut Vec<u8>,
 ) -> Result<(), Failure<'a>>
     requires { faults_of output.old < u64.MAX }
     ensures kept { F.holds files.new ≡ F.holds files.old }
+    ensures warned { note.old.items ≡ [] → MayWarn note.new.items }
     ensures fault { TellsFault (faults_of output.old) (faults_of output.new) result }
     ensures left { IfErr result (Leaves (BytesOf (λ text. (conforms : Bool)
         × ConformsFiles (F.holds files.old) asked.entry conforms text)) 4
@@ -370,6 +464,6 @@ pub(crate) fn conform<'a, F: Files, W: Write>(
         (DiffersConform (F.holds files.old) asked.entry
         (W.contents (device_of output.old)) (W.contents (device_of output.new)))) }
 {
-    let (conforms, text) = judged(cache, asked, files)?;
+    let (conforms, text) = judged(cache, asked, files, note)?;
     write_answer(&text, conforms, output)
 }

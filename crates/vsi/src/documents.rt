@@ -1,9 +1,10 @@
 //! The answers that are documents, which programs read.
 
-ghost use Rattle.std.specs.Prelude.{◌≡◌, ◌<◌, ◌⊎◌, Bool, false, true, IfErr, IfOk, OnOk};
+ghost use Rattle.std.specs.Prelude.{◌≡◌, ◌<◌, ◌⊎◌, [], Bool, false, true, IfErr, IfOk, OnOk};
 ghost use Rattle.vsi.specs.Documents.{AuditsJson, BoundsJson, ToldAuditJson, ToldClassesJson, ToldFlowsJson, ToldSarif};
 ghost use Rattle.vsi.specs.Files.{OfFiles, Writes};
 ghost use Rattle.vsi.specs.Holding.{IsImageAt};
+ghost use Rattle.vsi.specs.Noted.{Notes, document_noting};
 ghost use Rattle.vsi.specs.Partly.{BytesOf, Leaves, document_cut_from};
 ghost use Rattle.vsi.specs.Performed.{DocumentOf, IsBuiltAt, IsEmittedFrom, compilation_of, judgement_of, profile_of};
 ghost use Rattle.vsi.specs.Reasons.{LacksDocument, OtherDocument, RefusesDocument, WhyDocument, WhyEmit, failure_of_document};
@@ -184,15 +185,19 @@ fn bound_line<'a, F: Files>(
     }
 }
 
-/// The document that answers a request, and whether it says that all is well.
+/// The document that answers a request, and whether it says that all is well. The note gets a line if
+/// the budget of a comparison isn't enough and is taken all the same.
 fn document<'a, F: Files>(
     cache: &mut InputCache,
     asked: Document<'a>,
     files: &mut F,
+    note: &mut Vec<u8>,
 ) -> Result<(bool, Vec<u8>), Failure<'a>>
     ensures kept { F.holds files.new ≡ F.holds files.old }
     ensures told { IfOk result
         (λ pair. DocumentOf (F.holds files.old) asked.entry pair.0 pair.1) }
+    ensures noted { note.old.items ≡ []
+        → Notes (F.holds files.old) (document_noting asked.entry) result note.new.items }
     ensures failed { IfErr result
         (FailsBy (RefusesDocument (F.holds files.old) asked.entry)
         (LacksDocument (F.holds files.old) asked.entry)) }
@@ -208,7 +213,7 @@ fn document<'a, F: Files>(
             execution,
             initial_store,
         } => run_line(cache, execution, &initial_store, files),
-        Document::Compare(comparison) => comparison_line(cache, comparison, files),
+        Document::Compare(comparison) => comparison_line(cache, comparison, files, note),
         Document::Leak(search) => search_line(cache, search, files),
     }
 }
@@ -232,6 +237,7 @@ pub(crate) fn put_document<'a, F: Files, W: Write>(
     asked: Document<'a>,
     files: &mut F,
     output: &mut Counted<W>,
+    note: &mut Vec<u8>,
 ) -> Result<(), Failure<'a>>
     requires { faults_of output.old < u64.MAX }
     ensures kept { F.holds files.new ≡ F.holds files.old }
@@ -241,6 +247,8 @@ pub(crate) fn put_document<'a, F: Files, W: Write>(
         (W.contents (device_of output.old)) (W.contents (device_of output.new))) }
     ensures performed { OnOk result (Writes (DocumentOf (F.holds files.old) asked.entry true)
         (W.contents (device_of output.old)) (W.contents (device_of output.new))) }
+    ensures noted { note.old.items ≡ []
+        → Notes (F.holds files.old) (document_noting asked.entry) result note.new.items }
     ensures failed { IfErr result (FailsBy
         (WhyDocument (F.holds files.old) asked.entry
         (W.contents (device_of output.old)) (W.contents (device_of output.new)))
@@ -248,6 +256,6 @@ pub(crate) fn put_document<'a, F: Files, W: Write>(
         (W.contents (device_of output.old)) (W.contents (device_of output.new)))) }
 {
     let failure = failure_of(&asked);
-    let (good, text) = document(cache, asked, files)?;
+    let (good, text) = document(cache, asked, files, note)?;
     write_document(&text, good, failure, output)
 }

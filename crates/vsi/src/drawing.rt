@@ -12,6 +12,7 @@ ghost use Rattle.vsi.specs.Holding.{IsLatticeAt};
 ghost use Rattle.vsi.specs.Files.{OfFiles};
 ghost use Rattle.vsi.specs.Performed.{DrawsFiles, DrawsGraph, GraphOf, ToldPage, profile_of};
 ghost use Rattle.vsi_report.specs.Page.{HasPanel};
+ghost use Rattle.vsi_report.specs.Verdict.{HasVerdict};
 ghost use Rattle.vsi.specs.Refusals.{NoOther, RefusesLattice, RefusesProgramAt, FailsBy};
 ghost use Rattle.vsi.specs.Reasons.{WhyDraw};
 
@@ -52,6 +53,8 @@ fn page_of(
     text: &[u8],
 ) -> Result<Vec<u8>, ReportError>
     ensures panel { IfOk result (λ page. HasPanel page.items text.now) }
+    ensures verdict { IfOk result (λ page. HasVerdict classes.now
+        (profile_of compilation.entry.is_strict) text.now page.items) }
 {
     let filing = Filing {
         source: compilation.source.as_bytes(),
@@ -75,7 +78,8 @@ pub(crate) fn report<'a, F: Files>(
     files: &mut F,
 ) -> Result<Vec<u8>, Failure<'a>>
     ensures kept { F.holds files.new ≡ F.holds files.old }
-    ensures told { IfOk result (OfFiles (F.holds files.old) compilation.entry ToldPage) }
+    ensures told { IfOk result (OfFiles (F.holds files.old) compilation.entry
+        (ToldPage compilation.entry.is_strict)) }
     ensures failed { IfErr result
         (FailsBy (RefusesLattice (F.holds files.old) compilation.entry.lattice.now) NoOther) }
 {

@@ -5,6 +5,7 @@ ghost use Rattle.std.specs.Io.KnownBytes.{Appends};
 ghost use Rattle.vsi.specs.Driven.{Drives, DrivesInput, begun, last_line, whole_lines};
 ghost use Rattle.vsi.specs.Files.{IsStoredAt};
 ghost use Rattle.vsi.specs.Performed.{PerformsDrive};
+ghost use Rattle.vsi.specs.Noted.{NotesDrive, NotesStop};
 ghost use Rattle.vsi.specs.Partly.{AnswersDrive, Leaves};
 ghost use Rattle.vsi.specs.Saved.{Advances, CutsInput, CutsLines, LeavesState};
 ghost use Rattle.vsi.specs.State.{Touches};
@@ -68,9 +69,15 @@ pub(crate) fn drive<'a, F: Files, R: Read, W: Write>(
         (W.contents (device_of output.old)) (W.contents (device_of output.new))) }
     ensures failed { IfErr result (FailsBy (WhyDrive (F.holds files.old) driving.entry)
         (LacksDrive (F.holds files.old) driving.entry)) }
+    ensures noted { note.old.items ≡ []
+        → OnOk result (NotesDrive (F.holds files.old) driving.entry note.new.items) }
+    ensures hushed { note.old.items ≡ [] → IfErr result (λ failure.
+        NotesStop (F.holds files.old) driving.entry failure note.new.items) }
 {
+    let policy = driving.policy;
+    let class = driving.class;
     let image = driving.execution.image;
-    let steering = steered(cache, driving.policy, driving.class, image, files)?;
+    let steering = steered(cache, policy, class, image, driving.is_unbounded, files)?;
     let mut words = first_store(
         cache,
         &steering.verified,

@@ -1,24 +1,27 @@
 //! The answer of `emit-c`: an image in C, or why there is none.
 
-ghost use Rattle.std.specs.Prelude.{◌≡◌, ◌≤◌, true, IfErr, IfOk, length};
+ghost use Rattle.std.specs.Prelude.{◌≡◌, ◌<◌, ◌≤◌, true, None, Some, IfErr, IfOk, IfSome, length, option_map};
 ghost use Rattle.vsi.specs.Naming as naming;
-ghost use Rattle.vsi.specs.Performed.{EmitsFile, IsBuiltAt, IsEmittedFrom, IsRequestedC, IsWrittenInC};
-ghost use Rattle.vsi.specs.Refusals.{AsksImage, IsUnbounded, NoOther, RefusesFiles, FailsBy};
+ghost use Rattle.vsi.specs.Performed.{AreLatticeBytes, EmitsFile, IsEmittedAs, IsOurs, IsRequestedC, IsWrittenInC, program_build};
+ghost use Rattle.vsi.specs.Refusals.{IsUnbounded, NoOther, FailsBy};
+ghost use Rattle.vsi.specs.Failures.{status_of};
+ghost use Rattle.vsi_answers.specs.Bounds.{IsBound};
 ghost use Rattle.vsi.specs.Reasons.{LacksEmitBound, WhyEmit};
 ghost use Rattle.vsi.specs.declared.failure.Failure.TheVariants as fails;
 
+use crate::auditing::{verified_in, version};
 use crate::bounded::bounded_in_c;
 use crate::bounding::bounded;
-use crate::cache::InputCache;
+use crate::cache::{InputCache, InputKind};
 use crate::failure::Failure;
 use crate::files::Files;
-use crate::reading::image_in;
+use crate::reading::bytes_in;
 use crate::subcommands::built;
 use std::alloc::Global;
-use vsi_answers::judged_image;
+use vsi_answers::{enough_budget, judged_image};
 use vsi_arguments::{Bounding, Compilation, Emission};
 use vsi_c_names::is_function_name;
-use vsi_emit::{emit_c, emit_header};
+use vsi_emit::{Build, Origin, emit_c, emit_header};
 use vsi_image::Verified;
 
 /// The name in C if neither the given name nor that of the file is allowed.
@@ -86,47 +89,101 @@ fn function_name<'a>(name: Option<&'a str>, path: &'a str) -> &'a [u8]
     }
 }
 
-/// The image of the files of a compilation, read from its bytes as if they were in a file.
+/// The bytes of the image of a source text, and the image, read from these bytes as if they were in a
+/// file.
 fn built_image<'a, F: Files>(
     cache: &mut InputCache,
-    compilation: Compilation<'a>,
+    lattice: &'a str,
+    source: &'a str,
     files: &mut F,
-) -> Result<Verified, Failure<'a>>
+) -> Result<(Vec<u8>, Verified), Failure<'a>>
     ensures kept { F.holds files.new ≡ F.holds files.old }
-    ensures told { IfOk result (IsBuiltAt (F.holds files.old) compilation.entry) }
-    ensures failed { IfErr result (FailsBy (RefusesFiles (F.holds files.old) compilation.entry
-        (AsksImage compilation.entry.is_strict)) NoOther) }
+    ensures told { IfOk result (λ pair. IsEmittedAs (F.holds files.old) (Some lattice.entry)
+        source.entry pair.1 pair.0.items) }
+    ensures failed { IfErr result
+        (FailsBy (WhyEmit (F.holds files.old) (Some lattice.entry) source.entry) NoOther) }
 {
+    let compilation = Compilation {
+        lattice,
+        source,
+        is_strict: false,
+    };
     let bytes = built(cache, compilation, files)?;
     match judged_image(cache.alloc, bytes.as_slice()) {
-        Ok(verified) => Ok(verified),
+        Ok(verified) => Ok((bytes, verified)),
         // The bytes just built are an image's, so only memory can run out.
         Err(_) => Err(Failure::Memory),
     }
 }
 
-/// The image of the file, or with a lattice that of the source text.
+/// The bytes of the file of an image, and the image.
+fn filed_image<'a, F: Files>(
+    cache: &mut InputCache,
+    file: &'a str,
+    files: &mut F,
+) -> Result<(Vec<u8>, Verified), Failure<'a>>
+    ensures kept { F.holds files.new ≡ F.holds files.old }
+    ensures told { IfOk result
+        (λ pair. IsEmittedAs (F.holds files.old) None file.entry pair.1 pair.0.items) }
+    ensures failed { IfErr result
+        (FailsBy (WhyEmit (F.holds files.old) None file.entry) NoOther) }
+{
+    let (bytes, verified) = verified_in(cache, file, files)?;
+    Ok((bytes, verified))
+}
+
+/// The bytes of the image of the file and the image, or with a lattice those of the source text.
 fn emitted_image<'a, F: Files>(
     cache: &mut InputCache,
     lattice: Option<&'a str>,
     file: &'a str,
     files: &mut F,
-) -> Result<Verified, Failure<'a>>
+) -> Result<(Vec<u8>, Verified), Failure<'a>>
     ensures kept { F.holds files.new ≡ F.holds files.old }
-    ensures told { IfOk result (IsEmittedFrom (F.holds files.old) lattice.entry file.entry) }
+    ensures told { IfOk result (λ pair.
+        IsEmittedAs (F.holds files.old) lattice.entry file.entry pair.1 pair.0.items) }
     ensures failed { IfErr result
         (FailsBy (WhyEmit (F.holds files.old) lattice.entry file.entry) NoOther) }
 {
     match lattice {
-        Some(lattice) => {
-            let compilation = Compilation {
-                lattice,
-                source: file,
-                is_strict: false,
-            };
-            built_image(cache, compilation, files)
-        }
-        None => image_in(cache, file, files),
+        Some(lattice) => built_image(cache, lattice, file, files),
+        None => filed_image(cache, file, files),
+    }
+}
+
+/// The bytes of the lattice file, if there is one.
+fn lattice_bytes<'a, F: Files>(
+    cache: &mut InputCache,
+    lattice: Option<&'a str>,
+    files: &mut F,
+) -> Result<Option<Vec<u8>>, Failure<'a>>
+    ensures kept { F.holds files.new ≡ F.holds files.old }
+    ensures read { IfOk result (λ found. AreLatticeBytes (F.holds files.old) lattice.entry
+        (option_map (λ b. b.items) found)) }
+    ensures late { IfErr result (λ failure. 3 < status_of failure) }
+{
+    let Some(path) = lattice else {
+        return Ok(None);
+    };
+    let bytes = bytes_in(cache, InputKind::Lattice, path, files)?;
+    Ok(Some(bytes))
+}
+
+/// How this program was built. An unproved build has another answer here: see `tools/build`.
+pub(crate) fn build() -> Build
+    ensures { result ≡ program_build }
+{
+    Build::Proved
+}
+
+/// The most instructions of an image's runs, if a bound is found.
+fn known_bound<'a>(alloc: Global, verified: &Verified) -> Result<Option<u64>, Failure<'a>>
+    ensures known { IfOk result (λ bound. IfSome bound (IsBound verified.now)) }
+    ensures memory { IfErr result (λ failure. failure ≡ fails.Memory) }
+{
+    match enough_budget(alloc, verified)? {
+        Ok(most) => Ok(Some(most)),
+        Err(_line) => Ok(None),
     }
 }
 
@@ -134,17 +191,19 @@ fn emitted_image<'a, F: Files>(
 fn written_in_c<'a>(
     alloc: Global,
     verified: &Verified,
+    origin: Origin<'_>,
     name: &[u8],
     is_header: bool,
 ) -> Result<Vec<u8>, Failure<'a>>
     ensures told { IfOk result
-        (λ text. IsWrittenInC is_header verified.now name.now text.items) }
+        (λ text. IsWrittenInC is_header verified.now origin.entry name.now text.items) }
     ensures memory { IfErr result (λ failure. failure ≡ fails.Memory) }
 {
+    let bound = known_bound(alloc, verified)?;
     let answer = if is_header {
-        emit_header(alloc, verified, name)
+        emit_header(alloc, verified, origin, bound, name)
     } else {
-        emit_c(alloc, verified, name)
+        emit_c(alloc, verified, origin, bound, name)
     };
     match answer {
         Ok(text) => Ok(text),
@@ -157,19 +216,44 @@ fn written_in_c<'a>(
 fn in_c<'a>(
     alloc: Global,
     verified: &Verified,
+    origin: Origin<'_>,
     name: &[u8],
     is_header: bool,
     is_bounded: bool,
 ) -> Result<Vec<u8>, Failure<'a>>
-    ensures told { IfOk result
-        (λ text. IsRequestedC is_bounded is_header verified.now name.now text.items) }
+    ensures told { IfOk result (λ text.
+        IsRequestedC is_bounded is_header verified.now origin.entry name.now text.items) }
     ensures failed { IfErr result
         (FailsBy (λ reason. ⊥) (λ failure. (is_bounded ≡ true) × IsUnbounded verified.now failure)) }
 {
     if is_bounded {
-        return bounded_in_c(alloc, verified, name, is_header);
+        return bounded_in_c(alloc, verified, origin, name, is_header);
     }
-    written_in_c(alloc, verified, name, is_header)
+    written_in_c(alloc, verified, origin, name, is_header)
+}
+
+/// The bytes, if there are any.
+fn borrowed(bytes: &Option<Vec<u8>>) -> Option<&[u8]>
+    ensures { option_map (λ b. b.now) result ≡ option_map (λ b. b.items) bytes.now }
+{
+    match bytes {
+        Some(bytes) => Some(bytes.as_slice()),
+        None => None,
+    }
+}
+
+/// The origin of C that this program makes of these bytes.
+fn origin_of<'b>(image: &'b [u8], lattice: Option<&'b [u8]>) -> Origin<'b>
+    ensures ours { IsOurs result }
+    ensures image { result.image.now ≡ image.now }
+    ensures lattice { result.lattice ≡ lattice.entry }
+{
+    Origin {
+        version: version(),
+        build: build(),
+        image,
+        lattice,
+    }
 }
 
 /// The C of the requested image, or its header, once its bound has been looked for.
@@ -184,11 +268,14 @@ fn emitted<'a, F: Files>(
         (WhyEmit (F.holds files.old) asked.entry.lattice asked.entry.file)
         (LacksEmitBound (F.holds files.old) asked.entry)) }
 {
-    let verified = emitted_image(cache, asked.lattice, asked.file, files)?;
+    let (image, verified) = emitted_image(cache, asked.lattice, asked.file, files)?;
+    let lattice = lattice_bytes(cache, asked.lattice, files)?;
+    let origin = origin_of(&image, borrowed(&lattice));
     let name = function_name(asked.name, asked.file);
     in_c(
         cache.alloc,
         &verified,
+        origin,
         name,
         asked.is_header,
         asked.is_bounded,

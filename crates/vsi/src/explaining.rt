@@ -1,6 +1,8 @@
 //! The explanation that follows a refusal, made from the files that were read.
 
-ghost use Rattle.std.specs.Prelude.{◌≡◌};
+ghost use Rattle.std.specs.Prelude.{◌≡◌, ◌⊎◌, ◌++◌, Contains, IfOk, IfSome, OnOk};
+ghost use Rattle.vsi.specs.Objections as spec;
+ghost use Rattle.vsi.specs.Objections.{MayObject, OBJECTIONS, objection_line};
 
 use crate::cache::{InputCache, InputKind, Kept};
 use crate::diagnosing::failure_diagnostic;
@@ -150,10 +152,11 @@ impl Explaining {
     fn of_cause(self, cache: &InputCache, cause: &Cause) -> Result<Vec<u8>, AllocError> {
         match cause {
             Cause::Source(error) => self.of_source(cache, error),
-            Cause::Steady(
-                UnsteadyError::Compile(CompileError::Flow(_)) | UnsteadyError::Image(_),
-            ) => { Vec::from_slice(cache.alloc, UNSTEADY) }
+            Cause::Steady(UnsteadyError::Compile(CompileError::Flow(_))) => {
+                Vec::from_slice(cache.alloc, UNSTEADY)
+            }
             Cause::Steady(UnsteadyError::Compile(error)) => self.of_source(cache, error),
+            Cause::Steady(UnsteadyError::Image(error)) => self.of_text_image(cache, error),
             Cause::File(Fault::Store(error)) => self.of_store(cache, error),
             Cause::File(fault) => self.of_file(cache, fault),
             Cause::Start(fault) => self.of_start(cache, *fault),
@@ -200,6 +203,22 @@ impl Explaining {
             error,
         };
         explanation(cache.alloc, self.mode, &refused)
+    }
+
+    /// The explanation of a source text whose image isn't steady.
+    fn of_text_image(self, cache: &InputCache, error: &SteadyError) -> Result<Vec<u8>, AllocError> {
+        let Some(kept) = cache.last(InputKind::Source) else {
+            return Ok(Vec::new(cache.alloc));
+        };
+        let Some(lattice) = policy(cache) else {
+            return Err(AllocError);
+        };
+        let refused = vsi_advice::RefusedInput::Text {
+            lattice: &lattice,
+            bytes: &kept.bytes,
+            error,
+        };
+        advice(cache.alloc, self.mode, &kept.path, refused)
     }
 
     /// The explanation of a source text that is refused for a flow, which is read once more.
@@ -357,7 +376,10 @@ fn of_fault<F: Files>(cache: &InputCache, files: &mut F, path: &str) -> Result<V
 }
 
 /// Appends the path, and a sentence about its file.
-fn put_sentence(lines: &mut Vec<u8>, path: &str, sentence: &str) -> Result<(), AllocError> {
+fn put_sentence(lines: &mut Vec<u8>, path: &str, sentence: &str) -> Result<(), AllocError>
+    ensures { OnOk result
+        (lines.new.items ≡ lines.old.items ++ objection_line path.now sentence.now) }
+{
     put_safe(lines, path.as_bytes())?;
     lines.extend_from_slice(b": ")?;
     lines.extend_from_slice(sentence.as_bytes())?;
@@ -367,12 +389,23 @@ fn put_sentence(lines: &mut Vec<u8>, path: &str, sentence: &str) -> Result<(), A
 /// Why a file isn't used, where each user has to know: its checksum is wrong, or it would be replaced
 /// and is of another kind.
 fn objection_to<F: Files>(cache: &InputCache, files: &mut F) -> Option<&'static str>
-    ensures { F.holds files.new ≡ F.holds files.old }
+    ensures kept { F.holds files.new ≡ F.holds files.old }
+    ensures known { IfSome result (λ sentence. Contains OBJECTIONS sentence.now
+        ⊎ (sentence.now ≡ spec.BROKEN)) }
 {
     if cache.is_broken {
         return Some(BROKEN);
     }
     files.objection()
+}
+
+/// The line with the path and a sentence about its file.
+fn sentence_line(alloc: Global, path: &str, sentence: &str) -> Result<Vec<u8>, AllocError>
+    ensures { IfOk result (λ line. line.items ≡ objection_line path.now sentence.now) }
+{
+    let mut line = Vec::new(alloc);
+    put_sentence(&mut line, path, sentence)?;
+    Ok(line)
 }
 
 /// The line about such a file, if it is the reason for the failure.
@@ -381,14 +414,16 @@ pub(crate) fn objection<F: Files>(
     files: &mut F,
     failure: &Failure<'_>,
 ) -> Result<Vec<u8>, AllocError>
-    ensures { F.holds files.new ≡ F.holds files.old }
+    ensures kept { F.holds files.new ≡ F.holds files.old }
+    ensures line { IfOk result (λ line. MayObject failure.now line.items) }
 {
-    let mut line = Vec::new(cache.alloc);
-    if let Failure::FileFault(path) = failure
-        && let Some(sentence) = objection_to(cache, files)
-    {
-        put_sentence(&mut line, path, sentence)?;
-    }
+    let Failure::FileFault(path) = failure else {
+        return Ok(Vec::new(cache.alloc));
+    };
+    let Some(sentence) = objection_to(cache, files) else {
+        return Ok(Vec::new(cache.alloc));
+    };
+    let line = sentence_line(cache.alloc, path, sentence)?;
     Ok(line)
 }
 

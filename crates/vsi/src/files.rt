@@ -1,7 +1,8 @@
 //! The files that a command line names.
 
-ghost use Rattle.std.specs.Prelude.{◌≡◌, ◌≢◌, ℕ, List, Option, Some, None, IfSome};
+ghost use Rattle.std.specs.Prelude.{◌≡◌, ◌≢◌, ℕ, List, Contains, Option, Some, None, IfSome};
 ghost use Rattle.vsi.specs.Holding.{HoldsAt, KeepsOthers};
+ghost use Rattle.vsi.specs.Objections.{OBJECTIONS};
 
 use std::io::Read;
 
@@ -10,6 +11,9 @@ use std::io::Read;
 pub enum OutputKind {
     Image,
     Store,
+    /// The store of a drive at another path than that of the store with which it began, whose place
+    /// alone it takes.
+    State,
     Source,
 }
 
@@ -65,6 +69,12 @@ pub trait Files {
         false
     }
 
+    /// Takes note of the file whose store a drive keeps, before anything is read. A file that another
+    /// drive keeps isn't replaced.
+    fn claim(&mut self, _path: &str)
+        ensures kept { holds self.new ≡ holds self.old }
+    {}
+
     /// Takes note of the output of a request, before its files are read.
     fn expect(&mut self, _writing: Writing<'_>)
         ensures kept { holds self.new ≡ holds self.old }
@@ -73,6 +83,7 @@ pub trait Files {
     /// Why a file wasn't replaced, in a sentence, if that is because it is of another kind.
     fn objection(&mut self) -> Option<&'static str>
         ensures kept { holds self.new ≡ holds self.old }
+        ensures known { IfSome result (λ sentence. Contains OBJECTIONS sentence.now) }
     {
         None
     }

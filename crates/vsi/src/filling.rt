@@ -2,9 +2,10 @@
 
 ghost use Rattle.std.specs.Prelude.{◌≡◌, ◌≢◌, ◌<◌, ◌++◌, ℕ, List, IfErr, OnOk, codes};
 ghost use Rattle.std.specs.Io.KnownBytes.{Appends};
-ghost use Rattle.vsi.specs.Holding.{Delivers, Fills, Replaces};
+ghost use Rattle.vsi.specs.Holding.{Delivers, Fills, KeepsOthers, Replaces};
 ghost use Rattle.vsi.specs.Partly.{WritesPart};
 ghost use Rattle.vsi.specs.Files.{shown};
+ghost use Rattle.vsi.specs.State.{StaysAt, Touches};
 ghost use Rattle.vsi.specs.Failures.{TellsFault, status_of};
 ghost use Rattle.vsi_devices.specs.Counted.{device_of, faults_of};
 
@@ -23,6 +24,7 @@ pub(crate) fn fill<'a, F: Files>(
     ensures failure { IfErr result (λ failure. 3 < status_of failure) }
     ensures filled { OnOk result
         (Fills path.now bytes.now (F.holds files.old) (F.holds files.new)) }
+    ensures others { KeepsOthers path.now (F.holds files.old) (F.holds files.new) }
 {
     match files.fill_file(path, bytes) {
         Some(()) => Ok(()),
@@ -68,6 +70,8 @@ pub(crate) fn deliver<'a, F: Files, W: Write>(
         (W.contents (device_of output.old)) (W.contents (device_of output.new)) }
     ensures delivered { OnOk result
         (Delivers out.entry text.now (F.holds files.old) (F.holds files.new)) }
+    ensures touched { Touches out.entry (F.holds files.old) (F.holds files.new) }
+    ensures stays { IfErr result (λ _. StaysAt out.entry (F.holds files.old) (F.holds files.new)) }
 {
     match out {
         Some(path) => replace(alloc, text, path, files),

@@ -1,4 +1,4 @@
-//! The globals that each class sees under an interface.
+//! The globals that each class sees, sets, reads and releases under an interface.
 
 ghost use Rattle.std.specs.Prelude.{◌≡◌, Some, IfErr, IfOk, IsSomeAnd};
 ghost use Rattle.vsi.specs.Interfaces.{IsAskedAt, IsPolicyAt};
@@ -42,44 +42,38 @@ fn known_in<'a, F: Files>(
 /// The differences of an interface from that of an older file.
 fn changes<'a, F: Files>(
     cache: &mut InputCache,
-    interface: &Interface,
+    asked: &InterfaceFile,
     lattice: &Lattice,
     old: &'a str,
     files: &mut F,
 ) -> Result<Vec<u8>, Failure<'a>>
     ensures kept { F.holds files.new ≡ F.holds files.old }
     ensures told { IfOk result (λ text. ToldVisible (F.holds files.old) (Some old.entry)
-        interface.now lattice.now text.items) }
+        asked.now lattice.now text.items) }
     ensures failed { IfErr result
         (FailsBy (RefusesAsked (F.holds files.old) old.now) IsUnusable) }
 {
     let (before, old_lattice) = known_in(cache, old, files)?;
-    Ok(visible_changes(
-        cache.alloc,
-        lattice,
-        interface,
-        &old_lattice,
-        &before.interface,
-    )?)
+    Ok(visible_changes(cache.alloc, lattice, asked, &old_lattice, &before)?)
 }
 
 /// The table of an interface, or its differences from that of an older file.
 fn answered<'a, F: Files>(
     cache: &mut InputCache,
-    interface: &Interface,
+    asked: &InterfaceFile,
     lattice: &Lattice,
     old: Option<&'a str>,
     files: &mut F,
 ) -> Result<Vec<u8>, Failure<'a>>
     ensures kept { F.holds files.new ≡ F.holds files.old }
-    ensures told { IfOk result (λ text. ToldVisible (F.holds files.old) old.entry interface.now
+    ensures told { IfOk result (λ text. ToldVisible (F.holds files.old) old.entry asked.now
         lattice.now text.items) }
     ensures failed { IfErr result (FailsBy (λ reason. IsSomeAnd old.entry
         (λ path. RefusesAsked (F.holds files.old) path.now reason)) IsUnusable) }
 {
     match old {
-        Some(old) => changes(cache, interface, lattice, old, files),
-        None => Ok(visible_table(cache.alloc, lattice, interface)?),
+        Some(old) => changes(cache, asked, lattice, old, files),
+        None => Ok(visible_table(cache.alloc, lattice, asked)?),
     }
 }
 
@@ -96,8 +90,8 @@ fn put_warnings(
     note.extend_from_slice(&unused)
 }
 
-/// The globals that each class sees under the interface of a file, or the differences from an older
-/// one. The note gets the warnings about the interface.
+/// The globals that each class sees, sets, reads and releases under the interface of a file, or the
+/// differences from an older one. The note gets the warnings about the interface.
 pub(crate) fn visible<'a, F: Files>(
     cache: &mut InputCache,
     asked: Visibility<'a>,
@@ -110,7 +104,7 @@ pub(crate) fn visible<'a, F: Files>(
         (WhyVisible (F.holds files.old) asked.entry.interface.now asked.entry.old) IsUnusable) }
 {
     let (found, lattice) = known_in(cache, asked.interface, files)?;
-    let text = answered(cache, &found.interface, &lattice, asked.old, files)?;
+    let text = answered(cache, &found, &lattice, asked.old, files)?;
     put_warnings(cache.alloc, &lattice, &found.interface, note)?;
     Ok(text)
 }

@@ -1,9 +1,10 @@
 //! Lays out a source text and keeps its comments.
 
-ghost use Rattle.std.specs.Prelude.{◌≡◌, ◌<◌, ◌⊎◌, IfErr, IfOk, OnOk};
+ghost use Rattle.std.specs.Prelude.{◌≡◌, ◌<◌, ◌⊎◌, IfErr, IfOk, OnOk, Some};
 ghost use Rattle.std.specs.Io.KnownBytes.{Keeps};
-ghost use Rattle.vsi.specs.Laying.{AnswersLayout, LaysOut, OtherLayout, PerformsLayout, PutsBack, TellsChanges, ToldChanges};
+ghost use Rattle.vsi.specs.Laying.{AnswersLayout, LaysOut, OtherLayout, PerformsLayout, PutsBack, TellsChanges, ToldChanges, written_by};
 ghost use Rattle.vsi.specs.Partly.{Leaves};
+ghost use Rattle.vsi.specs.State.{StaysAt, StaysBeside, Touches};
 ghost use Rattle.vsi.specs.Refusals.{AsksCanonical, NoOther, RefusesFile, FailsBy};
 ghost use Rattle.vsi.specs.Failures.{TellsFault, status_of};
 ghost use Rattle.vsi_devices.specs.Counted.{device_of, faults_of};
@@ -84,6 +85,9 @@ fn put_back<'a, F: Files>(
     ensures failure { IfErr result (λ failure. 3 < status_of failure) }
     ensures put { OnOk result (PutsBack path.now found.now.text.items found.now.layout.items
         (F.holds files.old) (F.holds files.new)) }
+    ensures touched { Touches (Some path.entry) (F.holds files.old) (F.holds files.new) }
+    ensures stays { IfErr result
+        (λ _. StaysAt (Some path.entry) (F.holds files.old) (F.holds files.new)) }
 {
     if found.text == found.layout {
         return Ok(());
@@ -111,6 +115,9 @@ pub(crate) fn lay_out<'a, F: Files, W: Write>(
         (PerformsLayout asked.entry.is_checked asked.entry.is_written (F.holds files.old)
         asked.entry.source.now (F.holds files.new)
         (W.contents (device_of output.old)) (W.contents (device_of output.new))) }
+    ensures state { IfErr result (λ _. StaysBeside
+        (written_by asked.entry.is_checked asked.entry.is_written asked.entry.source)
+        (F.holds files.old) (F.holds files.new)) }
     ensures failed { IfErr result
         (FailsBy (RefusesFile (F.holds files.old) asked.entry.source.now AsksCanonical)
         (OtherLayout asked.entry.is_checked (F.holds files.old) asked.entry.source.now

@@ -9,10 +9,10 @@
 //!
 //! To be believed: of `specs/` `Words`, `Holding`, `Loading`, `Driven`, `State`, `Tried`, `Shaping`,
 //! `Seeing`, `Laying`, `Raises`, `Documents`, `Admitted`, `Served`, `Files`, `Interfaces`,
-//! `Visible`, `Boundaries`, `Steering`, `Viewing`, `Performed`, `Refusals`, `Undriven`, `Reasons`,
-//! `Partly`, `FaultyFiles`, `Diagnosing`, `Done`, `Screen`, `Input` and `Laws`, of `Failures` all but
-//! `FailsFor`, of `Noted` all but `Notes`, and of `Saved` its second part; its first part and `Walked`
-//! are stepping stones of proofs.
+//! `Filed`, `Visible`, `Boundaries`, `Steering`, `Feeding`, `Viewing`, `Performed`, `Refusals`,
+//! `Undriven`, `Reasons`, `Partly`, `FaultyFiles`, `Diagnosing`, `Done`, `Screen`, `Objections`,
+//! `Input` and `Laws`, of `Failures` all but `FailsFor`, of `Noted` all but `Notes`, and of `Saved` its
+//! second part; its first part and `Walked` are stepping stones of proofs.
 #![tactic(auto)]
 
 mod admitting;
@@ -35,7 +35,9 @@ mod explaining;
 mod failure;
 mod faulty_files;
 mod files;
+mod filing;
 mod filling;
+mod inputs;
 mod interface_policies;
 pub mod laws;
 mod laying;

@@ -8,13 +8,14 @@ ghost use Rattle.vsi.specs.Loading.{AreRead, held, left_of};
 
 use crate::failure::Failure;
 use crate::files::{Files, Writing};
-use crate::paths::{is_state, paths_of, writing_of};
+use crate::paths::{is_state, kept_path, paths_of, writing_of};
 use crate::reading::whole_in;
 use std::alloc::{AllocError, Global};
 use std::io;
 use std::io::{AsBytes, Cursor, Read};
 use std::rc::RcSlice;
-use vsi_arguments::{ArgumentsError, Request, request_of};
+use vsi_arguments::{ArgumentsError, Manner, Request, manner_of};
+use vsi_asked::request_of;
 
 /// The message of `trouble` about a file that this request would write over.
 const SPARED: &str = "this request reads the file, so it doesn't write over it.";
@@ -147,6 +148,23 @@ impl<F: Files> Loaded<F> {
     }
 }
 
+/// Lets the files take note of what a drive keeps.
+fn claim_kept<F: Files>(request: &Request<'_>, system: &mut F)
+    ensures { F.holds system.new ≡ F.holds system.old }
+{
+    if let Some(path) = kept_path(request) {
+        system.claim(path);
+    }
+}
+
+/// Lets the files take note of what a request keeps and writes.
+fn prepare<F: Files>(request: &Request<'_>, manner: Manner, system: &mut F)
+    ensures { F.holds system.new ≡ F.holds system.old }
+{
+    claim_kept(request, system);
+    system.expect(writing_of(request, manner));
+}
+
 /// Reads each file that the arguments name and the request reads, in the order in which it does, and
 /// none after the first one that can't be read. A file that the request replaces is left out.
 ///
@@ -167,17 +185,20 @@ pub fn load<F: Files + Drop>(
         is_spared: false,
         system,
     };
-    let asked = match request_of(alloc, arguments) {
-        Ok(asked) => asked,
+    let manner = match manner_of(alloc, arguments) {
+        Ok(manner) => manner,
         Err(ArgumentsError::Memory) => return Err(AllocError),
         Err(ArgumentsError::Help(_) | ArgumentsError::Mistake(_)) => return Ok(loaded),
     };
-    loaded.system.expect(writing_of(&asked));
-    for path in &paths_of(&asked.request) {
+    let Some(request) = request_of(alloc, arguments)? else {
+        return Ok(loaded);
+    };
+    prepare(&request, manner, &mut loaded.system);
+    for path in &paths_of(&request) {
         let Some(path) = *path else {
             continue;
         };
-        if !loaded.take_unless_state(&asked.request, path)? {
+        if !loaded.take_unless_state(&request, path)? {
             return Ok(loaded);
         }
     }
@@ -218,6 +239,10 @@ impl<F: Files> Files for Loaded<F> {
 
     fn may_wait(&self, path: &str) -> bool {
         self.system.may_wait(path)
+    }
+
+    fn claim(&mut self, path: &str) {
+        self.system.claim(path)
     }
 
     fn expect(&mut self, writing: Writing<'_>) {

@@ -1,7 +1,7 @@
 //! The paths of the files that a request reads.
 
 use crate::files::{OutputKind, Writing};
-use vsi_arguments::{Asked, Document, DrivePolicy, Request};
+use vsi_arguments::{Document, DrivePolicy, Driving, Manner, Request};
 
 /// The most files that a request names to read.
 pub(crate) const MOST_READ: usize = 4;
@@ -98,22 +98,39 @@ pub(crate) fn is_state(request: &Request<'_>, path: &str) -> bool {
     }
 }
 
+/// The path of the file whose store a drive keeps.
+pub(crate) fn kept_path<'a>(request: &Request<'a>) -> Option<&'a str> {
+    match request {
+        Request::Drive(asked) => asked.save,
+        _ => None,
+    }
+}
+
+/// The kind of the file that a drive writes: any store at the path of the one that it reads.
+fn kind_of_save(asked: &Driving<'_>) -> OutputKind {
+    if asked.execution.store == asked.save {
+        OutputKind::Store
+    } else {
+        OutputKind::State
+    }
+}
+
 /// The output of a request, and the files that it may replace.
-pub(crate) fn writing_of<'a>(asked: &Asked<'a>) -> Writing<'a> {
-    let (kind, replaced) = match &asked.request {
+pub(crate) fn writing_of<'a>(request: &Request<'a>, manner: Manner) -> Writing<'a> {
+    let (kind, replaced) = match request {
         Request::Run { execution, .. } | Request::View { execution, .. } => {
             (OutputKind::Store, execution.store)
         }
         Request::ViewWithin(asked) => (OutputKind::Store, asked.execution.store),
-        Request::Drive(asked) => (OutputKind::Store, asked.execution.store),
+        Request::Drive(asked) => (kind_of_save(asked), asked.execution.store),
         Request::Layout(asked) => (OutputKind::Source, Some(asked.source)),
         _ => (OutputKind::Image, None),
     };
     Writing {
         kind,
         replaced,
-        reads_input: matches!(asked.request, Request::Drive(_)),
-        is_forced: asked.is_forced,
+        reads_input: matches!(request, Request::Drive(_)),
+        is_forced: manner.is_forced,
     }
 }
 

@@ -144,8 +144,10 @@ pub(crate) fn perform<'a, F: Files, R: Read, W: Write>(
 {
     match request {
         Request::Check(asked) => put_check(cache, asked, files, output, &mut error_text.lines),
-        Request::Document(asked) => put_document(cache, asked, files, output),
-        Request::Conform(asked) => conform(cache, asked, files, output),
+        Request::Document(asked) => {
+            put_document(cache, asked, files, output, &mut error_text.lines)
+        }
+        Request::Conform(asked) => conform(cache, asked, files, output, &mut error_text.lines),
         Request::Classes(compilation) => put(classes(cache, compilation, files), output),
         Request::Flows {
             compilation,
@@ -186,7 +188,9 @@ pub(crate) fn perform<'a, F: Files, R: Read, W: Write>(
             files,
             output,
         ),
-        Request::ViewWithin(asked) => view_within(cache, &asked, files, output),
+        Request::ViewWithin(asked) => {
+            view_within(cache, &asked, files, output, &mut error_text.lines)
+        }
         Request::Drive(driving) => drive(
             cache,
             driving,
@@ -195,7 +199,9 @@ pub(crate) fn perform<'a, F: Files, R: Read, W: Write>(
             output,
             &mut error_text.lines,
         ),
-        Request::Compare(comparison) => compare(cache, comparison, files, output),
+        Request::Compare(comparison) => {
+            compare(cache, comparison, files, output, &mut error_text.lines)
+        }
         Request::Leak(search) => put(leak(cache, search, files), output),
         Request::Report(compilation) => put(report(cache, compilation, files), output),
         Request::Draw(drawing) => put(draw(cache, drawing, files), output),

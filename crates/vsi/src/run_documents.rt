@@ -1,11 +1,13 @@
 //! The documents about runs, which programs read.
 
-ghost use Rattle.std.specs.Prelude.{◌≡◌, ◌⊎◌, IfErr, IfOk, IsSomeAnd};
+ghost use Rattle.std.specs.Prelude.{◌≡◌, ◌⊎◌, [], IfErr, IfOk, IsSomeAnd, OnOk};
 ghost use Rattle.vsi.specs.Documents.{ComparesJson, RunsJson};
+ghost use Rattle.vsi.specs.Noted.{NotesCompare};
 ghost use Rattle.vsi.specs.Performed.{SearchesJson};
 ghost use Rattle.vsi.specs.Reasons.{LacksCompare, RefusesSearch, WhyCompare};
 ghost use Rattle.vsi.specs.Refusals.{LacksBoundAt, LacksClassAt, RefusesImage, RefusesStart, FailsBy};
 
+use crate::admitting::admit;
 use crate::budgets::budget_of;
 use crate::cache::{InputCache, InputKind};
 use crate::driving::stored_words;
@@ -41,15 +43,20 @@ pub(crate) fn run_line<'a, F: Files>(
 }
 
 /// The line of JSON for the runs of an image file from two store files, and whether the class sees
-/// the same after both.
+/// the same after both. The note gets a line if the budget isn't enough and is taken all the same.
 pub(crate) fn comparison_line<'a, F: Files>(
     cache: &mut InputCache,
     asked: Comparison<'a>,
     files: &mut F,
+    note: &mut Vec<u8>,
 ) -> Result<(bool, Vec<u8>), Failure<'a>>
     ensures kept { F.holds files.new ≡ F.holds files.old }
     ensures told { IfOk result
         (λ pair. ComparesJson (F.holds files.old) asked.entry pair.0 pair.1) }
+    ensures noted { note.old.items ≡ [] → OnOk result
+        (NotesCompare (F.holds files.old) asked.entry note.new.items) }
+    ensures hushed { note.old.items ≡ [] → IfErr result (λ _.
+        (note.new.items ≡ []) ⊎ NotesCompare (F.holds files.old) asked.entry note.new.items) }
     ensures failed { IfErr result (FailsBy (WhyCompare (F.holds files.old) asked.entry)
         (LacksCompare (F.holds files.old) asked.entry)) }
 {
@@ -63,6 +70,14 @@ pub(crate) fn comparison_line<'a, F: Files>(
     let first = stored_words(cache, &verified, Some(asked.stores.0), files)?;
     let second = stored_words(cache, &verified, Some(asked.stores.1), files)?;
     let budget = budget_of(cache.alloc, asked.budget, &verified)?;
+    admit(
+        cache.alloc,
+        asked.is_unbounded,
+        &classes,
+        &verified,
+        budget,
+        note,
+    )?;
     let told = compare_json(
         cache.alloc,
         &classes,

@@ -5,6 +5,7 @@ ghost use Rattle.vsi.specs.Files.{BeginsAt};
 ghost use Rattle.vsi.specs.Noted.{Counts, CountsRun};
 ghost use Rattle.vsi.specs.Performed.{PerformsRun, PerformsView, ViewsFiles};
 ghost use Rattle.vsi.specs.Partly.{AnswersRun, AnswersView, Leaves};
+ghost use Rattle.vsi.specs.State.{StaysBeside};
 ghost use Rattle.vsi.specs.Failures.{TellsFault, status_of};
 ghost use Rattle.vsi.specs.declared.failure.Failure.TheVariants.{Memory};
 ghost use Rattle.vsi_answers.specs.Requests.{BeginsWith};
@@ -154,6 +155,8 @@ pub(crate) fn run<'a, F: Files, W: Write>(
     ensures performed { OnOk result (PerformsRun (F.holds files.old) asked.now.execution
         asked.now.initial_store asked.now.has_trace (F.holds files.new)
         (W.contents (device_of output.old)) (W.contents (device_of output.new))) }
+    ensures state { IfErr result
+        (λ _. StaysBeside asked.now.initial_store.out (F.holds files.old) (F.holds files.new)) }
     ensures failed { IfErr result (FailsBy (WhyRun (F.holds files.old) asked.now.execution
         asked.now.initial_store asked.now.has_trace
         (W.contents (device_of output.old)) (W.contents (device_of output.new)))
@@ -247,6 +250,8 @@ pub(crate) fn view<'a, F: Files, W: Write>(
     ensures performed { OnOk result (PerformsView (F.holds files.old) lattice.now class.now
         execution.entry initial_store.now (F.holds files.new)
         (W.contents (device_of output.old)) (W.contents (device_of output.new))) }
+    ensures state { IfErr result
+        (λ _. StaysBeside initial_store.now.out (F.holds files.old) (F.holds files.new)) }
     ensures failed { IfErr result (FailsBy (WhyView (F.holds files.old) lattice.now class.now
         execution.entry initial_store.now) (LacksEither (F.holds files.old) lattice.now class.now
         execution.entry.image.now execution.entry.budget)) }

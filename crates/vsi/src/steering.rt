@@ -1,6 +1,7 @@
 //! The class that drives or views an image, by a lattice file or by an interface with boundaries.
 
-ghost use Rattle.std.specs.Prelude.{◌≡◌, ◌⊎◌, Some, map, option_map, IfErr, IfOk, OnOk};
+ghost use Rattle.std.specs.Prelude.{◌≡◌, ◌⊎◌, Some, false, map, option_map, true, IfErr, IfOk, OnOk};
+ghost use Rattle.vsi_conform.specs.Bounded.{demands_bound};
 ghost use Rattle.vsi_conform.specs.Reading as reading;
 ghost use Rattle.vsi_conform_image.specs.Conforms.{Conforms};
 ghost use Rattle.vsi_lattice.specs.Order.{IsClass};
@@ -8,9 +9,9 @@ ghost use Rattle.vsi_lattice.specs.LatticeView.{order};
 ghost use Rattle.vsi.specs.Boundaries.{boundary_at, boundary_for, bound_by, table_of};
 ghost use Rattle.vsi.specs.Files.{LooksAt};
 ghost use Rattle.vsi.specs.Holding.{IsImageAt};
-ghost use Rattle.vsi.specs.Undriven.{LacksCycle, LacksGoverned, LacksPolicy, RefusesAsked, RefusesSteering, SaysDiffering};
+ghost use Rattle.vsi.specs.Undriven.{LacksCycle, LacksGoverned, LacksPolicy, RefusesAsked, RefusesSteering, SaysDiffering, SaysLine};
 ghost use Rattle.vsi.specs.Refusals.{LacksClassAt, RefusesImage, RefusesLattice, FailsBy};
-ghost use Rattle.vsi.specs.Steering.{IsGoverned, IsSteeredBy, no_cycle_line};
+ghost use Rattle.vsi.specs.Steering.{IsGoverned, IsSteeredBy, insisting_line, no_cycle_line};
 
 use crate::cache::InputCache;
 use crate::conformance::asked_in;
@@ -33,6 +34,31 @@ pub(crate) struct Steering {
     pub(crate) driver: Class,
     pub(crate) verified: Verified,
     pub(crate) cycle: Option<Cycle>,
+}
+
+/// The line of `--unbounded` with an interface that requires a bound.
+fn insisting_line(alloc: Global) -> Result<Vec<u8>, AllocError>
+    ensures { IfOk result (λ text. text.items ≡ insisting_line) }
+{
+    let mut text = Vec::new(alloc);
+    text.extend_from_slice(b"--unbounded refused: the interface requires a bound\n")?;
+    Ok(text)
+}
+
+/// Refuses `--unbounded` with an interface that requires a bound.
+fn insist<'a>(alloc: Global, is_unbounded: bool, interface: &Interface) -> Result<(), Failure<'a>>
+    ensures insists { OnOk result (is_unbounded ≡ true → demands_bound interface.now.bounded ≡ false) }
+    ensures failed { IfErr result (FailsBy (λ reason. ⊥) (λ failure. (is_unbounded ≡ true)
+        × (demands_bound interface.now.bounded ≡ true) × SaysLine insisting_line failure)) }
+{
+    if !is_unbounded {
+        return Ok(());
+    }
+    if !interface.demands_bound() {
+        return Ok(());
+    }
+    let line = insisting_line(alloc)?;
+    Err(Failure::Refused(line, None))
 }
 
 /// Judges an image by an interface. The failure has the lines of `conform`.
@@ -162,20 +188,22 @@ fn by_interface<'a, F: Files>(
     interface: &'a str,
     class: &'a str,
     image: &'a str,
+    is_unbounded: bool,
     files: &mut F,
 ) -> Result<Steering, Failure<'a>>
     ensures kept { F.holds files.new ≡ F.holds files.old }
     ensures governed { IfOk result (λ steering. IsGoverned (F.holds files.old) interface.now
-        class.now steering.lattice steering.driver steering.verified
+        class.now is_unbounded steering.lattice steering.driver steering.verified
         (bound_by (option_map reading.cycle steering.cycle))) }
     ensures held { IfOk result
         (λ steering. IsImageAt (F.holds files.old) image.now steering.verified) }
     ensures failed { IfErr result (FailsBy (λ reason.
         RefusesAsked (F.holds files.old) interface.now reason
         ⊎ RefusesImage (F.holds files.old) image.now reason)
-        (LacksGoverned (F.holds files.old) interface.now class.now image.now)) }
+        (LacksGoverned (F.holds files.old) interface.now class.now image.now is_unbounded)) }
 {
     let (asked, lattice) = asked_in(cache, interface, RUNS_BUDGET, files)?;
+    insist(cache.alloc, is_unbounded, &asked.interface)?;
     let driver = class_in(&lattice, class)?;
     let verified = image_in(cache, image, files)?;
     know_image(cache.alloc, &lattice, &verified, &asked.interface)?;
@@ -194,23 +222,26 @@ pub(crate) fn steered<'a, F: Files>(
     policy: DrivePolicy<'a>,
     class: &'a str,
     image: &'a str,
+    is_unbounded: bool,
     files: &mut F,
 ) -> Result<Steering, Failure<'a>>
     ensures kept { F.holds files.new ≡ F.holds files.old }
     ensures class { IfOk result (λ steering. IsClass (order steering.lattice) steering.driver) }
     ensures steered { IfOk result (λ steering. IsSteeredBy (F.holds files.old) class.now policy.entry
-        steering.lattice steering.driver steering.verified
+        is_unbounded steering.lattice steering.driver steering.verified
         (boundary_for policy.entry steering.cycle)) }
     ensures held { IfOk result
         (λ steering. IsImageAt (F.holds files.old) image.now steering.verified) }
     ensures failed { IfErr result (FailsBy (λ reason.
         RefusesSteering (F.holds files.old) policy.entry reason
         ⊎ RefusesImage (F.holds files.old) image.now reason)
-        (LacksPolicy (F.holds files.old) class.now image.now policy.entry)) }
+        (LacksPolicy (F.holds files.old) class.now image.now policy.entry is_unbounded)) }
 {
     match policy {
         DrivePolicy::Lattice(path, _) => by_lattice(cache, path, class, image, files),
-        DrivePolicy::Interface(path) => by_interface(cache, path, class, image, files),
+        DrivePolicy::Interface(path) => {
+            by_interface(cache, path, class, image, is_unbounded, files)
+        }
     }
 }
 
@@ -220,22 +251,25 @@ pub(crate) fn viewed<'a, F: Files>(
     policy: DrivePolicy<'a>,
     class: &'a str,
     image: &'a str,
+    is_unbounded: bool,
     files: &mut F,
 ) -> Result<Steering, Failure<'a>>
     ensures kept { F.holds files.new ≡ F.holds files.old }
     ensures class { IfOk result (λ steering. IsClass (order steering.lattice) steering.driver) }
     ensures steered { IfOk result (λ steering. IsSteeredBy (F.holds files.old) class.now policy.entry
-        steering.lattice steering.driver steering.verified
+        is_unbounded steering.lattice steering.driver steering.verified
         (boundary_for policy.entry steering.cycle)) }
     ensures held { IfOk result
         (λ steering. IsImageAt (F.holds files.old) image.now steering.verified) }
     ensures failed { IfErr result (FailsBy (λ reason.
         RefusesSteering (F.holds files.old) policy.entry reason
         ⊎ RefusesImage (F.holds files.old) image.now reason)
-        (LacksPolicy (F.holds files.old) class.now image.now policy.entry)) }
+        (LacksPolicy (F.holds files.old) class.now image.now policy.entry is_unbounded)) }
 {
     match policy {
         DrivePolicy::Lattice(path, _) => views_by_lattice(cache, path, class, image, files),
-        DrivePolicy::Interface(path) => by_interface(cache, path, class, image, files),
+        DrivePolicy::Interface(path) => {
+            by_interface(cache, path, class, image, is_unbounded, files)
+        }
     }
 }

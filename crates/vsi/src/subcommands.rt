@@ -2,6 +2,7 @@
 
 ghost use Rattle.std.specs.Prelude.{◌≡◌, ◌<◌, true, false, IfErr, IfOk, OnOk};
 ghost use Rattle.vsi.specs.Laying.{ToldCanonical};
+ghost use Rattle.vsi.specs.Holding.{KeepsOthers};
 ghost use Rattle.vsi.specs.Files.{AreFiles, OfFile, OfFiles, Writes};
 ghost use Rattle.vsi.specs.Performed.{BuildsFile, PerformsMend, ToldAccepted, ToldClasses, ToldFlows, ToldImage, ToldJson, ToldListing, ToldRaises};
 ghost use Rattle.vsi.specs.Performed.{judgement_of, profile_of};
@@ -321,6 +322,7 @@ pub(crate) fn build<'a, F: Files>(
         → F.holds files.new ≡ F.holds files.old) }
     ensures filled { OnOk result
         (BuildsFile (F.holds files.old) compilation.entry image.now (F.holds files.new)) }
+    ensures others { KeepsOthers image.now (F.holds files.old) (F.holds files.new) }
     ensures failed { IfErr result (FailsBy (RefusesFiles (F.holds files.old) compilation.entry
         (AsksImage compilation.entry.is_strict)) NoOther) }
 {

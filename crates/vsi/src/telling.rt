@@ -1,6 +1,6 @@
 //! The note on standard error besides the text of a failure.
 
-ghost use Rattle.std.specs.Prelude.{◌≡◌, ◌≤◌, []};
+ghost use Rattle.std.specs.Prelude.{◌≡◌, ◌≤◌, ◌⊎◌, ◌++◌, [], IsOkAnd};
 ghost use Rattle.vsi.specs.Screen.{tamed as tamed_text};
 ghost use Rattle.vsi.specs.Failures.{Gets, text_of_failure};
 ghost use Rattle.vsi_devices.specs.Counted.{faults_of};
@@ -29,7 +29,10 @@ impl ErrorText {
     }
 
     /// Appends lines to the note.
-    pub(crate) fn put(&mut self, lines: Result<Vec<u8>, AllocError>) -> Result<(), AllocError> {
+    pub(crate) fn put(&mut self, lines: Result<Vec<u8>, AllocError>) -> Result<(), AllocError>
+        ensures put { (self.new.lines.items ≡ self.old.lines.items)
+            ⊎ IsOkAnd lines (λ more. self.new.lines.items ≡ self.old.lines.items ++ more.items) }
+    {
         self.lines.extend_from_slice(&lines?)
     }
 

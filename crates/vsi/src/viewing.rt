@@ -1,8 +1,10 @@
 //! A view of an image's run within a boundary.
 
-ghost use Rattle.std.specs.Prelude.{◌≡◌, ◌<◌, Some, None, length, IfOk, IfErr, OnOk};
+ghost use Rattle.std.specs.Prelude.{◌≡◌, ◌<◌, ◌⊎◌, [], Some, None, length, IfOk, IfErr, OnOk};
+ghost use Rattle.vsi.specs.Noted.{NotesView};
 ghost use Rattle.vsi.specs.Viewing.{AnswersViewWithin, PerformsViewWithin, ViewsWithin};
 ghost use Rattle.vsi.specs.Partly.{Leaves};
+ghost use Rattle.vsi.specs.State.{StaysBeside};
 ghost use Rattle.vsi.specs.Failures.{TellsFault, status_of};
 ghost use Rattle.vsi.specs.Refusals.{NoOther, FailsBy};
 ghost use Rattle.vsi.specs.Undriven.{LacksView};
@@ -12,12 +14,14 @@ ghost use Rattle.vsi_devices.specs.Counted.{device_of, faults_of};
 ghost use Rattle.vsi_drive.specs.Control.{control};
 ghost use Rattle.vsi_drive.specs.Views.{view_of};
 
+use crate::admitting::admit;
 use crate::boundaries::{controller_of, names_in};
 use crate::budgets::budget_of;
 use crate::cache::InputCache;
 use crate::failure::Failure;
 use crate::files::Files;
 use crate::filling::deliver;
+use crate::inputs::feed;
 use crate::reading::store_in;
 use crate::running::words_in;
 use crate::steering::viewed;
@@ -46,24 +50,48 @@ fn written_lines<'a>(
     }
 }
 
-/// The lines of the final store of a run of an image file that are written within its boundary.
+/// The lines of the final store of a run of an image file that are written within its boundary. The
+/// note gets a line if the budget isn't enough and is taken all the same.
 fn seen_within<'a, F: Files>(
     cache: &mut InputCache,
     asked: &Viewing<'a>,
     files: &mut F,
+    note: &mut Vec<u8>,
 ) -> Result<Vec<u8>, Failure<'a>>
     ensures kept { F.holds files.new ≡ F.holds files.old }
     ensures told { IfOk result (ViewsWithin (F.holds files.old) asked.now) }
+    ensures noted { note.old.items ≡ [] → OnOk result
+        (NotesView (F.holds files.old) asked.now note.new.items) }
+    ensures hushed { note.old.items ≡ [] → IfErr result (λ _.
+        (note.new.items ≡ []) ⊎ NotesView (F.holds files.old) asked.now note.new.items) }
     ensures failed { IfErr result (FailsBy (WhyViewWithin (F.holds files.old) asked.now)
         (LacksView (F.holds files.old) asked.now)) }
 {
+    let policy = asked.policy;
+    let class = asked.class;
     let image = asked.execution.image;
-    let steering = viewed(cache, asked.policy, asked.class, image, files)?;
+    let steering = viewed(cache, policy, class, image, asked.is_unbounded, files)?;
     let file = store_in(cache, asked.execution.store, files)?;
     let words = words_in(cache, &steering.verified, &file, &asked.initial_store)?;
     let budget = budget_of(cache.alloc, asked.execution.budget, &steering.verified)?;
     let names = names_in(cache.alloc, asked.policy, &steering.cycle)?;
     let controller = controller_of(cache, asked.policy, &names, &steering, budget)?;
+    feed(
+        cache.alloc,
+        asked.policy,
+        &steering,
+        &names,
+        &words,
+        asked.initial_store.settings.as_slice(),
+    )?;
+    admit(
+        cache.alloc,
+        asked.is_unbounded,
+        &steering.lattice,
+        &steering.verified,
+        budget,
+        note,
+    )?;
     let text = written_lines(cache.alloc, &controller, &words)?;
     Ok(text)
 }
@@ -74,6 +102,7 @@ pub(crate) fn view_within<'a, F: Files, W: Write>(
     asked: &Viewing<'a>,
     files: &mut F,
     output: &mut Counted<W>,
+    note: &mut Vec<u8>,
 ) -> Result<(), Failure<'a>>
     requires { faults_of output.old < u64.MAX }
     ensures unfilled { IfErr result (λ failure. status_of failure < 4
@@ -83,9 +112,15 @@ pub(crate) fn view_within<'a, F: Files, W: Write>(
         (W.contents (device_of output.old)) (W.contents (device_of output.new))) }
     ensures performed { OnOk result (PerformsViewWithin (F.holds files.old) asked.now
         (F.holds files.new) (W.contents (device_of output.old)) (W.contents (device_of output.new))) }
+    ensures noted { note.old.items ≡ [] → OnOk result
+        (NotesView (F.holds files.old) asked.now note.new.items) }
+    ensures hushed { note.old.items ≡ [] → IfErr result (λ _.
+        (note.new.items ≡ []) ⊎ NotesView (F.holds files.old) asked.now note.new.items) }
+    ensures state { IfErr result
+        (λ _. StaysBeside asked.now.initial_store.out (F.holds files.old) (F.holds files.new)) }
     ensures failed { IfErr result (FailsBy (WhyViewWithin (F.holds files.old) asked.now)
         (LacksView (F.holds files.old) asked.now)) }
 {
-    let text = seen_within(cache, asked, files)?;
+    let text = seen_within(cache, asked, files, note)?;
     deliver(cache.alloc, &text, asked.initial_store.out, files, output)
 }

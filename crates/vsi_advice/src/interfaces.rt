@@ -219,12 +219,13 @@ impl InterfaceAdvice<'_> {
         }
     }
 
-    /// Explains a value of `bounded` that is neither `true` nor `false`.
+    /// Explains a value of `bounded` that is neither `true` nor `false` nor a maximum.
     fn bounded(&mut self) -> Result<Option<Span>, AllocError> {
         self.put(
-            "The value of `bounded` must be `true` or `false`, without quotes. Hint: write \
-            `bounded = true` if `vsi bound` must find a number of instructions within which \
-            every run halts, or leave out the key.\n",
+            "The value of `bounded` must be `true`, `false` or a number of at least 1, without \
+            quotes. Hint: write `bounded = true` if `vsi bound` must find a number of \
+            instructions within which every run halts, `bounded = 200` if the number must be at \
+            most 200, or leave out the key.\n",
         )?;
         Ok(key_place(self.bytes, b"bounded"))
     }

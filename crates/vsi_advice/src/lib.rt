@@ -1,5 +1,5 @@
-//! The explanation that follows the refusal of an interface, of a setting or of a judged image:
-//! where it is wrong, what belongs there, and what to do.
+//! The explanation that follows the refusal of an interface, of a setting, of a judged image, or of a
+//! text whose image isn't steady: where it is wrong, what belongs there, and what to do.
 //!
 //! Its sentences are free text. `advice` passes them to `vsi_telling::shown`, whose clause says
 //! that no byte of a file controls a terminal.
@@ -16,10 +16,12 @@ mod interface_places;
 mod interface_runs;
 mod interfaces;
 mod settings;
+mod shared;
 
 use audits::{Judged, put_audit, put_steady};
 use interfaces::put_interface;
 use settings::put_start;
+use shared::put_shared;
 use std::alloc::{AllocError, Global};
 use vsi_audit::AuditError;
 use vsi_caret::ColourMode;
@@ -59,6 +61,12 @@ pub enum RefusedInput<'a> {
         image: &'a Image,
         error: &'a SteadyError,
     },
+    /// A source text whose flows are allowed, but whose image isn't steady.
+    Text {
+        lattice: &'a Lattice,
+        bytes: &'a [u8],
+        error: &'a SteadyError,
+    },
 }
 
 /// The explanation of a refusal: a part of the file, if one is known, and a text.
@@ -68,8 +76,8 @@ pub(crate) struct InputAdvice {
     pub(crate) words: Vec<u8>,
 }
 
-/// Adds the explanation of an interface or of a run that doesn't begin, and returns the position of
-/// the fault. Adds nothing for a judged image.
+/// Adds the explanation of an interface, of a run that doesn't begin or of a text, and returns the
+/// position of the fault. Adds nothing for a judged image.
 fn put_file(
     alloc: Global,
     words: &mut Vec<u8>,
@@ -86,6 +94,11 @@ fn put_file(
             image,
             fault,
         } => put_start(alloc, words, bytes, image, fault),
+        RefusedInput::Text {
+            lattice,
+            bytes,
+            error,
+        } => put_shared(alloc, words, lattice, bytes, error),
         RefusedInput::Audit { .. } | RefusedInput::Steady { .. } => Ok(None),
     }
 }
@@ -117,7 +130,9 @@ fn put_judged(alloc: Global, words: &mut Vec<u8>, refused: RefusedInput) -> Resu
             };
             put_steady(&judged, words, error)
         }
-        RefusedInput::Interface { .. } | RefusedInput::Start { .. } => Ok(()),
+        RefusedInput::Interface { .. } | RefusedInput::Start { .. } | RefusedInput::Text { .. } => {
+            Ok(())
+        }
     }
 }
 
@@ -132,7 +147,9 @@ fn advice_of(alloc: Global, refused: RefusedInput) -> Result<InputAdvice, AllocE
 /// The bytes to which the positions of a refusal refer; an image has none.
 fn bytes_of<'a>(refused: RefusedInput<'a>) -> &'a [u8] {
     match refused {
-        RefusedInput::Interface { bytes, .. } | RefusedInput::Start { bytes, .. } => bytes,
+        RefusedInput::Interface { bytes, .. }
+        | RefusedInput::Start { bytes, .. }
+        | RefusedInput::Text { bytes, .. } => bytes,
         RefusedInput::Audit { .. } | RefusedInput::Steady { .. } => b"",
     }
 }

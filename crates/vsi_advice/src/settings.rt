@@ -144,6 +144,17 @@ fn put_number(words: &mut Vec<u8>, setting: &[u8]) -> Result<Option<Span>, Alloc
     Ok(Some(place))
 }
 
+/// Adds the explanation of a setting of a global that isn't an input.
+fn put_no_input(words: &mut Vec<u8>, setting: &[u8]) -> Result<Option<Span>, AllocError> {
+    let (place, _value) = sides(setting);
+    put_quoted(words, part_of(setting, place))?;
+    words.extend_from_slice(
+        b" isn't an input. With --interface a setting sets only the inputs of the class.\nHint: leave \
+        the setting out, or give the number in the store file of --store.\n",
+    )?;
+    Ok(Some(place))
+}
+
 /// The name of the global with a number.
 fn global_name(image: &Image, number: usize) -> &[u8] {
     match image.globals.get(number) {
@@ -184,6 +195,9 @@ pub(crate) fn put_start(
         StartFault::Boundary(fault) => put_boundary(alloc, words, setting, image, fault),
         StartFault::Setting(LineFault::UnknownGlobal(_)) => put_name(alloc, words, setting, image),
         StartFault::Setting(LineFault::NotANumber(_)) => put_number(words, setting),
+        StartFault::Setting(LineFault::AboveClass(_) | LineFault::NotAnInput(_)) => {
+            put_no_input(words, setting)
+        }
         StartFault::Setting(_) => put_form(words, setting),
     }
 }

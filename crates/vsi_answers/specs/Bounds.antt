@@ -50,6 +50,10 @@ bound_line place (Endless test reason) = endless_line place test reason
 bound_line place (Unstructured at) = unstructured_line at
 bound_line place TooLarge = large_line
 
+-- The text is the line of an answer. The place of a loop in a source text may be any.
+abbrev pub IsBoundLine : Bound → List ℕ → Type 0
+IsBoundLine answer text = (place : Option Place) × (text ≡ bound_line place answer)
+
 -- The answer has a number of instructions.
 abbrev pub is_bounded : Bound → Bool
 is_bounded (Halts least most) = true

@@ -107,6 +107,18 @@ fn bound_line(alloc: Global, place: Option<Place>, found: Bound) -> Result<Vec<u
     }
 }
 
+/// The line of an answer about an image. A loop without a bound is named by the number of the
+/// instruction that tests its guard.
+///
+/// # Errors
+///
+/// There was no memory.
+pub fn bound_text(alloc: Global, found: Bound) -> Result<Vec<u8>, AllocError>
+    ensures text { IfOk result (λ text. text.items ≡ spec.bound_line None found) }
+{
+    bound_line(alloc, None, found)
+}
+
 /// Whether an answer has a number of instructions.
 fn is_bounded(found: Bound) -> bool
     ensures { result ≡ spec.is_bounded found }
@@ -129,7 +141,7 @@ pub fn bound(alloc: Global, verified: &Verified) -> Result<BoundAnswer, AllocErr
     ensures bound { IfOk result (spec.TellsBound verified.now) }
 {
     let found = bound_of(alloc, verified)?;
-    let text = bound_line(alloc, None, found)?;
+    let text = bound_text(alloc, found)?;
     Ok(BoundAnswer {
         text,
         is_bounded: is_bounded(found),
@@ -152,6 +164,25 @@ fn place_in(
     }
 }
 
+/// The line of an answer about the image of a source text. A loop without a bound is named by the
+/// line and the column of its `while`; no clause says that they are right.
+///
+/// # Errors
+///
+/// There was no memory.
+pub fn bound_text_in(
+    alloc: Global,
+    lattice: &Lattice,
+    source: &[u8],
+    verified: &Verified,
+    found: Bound,
+) -> Result<Vec<u8>, AllocError>
+    ensures text { IfOk result (λ text. spec.IsBoundLine found text.items) }
+{
+    let place = place_in(alloc, lattice, source, verified, found)?;
+    bound_line(alloc, place, found)
+}
+
 /// The answer about the bound of the image of a source text. A loop without a bound is named by the
 /// line and the column of its `while`; no clause says that they are right.
 ///
@@ -167,8 +198,7 @@ pub fn bound_in(
     ensures bound { IfOk result (spec.TellsBound verified.now) }
 {
     let found = bound_of(alloc, verified)?;
-    let place = place_in(alloc, lattice, source, verified, found)?;
-    let text = bound_line(alloc, place, found)?;
+    let text = bound_text_in(alloc, lattice, source, verified, found)?;
     Ok(BoundAnswer {
         text,
         is_bounded: is_bounded(found),
@@ -189,7 +219,7 @@ pub fn enough_budget(alloc: Global, verified: &Verified) -> Result<Result<u64, V
     match found {
         Bound::Halts { least: _, most } => Ok(Ok(most)),
         _ => {
-            let line = bound_line(alloc, None, found)?;
+            let line = bound_text(alloc, found)?;
             Ok(Err(line))
         }
     }

@@ -19,7 +19,7 @@ mod steady;
 mod texts;
 mod unanswered;
 
-pub use bounds::{BoundAnswer, bound, bound_in, enough_budget};
+pub use bounds::{BoundAnswer, bound, bound_in, bound_text, bound_text_in, enough_budget};
 pub use files::{declared_lattice, judged_image, list};
 pub use observer::{Observer, Unobserved};
 pub use places::Place;

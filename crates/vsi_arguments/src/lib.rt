@@ -1,31 +1,30 @@
-//! The arguments of a command line: `request_of` reads a request from them, or returns the help for
-//! them.
+//! The arguments of a command line: `manner_of` returns the help for them, or says what is wrong with
+//! them or how their request is carried out, which `vsi_asked` reads from them.
 #![tactic(auto)]
 
 mod argument;
-mod arguments;
-mod documents;
-mod drive_arguments;
-mod drives;
 mod error;
 mod escaped;
-mod help;
+mod flags;
+mod images;
+mod judging;
 mod mistake;
 mod numbers;
-mod policies;
-mod policy_arguments;
+mod operands;
+mod options;
+mod pages;
 mod reader;
 mod request;
-mod run_help;
+mod runs;
+mod texts;
 mod tips;
 mod usage;
-mod word_help;
 
 pub use error::ArgumentsError;
-pub use reader::request_of;
+pub use reader::manner_of;
 pub use request::{
-    AnswerForm, Asked, Attempt, Audit, Bounding, Budget, Colour, Comparison, Compilation,
-    Conformance, Document, Drawing, DrivePolicy, Driving, EVERY, Emission, Execution, InitialStore,
-    Judging, Layout, Looking, Mending, NameLists, RUNS_BUDGET, Reporting, Request, SEARCH, Search,
+    AnswerForm, Attempt, Audit, Bounding, Budget, Colour, Comparison, Compilation, Conformance,
+    Document, Drawing, DrivePolicy, Driving, EVERY, Emission, Execution, InitialStore, Judging,
+    Layout, Looking, Manner, Mending, NameLists, RUNS_BUDGET, Reporting, Request, SEARCH, Search,
     Serving, TRY_BUDGET, Viewing, Visibility,
 };

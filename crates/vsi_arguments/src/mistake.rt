@@ -1,13 +1,12 @@
 //! Mistakes in arguments that the command-line parser accepts.
 
-use crate::numbers::Limit;
 use clap::error::ErrorKind;
 
 /// A mistake in arguments that the command-line parser accepts.
 #[derive(Clone, Copy)]
 pub(crate) enum Mistake {
     /// The value of an option should be a number and isn't one.
-    NoNumber(Limit),
+    NoNumber(&'static str),
     NoTwoStores,
     NoRefusal,
     NoSubject,
@@ -41,6 +40,8 @@ pub(crate) enum Mistake {
     PolicyAndInterface,
     /// It is said how often the store is saved, but not where.
     EveryAlone,
+    /// A budget is insisted on that no view without a boundary refuses.
+    UnboundedAlone,
     NoSubcommand,
 }
 
@@ -52,27 +53,18 @@ impl Mistake {
             | Mistake::NoSubject
             | Mistake::ImageIsRead
             | Mistake::NoName => ErrorKind::ValueValidation,
-            Mistake::CheckAndWrite
-            | Mistake::ApplyAndJson
-            | Mistake::JsonAndSarif
-            | Mistake::WalksAndJson
-            | Mistake::EvidenceAndJson
-            | Mistake::EvidenceAndSarif
-            | Mistake::RunAndJson
-            | Mistake::LatticeAndInterface
-            | Mistake::ListsAndInterface
-            | Mistake::OutputsAndInterface
-            | Mistake::PolicyAndInterface => ErrorKind::ArgumentConflict,
-            Mistake::FlowsOfNothing => ErrorKind::MissingRequiredArgument,
+            Mistake::FlowsOfNothing | Mistake::EveryAlone | Mistake::UnboundedAlone => {
+                ErrorKind::MissingRequiredArgument
+            }
             Mistake::NoTwoStores => ErrorKind::WrongNumberOfValues,
-            Mistake::EveryAlone => ErrorKind::MissingRequiredArgument,
             Mistake::NoSubcommand => ErrorKind::MissingSubcommand,
+            _ => ErrorKind::ArgumentConflict,
         }
     }
 
     pub(crate) fn text(self) -> &'static str {
         match self {
-            Mistake::NoNumber(limit) => limit.text(),
+            Mistake::NoNumber(text) => text,
             Mistake::NoTwoStores => "`compare` needs two stores",
             Mistake::NoRefusal => "no refusal has this number",
             Mistake::NoSubject => {
@@ -106,6 +98,10 @@ impl Mistake {
                 interface"
             }
             Mistake::EveryAlone => "`--save-every` needs `--save`, which says where",
+            Mistake::UnboundedAlone => {
+                "`--unbounded` of `view` needs `--interface`, `--outputs` or `--release`; without \
+                them every budget is taken"
+            }
             Mistake::NoSubcommand => "a subcommand is needed",
         }
     }

@@ -2,7 +2,7 @@
 
 /// A compilation: the paths of a lattice file and of a source text, and whether the strict profile
 /// is used.
-#[derive(Clone, Copy)]
+#[derive(Clone, Copy, PartialEq, Eq)]
 pub struct Compilation<'a> {
     pub lattice: &'a str,
     pub source: &'a str,
@@ -19,7 +19,7 @@ pub enum Budget {
 
 /// A run: the path of an image, the budget of instructions, and the path of a store file. Without a
 /// store file the run begins with zeros.
-#[derive(Clone, Copy)]
+#[derive(Clone, Copy, PartialEq, Eq)]
 pub struct Execution<'a> {
     pub image: &'a str,
     pub budget: Budget,
@@ -29,7 +29,7 @@ pub struct Execution<'a> {
 /// The rest of a run's input and output: globals set after the store file is read, each as
 /// `NAME=NUMBER`; whether each global must be in the file or set; and the path of a file that
 /// receives the store's text in place of standard output.
-#[derive(Drop)]
+#[derive(Drop, PartialEq, Eq)]
 pub struct InitialStore<'a> {
     pub settings: Vec<&'a [u8]>,
     pub is_full: bool,
@@ -38,7 +38,7 @@ pub struct InitialStore<'a> {
 
 /// The lists of names that bound a controller: of its inputs, of its outputs, and of the outputs
 /// that are released. Each has commas between its names.
-#[derive(Clone, Copy)]
+#[derive(Clone, Copy, PartialEq, Eq)]
 pub struct NameLists<'a> {
     pub inputs: Option<&'a str>,
     pub outputs: Option<&'a str>,
@@ -46,7 +46,7 @@ pub struct NameLists<'a> {
 }
 
 /// The policy of a drive or of a view: who sees what, and what bounds the controller.
-#[derive(Clone, Copy)]
+#[derive(Clone, Copy, PartialEq, Eq)]
 pub enum DrivePolicy<'a> {
     /// The path of a lattice file, and lists of the command line.
     Lattice(&'a str, NameLists<'a>),
@@ -58,7 +58,7 @@ pub enum DrivePolicy<'a> {
 /// each cycle, the path of a file that receives the store, after how many lines it does, whether each
 /// global must be in the store file, and whether a budget is taken that runs may exceed for a reason
 /// that the class doesn't see.
-#[derive(Clone, Copy)]
+#[derive(Clone, Copy, PartialEq, Eq)]
 pub struct Driving<'a> {
     pub policy: DrivePolicy<'a>,
     pub class: &'a str,
@@ -69,32 +69,36 @@ pub struct Driving<'a> {
     pub is_unbounded: bool,
 }
 
-/// A view within a boundary: its policy, the class that sees the outputs, the run, and the rest of its
-/// input and output. With a lattice file, the list of outputs or that of released outputs is given,
-/// and that of inputs isn't.
-#[derive(Drop)]
+/// A view within a boundary: its policy, the class that sees the outputs, the run, the rest of its
+/// input and output, and whether a budget is taken that the run may exceed for a reason that the class
+/// doesn't see. With a lattice file, the list of outputs or that of released outputs is given, and that
+/// of inputs isn't.
+#[derive(Drop, PartialEq, Eq)]
 pub struct Viewing<'a> {
     pub policy: DrivePolicy<'a>,
     pub class: &'a str,
     pub execution: Execution<'a>,
     pub initial_store: InitialStore<'a>,
+    pub is_unbounded: bool,
 }
 
 /// A comparison: the paths of a lattice file, of an image and of two store files, the class of the
-/// observer, and the budget of each run.
-#[derive(Clone, Copy)]
+/// observer, the budget of each run, and whether a budget is taken that the runs may exceed for a
+/// reason that the class doesn't see.
+#[derive(Clone, Copy, PartialEq, Eq)]
 pub struct Comparison<'a> {
     pub lattice: &'a str,
     pub image: &'a str,
     pub class: &'a str,
     pub budget: Budget,
     pub stores: (&'a str, &'a str),
+    pub is_unbounded: bool,
 }
 
 /// A search for a leak: the paths of a lattice file and of a source text; the class of the
 /// observer, or every class; the budget of a run, the largest number of pairs of runs, and the
 /// seed; and whether endings and steps are observed.
-#[derive(Clone, Copy)]
+#[derive(Clone, Copy, PartialEq, Eq)]
 pub struct Search<'a> {
     pub lattice: &'a str,
     pub source: &'a str,
@@ -108,7 +112,7 @@ pub struct Search<'a> {
 
 /// An audit: the paths of a lattice file and of an image, whether the strict profile is used, whether
 /// the image's jumps are judged instead, and whether evidence is written.
-#[derive(Clone, Copy)]
+#[derive(Clone, Copy, PartialEq, Eq)]
 pub struct Audit<'a> {
     pub lattice: &'a str,
     pub image: &'a str,
@@ -129,18 +133,19 @@ pub enum AnswerForm {
 }
 
 /// A judgement by an interface: the paths of the interface file and of a source text or an image,
-/// the budget of all its runs together, and how the answer is written.
-#[derive(Clone, Copy)]
+/// the budget of all its runs together, how the answer is written, and whether evidence follows it.
+#[derive(Clone, Copy, PartialEq, Eq)]
 pub struct Conformance<'a> {
     pub interface: &'a str,
     pub source: &'a str,
     pub budget: u64,
     pub form: AnswerForm,
+    pub has_evidence: bool,
 }
 
 /// A drawing: the paths of a lattice file and, if flows are drawn too, of a source text; whether
 /// the flows are those of the strict profile; and whether they are drawn without the lattice.
-#[derive(Clone, Copy)]
+#[derive(Clone, Copy, PartialEq, Eq)]
 pub struct Drawing<'a> {
     pub lattice: &'a str,
     pub source: Option<&'a str>,
@@ -149,7 +154,7 @@ pub struct Drawing<'a> {
 }
 
 /// A look at a policy: the paths of a lattice file and, if it is compared with an older one, of that.
-#[derive(Clone, Copy)]
+#[derive(Clone, Copy, PartialEq, Eq)]
 pub struct Looking<'a> {
     pub lattice: &'a str,
     pub old: Option<&'a str>,
@@ -157,7 +162,7 @@ pub struct Looking<'a> {
 
 /// A look at who sees which globals: the paths of an interface file and, if it is compared with an
 /// older one, of that.
-#[derive(Clone, Copy)]
+#[derive(Clone, Copy, PartialEq, Eq)]
 pub struct Visibility<'a> {
     pub interface: &'a str,
     pub old: Option<&'a str>,
@@ -166,7 +171,7 @@ pub struct Visibility<'a> {
 /// An emission of C: the path of an image, or of a source text together with the path of a lattice
 /// file; the prefix of the function's name, if one is given; whether the header is written; and
 /// whether the function takes no budget.
-#[derive(Clone, Copy)]
+#[derive(Clone, Copy, PartialEq, Eq)]
 pub struct Emission<'a> {
     pub lattice: Option<&'a str>,
     pub file: &'a str,
@@ -177,7 +182,7 @@ pub struct Emission<'a> {
 
 /// A search for a bound: the path of an image or, with the path of a lattice file, of a source
 /// text.
-#[derive(Clone, Copy)]
+#[derive(Clone, Copy, PartialEq, Eq)]
 pub struct Bounding<'a> {
     pub lattice: Option<&'a str>,
     pub file: &'a str,
@@ -185,7 +190,7 @@ pub struct Bounding<'a> {
 
 /// A judgement of a source text: its compilation, whether its image must also be steady, whether
 /// the answer is written as JSON, and whether warnings follow it.
-#[derive(Clone, Copy)]
+#[derive(Clone, Copy, PartialEq, Eq)]
 pub struct Judging<'a> {
     pub compilation: Compilation<'a>,
     pub is_steady: bool,
@@ -195,7 +200,7 @@ pub struct Judging<'a> {
 
 /// An attempt: the path of a source text; the path of a lattice file and the class of the observer,
 /// if they are given; the budget; and globals to set, each as `NAME=NUMBER`.
-#[derive(Drop)]
+#[derive(Drop, PartialEq, Eq)]
 pub struct Attempt<'a> {
     pub source: &'a str,
     pub lattice: Option<&'a str>,
@@ -206,7 +211,7 @@ pub struct Attempt<'a> {
 
 /// A request for raises: the files of a compilation, and whether the text with the raised classes,
 /// or a line of JSON, is printed instead of a line for each raise.
-#[derive(Clone, Copy)]
+#[derive(Clone, Copy, PartialEq, Eq)]
 pub struct Mending<'a> {
     pub compilation: Compilation<'a>,
     pub is_applied: bool,
@@ -215,7 +220,7 @@ pub struct Mending<'a> {
 
 /// A language server: the path of the lattice file of texts that name none, and whether the strict
 /// profile is used.
-#[derive(Clone, Copy)]
+#[derive(Clone, Copy, PartialEq, Eq)]
 pub struct Serving<'a> {
     pub lattice: Option<&'a str>,
     pub is_strict: bool,
@@ -223,7 +228,7 @@ pub struct Serving<'a> {
 
 /// A layout that keeps comments: the path of a source text, whether `--keep-comments` was given, and
 /// whether the text is only compared with its layout or replaced by it.
-#[derive(Clone, Copy)]
+#[derive(Clone, Copy, PartialEq, Eq)]
 pub struct Layout<'a> {
     pub source: &'a str,
     pub is_kept: bool,
@@ -232,7 +237,7 @@ pub struct Layout<'a> {
 }
 
 /// A request whose answer is one document, which a program reads.
-#[derive(Drop)]
+#[derive(Drop, PartialEq, Eq)]
 pub enum Document<'a> {
     /// The answer of `check` as SARIF.
     Sarif(Judging<'a>),
@@ -275,17 +280,16 @@ pub enum Reporting {
     Explained(Colour),
 }
 
-/// The request of a command line, how its refusal is reported, and whether its file replaces one of
+/// How a request is carried out: how its refusal is reported, and whether its file replaces one of
 /// another kind.
-#[derive(Drop)]
-pub struct Asked<'a> {
-    pub request: Request<'a>,
+#[derive(Clone, Copy, PartialEq, Eq)]
+pub struct Manner {
     pub reporting: Reporting,
     pub is_forced: bool,
 }
 
 /// A subcommand with its arguments.
-#[derive(Drop)]
+#[derive(Drop, PartialEq, Eq)]
 pub enum Request<'a> {
     Try(Attempt<'a>),
     Check(Judging<'a>),

@@ -19,7 +19,7 @@ const OWNERS: [(&str, &str); 38] = [
     ),
     ("'--count'", "run"),
     ("'--endings'", "leak"),
-    ("'--evidence'", "audit"),
+    ("'--evidence'", "conform and audit"),
     (
         "'--explain'",
         "every subcommand except lattice, lsp and explain, and comes after the subcommand, as in \
@@ -55,7 +55,7 @@ const OWNERS: [(&str, &str); 38] = [
     ),
     ("'--trace'", "run"),
     ("'--tries'", "leak"),
-    ("'--unbounded'", "drive"),
+    ("'--unbounded'", "view, drive and compare"),
     ("'--walks'", "flows"),
     ("'--warnings'", "check"),
     ("'--write'", "fmt"),

@@ -1,248 +1,57 @@
 //! The subcommands of the program, each with its arguments and its help.
 
 use crate::argument::Argument;
-use crate::arguments::*;
-use crate::drive_arguments::*;
-use crate::policy_arguments::*;
-use crate::{help, run_help};
+use crate::flags::EXPLAIN;
+use crate::images::IMAGES;
+use crate::options::COLOR;
+use crate::pages::{PAGES, UNREFUSED};
+use crate::runs::RUNS;
+use crate::texts::TEXTS;
 use clap::{Arg, Command};
 use std::alloc::{AllocError, Global};
+
+/// What `vsi --help` prints.
+const PROGRAM: &str = "\
+Compiles programs whose information flows are typed, and runs them.
+
+A source text declares the security class of each global variable. The text is
+accepted only if nothing can flow from a variable to one whose class isn't at or
+above its own. An accepted text is compiled to an image, which a stack machine
+runs.
+
+Without arguments the program reads a source text from standard input, judges it
+under the classes L and H, L below H, runs it from a store of zeros for at most
+1000000 instructions, and prints each global.";
+
+/// An example of the program.
+const PROGRAM_EXAMPLE: &str = "\
+`vsi explain language` shows the language in one program; `vsi explain` also has
+`lattice`, `store`, `interface`, `classes` and `profiles`.
+
+Statuses, each but 0 with its cause on standard error or standard output:
+  0  done
+  1  refused: the lattice, the source text, the image or the store has a fault;
+     or a difference or a leak was found, or no bound
+  2  usage: the arguments are wrong, or the lattice lacks the observer's class
+  3  out of budget: the run didn't halt within its budget
+  4  file fault: a file or a standard stream can't be opened, read or written
+  5  out of memory
+
+Example:
+  $ printf 'var x : L; x := 1 + 2' | vsi
+  x = 3";
 
 /// The version that `--version` prints after the program's name.
 const VERSION: &str = "0.1.0";
 
 /// A subcommand: its name, its short and long help, an example, and its arguments.
-struct Subcommand {
-    name: &'static str,
-    line: &'static str,
-    whole: &'static str,
-    example: &'static str,
-    arguments: &'static [Argument],
+pub(crate) struct Subcommand {
+    pub(crate) name: &'static str,
+    pub(crate) line: &'static str,
+    pub(crate) whole: &'static str,
+    pub(crate) example: &'static str,
+    pub(crate) arguments: &'static [Argument],
 }
-
-/// The subcommands whose refusals can be explained, in the order of the help.
-const SUBCOMMANDS: [Subcommand; 21] = [
-    Subcommand {
-        name: "try",
-        line: "Judges a source text and runs it",
-        whole: run_help::TRY,
-        example: run_help::TRY_EXAMPLE,
-        arguments: &[TRIED, TRIED_LATTICE, TRIED_CLASS, TRIED_BUDGET, TRIED_SET],
-    },
-    Subcommand {
-        name: "check",
-        line: "Says whether a source text is accepted",
-        whole: help::CHECK,
-        example: help::CHECK_EXAMPLE,
-        arguments: &[
-            LATTICE,
-            SOURCE,
-            STRICT,
-            STEADY_SOURCE,
-            CHECK_JSON,
-            SARIF,
-            WARNINGS,
-        ],
-    },
-    Subcommand {
-        name: "conform",
-        line: "Says whether a text or an image conforms to an interface",
-        whole: help::CONFORM,
-        example: help::CONFORM_EXAMPLE,
-        arguments: &[INTERFACE, JUDGED, RUNS_BUDGET, JSON, CONFORM_SARIF],
-    },
-    Subcommand {
-        name: "classes",
-        line: "Prints the class of each declaration, declared or inferred",
-        whole: help::CLASSES,
-        example: help::CLASSES_EXAMPLE,
-        arguments: &[LATTICE, SOURCE, STRICT, CLASSES_JSON],
-    },
-    Subcommand {
-        name: "flows",
-        line: "Lists every pair of declared variables joined by a chain of flows",
-        whole: help::FLOWS,
-        example: help::FLOWS_EXAMPLE,
-        arguments: &[LATTICE, SOURCE, STRICT, WALKS, FLOWS_JSON],
-    },
-    Subcommand {
-        name: "mend",
-        line: "Prints which classes have to rise for the text to be accepted",
-        whole: help::MEND,
-        example: help::MEND_EXAMPLE,
-        arguments: &[LATTICE, SOURCE, STRICT, APPLY, MEND_JSON],
-    },
-    Subcommand {
-        name: "build",
-        line: "Compiles a source text to an image",
-        whole: help::BUILD,
-        example: help::BUILD_EXAMPLE,
-        arguments: &[LATTICE, SOURCE, STRICT, NEW_IMAGE, FORCE],
-    },
-    Subcommand {
-        name: "list",
-        line: "Prints the instructions of an image",
-        whole: help::LIST,
-        example: help::LIST_EXAMPLE,
-        arguments: &[IMAGE],
-    },
-    Subcommand {
-        name: "audit",
-        line: "Says whether an image is accepted, whoever made it",
-        whole: help::AUDIT,
-        example: help::AUDIT_EXAMPLE,
-        arguments: &[
-            LATTICE,
-            IMAGE,
-            STRICT,
-            STEADY,
-            AUDIT_JSON,
-            AUDIT_SARIF,
-            EVIDENCE,
-        ],
-    },
-    Subcommand {
-        name: "source",
-        line: "Prints an image as a source text",
-        whole: help::IMAGE_SOURCE,
-        example: help::IMAGE_SOURCE_EXAMPLE,
-        arguments: &[IMAGE],
-    },
-    Subcommand {
-        name: "emit-c",
-        line: "Prints an image as a function in C",
-        whole: help::EMIT_C,
-        example: help::EMIT_C_EXAMPLE,
-        arguments: &[EMITTED, NAME, HEADER, BOUNDED, LATTICE_OPTION],
-    },
-    Subcommand {
-        name: "bound",
-        line: "Prints a number of instructions within which every run halts",
-        whole: help::BOUND,
-        example: help::BOUND_EXAMPLE,
-        arguments: &[BOUNDED_FILE, BOUNDED_SOURCE, BOUND_JSON],
-    },
-    Subcommand {
-        name: "run",
-        line: "Runs an image and prints its final store",
-        whole: run_help::RUN,
-        example: run_help::RUN_EXAMPLE,
-        arguments: &[
-            IMAGE, BUDGET, STORE, SET, FULL_STORE, OUT, FORCE, TRACE, COUNT, RUN_JSON,
-        ],
-    },
-    Subcommand {
-        name: "view",
-        line: "Runs an image and prints what a class may see",
-        whole: run_help::VIEW,
-        example: run_help::VIEW_EXAMPLE,
-        arguments: &[
-            DRIVE_LATTICE,
-            CLASS,
-            DRIVEN_IMAGE,
-            VIEW_INTERFACE,
-            BUDGET,
-            STORE,
-            SET,
-            FULL_STORE,
-            OUT,
-            FORCE,
-            OUTPUTS,
-            RELEASE,
-        ],
-    },
-    Subcommand {
-        name: "drive",
-        line: "Runs an image once for each line of standard input",
-        whole: run_help::DRIVE,
-        example: run_help::DRIVE_EXAMPLE,
-        arguments: &[
-            DRIVE_LATTICE,
-            CLASS,
-            DRIVEN_IMAGE,
-            DRIVE_INTERFACE,
-            DRIVE_BUDGET,
-            UNBOUNDED,
-            STORE,
-            DRIVE_FULL_STORE,
-            SAVE,
-            SAVE_EVERY,
-            FORCE,
-            INPUTS,
-            OUTPUTS,
-            RELEASE,
-        ],
-    },
-    Subcommand {
-        name: "compare",
-        line: "Runs an image from two stores and prints what a class sees of both",
-        whole: run_help::COMPARE,
-        example: run_help::COMPARE_EXAMPLE,
-        arguments: &[LATTICE, IMAGE, CLASS, BUDGET, STORES, COMPARE_JSON],
-    },
-    Subcommand {
-        name: "leak",
-        line: "Searches a source text for a leak, and shows it",
-        whole: run_help::LEAK,
-        example: run_help::LEAK_EXAMPLE,
-        arguments: &[
-            LATTICE, SOURCE, LOOKING, RUN_BUDGET, TRIES, SEED, ENDINGS, STEPS, LEAK_JSON,
-        ],
-    },
-    Subcommand {
-        name: "report",
-        line: "Prints a page on a source text, its lattice and its flows",
-        whole: help::REPORT,
-        example: help::REPORT_EXAMPLE,
-        arguments: &[LATTICE, SOURCE, STRICT],
-    },
-    Subcommand {
-        name: "draw",
-        line: "Prints a lattice, and the flows of a source text, as a graph",
-        whole: help::DRAW,
-        example: help::DRAW_EXAMPLE,
-        arguments: &[LATTICE, DRAWN_SOURCE, STRICT, FLOWS_ALONE],
-    },
-    Subcommand {
-        name: "policy",
-        line: "Prints who sees what under a lattice, or what changed",
-        whole: help::POLICY,
-        example: help::POLICY_EXAMPLE,
-        arguments: &[POLICY_LATTICE, OLD_POLICY, POLICY_INTERFACE],
-    },
-    Subcommand {
-        name: "fmt",
-        line: "Prints a source text in its canonical form",
-        whole: help::FORMAT,
-        example: help::FORMAT_EXAMPLE,
-        arguments: &[SOURCE, KEEP_COMMENTS, CHECK, WRITE],
-    },
-];
-
-/// The subcommands that no refusal ends, so that there is none to explain.
-const UNREFUSED: [Subcommand; 3] = [
-    Subcommand {
-        name: "lattice",
-        line: "Prints a lattice file: two classes, levels, a diamond or a power set",
-        whole: help::LATTICE,
-        example: help::LATTICE_EXAMPLE,
-        arguments: &[SHAPE],
-    },
-    Subcommand {
-        name: "lsp",
-        line: "Serves an editor: shows errors while a source text is typed",
-        whole: run_help::LSP,
-        example: run_help::LSP_EXAMPLE,
-        arguments: &[SERVED_LATTICE, STRICT],
-    },
-    Subcommand {
-        name: "explain",
-        line: "Explains a refusal by its number, or the language and its files",
-        whole: help::EXPLAIN,
-        example: help::EXPLAIN_EXAMPLE,
-        arguments: &[EXPLAINED],
-    },
-];
 
 /// The arguments that say how a refusal is reported.
 const MANNER: [Argument; 2] = [EXPLAIN, COLOR];
@@ -328,19 +137,32 @@ fn explained<'a>(alloc: Global, subcommand: &Subcommand) -> Result<Command<'a>, 
 fn bare<'a>(alloc: Global) -> Result<Command<'a>, AllocError> {
     Command::new(alloc, "vsi")
         .about("Compiles programs whose information flows are typed, and runs them")
-        .long_about(help::PROGRAM)
-        .after_help(help::PROGRAM_EXAMPLE)
+        .long_about(PROGRAM)
+        .after_help(PROGRAM_EXAMPLE)
         .no_binary_name(true)
         .version(VERSION)
         .bin_name("vsi")
 }
 
-/// The program with all its subcommands.
-fn whole<'a>(alloc: Global) -> Result<Command<'a>, AllocError> {
-    let mut program = bare(alloc)?;
-    for subcommand in &SUBCOMMANDS {
+/// Adds subcommands whose refusals can be explained to the program.
+fn having<'a>(
+    alloc: Global,
+    program: Command<'a>,
+    subcommands: &[Subcommand],
+) -> Result<Command<'a>, AllocError> {
+    let mut program = program;
+    for subcommand in subcommands {
         program = program.subcommand(explained(alloc, subcommand)?)?;
     }
+    Ok(program)
+}
+
+/// The program with all its subcommands.
+fn whole<'a>(alloc: Global) -> Result<Command<'a>, AllocError> {
+    let program = having(alloc, bare(alloc)?, &TEXTS)?;
+    let program = having(alloc, program, &IMAGES)?;
+    let program = having(alloc, program, &RUNS)?;
+    let mut program = having(alloc, program, &PAGES)?;
     for subcommand in &UNREFUSED {
         program = program.subcommand(subcommand.made(alloc)?)?;
     }
@@ -351,7 +173,11 @@ fn whole<'a>(alloc: Global) -> Result<Command<'a>, AllocError> {
 /// If it names a subcommand, this one reads all the others, and no message is about another one.
 /// Building all subcommands would take most of the time of a short run.
 pub(crate) fn program<'a>(alloc: Global, first: &str) -> Result<Command<'a>, AllocError> {
-    if let Some(subcommand) = subcommand_of(&SUBCOMMANDS, first) {
+    if let Some(subcommand) = subcommand_of(&TEXTS, first)
+        .or(subcommand_of(&IMAGES, first))
+        .or(subcommand_of(&RUNS, first))
+        .or(subcommand_of(&PAGES, first))
+    {
         let command = explained(alloc, subcommand)?;
         return bare(alloc)?.subcommand(command);
     }

@@ -203,9 +203,9 @@ run_flags initial_store has_trace has_count is_json =
     (codes "--full-store", initial_store.is_full) ∷ (codes "--trace", has_trace) ∷ (codes "--count", has_count)
     ∷ (codes "--json", is_json) ∷ []
 
--- The flag of `compare`, with whether it is set.
-abbrev pub compare_flags : Bool → List (List ℕ × Bool)
-compare_flags is_json = (codes "--json", is_json) ∷ []
+-- The flags of `compare`, each with whether it is set.
+abbrev pub compare_flags : Comparison → Bool → List (List ℕ × Bool)
+compare_flags comparison is_json = (codes "--unbounded", comparison.is_unbounded) ∷ (codes "--json", is_json) ∷ []
 
 -- The flags of `leak`, each with whether it is set.
 abbrev pub leak_flags : Search → Bool → List (List ℕ × Bool)
@@ -221,7 +221,7 @@ document_flags (document.Audit audit) = audit_flags audit true false
 document_flags (document.AuditSarif audit) = audit_flags audit false true
 document_flags (document.Bound bounding) = bound_flags true
 document_flags (document.Run execution initial_store) = run_flags initial_store false false true
-document_flags (document.Compare comparison) = compare_flags true
+document_flags (document.Compare comparison) = compare_flags comparison true
 document_flags (document.Leak search) = leak_flags search true
 
 -- The flags of a request, each with whether it is set.
@@ -230,7 +230,8 @@ flags_of (Try attempt) = []
 flags_of (Check judging) = check_flags judging false
 flags_of (Documented asked) = document_flags asked
 flags_of (Conform conformance) =
-    (codes "--json", is_json conformance.form) ∷ (codes "--sarif", is_sarif conformance.form) ∷ []
+    (codes "--json", is_json conformance.form) ∷ (codes "--sarif", is_sarif conformance.form)
+    ∷ (codes "--evidence", conformance.has_evidence) ∷ []
 flags_of (Classes compilation) = classes_flags compilation false
 flags_of (Flows compilation has_walks) = flows_flags compilation has_walks false
 flags_of (Mend mending) =
@@ -245,10 +246,11 @@ flags_of (EmitC emission) =
 flags_of (Bound bounding) = bound_flags false
 flags_of (Run execution initial_store has_trace has_count) = run_flags initial_store has_trace has_count false
 flags_of (View lattice class execution initial_store) = (codes "--full-store", initial_store.is_full) ∷ []
-flags_of (ViewWithin viewing) = (codes "--full-store", viewing.initial_store.is_full) ∷ []
+flags_of (ViewWithin viewing) =
+    (codes "--full-store", viewing.initial_store.is_full) ∷ (codes "--unbounded", viewing.is_unbounded) ∷ []
 flags_of (Drive driving) =
     (codes "--full-store", driving.is_full) ∷ (codes "--unbounded", driving.is_unbounded) ∷ []
-flags_of (Compare comparison) = compare_flags false
+flags_of (Compare comparison) = compare_flags comparison false
 flags_of (Leak search) = leak_flags search false
 flags_of (Report compilation) = (codes "--strict", compilation.is_strict) ∷ []
 flags_of (Draw drawing) = (codes "--strict", drawing.is_strict) ∷ (codes "--flows", drawing.is_alone) ∷ []

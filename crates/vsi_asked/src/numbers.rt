@@ -1,12 +1,12 @@
 //! Reads the numbers among the arguments after a subcommand.
 
-ghost use Rattle.std.specs.Prelude.{◌≡◌, [], ◌∷◌, ◌+◌, ◌*◌, ◌-◌, IfSome, None, Some, codes, false, true};
+ghost use Rattle.std.specs.Prelude.{◌≡◌, ◌+◌, ◌*◌, ◌-◌, IfSome, None, Some, codes, false, true};
 ghost use Rattle.std.specs.Char.{is_ascii_digit};
 ghost use Rattle.vsi_arguments.specs.declared.request.Budget.TheVariants.{Auto};
 ghost use Rattle.vsi_asked.specs.Numbers as spec;
-ghost use Rattle.vsi_asked.specs.Words.{operands_in, texts, values_in};
+ghost use Rattle.vsi_asked.specs.Words.{texts, values_in};
 
-use crate::reading::{first_value, has_operands, has_values};
+use crate::reading::{has_values, value};
 use vsi_arguments::Budget;
 
 /// A number with one more digit, if the byte is a digit and the result fits in 64 bits.
@@ -36,61 +36,38 @@ pub(crate) fn number_in(word: &[u8]) -> Option<u64>
     Some(number)
 }
 
-/// Whether the arguments give an option this number: by its only value, or by none if the number is
-/// the default.
-pub(crate) fn has_number(
-    words: &[String],
-    option: &str,
-    otherwise: Option<u64>,
-    number: u64,
-) -> bool
-    ensures { result ≡ true
-        → spec.Gives (values_in option.now false (texts words.now)) otherwise number }
+/// The number that the arguments give an option: by its only value or, without one, the default.
+pub(crate) fn number(words: &[String], option: &str, otherwise: Option<u64>) -> Option<u64>
+    ensures { IfSome result (λ number.
+        spec.Gives (values_in option.now false (texts words.now)) otherwise number) }
 {
-    match first_value(words, option.as_bytes()) {
-        Some(value) => {
-            number_in(value) == Some(number)
-                && has_values(words, option.as_bytes(), [value].as_slice())
-        }
-        None => otherwise == Some(number) && has_values(words, option.as_bytes(), &[]),
+    match value(words, option)? {
+        Some(value) => number_in(value.as_bytes()),
+        None => otherwise,
     }
 }
 
-/// Whether the arguments give the option `--budget`, which is required, this value.
-pub(crate) fn has_budget(words: &[String], budget: Budget) -> bool
-    ensures { result ≡ true
-        → spec.GivesBudget (values_in (codes "--budget") false (texts words.now)) None budget }
+/// The budget of a run, `auto` or a number, which is required.
+pub(crate) fn budget(words: &[String]) -> Option<Budget>
+    ensures { IfSome result (λ budget.
+        spec.GivesBudget (values_in (codes "--budget") false (texts words.now)) None budget) }
 {
-    match budget {
-        Budget::Number(number) => has_number(words, "--budget", None, number),
-        Budget::Auto => has_values(words, b"--budget", [b"auto".as_slice()].as_slice()),
+    if has_values(words, "--budget", [b"auto".as_slice()].as_slice()) {
+        return Some(Budget::Auto);
     }
+    Some(Budget::Number(number(words, "--budget", None)?))
 }
 
-/// Whether the arguments give the option `--budget` this value, or none if it is `auto`.
-pub(crate) fn has_budget_or_auto(words: &[String], budget: Budget) -> bool
-    ensures { result ≡ true → spec.GivesBudget
-        (values_in (codes "--budget") false (texts words.now)) (Some Auto) budget }
+/// The budget of a run, which is `auto` where none is given.
+pub(crate) fn budget_or_auto(words: &[String]) -> Option<Budget>
+    ensures { IfSome result (λ budget. spec.GivesBudget
+        (values_in (codes "--budget") false (texts words.now)) (Some Auto) budget) }
 {
-    match budget {
-        Budget::Number(number) => has_number(words, "--budget", None, number),
-        Budget::Auto => {
-            has_values(words, b"--budget", [b"auto".as_slice()].as_slice())
-                || has_values(words, b"--budget", &[])
-        }
+    if has_values(words, "--budget", &[]) {
+        return Some(Budget::Auto);
     }
-}
-
-/// The operand among arguments, if there is exactly one.
-pub(crate) fn only_operand(words: &[String]) -> Option<&[u8]>
-    ensures { IfSome result (λ word. operands_in false (texts words.now) ≡ word.now ∷ []) }
-{
-    let mut rest = words;
-    while let [word, behind @ ..] = rest {
-        if has_operands(words, [word.as_bytes()].as_slice()) {
-            return Some(word.as_bytes());
-        }
-        rest = behind;
+    match budget(words)? {
+        Budget::Auto => Some(Budget::Auto),
+        Budget::Number(number) => Some(Budget::Number(number)),
     }
-    None
 }

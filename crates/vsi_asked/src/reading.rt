@@ -1,27 +1,30 @@
 //! Reads the arguments after a subcommand.
 
-ghost use Rattle.std.specs.Prelude.{◌≡◌, ◌∷◌, ◌+◌, ◌<◌, ◌≤◌, drop, length, true, false};
-ghost use Rattle.std.specs.Prelude.{option_map};
+ghost use Rattle.std.specs.Prelude.{◌≡◌, [], ◌∷◌, ◌+◌, ◌<◌, ◌≤◌, drop, length, true, false};
+ghost use Rattle.std.specs.Prelude.{IfSome, option_map};
+ghost use Rattle.vsi_asked.specs.Asked.{given};
 ghost use Rattle.vsi_asked.specs.Words as spec;
 
+use std::alloc::{AllocError, Global};
+
 /// The options that take a value.
-const VALUED: [&[u8]; 16] = [
-    b"--budget",
-    b"--class",
-    b"--color",
-    b"--inputs",
-    b"--interface",
-    b"--lattice",
-    b"--name",
-    b"--out",
-    b"--outputs",
-    b"--release",
-    b"--save",
-    b"--save-every",
-    b"--seed",
-    b"--set",
-    b"--store",
-    b"--tries",
+const VALUED: [&str; 16] = [
+    "--budget",
+    "--class",
+    "--color",
+    "--inputs",
+    "--interface",
+    "--lattice",
+    "--name",
+    "--out",
+    "--outputs",
+    "--release",
+    "--save",
+    "--save-every",
+    "--seed",
+    "--set",
+    "--store",
+    "--tries",
 ];
 
 /// Whether an argument is `--`, after which every argument is an operand.
@@ -31,18 +34,25 @@ pub(crate) fn is_end(word: &[u8]) -> bool
     word == b"--".as_slice()
 }
 
-/// Whether an argument is an option that takes the next one as its value.
-pub(crate) fn is_valued(word: &[u8]) -> bool
-    ensures { result ≡ spec.is_among spec.VALUED word.now }
+/// Whether an argument is one of these names.
+pub(crate) fn is_among(names: &[&str], word: &[u8]) -> bool
+    ensures { result ≡ spec.is_among (spec.shown names.now) word.now }
 {
-    let mut rest = VALUED.as_slice();
+    let mut rest = names;
     while let [name, behind @ ..] = rest {
-        if word == *name {
+        if word == name.as_bytes() {
             return true;
         }
         rest = behind;
     }
     false
+}
+
+/// Whether an argument is an option that takes the next one as its value.
+pub(crate) fn is_valued(word: &[u8]) -> bool
+    ensures { result ≡ spec.is_among spec.VALUED word.now }
+{
+    is_among(VALUED.as_slice(), word)
 }
 
 /// Whether an argument begins with a hyphen and is longer than that.
@@ -56,7 +66,7 @@ pub(crate) fn is_dashed(word: &[u8]) -> bool
 }
 
 /// Whether a flag is one of the arguments before the first `--`.
-pub(crate) fn has_flag(words: &[String], flag: &[u8]) -> bool
+pub(crate) fn has_flag(words: &[String], flag: &str) -> bool
     ensures { result ≡ spec.has_flag flag.now (spec.texts words.now) }
 {
     let mut rest = words;
@@ -64,7 +74,7 @@ pub(crate) fn has_flag(words: &[String], flag: &[u8]) -> bool
         if is_end(word.as_bytes()) {
             return false;
         }
-        if word.as_bytes() == flag {
+        if word.as_bytes() == flag.as_bytes() {
             return true;
         }
         rest = behind;
@@ -149,30 +159,8 @@ pub(crate) fn joined<'a>(option: &[u8], word: &'a [u8]) -> Option<&'a [u8]>
     }
 }
 
-/// The first value that the arguments give for an option. It is a proposal: `has_values` decides
-/// whether it is the only value.
-pub(crate) fn first_value<'a>(words: &'a [String], option: &[u8]) -> Option<&'a [u8]> {
-    let mut rest = words;
-    while let [word, behind @ ..] = rest {
-        if is_end(word.as_bytes()) {
-            return None;
-        }
-        if word.as_bytes() == option {
-            return match behind {
-                [value, ..] => Some(value.as_bytes()),
-                [] => None,
-            };
-        }
-        if let Some(value) = joined(option, word.as_bytes()) {
-            return Some(value);
-        }
-        rest = behind;
-    }
-    None
-}
-
 /// Whether these are the values that the arguments give for an option.
-pub(crate) fn has_values(words: &[String], option: &[u8], values: &[&[u8]]) -> bool
+pub(crate) fn has_values(words: &[String], option: &str, values: &[&[u8]]) -> bool
     ensures { result ≡ true
         → spec.values_in option.now false (spec.texts words.now) ≡ spec.shown values.now }
 {
@@ -188,9 +176,9 @@ pub(crate) fn has_values(words: &[String], option: &[u8], values: &[&[u8]]) -> b
             done += 1;
         } else if is_end(word.as_bytes()) {
             break;
-        } else if word.as_bytes() == option {
+        } else if word.as_bytes() == option.as_bytes() {
             is_value = true;
-        } else if let Some(value) = joined(option, word.as_bytes()) {
+        } else if let Some(value) = joined(option.as_bytes(), word.as_bytes()) {
             if !is_at(values, done, value) {
                 return false;
             }
@@ -199,4 +187,138 @@ pub(crate) fn has_values(words: &[String], option: &[u8], values: &[&[u8]]) -> b
         rest = behind;
     }
     done == values.len()
+}
+
+/// The operands among the arguments. They are a proposal: `has_operands` decides.
+pub(crate) fn operands_of<'a>(
+    alloc: Global,
+    words: &'a [String],
+) -> Result<Vec<&'a str>, AllocError> {
+    let mut operands = Vec::new(alloc);
+    let (mut is_value, mut is_over) = (false, false);
+    for word in words {
+        let text = word.as_bytes();
+        if is_value {
+            is_value = false;
+        } else if is_over || !is_dashed(text) {
+            operands.push(word.as_str())?;
+        } else {
+            is_over = is_end(text);
+            is_value = is_valued(text);
+        }
+    }
+    Ok(operands)
+}
+
+/// The first value that the arguments give for an option, and the arguments after it.
+fn next_value<'a>(words: &'a [String], option: &str) -> Option<(&'a str, &'a [String])> {
+    let mut rest = words;
+    while let [word, behind @ ..] = rest {
+        let text = word.as_str();
+        if is_end(text.as_bytes()) {
+            return None;
+        }
+        if text == option {
+            let (value, after) = behind.split_first()?;
+            return Some((value.as_str(), after));
+        }
+        if let Some(value) = text.strip_prefix(option)
+            && let Some(value) = value.strip_prefix("=")
+        {
+            return Some((value, behind));
+        }
+        rest = behind;
+    }
+    None
+}
+
+/// The values that the arguments give for an option. They are a proposal: `has_values` decides.
+pub(crate) fn values_of<'a>(
+    alloc: Global,
+    words: &'a [String],
+    option: &str,
+) -> Result<Vec<&'a str>, AllocError> {
+    let mut values = Vec::new(alloc);
+    let mut rest = words;
+    for _ in words {
+        let Some((value, behind)) = next_value(rest, option) else {
+            return Ok(values);
+        };
+        values.push(value)?;
+        rest = behind;
+    }
+    Ok(values)
+}
+
+/// The bytes of texts, each a proposal.
+pub(crate) fn bytes_of<'a>(alloc: Global, texts: &[&'a str]) -> Result<Vec<&'a [u8]>, AllocError> {
+    let mut bytes = Vec::new(alloc);
+    for text in texts {
+        bytes.push(text.as_bytes())?;
+    }
+    Ok(bytes)
+}
+
+/// The only value of an option, if it has one; nothing if it has several.
+pub(crate) fn value<'a>(words: &'a [String], option: &str) -> Option<Option<&'a str>>
+    ensures { IfSome result (λ value.
+        spec.values_in option.now false (spec.texts words.now) ≡ given value) }
+{
+    match next_value(words, option) {
+        Some((value, _)) => {
+            has_values(words, option, [value.as_bytes()].as_slice()).then_some(Some(value))
+        }
+        None => has_values(words, option, &[]).then_some(None),
+    }
+}
+
+/// The operands, if there is one, and it is the one proposed.
+pub(crate) fn one<'a>(words: &[String], proposed: &[&'a str]) -> Option<&'a str>
+    ensures { IfSome result (λ first.
+        spec.operands_in false (spec.texts words.now) ≡ first.now ∷ []) }
+{
+    let [first] = proposed else {
+        return None;
+    };
+    has_operands(words, [first.as_bytes()].as_slice()).then_some(*first)
+}
+
+/// The operand, if there is none or one, and it is the one proposed.
+pub(crate) fn one_or_none<'a>(words: &[String], proposed: &[&'a str]) -> Option<Option<&'a str>>
+    ensures { IfSome result (λ only.
+        spec.operands_in false (spec.texts words.now) ≡ given only) }
+{
+    match one(words, proposed) {
+        Some(first) => Some(Some(first)),
+        None => has_operands(words, &[]).then_some(None),
+    }
+}
+
+/// The operands, if there are two, and they are those proposed.
+pub(crate) fn two<'a>(words: &[String], proposed: &[&'a str]) -> Option<(&'a str, &'a str)>
+    ensures { IfSome result (λ both.
+        spec.operands_in false (spec.texts words.now) ≡ both.0.now ∷ both.1.now ∷ []) }
+{
+    let [first, second] = proposed else {
+        return None;
+    };
+    let both = [first.as_bytes(), second.as_bytes()];
+    has_operands(words, both.as_slice()).then_some((*first, *second))
+}
+
+/// The operands, if there are one or two, and they are those proposed.
+pub(crate) fn one_or_two<'a>(
+    words: &[String],
+    proposed: &[&'a str],
+) -> Option<(&'a str, Option<&'a str>)>
+    ensures { IfSome result (λ some.
+        spec.operands_in false (spec.texts words.now) ≡ some.0.now ∷ given some.1) }
+{
+    match one(words, proposed) {
+        Some(first) => Some((first, None)),
+        None => {
+            let (first, second) = two(words, proposed)?;
+            Some((first, Some(second)))
+        }
+    }
 }

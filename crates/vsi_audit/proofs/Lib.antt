@@ -11,3 +11,4 @@ pub mod Found
 pub mod Going
 pub mod Sound
 pub mod Structured
+pub mod Compiled

@@ -11,3 +11,4 @@ pub mod Reading
 pub mod Steps
 pub mod Structure
 pub mod Unread
+pub mod Laws

@@ -7,7 +7,9 @@
 //! text, reads the text again, and compares both with the code and the commands. `audit_text`
 //! writes why an image is refused.
 //!
-//! To be believed: `specs/MadeNames`, `specs/Refusal`, `specs/Standing`, `specs/Structure`,
+//! `laws` says that no compiled image is refused as code without commands.
+//!
+//! To be believed: `specs/Laws`, `specs/MadeNames`, `specs/Refusal`, `specs/Standing`, `specs/Structure`,
 //! `specs/Telling`, `specs/Text` and `specs/Writing`; the other files of `specs/` are only steps of
 //! proofs.
 #![tactic(auto)]
@@ -21,6 +23,7 @@ mod fitting;
 mod flow;
 mod globals;
 mod lasting;
+pub mod laws;
 mod names;
 mod needs;
 mod reading;

@@ -88,14 +88,14 @@ leads_less code facts left less from to cost whole a long each p q m now h =
     }
 
 -- The left part of a joined fact.
-joined_left : {A B C : Type 0} → A ⊎ (B × C) → A ⊎ B
-joined_left (inl a) = inl a
-joined_left (inr p) = inr p.0
+joined_left : {A B C D : Type 0} → (B × C) ⊎ (A × D) → A ⊎ B
+joined_left (inl p) = inr p.0
+joined_left (inr p) = inl p.0
 
 -- The right part of a joined fact.
-joined_right : {A B C : Type 0} → A ⊎ (B × C) → A ⊎ C
-joined_right (inl a) = inl a
-joined_right (inr p) = inr p.1
+joined_right : {A B C D : Type 0} → (B × C) ⊎ (A × D) → A ⊎ C
+joined_right (inl p) = inr p.1
+joined_right (inr p) = inl p.0
 
 -- The first branch of two, with its jump to the end.
 pub first_leads : (code : List Instr) (facts one two left : List Known) (from jump end : ℕ) (first more second whole : Cost)

@@ -1,15 +1,17 @@
 -- Loops that count up or down.
-use Rattle.std.proofs.Common.{◌≡◌, ◌≢◌, ℕ, zero, suc, ◌+◌, ◌*◌, ◌<◌, ◌≤◌, ℤ, pos, negsuc, ◌+ℤ◌, ◌<ℤ◌, ◌≤ℤ◌, Bool, true, false, if◌then◌else◌, sym, ap, ◌∙◌, subst, arith, lit<, Option, IfSome, w64, SFits}
+use Rattle.std.proofs.Common.{◌≡◌, ◌≢◌, ℕ, zero, suc, ◌+◌, ◌*◌, ◌<◌, ◌≤◌, ℤ, pos, negsuc, ◌+ℤ◌, ◌<ℤ◌, ◌≤ℤ◌, Bool, true, false, if◌then◌else◌, sym, ap, ◌∙◌, subst, arith, lit<, Result, IfOk, IfErr, w64, SFits}
 use Rattle.std.specs.Prelude.{int_lt}
 use Rattle.std.specs.Int.{int_wrap}
 use Rattle.std.proofs.lemmas.Int.{ints, int_wrap_fits}
 use Rattle.vsi_syntax.specs.Operators.{sum_of, less_of}
 use Rattle.vsi_bound.specs.declared.counting.Turns.{Turns}
+use Rattle.vsi_bound.specs.declared.error.Reason.{Reason}
 use Rattle.vsi_bound.specs.Counting.{Counts}
 use Rattle.vsi_bound.specs.Looping.{guard_value}
+use Rattle.vsi_bound.specs.Reasons.{WrapsAfter, Uncounted}
 
 -- A word below another compares as 1.
-below : (a b : ℤ) → a <ℤ b → less_of a b ≢ pos 0
+pub below : (a b : ℤ) → a <ℤ b → less_of a b ≢ pos 0
 below a b lt e =
     let t : int_lt a b ≡ true = grind (arith, ints) in
     let bad : pos 1 ≡ pos 0 = sym (ap (λ x. if x then pos 1 else pos 0) t) ∙ e in
@@ -62,6 +64,7 @@ counts_up (suc turns) size now last limit step fits s l f enough b =
     let short : now <ℤ limit = omega (arith, ints, b) in
     let rest : last ≡ sum_of now step +ℤ pos (turns * size) = omega (arith, ints, l, on) in (
       below now limit short,
+      on ∙ ap (λ x. now +ℤ x) (sym s),
       counts_up turns size (sum_of now step) last limit step
           (subst (SFits w64) (sym on) (between now _ last fits f low high)) s rest f enough (below_next turns size now (sum_of now step) limit on b),
     )
@@ -92,6 +95,7 @@ counts_down (suc turns) size now last limit step fits s l f enough b =
     let rest : last +ℤ pos (turns * size) ≡ sum_of now step = omega (arith, ints, l, on, s) in
     let before : sum_of now step +ℤ pos size ≡ now = omega (arith, ints, on, s) in (
       below limit now short,
+      on,
       counts_down turns size (sum_of now step) last limit step
           (subst (SFits w64) (sym on) (between last _ now f fits low high)) s rest f enough (above_next turns size now (sum_of now step) limit before b),
     )
@@ -103,6 +107,10 @@ most_fits = record { sfits = lit< tt }
 -- The least word fits.
 least_fits : SFits w64 (negsuc 9223372036854775807)
 least_fits = record { sfits = lit< tt }
+
+-- A word is no less than the least one.
+pub word_low : (n : ℤ) → SFits w64 n → negsuc 9223372036854775807 ≤ℤ n
+word_low n f = omega (arith, ints, f.sfits)
 
 -- A word between the least word and one that fits fits.
 pub fits_below : (x start : ℤ) → SFits w64 start → negsuc 9223372036854775807 ≤ℤ x → x ≤ℤ start → SFits w64 x
@@ -141,22 +149,84 @@ down_turns turns size way gap start step limit last e enough fewest fits g s l l
     counts_down turns size start last limit step fits s (ap (λ w. last +ℤ pos w) (sym e) ∙ l)
     (between _ last start least_fits fits low high) under (above_before turns size way gap start limit e fewest g)
 
+-- Steps up that pass the greatest word while the variable is below the limit.
+wraps_up : (turns size : ℕ) (now limit step : ℤ) → step ≡ pos size → (now +ℤ pos (turns * size)) <ℤ limit
+    → pos 9223372036854775807 <ℤ ((now +ℤ pos (turns * size)) +ℤ pos size) → WrapsAfter true limit step turns now
+wraps_up zero size now limit step s before past =
+    (below now limit (omega (arith, ints, before)), omega (arith, ints, s, past))
+wraps_up (suc turns) size now limit step s before past = (
+  below now limit (omega (arith, ints, before)),
+  wraps_up turns size (now +ℤ step) limit step s (omega (arith, ints, s, before)) (omega (arith, ints, s, past)),
+)
+
+-- Turns that cover the gap to a limit above pass the greatest word.
+pub up_wraps : (turns size way gap : ℕ) (start step limit : ℤ) → way ≡ turns * size → way < gap + size → 0 < turns
+    → start +ℤ pos gap ≡ limit → step ≡ pos size → pos 9223372036854775807 <ℤ (start +ℤ pos way)
+    → (n : ℕ) × WrapsAfter true limit step n start
+up_wraps zero size way gap start step limit e fewest some g s past = absurd (omega (arith, some))
+up_wraps (suc turns) size way gap start step limit e fewest some g s past = (
+  turns,
+  wraps_up turns size start limit step s (omega (arith, ints, e, fewest, g)) (omega (arith, ints, e, past)),
+)
+
+-- Steps down that pass the least word while the variable is above the limit.
+wraps_down : (turns size : ℕ) (now limit step : ℤ) → step +ℤ pos size ≡ pos 0
+    → (limit +ℤ pos (turns * size)) <ℤ now
+    → now <ℤ ((negsuc 9223372036854775807 +ℤ pos (turns * size)) +ℤ pos size)
+    → WrapsAfter false limit step turns now
+wraps_down zero size now limit step s before past =
+    (below limit now (omega (arith, ints, before)), omega (arith, ints, s, past))
+wraps_down (suc turns) size now limit step s before past = (
+  below limit now (omega (arith, ints, before)),
+  wraps_down turns size (now +ℤ step) limit step s (omega (arith, ints, s, before)) (omega (arith, ints, s, past)),
+)
+
+-- Turns that cover the gap to a limit below pass the least word.
+pub down_wraps : (turns size way gap : ℕ) (start step limit : ℤ) → way ≡ turns * size → way < gap + size → 0 < turns
+    → limit +ℤ pos gap ≡ start → step +ℤ pos size ≡ pos 0
+    → start <ℤ (negsuc 9223372036854775807 +ℤ pos way) → (n : ℕ) × WrapsAfter false limit step n start
+down_wraps zero size way gap start step limit e fewest some g s past = absurd (omega (arith, some))
+down_wraps (suc turns) size way gap start step limit e fewest some g s past = (
+  turns,
+  wraps_down turns size start limit step s (omega (arith, ints, e, fewest, g)) (omega (arith, ints, e, past)),
+)
+
+-- The reason for turns up holds for a guard that compares upwards.
+pub uncounted_up : (r : Result Turns Reason) (up : Bool) (limit limit' step step' start start' : ℤ)
+    → IfErr r (λ reason. Uncounted reason true limit' step' start') → up ≡ true → limit' ≡ limit → step' ≡ step
+    → start' ≡ start → IfErr r (λ reason. Uncounted reason up limit step start)
+uncounted_up r up limit limit' step step' start start' h e p q w =
+    subst (λ (b : Bool). IfErr r (λ reason. Uncounted reason b limit step start)) (sym e)
+    (subst (λ (x : ℤ). IfErr r (λ reason. Uncounted reason true x step start)) p
+    (subst (λ (x : ℤ). IfErr r (λ reason. Uncounted reason true limit' x start)) q
+    (subst (λ (x : ℤ). IfErr r (λ reason. Uncounted reason true limit' step' x)) w h)))
+
+-- The reason for turns down holds for a guard that compares downwards.
+pub uncounted_down : (r : Result Turns Reason) (up : Bool) (limit limit' step step' start start' : ℤ)
+    → IfErr r (λ reason. Uncounted reason false limit' step' start') → up ≡ false → limit' ≡ limit → step' ≡ step
+    → start' ≡ start → IfErr r (λ reason. Uncounted reason up limit step start)
+uncounted_down r up limit limit' step step' start start' h e p q w =
+    subst (λ (b : Bool). IfErr r (λ reason. Uncounted reason b limit step start)) (sym e)
+    (subst (λ (x : ℤ). IfErr r (λ reason. Uncounted reason false x step start)) p
+    (subst (λ (x : ℤ). IfErr r (λ reason. Uncounted reason false limit' x start)) q
+    (subst (λ (x : ℤ). IfErr r (λ reason. Uncounted reason false limit' step' x)) w h)))
+
 -- The result for turns up to a limit holds for a guard that compares upwards.
-pub counted_up : (r : Option Turns) (up : Bool) (limit limit' step step' start start' : ℤ)
-    → IfSome r (λ t. Counts (λ n. less_of n limit') step' t.turns start' t.last) → up ≡ true → limit' ≡ limit
-    → step' ≡ step → start' ≡ start → IfSome r (λ t. Counts (guard_value up limit) step t.turns start t.last)
+pub counted_up : (r : Result Turns Reason) (up : Bool) (limit limit' step step' start start' : ℤ)
+    → IfOk r (λ t. Counts (λ n. less_of n limit') step' t.turns start' t.last) → up ≡ true → limit' ≡ limit
+    → step' ≡ step → start' ≡ start → IfOk r (λ t. Counts (guard_value up limit) step t.turns start t.last)
 counted_up r up limit limit' step step' start start' h e p q w =
-    subst (λ (b : Bool). IfSome r (λ t. Counts (guard_value b limit) step t.turns start t.last)) (sym e)
-    (subst (λ (x : ℤ). IfSome r (λ t. Counts (λ n. less_of n x) step t.turns start t.last)) p
-    (subst (λ (x : ℤ). IfSome r (λ t. Counts (λ n. less_of n limit') x t.turns start t.last)) q
-    (subst (λ (x : ℤ). IfSome r (λ t. Counts (λ n. less_of n limit') step' t.turns x t.last)) w h)))
+    subst (λ (b : Bool). IfOk r (λ t. Counts (guard_value b limit) step t.turns start t.last)) (sym e)
+    (subst (λ (x : ℤ). IfOk r (λ t. Counts (λ n. less_of n x) step t.turns start t.last)) p
+    (subst (λ (x : ℤ). IfOk r (λ t. Counts (λ n. less_of n limit') x t.turns start t.last)) q
+    (subst (λ (x : ℤ). IfOk r (λ t. Counts (λ n. less_of n limit') step' t.turns x t.last)) w h)))
 
 -- The result for turns down to a limit holds for a guard that compares downwards.
-pub counted_down : (r : Option Turns) (up : Bool) (limit limit' step step' start start' : ℤ)
-    → IfSome r (λ t. Counts (λ n. less_of limit' n) step' t.turns start' t.last) → up ≡ false → limit' ≡ limit
-    → step' ≡ step → start' ≡ start → IfSome r (λ t. Counts (guard_value up limit) step t.turns start t.last)
+pub counted_down : (r : Result Turns Reason) (up : Bool) (limit limit' step step' start start' : ℤ)
+    → IfOk r (λ t. Counts (λ n. less_of limit' n) step' t.turns start' t.last) → up ≡ false → limit' ≡ limit
+    → step' ≡ step → start' ≡ start → IfOk r (λ t. Counts (guard_value up limit) step t.turns start t.last)
 counted_down r up limit limit' step step' start start' h e p q w =
-    subst (λ (b : Bool). IfSome r (λ t. Counts (guard_value b limit) step t.turns start t.last)) (sym e)
-    (subst (λ (x : ℤ). IfSome r (λ t. Counts (λ n. less_of x n) step t.turns start t.last)) p
-    (subst (λ (x : ℤ). IfSome r (λ t. Counts (λ n. less_of limit' n) x t.turns start t.last)) q
-    (subst (λ (x : ℤ). IfSome r (λ t. Counts (λ n. less_of limit' n) step' t.turns x t.last)) w h)))
+    subst (λ (b : Bool). IfOk r (λ t. Counts (guard_value b limit) step t.turns start t.last)) (sym e)
+    (subst (λ (x : ℤ). IfOk r (λ t. Counts (λ n. less_of x n) step t.turns start t.last)) p
+    (subst (λ (x : ℤ). IfOk r (λ t. Counts (λ n. less_of limit' n) x t.turns start t.last)) q
+    (subst (λ (x : ℤ). IfOk r (λ t. Counts (λ n. less_of limit' n) step' t.turns x t.last)) w h)))

@@ -2,7 +2,9 @@ pub mod Slots
 pub mod Running
 pub mod Turning
 pub mod Operands
+pub mod Transferring
 pub mod CountingUp
 pub mod Ending
 pub mod Updating
 pub mod Commands
+pub mod Searching

@@ -17,7 +17,7 @@ use Rattle.vsi_bound.specs.Values.{IsOperator, Operated, Operates, Acts}
 use Rattle.vsi_bound.proofs.Running.{next_run, one_run}
 
 -- The last item comes first in reverse order.
-last_first : {X : Type 0} (xs : List X) (x : X) → reverse (xs ++ x ∷ []) ≡ x ∷ reverse xs
+pub last_first : {X : Type 0} (xs : List X) (x : X) → reverse (xs ++ x ∷ []) ≡ x ∷ reverse xs
 last_first xs x = reverse-append xs (x ∷ [])
 
 -- An operator takes two operands, and its result takes their position.

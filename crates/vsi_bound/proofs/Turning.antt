@@ -35,32 +35,32 @@ record Turned (code : List Instr) (entry turned : List Known) (start target test
   word_is : word end slot ≡ last
   same : (k : ℕ) (f : Known) → slice_get entry k ≡ Some f → slice_get turned k ≡ Some f → word end k ≡ word now k
 
-module _ (code : List Instr) (facts entry turned : List Known) (start place target jump : ℕ) (guard : Known)
+module _ (code inner : List Instr) (facts entry turned : List Known) (start place target jump : ℕ) (guard : Known)
     (body : Cost) (slot tested : ℕ) (up : Bool) (limit step : ℤ)
     (ev : Evaluates code entry start place guard)
     (jz : slice_get code place ≡ Some (Jz target))
     (jmp : slice_get code jump ≡ Some (Jmp start))
     (count : start + tested ≡ place + 1)
     (leads : Leads code entry (place + 1) jump body turned)
-    (enters : (k : ℕ) (f : Known) → slice_get entry k ≡ Some f → Enters facts k f)
+    (enters : (k : ℕ) (f : Known) → slice_get entry k ≡ Some f → Enters inner facts k f)
     (keeps : Keeps entry turned)
     (guarded : guard ≡ guard_of up slot limit)
     (moves : slice_get turned slot ≡ Some (Moved slot step)) where
   -- A fact at the start of a turn holds for the words with which it compares.
-  enters_hold : (now : List ℤ) (k : ℕ) (f : Known) → Enters facts k f
+  enters_hold : (now : List ℤ) (k : ℕ) (f : Known) → Enters inner facts k f
       → ((n : ℤ) → f ≡ Number n → word now k ≡ n) → Means now f (word now k)
   enters_hold now k (Number n) e h = h n refl
-  enters_hold now k (Same j) e h = ap (word now) (sym e)
+  enters_hold now k (Same j) e h = ap (word now) (sym e.0)
   enters_hold now k (Moved j d) e h = absurd e
   enters_hold now k (Below j n) e h = absurd e
   enters_hold now k (Above j n) e h = absurd e
   enters_hold now k Any e h = absurd e
 
   -- A fact that a turn leaves unchanged says that the word is the same.
-  kept : (now last : List ℤ) (k : ℕ) (f : Known) → Enters facts k f → Means now f (word now k)
+  kept : (now last : List ℤ) (k : ℕ) (f : Known) → Enters inner facts k f → Means now f (word now k)
       → Means now f (word last k) → word last k ≡ word now k
   kept now last k (Number n) e h g = g ∙ sym h
-  kept now last k (Same j) e h g = g ∙ ap (word now) e
+  kept now last k (Same j) e h g = g ∙ ap (word now) e.0
   kept now last k (Moved j d) e h g = absurd e
   kept now last k (Below j n) e h g = absurd e
   kept now last k (Above j n) e h g = absurd e
@@ -102,7 +102,7 @@ module _ (code : List Instr) (facts entry turned : List Known) (start place targ
       let moved : word b.last slot ≡ sum_of (word now slot) step = b.hold.each slot (Moved slot step) moves in
       let back = one_run code jump [] b.last (Jmp start) (going start [] b.last) jmp refl in
       let rest = turning same turns b.last last (again now b.last h b.hold same)
-      (subst (λ w. Counts (guard_value up limit) step turns w last) (sym moved) c.1) in
+      (subst (λ w. Counts (guard_value up limit) step turns w last) (sym moved) c.2) in
       record {
         steps = g.steps + 1 + (b.steps + (1 + rest.steps));
         enough = omega (arith, long, b.enough, rest.enough);
@@ -118,15 +118,16 @@ module _ (code : List Instr) (facts entry turned : List Known) (start place targ
       }
 
 -- The facts before a loop imply those at the start of its first turn.
-entry_holds : (facts entry : List Known) (m now : List ℤ) → IsEntry facts entry → Hold m facts now → Hold now entry now
-entry_holds facts entry m now e h = record {
+entry_holds : (inner : List Instr) (facts entry : List Known) (m now : List ℤ) → IsEntry inner facts entry
+    → Hold m facts now → Hold now entry now
+entry_holds inner facts entry m now e h = record {
   count = e.count ∙ h.count;
   each = λ k f s. by k f s (e.each k f s);
 }
   where
-    by : (k : ℕ) (f : Known) → slice_get entry k ≡ Some f → Enters facts k f → Means now f (word now k)
-    by k (Number n) s e = h.each k (Number n) e
-    by k (Same j) s e = ap (word now) (sym e)
+    by : (k : ℕ) (f : Known) → slice_get entry k ≡ Some f → Enters inner facts k f → Means now f (word now k)
+    by k (Number n) s e = h.each k (Number n) e.0
+    by k (Same j) s e = ap (word now) (sym e.0)
     by k (Moved j d) s e = absurd e
     by k (Below j n) s e = absurd e
     by k (Above j n) s e = absurd e
@@ -143,26 +144,27 @@ remain_holds facts entry turned left slot last m now end e h long is same r = re
 }
   where
     by : (k : ℕ) (f : Known) → Remains facts entry turned slot last k f → Means m f (word end k)
-    by k f (inl any) = subst (λ (g : Known). Means m g (word end k)) (sym any) tt
-    by k f (inr (inl p)) =
+    by k f (inl p) =
         subst (λ (g : Known). Means m g (word end k)) (sym p.1) (ap (word end) p.0 ∙ is)
-    by k f (inr (inr p)) =
-        let lt : k < length entry = omega (arith, slice_get_within facts k f p.0, e) in
+    by k f (inr (inl p)) =
+        let lt : k < length entry = omega (arith, slice_get_within facts k f p.1, e) in
         let x = there entry k lt in
-        subst (Means m f) (sym (same k x.0 x.1 (sym p.1 ∙ x.1))) (h.each k f p.0)
+        subst (Means m f) (sym (same k x.0 x.1 (sym p.2 ∙ x.1))) (h.each k f p.1)
+    by k f (inr (inr p)) = subst (λ (g : Known). Means m g (word end k)) (sym p.1) tt
 
 -- A loop that counts.
-pub loop_leads : (code : List Instr) (facts entry turned left : List Known) (start place target jump tested : ℕ)
+pub loop_leads : (code inner : List Instr) (facts entry turned left : List Known) (start place target jump tested : ℕ)
     (guard : Known) (body cost : Cost) → Evaluates code entry start place guard
     → slice_get code place ≡ Some (Jz target) → slice_get code jump ≡ Some (Jmp start) → start + tested ≡ place + 1
-    → Leads code entry (place + 1) jump body turned → IsEntry facts entry → length turned ≡ length entry
+    → Leads code entry (place + 1) jump body turned → IsEntry inner facts entry → length turned ≡ length entry
     → Finished facts entry guard turned tested body cost left → Leads code facts start target cost left
-loop_leads code facts entry turned left start place target jump tested guard body cost ev jz jmp count leads e same f m
-    now h =
+loop_leads code inner facts entry turned left start place target jump tested guard body cost ev jz jmp count leads e
+    same f m now h =
     let c = f.counter in
     let begins : word now f.slot ≡ c.start = h.each f.slot (Number c.start) c.begins in
-    let t = turning code facts entry turned start place target jump guard body f.slot tested c.up c.limit c.step ev jz
-    jmp count leads e.each f.keeps c.guarded c.moves (sym same) f.turns now f.last (entry_holds facts entry m now e h)
+    let t = turning code inner facts entry turned start place target jump guard body f.slot tested c.up c.limit c.step
+    ev jz jmp count leads e.each f.keeps c.guarded c.moves (sym same) f.turns now f.last
+    (entry_holds inner facts entry m now e h)
     (subst (λ w. Counts (guard_value c.up c.limit) c.step f.turns w f.last) (sym begins) c.counts) in
     record {
       steps = t.steps;
@@ -174,16 +176,16 @@ loop_leads code facts entry turned left start place target jump tested guard bod
     }
 
 -- The same for facts under other names.
-pub loop_leads_as : (code : List Instr) (facts e₀ e₁ e₂ entry u turned left : List Known)
-    (start place target jump end tested : ℕ) (guard : Known) (body cost : Cost) → IsEntry facts e₀
+pub loop_leads_as : (code inner : List Instr) (facts e₀ e₁ e₂ entry u turned left : List Known)
+    (start place target jump end tested : ℕ) (guard : Known) (body cost : Cost) → IsEntry inner facts e₀
     → Evaluates code e₁ start place guard → Leads code e₂ (place + 1) jump body u
     → Finished facts entry guard turned tested body cost left → slice_get code place ≡ Some (Jz target)
     → slice_get code jump ≡ Some (Jmp end) → end ≡ start → start + tested ≡ place + 1 → e₀ ≡ entry → e₁ ≡ entry
     → e₂ ≡ entry → u ≡ turned → length turned ≡ length entry → Leads code facts start target cost left
-loop_leads_as code facts e₀ e₁ e₂ entry u turned left start place target jump end tested guard body cost e ev leads f jz
-    jmp back count p q r s same =
-    loop_leads code facts entry turned left start place target jump tested guard body cost
+loop_leads_as code inner facts e₀ e₁ e₂ entry u turned left start place target jump end tested guard body cost e ev leads
+    f jz jmp back count p q r s same =
+    loop_leads code inner facts entry turned left start place target jump tested guard body cost
     (subst (λ x. Evaluates code x start place guard) q ev) jz
     (subst (λ n. slice_get code jump ≡ Some (Jmp n)) back jmp) count
     (subst (λ x. Leads code entry (place + 1) jump body x) s (subst (λ x. Leads code x (place + 1) jump body u) r leads))
-    (subst (IsEntry facts) p e) same f
+    (subst (IsEntry inner facts) p e) same f

@@ -1,12 +1,15 @@
 -- Lists that are updated from start to end.
-use Rattle.std.proofs.Common.{◌≡◌, ◌≢◌, ℕ, zero, suc, ◌+◌, ◌<◌, ◌≤◌, ◌⊎◌, inl, inr, ℤ, List, [], ◌∷◌, length, get_or, Some, Bool, true, refl, sym, ap, ◌∙◌, subst, arith, length-set, length-append, ◌++◌}
-use Rattle.std.specs.Prelude.{slice_get, slice_set}
+use Rattle.std.proofs.Common.{◌≡◌, ◌≢◌, ℕ, zero, suc, ◌+◌, ◌<◌, ◌≤◌, ◌⊎◌, inl, inr, ℤ, List, [], ◌∷◌, length, get_or, Some, Bool, true, false, refl, sym, ap, ◌∙◌, subst, arith, length-set, length-append, ◌++◌}
+use Rattle.std.specs.Prelude.{Contains, slice_get, slice_set}
 use Rattle.std.proofs.lemmas.Option.{slice_get-get_or, slice_get_within, get_or_from_slice_get}
 use Rattle.std.proofs.lemmas.Bool.{cases_lt}
+use Rattle.std.proofs.lemmas.List.Elements.{Contains-append_left, Contains-push, Contains-push_cases}
+use Rattle.vsi_image.specs.declared.instr.Instr.{Instr}
+use Rattle.vsi_image.specs.declared.instr.Instr.TheVariants.{Store}
 use Rattle.vsi_bound.specs.declared.known.Known.{Known}
-use Rattle.vsi_bound.specs.declared.known.Known.TheVariants.{Number, Same, Any}
+use Rattle.vsi_bound.specs.declared.known.Known.TheVariants.{Number, Same, Moved, Below, Above, Any}
 use Rattle.vsi_bound.specs.Facts.{AreSame}
-use Rattle.vsi_bound.specs.Loops.{Enters, IsEntry, Keeps, Remains}
+use Rattle.vsi_bound.specs.Loops.{Enters, IsEntry, Keeps, Remains, Meets}
 use Rattle.vsi_bound.proofs.Slots.{set_same, set_other}
 
 -- The first facts of a list are updated, and the others are unchanged.
@@ -54,16 +57,44 @@ pub updated_all : (R : ℕ → Known → Type 0) (initial xs : List Known) (i : 
     → (k : ℕ) (f : Known) → slice_get xs k ≡ Some f → R k f
 updated_all R initial xs i u le k f s = u.before k f (omega (arith, slice_get_within xs k f s, le)) s
 
+-- Equal stores are into the same slot.
+pub store_same : (a b : ℕ) → Store a ≡ Store b → a ≡ b
+store_same a b e = cc
+
+-- One more instruction that doesn't store into a slot leaves its fact.
+enters_more : (body : List Instr) (i : Instr) (facts : List Known) (k : ℕ) (f : Known) → i ≢ Store k
+    → Enters body facts k f → Enters (body ++ i ∷ []) facts k f
+enters_more body i facts k (Number n) ne e = (
+  e.0,
+  λ c. elim (Contains-push_cases body i (Store k) c) [
+    | inl before ↦ e.1 before
+    | inr same ↦ ne same
+  ],
+)
+enters_more body i facts k (Same j) ne e =
+    (e.0, λ n s. Contains-append_left body (i ∷ []) (Store k) (e.1 n s))
+enters_more body i facts k (Moved j d) ne e = absurd e
+enters_more body i facts k (Below j n) ne e = absurd e
+enters_more body i facts k (Above j n) ne e = absurd e
+enters_more body i facts k Any ne e = absurd e
+
+-- One more instruction that stores into no slot.
+pub unforgotten : (body : List Instr) (i : Instr) (facts entry : List Known)
+    → ((k : ℕ) → k < length entry → i ≢ Store k) → IsEntry body facts entry → IsEntry (body ++ i ∷ []) facts entry
+unforgotten body i facts entry ne e = record {
+  count = e.count;
+  each = λ k f s. enters_more body i facts k f (ne k (slice_get_within entry k f s)) (e.each k f s);
+}
+
 -- A slot whose number is forgotten.
-pub forgotten : (facts entry : List Known) (slot : ℕ) → slot < length entry → IsEntry facts entry
-    → IsEntry facts (slice_set entry slot (Same slot))
-forgotten facts entry slot lt e = record {
+pub forgotten : (body : List Instr) (facts entry : List Known) (slot : ℕ) → slot < length entry
+    → IsEntry body facts entry → IsEntry (body ++ Store slot ∷ []) facts (slice_set entry slot (Same slot))
+forgotten body facts entry slot lt e = record {
   count = length-set entry slot (Same slot) ∙ e.count;
   each = λ k f s. elim (cases_lt k slot) [
-    | inl less ↦ let other : k ≢ slot = omega (arith, less) in e.each k f (sym (set_other entry slot k (Same slot) other) ∙ s)
+    | inl less ↦ let other : k ≢ slot = omega (arith, less) in apart k f other s
     | inr ge ↦ elim (cases_lt slot k) [
-      | inl more ↦ let other : k ≢ slot = omega (arith, more) in
-          e.each k f (sym (set_other entry slot k (Same slot) other) ∙ s)
+      | inl more ↦ let other : k ≢ slot = omega (arith, more) in apart k f other s
       | inr le ↦ let same : k ≡ slot = omega (arith, ge, le) in by k f same s
     ]
   ];
@@ -72,11 +103,22 @@ forgotten facts entry slot lt e = record {
     some_is : (a b : Known) → Some a ≡ Some b → a ≡ b
     some_is a b e = cc
 
-    by : (k : ℕ) (f : Known) → k ≡ slot → slice_get (slice_set entry slot (Same slot)) k ≡ Some f → Enters facts k f
+    apart : (k : ℕ) (f : Known) → k ≢ slot → slice_get (slice_set entry slot (Same slot)) k ≡ Some f
+        → Enters (body ++ Store slot ∷ []) facts k f
+    apart k f other s =
+        enters_more body (Store slot) facts k f (λ x. other (sym (store_same slot k x)))
+        (e.each k f (sym (set_other entry slot k (Same slot) other) ∙ s))
+
+    by : (k : ℕ) (f : Known) → k ≡ slot → slice_get (slice_set entry slot (Same slot)) k ≡ Some f
+        → Enters (body ++ Store slot ∷ []) facts k f
     by k f same s =
         let x : Same slot ≡ f = some_is (Same slot) f (sym (set_same entry slot (Same slot) lt)
         ∙ ap (slice_get (slice_set entry slot (Same slot))) (sym same) ∙ s) in
-        subst (Enters facts k) x (sym same)
+        subst (Enters (body ++ Store slot ∷ []) facts k) x (
+          sym same,
+          λ n s. subst (λ (j : ℕ). Contains (body ++ Store slot ∷ []) (Store j)) (sym same)
+              (Contains-push body (Store slot)),
+        )
 
 -- The first facts are kept.
 abbrev pub KeepsBefore : ℕ → List Known → List Known → Type 0
@@ -101,32 +143,56 @@ pub keeps_all : (entry turned : List Known) (i : ℕ) → KeepsBefore i entry tu
     → Keeps entry turned
 keeps_all entry turned i h le k n s = h k n (omega (arith, slice_get_within entry k (Number n) s, le)) s
 
+-- A fact that isn't kept shows that not all are.
+pub keeps_not : (entry turned : List Known) (i : ℕ) (d : Known) (n : ℤ) → i < length entry
+    → length turned ≡ length entry → get_or entry i d ≡ Number n → get_or turned i d ≢ Number n
+    → Keeps entry turned → ⊥
+keeps_not entry turned i d n lt same is other keeps =
+    let within : i < length turned = omega (arith, lt, same) in
+    other (some_fact (get_or turned i d) (Number n) (sym (slice_get-get_or turned i d within)
+    ∙ keeps i n (slice_get-get_or entry i d lt ∙ ap Some is)))
+  where
+    some_fact : (a b : Known) → Some a ≡ Some b → a ≡ b
+    some_fact a b e = cc
+
+-- Equal items that are there are equal facts.
+some_same : (a b : Known) → Some a ≡ Some b → a ≡ b
+some_same a b e = cc
+
+-- Facts that differ are at positions that do.
+apart : (xs ys : List Known) (k : ℕ) (d : Known) → k < length xs → k < length ys → get_or xs k d ≢ get_or ys k d
+    → slice_get xs k ≢ slice_get ys k
+apart xs ys k d lt lt' ne e =
+    ne (some_same (get_or xs k d) (get_or ys k d)
+    (sym (slice_get-get_or xs k d lt) ∙ e ∙ slice_get-get_or ys k d lt'))
+
 -- A slot after a loop.
 pub remains_as : (facts entry turned : List Known) (slot k : ℕ) (last given : ℤ) (before d result : Known)
     (is_same : Bool)
-    → (result ≡ Any) ⊎ (((k ≡ slot) × (result ≡ Number given)) ⊎ ((is_same ≡ true) × (result ≡ before)))
-    → slice_get facts k ≡ Some before → (is_same ≡ true → get_or entry k d ≡ get_or turned k d) → k < length entry
-    → k < length turned → given ≡ last → Remains facts entry turned slot last k result
-remains_as facts entry turned slot k last given before d result is_same (inl any) at s lt lt' g = inl any
-remains_as facts entry turned slot k last given before d result is_same (inr (inl p)) at s lt lt' g =
-    inr (inl (p.0, p.1 ∙ ap Number g))
-remains_as facts entry turned slot k last given before d result is_same (inr (inr p)) at s lt lt' g =
-    inr (inr (
-      at ∙ ap Some (sym p.1),
-      slice_get-get_or entry k d lt ∙ ap Some (s p.0) ∙ sym (slice_get-get_or turned k d lt'),
+    → ((k ≡ slot) × (result ≡ Number given)) ⊎ (((k ≢ slot) × (is_same ≡ true) × (result ≡ before))
+    ⊎ ((k ≢ slot) × (is_same ≡ false) × (result ≡ Any)))
+    → slice_get facts k ≡ Some before → (is_same ≡ true → get_or entry k d ≡ get_or turned k d)
+    → (is_same ≡ false → get_or entry k d ≢ get_or turned k d) → k < length entry → k < length turned
+    → given ≡ last → Remains facts entry turned slot last k result
+remains_as facts entry turned slot k last given before d result is_same (inl p) at s o lt lt' g =
+    inl (p.0, p.1 ∙ ap Number g)
+remains_as facts entry turned slot k last given before d result is_same (inr (inl p)) at s o lt lt' g =
+    inr (inl (
+      p.0,
+      at ∙ ap Some (sym p.2),
+      slice_get-get_or entry k d lt ∙ ap Some (s p.1) ∙ sym (slice_get-get_or turned k d lt'),
     ))
+remains_as facts entry turned slot k last given before d result is_same (inr (inr p)) at s o lt lt' g =
+    inr (inr (p.0, p.2, apart entry turned k d lt lt' (o p.1)))
 
 -- A slot at which two branches meet.
-abbrev pub Meets : List Known → List Known → ℕ → Known → Type 0
-Meets first second k f = (f ≡ Any) ⊎ ((slice_get first k ≡ Some f) × (slice_get second k ≡ Some f))
-
--- The slot has the fact that both branches leave.
 pub meets_as : (first second : List Known) (k : ℕ) (a d result : Known)
-    → (result ≡ Any) ⊎ ((result ≡ a) × (result ≡ get_or second k d)) → slice_get first k ≡ Some a → k < length second
-    → Meets first second k result
-meets_as first second k a d result (inl any) at lt = inl any
+    → ((result ≡ a) × (result ≡ get_or second k d)) ⊎ ((result ≡ Any) × (a ≢ get_or second k d))
+    → slice_get first k ≡ Some a → k < length second → Meets first second k result
+meets_as first second k a d result (inl p) at lt =
+    inl (at ∙ ap Some (sym p.0), slice_get-get_or second k d lt ∙ ap Some (sym p.1))
 meets_as first second k a d result (inr p) at lt =
-    inr (at ∙ ap Some (sym p.0), slice_get-get_or second k d lt ∙ ap Some (sym p.1))
+    inr (p.0, λ e. p.1 (some_same a (get_or second k d) (sym at ∙ e ∙ slice_get-get_or second k d lt)))
 
 -- A property of each fact, and of one more.
 push_each : (R : ℕ → Known → Type 0) (xs : List Known) (y : Known)

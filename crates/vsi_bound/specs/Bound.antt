@@ -4,6 +4,7 @@ use Rattle.vsi_image.specs.declared.instr.Instr.{Instr}
 use Rattle.vsi_image.specs.declared.instr.Instr.TheVariants.{Jz, Jmp}
 use Rattle.vsi_image.specs.declared.instr.Image.{Image}
 use Rattle.vsi_machine.specs.Counting.{HaltsIn}
+use Rattle.vsi_bound.specs.Search.{StopsAt}
 use Rattle.vsi_bound.specs.declared.bound.Bound.{Bound}
 use Rattle.vsi_bound.specs.declared.bound.Bound.TheVariants.{Halts, Endless, Unstructured, TooLarge}
 
@@ -29,9 +30,10 @@ pub record IsLoop (code : List Instr) (test : ℕ) : Type 0 where
   pub next : jump + 1 ≡ target
   pub back : start ≤ test
 
--- An answer with two numbers means that the image always halts within them, and one with a loop names a loop.
+-- An answer with two numbers means that the image always halts within them; one with a loop names a loop that the
+-- search doesn't get past, for this reason.
 abbrev pub Answers : Image → Bound → Type 0
 Answers image (Halts least most) = AlwaysHalts image least most
-Answers image (Endless test reason) = IsLoop image.code.items test
+Answers image (Endless test reason) = IsLoop image.code.items test × StopsAt image test reason
 Answers image (Unstructured place) = Unit {0}
 Answers image TooLarge = Unit {0}

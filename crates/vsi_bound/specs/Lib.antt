@@ -1,9 +1,13 @@
 pub mod Known
 pub mod Stretch
 pub mod Values
+pub mod Transfer
 pub mod Counting
 pub mod Loops
 pub mod Looping
+pub mod Reasons
+pub mod Stopping
 pub mod Facts
+pub mod Search
 pub mod Bound
 pub mod Laws

@@ -1,15 +1,17 @@
 //! The bound of an image.
 
-ghost use Rattle.std.specs.Prelude.{◌≡◌, IfOk, OnOk, Some, slice_get, true};
+ghost use Rattle.std.specs.Prelude.{◌≡◌, IfErr, IfOk, OnOk, Some, slice_get};
 ghost use Rattle.vsi_image.specs.declared.instr.Instr.TheVariants as instr;
-ghost use Rattle.vsi_bound.specs.Bound.{Answers, IsLoop};
+ghost use Rattle.vsi_bound.specs.Bound.{Answers};
 ghost use Rattle.vsi_bound.specs.Facts.{AreSame};
+ghost use Rattle.vsi_bound.specs.Search.{StopsAt};
+ghost use Rattle.vsi_bound.specs.Stopping.{OnEndless};
 ghost use Rattle.vsi_bound.specs.Stretch.{Ends};
 
 use crate::cost::{Cost, exactly, sum};
-use crate::error::{Reason, Stop};
+use crate::error::{Fault, Reason, Stop};
 use crate::known::Known;
-use crate::stretches::{is_at, jump_at, stretch, target_at};
+use crate::stretches::{is_at, stretch};
 use std::alloc::{AllocError, Global};
 use vsi_image::{Image, Instr, Verified};
 use vsi_syntax::MAX_DEPTH;
@@ -40,45 +42,30 @@ fn fresh(alloc: Global, slots: u16) -> Result<Vec<Known>, AllocError>
 }
 
 /// Checks that there is a HALT at this position.
-fn check_halt(code: &[Instr], place: usize) -> Result<(), Stop>
+fn check_halt(code: &[Instr], place: usize) -> Result<(), Fault>
     ensures { OnOk result (slice_get code.now place ≡ Some instr.Halt) }
 {
     if is_at(code, place, Instr::Halt) {
         Ok(())
     } else {
-        Err(Stop::Unread(place))
+        Err(Fault::Unread(place))
     }
 }
 
 /// The cost of an image's runs.
 fn cost_of(alloc: Global, image: &Image) -> Result<Cost, Stop>
-    ensures { IfOk result (Ends image.now.code.items image.now.slots) }
+    ensures ends { IfOk result (Ends image.now.code.items image.now.slots) }
+    ensures stops { IfErr result (OnEndless (StopsAt image.now)) }
 {
     let code = image.code.as_slice();
     let Some(halt) = code.len().checked_sub(1) else {
-        return Err(Stop::Unread(0));
+        return Err(Stop::Other(Fault::Unread(0)));
     };
     check_halt(code, halt)?;
     let mut facts = fresh(alloc, image.slots)?;
     let cost = stretch(alloc, code, &mut facts, 0, halt, MAX_DEPTH as u16)?;
     let whole = sum(cost, exactly(1))?;
     Ok(whole)
-}
-
-/// Whether the instruction at this position tests the guard of a loop.
-fn is_loop(code: &[Instr], test: usize) -> bool
-    ensures { result ≡ true → IsLoop code.now test }
-{
-    let Some(target) = target_at(code, test) else {
-        return false;
-    };
-    if target == 0 {
-        return false;
-    }
-    match jump_at(code, target - 1) {
-        Some(start) => start <= test,
-        None => false,
-    }
 }
 
 /// The number of instructions that an image can run. The time is linear in the code, times the
@@ -95,16 +82,9 @@ pub fn bound_of(alloc: Global, image: &Verified) -> Result<Bound, AllocError>
             least: cost.least,
             most: cost.most,
         }),
-        Err(Stop::Endless(test, reason)) => {
-            // It is a loop; the test proves it.
-            if is_loop(&image.image().code, test) {
-                Ok(Bound::Endless { test, reason })
-            } else {
-                Ok(Bound::Unstructured(test))
-            }
-        }
-        Err(Stop::Unread(place)) => Ok(Bound::Unstructured(place)),
-        Err(Stop::TooLarge) => Ok(Bound::TooLarge),
-        Err(Stop::Memory) => Err(AllocError),
+        Err(Stop::Endless(test, reason)) => Ok(Bound::Endless { test, reason }),
+        Err(Stop::Other(Fault::Unread(place))) => Ok(Bound::Unstructured(place)),
+        Err(Stop::Other(Fault::TooLarge)) => Ok(Bound::TooLarge),
+        Err(Stop::Other(Fault::Memory)) => Err(AllocError),
     }
 }

@@ -2,7 +2,7 @@
 
 ghost use Rattle.std.specs.Prelude.{◌≡◌, ◌+◌, ◌*◌, IfOk, min, max};
 
-use crate::error::Stop;
+use crate::error::Fault;
 
 /// The least and the greatest number of instructions.
 #[derive(Clone, Copy, PartialEq, Eq)]
@@ -20,15 +20,15 @@ pub(crate) fn exactly(n: u64) -> Cost
 }
 
 /// The cost of two stretches in turn.
-pub(crate) fn sum(first: Cost, second: Cost) -> Result<Cost, Stop>
+pub(crate) fn sum(first: Cost, second: Cost) -> Result<Cost, Fault>
     ensures least { IfOk result (λ cost. cost.least ≡ first.least + second.least) }
     ensures most { IfOk result (λ cost. cost.most ≡ first.most + second.most) }
 {
     let Some(least) = first.least.checked_add(second.least) else {
-        return Err(Stop::TooLarge);
+        return Err(Fault::TooLarge);
     };
     let Some(most) = first.most.checked_add(second.most) else {
-        return Err(Stop::TooLarge);
+        return Err(Fault::TooLarge);
     };
     Ok(Cost { least, most })
 }
@@ -45,15 +45,15 @@ pub(crate) fn either(first: Cost, second: Cost) -> Cost
 }
 
 /// The cost of this many turns.
-pub(crate) fn times(turns: u64, turn: Cost) -> Result<Cost, Stop>
+pub(crate) fn times(turns: u64, turn: Cost) -> Result<Cost, Fault>
     ensures least { IfOk result (λ cost. cost.least ≡ turns * turn.least) }
     ensures most { IfOk result (λ cost. cost.most ≡ turns * turn.most) }
 {
     let Some(least) = turns.checked_mul(turn.least) else {
-        return Err(Stop::TooLarge);
+        return Err(Fault::TooLarge);
     };
     let Some(most) = turns.checked_mul(turn.most) else {
-        return Err(Stop::TooLarge);
+        return Err(Fault::TooLarge);
     };
     Ok(Cost { least, most })
 }

@@ -1,7 +1,8 @@
 //! Why no bound was found.
 
 ghost use Rattle.std.specs.Prelude.{◌≡◌};
-ghost use Rattle.vsi_bound.specs.declared.error.Stop.TheVariants.{Memory};
+ghost use Rattle.vsi_bound.specs.declared.error.Fault.TheVariants.{Memory};
+ghost use Rattle.vsi_bound.specs.declared.error.Stop.TheVariants.{Other};
 
 use std::alloc::{AllocError, AllocFailed};
 
@@ -19,30 +20,52 @@ pub enum Reason {
     Wraps,
 }
 
-/// Why a part of the code has no bound.
+/// Why the cost of a part of the code can't be computed.
 #[derive(Drop)]
-pub(crate) enum Stop {
+pub(crate) enum Fault {
     Memory,
     /// The instruction with this number doesn't belong to commands.
     Unread(usize),
-    /// The loop whose test is the instruction with this number.
-    Endless(usize, Reason),
     /// The number of instructions is above the greatest `u64`.
     TooLarge,
 }
 
-impl From<AllocError> for Stop {
+/// Why a part of the code has no bound.
+#[derive(Drop)]
+pub(crate) enum Stop {
+    Other(Fault),
+    /// The loop whose test is the instruction with this number.
+    Endless(usize, Reason),
+}
+
+impl From<AllocError> for Fault {
     ghost from_gives = { λ _ e. e ≡ Memory };
 
-    fn from(_error: AllocError) -> Stop {
-        Stop::Memory
+    fn from(_error: AllocError) -> Fault {
+        Fault::Memory
     }
 }
 
-impl<T: Drop> From<AllocFailed<T>> for Stop {
+impl<T: Drop> From<AllocFailed<T>> for Fault {
     ghost from_gives = { λ _ e. e ≡ Memory };
 
-    fn from(_error: AllocFailed<T>) -> Stop {
-        Stop::Memory
+    fn from(_error: AllocFailed<T>) -> Fault {
+        Fault::Memory
+    }
+}
+
+impl From<AllocError> for Stop {
+    ghost from_gives = { λ _ e. e ≡ Other Memory };
+
+    fn from(_error: AllocError) -> Stop {
+        Stop::Other(Fault::Memory)
+    }
+}
+
+impl From<Fault> for Stop {
+    ghost from_gives = { λ fault e. e ≡ Other fault };
+
+    fn from(fault: Fault) -> Stop {
+        Stop::Other(fault)
     }
 }

@@ -1,6 +1,8 @@
 //! The facts about the slots at the turns of a loop and after it.
 
-ghost use Rattle.std.specs.Prelude.{◌≡◌, ◌≤◌, ◌⊎◌, ℤ, IfOk, List, Some, length, slice_get, true};
+ghost use Rattle.std.specs.Prelude.{◌≡◌, ◌≢◌, ◌≤◌, ◌⊎◌, ℤ, [], ◌∷◌, ◌++◌, IfOk, List, Some, false, length, slice_get, true};
+ghost use Rattle.vsi_image.specs.declared.instr.Instr.{Instr};
+ghost use Rattle.vsi_image.specs.declared.instr.Instr.TheVariants.{Store};
 ghost use Rattle.vsi_bound.specs.Loops.{Enters, IsEntry, Keeps, Remain};
 ghost use Rattle.vsi_bound.specs.declared.known.Known.TheVariants.{Any, Number};
 ghost use Rattle.vsi_bound.specs.declared.known.Known.{Known};
@@ -11,7 +13,8 @@ use vsi_image::Instr;
 
 /// A number, or that the slot's word is the one for comparison.
 fn number_or_same(known: Known, slot: u16) -> Known
-    ensures { (facts : List Known) → slice_get facts slot ≡ Some known → Enters facts slot result }
+    ensures { (facts : List Known) → slice_get facts slot ≡ Some known
+        → Enters [] facts slot result }
 {
     match known {
         Known::Number(n) => Known::Number(n),
@@ -22,30 +25,40 @@ fn number_or_same(known: Known, slot: u16) -> Known
 /// Keeps the numbers; the fact about each other slot is that it has its own word.
 fn compare_with(entry: &mut [Known])
     requires { length entry.old ≤ 65535 }
-    ensures { IsEntry entry.old entry.new }
+    ensures { IsEntry [] entry.old entry.new }
 {
     for slot in 0..entry.len() {
         entry[slot] = number_or_same(entry[slot], slot as u16);
     }
 }
 
-/// Forgets the number of a slot.
+/// Forgets the number of a slot that one more instruction stores into.
 fn forget(entry: &mut [Known], slot: u16)
-    ensures { (facts : List Known) → IsEntry facts entry.old → IsEntry facts entry.new }
+    ensures { (body : List Instr) (facts : List Known) → IsEntry body facts entry.old
+        → IsEntry (body ++ Store slot ∷ []) facts entry.new }
 {
     if (slot as usize) < entry.len() {
         entry[slot as usize] = Known::Same(slot);
     }
 }
 
+/// Forgets the number of the slot that one more instruction stores into, if it does.
+fn forget_by(entry: &mut [Known], instr: Instr)
+    ensures { (body : List Instr) (facts : List Known) → IsEntry body facts entry.old
+        → IsEntry (body ++ instr ∷ []) facts entry.new }
+{
+    if let Instr::Store(slot) = instr {
+        forget(entry, slot);
+    }
+}
+
 /// Forgets the numbers of slots that the code stores into.
 fn forget_stored(entry: &mut [Known], code: &[Instr])
-    ensures { (facts : List Known) → IsEntry facts entry.old → IsEntry facts entry.new }
+    ensures { (facts : List Known) → IsEntry [] facts entry.old
+        → IsEntry code.now facts entry.new }
 {
     for instr in code {
-        if let Instr::Store(slot) = instr {
-            forget(entry, *slot);
-        }
+        forget_by(entry, *instr);
     }
 }
 
@@ -56,7 +69,7 @@ pub(crate) fn entry_of(
     body: &[Instr],
 ) -> Result<Vec<Known>, AllocError>
     requires { length facts.now ≤ 65535 }
-    ensures { IfOk result (λ entry. IsEntry facts.now entry.items) }
+    ensures { IfOk result (λ entry. IsEntry body.now facts.now entry.items) }
 {
     let mut entry = facts.to_vec(alloc)?;
     compare_with(&mut entry);
@@ -66,7 +79,8 @@ pub(crate) fn entry_of(
 
 /// Whether a turn keeps the number of a slot, if it has one.
 fn is_kept(entry: Known, turned: Known) -> bool
-    ensures { result ≡ true → (n : ℤ) → entry ≡ Number n → turned ≡ Number n }
+    ensures kept { result ≡ true → (n : ℤ) → entry ≡ Number n → turned ≡ Number n }
+    ensures changed { result ≡ false → (n : ℤ) × (entry ≡ Number n) × (turned ≢ Number n) }
 {
     match entry {
         Known::Number(_) => turned == entry,
@@ -77,7 +91,8 @@ fn is_kept(entry: Known, turned: Known) -> bool
 /// Whether a turn keeps each number.
 pub(crate) fn keeps(entry: &[Known], turned: &[Known]) -> bool
     requires { length turned.now ≡ length entry.now }
-    ensures { result ≡ true → Keeps entry.now turned.now }
+    ensures kept { result ≡ true → Keeps entry.now turned.now }
+    ensures changed { result ≡ false → Keeps entry.now turned.now → ⊥ }
 {
     for slot in 0..entry.len() {
         if !is_kept(entry[slot], turned[slot]) {
@@ -89,7 +104,8 @@ pub(crate) fn keeps(entry: &[Known], turned: &[Known]) -> bool
 
 /// Whether two facts are the same.
 fn are_same(first: Known, second: Known) -> bool
-    ensures { result ≡ true → first ≡ second }
+    ensures same { result ≡ true → first ≡ second }
+    ensures other { result ≡ false → first ≢ second }
 {
     first == second
 }
@@ -97,8 +113,9 @@ fn are_same(first: Known, second: Known) -> bool
 /// The fact about a slot after a loop: the last word for the loop's variable, the fact from before
 /// the loop for a slot that no turn changes, and nothing for any other.
 fn left(before: Known, is_same: bool, k: usize, slot: u16, last: i64) -> Known
-    ensures { (result ≡ Any) ⊎ (((k ≡ slot) × (result ≡ Number last))
-        ⊎ ((is_same ≡ true) × (result ≡ before))) }
+    ensures { ((k ≡ slot) × (result ≡ Number last))
+        ⊎ (((k ≢ slot) × (is_same ≡ true) × (result ≡ before))
+        ⊎ ((k ≢ slot) × (is_same ≡ false) × (result ≡ Any))) }
 {
     if k == slot as usize {
         Known::Number(last)

@@ -1,12 +1,14 @@
 //! The cost of a loop, from the cost of one turn.
 
-ghost use Rattle.std.specs.Prelude.{◌≡◌, ◌+◌, ◌-◌, ◌*◌, ◌^◌, ◌<◌, ◌≤◌, IfOk, OnOk, length};
+ghost use Rattle.std.specs.Prelude.{◌≡◌, ◌+◌, ◌-◌, ◌*◌, ◌^◌, ◌<◌, ◌≤◌, IfErr, IfOk, OnOk, length};
 ghost use Rattle.vsi_bound.specs.Loops.{Keeps};
 ghost use Rattle.vsi_bound.specs.Looping.{Finished, IsCounter};
+ghost use Rattle.vsi_bound.specs.Stopping.{IsChanged, IsUncounted, OnEndless, Unfinished};
 ghost use Rattle.vsi_bound.specs.Stretch.{Evaluates};
+ghost use Rattle.vsi_bound.specs.Transfer.{IsValue};
 
 use crate::cost::{Cost, exactly, sum, times};
-use crate::error::{Reason, Stop};
+use crate::error::{Fault, Reason, Stop};
 use crate::facts::{keeps, leave};
 use crate::known::Known;
 use crate::loops::{Counter, counter_of};
@@ -31,20 +33,24 @@ pub(crate) fn guard_at(
     code: &[Instr],
     entry: &[Known],
     test: Test,
-) -> Result<Known, Stop>
-    ensures { IfOk result (Evaluates code.now entry.now test.start test.place) }
+) -> Result<Known, Fault>
+    ensures value { IfOk result (Evaluates code.now entry.now test.start test.place) }
+    ensures exact { IfOk result (IsValue code.now entry.now test.start test.place) }
 {
     let (end, guard) = evaluate(alloc, code, entry, test.start)?;
     if end == test.place {
         Ok(guard)
     } else {
-        Err(Stop::Unread(end))
+        Err(Fault::Unread(end))
     }
 }
 
 /// The variable of the loop with this test.
 fn counter(facts: &[Known], test: Test, guard: Known, turned: &[Known]) -> Result<Counter, Stop>
-    ensures { IfOk result (λ c. IsCounter facts.now guard turned.now c.slot c.turns c.last) }
+    ensures counter { IfOk result
+        (λ c. IsCounter facts.now guard turned.now c.slot c.turns c.last) }
+    ensures none { IfErr result
+        (OnEndless (IsUncounted facts.now guard turned.now test.place)) }
 {
     match counter_of(facts, guard, turned) {
         Ok(counter) => Ok(counter),
@@ -55,7 +61,8 @@ fn counter(facts: &[Known], test: Test, guard: Known, turned: &[Known]) -> Resul
 /// Checks that a turn keeps each number.
 fn check_kept(entry: &[Known], turned: &[Known], place: usize) -> Result<(), Stop>
     requires { length turned.now ≡ length entry.now }
-    ensures { OnOk result (Keeps entry.now turned.now) }
+    ensures kept { OnOk result (Keeps entry.now turned.now) }
+    ensures changed { IfErr result (OnEndless (IsChanged entry.now turned.now place)) }
 {
     if keeps(entry, turned) {
         Ok(())
@@ -66,7 +73,7 @@ fn check_kept(entry: &[Known], turned: &[Known], place: usize) -> Result<(), Sto
 
 /// The cost of this many turns, each of which tests the guard, runs its body and jumps back, and of
 /// the last test.
-fn whole(turns: u64, tested: u64, body: Cost) -> Result<Cost, Stop>
+fn whole(turns: u64, tested: u64, body: Cost) -> Result<Cost, Fault>
     requires { tested < 2 ^ 63 }
     ensures least { IfOk result
         (λ cost. cost.least ≡ turns * (body.least + (tested + 1)) + tested) }
@@ -91,8 +98,10 @@ pub(crate) fn finish(
     requires turned { length turned.now ≡ length facts.old }
     requires order { test.start ≤ test.place }
     requires short { test.place < 2 ^ 32 }
-    ensures { IfOk result (λ cost. Finished facts.old entry.now guard turned.now
+    ensures finished { IfOk result (λ cost. Finished facts.old entry.now guard turned.now
         (test.place - test.start + 1) body cost facts.new) }
+    ensures fails { IfErr result
+        (OnEndless (Unfinished facts.old entry.now guard turned.now test.place)) }
 {
     let counter = counter(facts, test, guard, turned)?;
     check_kept(entry, turned, test.place)?;

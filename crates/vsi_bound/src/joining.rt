@@ -1,6 +1,6 @@
 //! The facts that hold where two branches meet.
 
-ghost use Rattle.std.specs.Prelude.{◌≡◌, ◌⊎◌, length};
+ghost use Rattle.std.specs.Prelude.{◌≡◌, ◌≢◌, ◌⊎◌, length};
 ghost use Rattle.vsi_bound.specs.Loops.{Joined};
 ghost use Rattle.vsi_bound.specs.declared.known.Known.TheVariants.{Any};
 
@@ -8,7 +8,7 @@ use crate::known::Known;
 
 /// The fact about a word after either of two branches.
 fn met(first: Known, second: Known) -> Known
-    ensures { (result ≡ Any) ⊎ ((result ≡ first) × (result ≡ second)) }
+    ensures { ((result ≡ first) × (result ≡ second)) ⊎ ((result ≡ Any) × (first ≢ second)) }
 {
     if first == second { first } else { Known::Any }
 }

@@ -4,6 +4,7 @@ ghost use Rattle.std.specs.Prelude.{◌≡◌, ℤ, List};
 ghost use Rattle.vsi_syntax.specs.Operators.{apply};
 ghost use Rattle.vsi_syntax.specs.declared.operator.Op.TheVariants.{Add, Sub, Lt};
 ghost use Rattle.vsi_bound.specs.Known.{Means};
+ghost use Rattle.vsi_bound.specs.Transfer.{difference_fact, fact_of, less_fact, sum_fact};
 
 use vsi_syntax::Op;
 
@@ -26,8 +27,9 @@ pub(crate) enum Known {
 
 /// The fact about a sum.
 fn sum(left: Known, right: Known) -> Known
-    ensures { (m : List ℤ) (a b : ℤ) → Means m left a → Means m right b
+    ensures means { (m : List ℤ) (a b : ℤ) → Means m left a → Means m right b
         → Means m result (apply Add a b) }
+    ensures exact { result ≡ sum_fact left right }
 {
     match (left, right) {
         (Known::Same(slot), Known::Number(n)) => Known::Moved(slot, n),
@@ -38,8 +40,9 @@ fn sum(left: Known, right: Known) -> Known
 
 /// The fact about a difference.
 fn difference(left: Known, right: Known) -> Known
-    ensures { (m : List ℤ) (a b : ℤ) → Means m left a → Means m right b
+    ensures means { (m : List ℤ) (a b : ℤ) → Means m left a → Means m right b
         → Means m result (apply Sub a b) }
+    ensures exact { result ≡ difference_fact left right }
 {
     match (left, right) {
         (Known::Same(slot), Known::Number(n)) => {
@@ -55,8 +58,9 @@ fn difference(left: Known, right: Known) -> Known
 
 /// The fact about a comparison.
 fn less(left: Known, right: Known) -> Known
-    ensures { (m : List ℤ) (a b : ℤ) → Means m left a → Means m right b
+    ensures means { (m : List ℤ) (a b : ℤ) → Means m left a → Means m right b
         → Means m result (apply Lt a b) }
+    ensures exact { result ≡ less_fact left right }
 {
     match (left, right) {
         (Known::Same(slot), Known::Number(n)) => Known::Below(slot, n),
@@ -67,8 +71,9 @@ fn less(left: Known, right: Known) -> Known
 
 /// The fact about the result of an operator.
 pub(crate) fn applied(op: Op, left: Known, right: Known) -> Known
-    ensures { (m : List ℤ) (a b : ℤ) → Means m left a → Means m right b
+    ensures means { (m : List ℤ) (a b : ℤ) → Means m left a → Means m right b
         → Means m result (apply op a b) }
+    ensures exact { result ≡ fact_of op left right }
 {
     match op {
         Op::Add => sum(left, right),

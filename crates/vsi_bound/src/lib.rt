@@ -5,10 +5,11 @@
 //! instructions of every path through it. Code without loops takes its shortest and its longest
 //! path. A loop that counts in equal steps from a known number to a known limit takes its turns,
 //! each as long as its body. The clause says that the image halts from every store, after no fewer
-//! and no more instructions than returned, or that the result names a loop. `laws` states the
-//! consequences for budgets.
+//! and no more instructions than returned, or that the result names a loop that the search doesn't
+//! get past, for the reason that is named. `laws` states the consequences for budgets.
 //!
-//! To be believed: `specs/Bound` and `specs/Laws`. The other files of `specs/` only support proofs.
+//! To be believed: `specs/Bound` and `specs/Laws`; for a loop without a bound also `specs/Search`
+//! and the files that it uses. `specs/Values` and `specs/Stopping` only support proofs.
 #![tactic(auto)]
 
 mod bound;

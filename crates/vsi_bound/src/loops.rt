@@ -1,10 +1,11 @@
 //! The turns of one loop.
 
-ghost use Rattle.std.specs.Prelude.{◌≡◌, IfOk, IfSome, Some, slice_get};
+ghost use Rattle.std.specs.Prelude.{◌≡◌, ◌≢◌, ℕ, ℤ, Bool, IfErr, IfNone, IfOk, IfSome, Some, slice_get};
 ghost use Rattle.vsi_bound.specs.declared.known.Known.TheVariants as spec;
 ghost use Rattle.vsi_bound.specs.Counting.{Counts};
 ghost use Rattle.vsi_bound.specs.Looping as looping;
 ghost use Rattle.vsi_bound.specs.Looping.{IsCounter, guard_value};
+ghost use Rattle.vsi_bound.specs.Reasons.{HasNoCounter, Uncounted};
 
 use crate::counting::{Turns, turns_down, turns_up};
 use crate::error::Reason;
@@ -20,7 +21,8 @@ pub(crate) struct Counter {
 
 /// The number that a slot has.
 fn number_at(facts: &[Known], slot: u16) -> Option<i64>
-    ensures { IfSome result (λ n. slice_get facts.now slot ≡ Some (spec.Number n)) }
+    ensures some { IfSome result (λ n. slice_get facts.now slot ≡ Some (spec.Number n)) }
+    ensures none { IfNone result ((n : ℤ) → slice_get facts.now slot ≢ Some (spec.Number n)) }
 {
     if slot as usize >= facts.len() {
         return None;
@@ -33,7 +35,9 @@ fn number_at(facts: &[Known], slot: u16) -> Option<i64>
 
 /// The number that a turn adds to a slot.
 fn step_at(turned: &[Known], slot: u16) -> Option<i64>
-    ensures { IfSome result (λ d. slice_get turned.now slot ≡ Some (spec.Moved slot d)) }
+    ensures some { IfSome result (λ d. slice_get turned.now slot ≡ Some (spec.Moved slot d)) }
+    ensures none { IfNone result
+        ((d : ℤ) → slice_get turned.now slot ≢ Some (spec.Moved slot d)) }
 {
     if slot as usize >= turned.len() {
         return None;
@@ -44,20 +48,11 @@ fn step_at(turned: &[Known], slot: u16) -> Option<i64>
     }
 }
 
-/// The reason why a loop doesn't count from the start to the limit.
-fn reason_of(start: i64, step: i64, limit: i64, up: bool) -> Reason {
-    let leads = if up { step > 0 } else { step < 0 };
-    let begun = if up { start < limit } else { start > limit };
-    if begun && !leads {
-        Reason::Step
-    } else {
-        Reason::Wraps
-    }
-}
-
-/// The turns of a loop that goes up or down to a limit.
-fn counted(start: i64, step: i64, limit: i64, up: bool) -> Option<Turns>
-    ensures { IfSome result (λ t. Counts (guard_value up limit) step t.turns start t.last) }
+/// The turns of a loop that goes up or down to a limit, or the reason why there are none.
+fn counted(start: i64, step: i64, limit: i64, up: bool) -> Result<Turns, Reason>
+    ensures counts { IfOk result
+        (λ t. Counts (guard_value up limit) step t.turns start t.last) }
+    ensures fails { IfErr result (λ reason. Uncounted reason up limit step start) }
 {
     if up {
         turns_up(start, step, limit)
@@ -66,19 +61,11 @@ fn counted(start: i64, step: i64, limit: i64, up: bool) -> Option<Turns>
     }
 }
 
-/// The same, or the reason why there are none.
-fn turns_of(start: i64, step: i64, limit: i64, up: bool) -> Result<Turns, Reason>
-    ensures { IfOk result (λ t. Counts (guard_value up limit) step t.turns start t.last) }
-{
-    match counted(start, step, limit, up) {
-        Some(turns) => Ok(turns),
-        None => Err(reason_of(start, step, limit, up)),
-    }
-}
-
 /// The slot, the limit and the direction of a guard.
 fn guard_of(guard: Known) -> Option<(u16, i64, bool)>
-    ensures { IfSome result (λ g. guard ≡ looping.guard_of g.2 g.0 g.1) }
+    ensures some { IfSome result (λ g. guard ≡ looping.guard_of g.2 g.0 g.1) }
+    ensures none { IfNone result ((up : Bool) (slot : ℕ) (limit : ℤ)
+        → guard ≢ looping.guard_of up slot limit) }
 {
     match guard {
         Known::Below(slot, limit) => Some((slot, limit, true)),
@@ -90,7 +77,9 @@ fn guard_of(guard: Known) -> Option<(u16, i64, bool)>
 /// The variable by which a loop counts, from the facts before the loop, the fact about its guard,
 /// and the facts after each turn.
 pub(crate) fn counter_of(facts: &[Known], guard: Known, turned: &[Known]) -> Result<Counter, Reason>
-    ensures { IfOk result (λ c. IsCounter facts.now guard turned.now c.slot c.turns c.last) }
+    ensures counter { IfOk result
+        (λ c. IsCounter facts.now guard turned.now c.slot c.turns c.last) }
+    ensures none { IfErr result (λ reason. HasNoCounter reason facts.now guard turned.now) }
 {
     let Some((slot, limit, up)) = guard_of(guard) else {
         return Err(Reason::Guard);
@@ -101,7 +90,7 @@ pub(crate) fn counter_of(facts: &[Known], guard: Known, turned: &[Known]) -> Res
     let Some(step) = step_at(turned, slot) else {
         return Err(Reason::Step);
     };
-    let turns = turns_of(start, step, limit, up)?;
+    let turns = counted(start, step, limit, up)?;
     Ok(Counter {
         slot,
         turns: turns.turns,

@@ -1,11 +1,13 @@
 //! Stretches of code: their cost, and the facts after them.
 
-ghost use Rattle.std.specs.Prelude.{◌≡◌, ◌+◌, ◌≤◌, IfOk, IfSome, OnOk, Some, length, slice_get, true};
+ghost use Rattle.std.specs.Prelude.{◌≡◌, ◌+◌, ◌≤◌, IfErr, IfOk, IfSome, OnOk, Some, length, slice_get, true};
 ghost use Rattle.vsi_image.specs.declared.instr.Instr.TheVariants as instr;
+ghost use Rattle.vsi_bound.specs.Search.{Fails, IsChoice, Passes, Reaches, Stuck};
+ghost use Rattle.vsi_bound.specs.Stopping.{OnEndless};
 ghost use Rattle.vsi_bound.specs.Stretch.{Leads, IsTest, Stores};
 
 use crate::cost::{Cost, either, exactly, sum};
-use crate::error::Stop;
+use crate::error::{Fault, Stop};
 use crate::facts::entry_of;
 use crate::finishing::{Test, finish, guard_at};
 use crate::joining::join;
@@ -24,21 +26,8 @@ pub(crate) fn is_at(code: &[Instr], place: usize, instr: Instr) -> bool
     code[place] == instr
 }
 
-/// The target of the test at a position.
-pub(crate) fn target_at(code: &[Instr], place: usize) -> Option<usize>
-    ensures { IfSome result (λ target. slice_get code.now place ≡ Some (instr.Jz target)) }
-{
-    if place >= code.len() {
-        return None;
-    }
-    match code[place] {
-        Instr::Jz(target) => Some(target as usize),
-        _ => None,
-    }
-}
-
 /// The target of the jump at a position.
-pub(crate) fn jump_at(code: &[Instr], place: usize) -> Option<usize>
+fn jump_at(code: &[Instr], place: usize) -> Option<usize>
     ensures { IfSome result (λ end. slice_get code.now place ≡ Some (instr.Jmp end)) }
 {
     if place >= code.len() {
@@ -51,18 +40,18 @@ pub(crate) fn jump_at(code: &[Instr], place: usize) -> Option<usize>
 }
 
 /// The test at a position, whose guard begins at the start and which leads to the target.
-fn test_at(code: &[Instr], start: usize, place: usize, target: u32) -> Result<Test, Stop>
+fn test_at(code: &[Instr], start: usize, place: usize, target: u32) -> Result<Test, Fault>
     requires { start ≤ place }
     ensures test { IfOk result (λ t. IsTest code.now t) }
     ensures start { IfOk result (λ t. t.start ≡ start) }
     ensures place { IfOk result (λ t. t.place ≡ place) }
 {
     if !is_at(code, place, Instr::Jz(target)) || target as usize <= place + 1 {
-        return Err(Stop::Unread(place));
+        return Err(Fault::Unread(place));
     }
     let jump = target as usize - 1;
     let Some(end) = jump_at(code, jump) else {
-        return Err(Stop::Unread(place));
+        return Err(Fault::Unread(place));
     };
     Ok(Test {
         start,
@@ -74,11 +63,11 @@ fn test_at(code: &[Instr], start: usize, place: usize, target: u32) -> Result<Te
 }
 
 /// Writes the fact about a word to a slot.
-fn store(facts: &mut [Known], slot: u16, value: Known, place: usize) -> Result<(), Stop>
+fn store(facts: &mut [Known], slot: u16, value: Known, place: usize) -> Result<(), Fault>
     ensures { OnOk result (Stores slot value facts.old facts.new) }
 {
     if slot as usize >= facts.len() {
-        return Err(Stop::Unread(place));
+        return Err(Fault::Unread(place));
     }
     facts[slot as usize] = value;
     Ok(())
@@ -95,7 +84,9 @@ pub(crate) fn stretch(
     room: u16,
 ) -> Result<Cost, Stop>
     requires { length facts.old ≤ 65535 }
-    ensures { IfOk result (λ cost. Leads code.now facts.old from to cost facts.new) }
+    ensures leads { IfOk result (λ cost. Leads code.now facts.old from to cost facts.new) }
+    ensures reaches { OnOk result (Reaches code.now facts.old from to facts.new) }
+    ensures stuck { IfErr result (OnEndless (Stuck code.now facts.old from to)) }
 {
     let mut place = from;
     let mut cost = exactly(0);
@@ -110,7 +101,7 @@ pub(crate) fn stretch(
     if place == to {
         Ok(cost)
     } else {
-        Err(Stop::Unread(to))
+        Err(Stop::Other(Fault::Unread(to)))
     }
 }
 
@@ -124,7 +115,9 @@ fn command(
     room: u16,
 ) -> Result<(usize, Cost), Stop>
     requires { length facts.old ≤ 65535 }
-    ensures { IfOk result (λ r. Leads code.now facts.old start r.0 r.1 facts.new) }
+    ensures leads { IfOk result (λ r. Leads code.now facts.old start r.0 r.1 facts.new) }
+    ensures passes { IfOk result (λ r. Passes code.now facts.old start r.0 facts.new) }
+    ensures fails { IfErr result (OnEndless (Fails code.now facts.old start)) }
 {
     let (place, value) = evaluate(alloc, code, facts, start)?;
     let taken = exactly((place - start + 1) as u64);
@@ -136,7 +129,7 @@ fn command(
         Instr::Jz(target) => {
             let test = test_at(code, start, place, target)?;
             if room == 0 {
-                return Err(Stop::Unread(place));
+                return Err(Stop::Other(Fault::Unread(place)));
             }
             if test.end == start {
                 let rounds = turns(alloc, code, facts, test, room - 1)?;
@@ -146,7 +139,7 @@ fn command(
             let whole = sum(taken, ways)?;
             Ok((test.end, whole))
         }
-        _ => Err(Stop::Unread(place)),
+        _ => Err(Stop::Other(Fault::Unread(place))),
     }
 }
 
@@ -160,11 +153,13 @@ fn branches(
     room: u16,
 ) -> Result<Cost, Stop>
     requires small { length facts.old ≤ 65535 }
-    requires test { IsTest code.now test }
+    requires choice { IsChoice code.now facts.old test }
     ensures first { IfOk result
         (λ cost. Leads code.now facts.old (test.place + 1) test.end cost facts.new) }
     ensures second { IfOk result
         (λ cost. Leads code.now facts.old test.target test.end cost facts.new) }
+    ensures passes { OnOk result (Passes code.now facts.old test.start test.end facts.new) }
+    ensures fails { IfErr result (OnEndless (Fails code.now facts.old test.start)) }
 {
     let mut other = facts.to_vec(alloc)?;
     let first = stretch(alloc, code, facts, test.place + 1, test.jump, room)?;
@@ -186,7 +181,10 @@ fn turns(
     requires small { length facts.old ≤ 65535 }
     requires test { IsTest code.now test }
     requires back { test.end ≡ test.start }
-    ensures { IfOk result (λ cost. Leads code.now facts.old test.start test.target cost facts.new) }
+    ensures leads { IfOk result
+        (λ cost. Leads code.now facts.old test.start test.target cost facts.new) }
+    ensures passes { OnOk result (Passes code.now facts.old test.start test.target facts.new) }
+    ensures fails { IfErr result (OnEndless (Fails code.now facts.old test.start)) }
 {
     let entry = entry_of(alloc, facts, &code[test.place + 1..test.jump])?;
     let guard = guard_at(alloc, code, &entry, test)?;

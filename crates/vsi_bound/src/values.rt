@@ -1,12 +1,13 @@
 //! The fact about the value of an expression's code.
 
-ghost use Rattle.std.specs.Prelude.{◌≡◌, ◌<◌, ◌≤◌, [], ◌∷◌, IfOk, IfSome, List, OnOk, length};
+ghost use Rattle.std.specs.Prelude.{◌≡◌, ◌<◌, ◌≤◌, [], ◌∷◌, IfOk, IfSome, List, OnOk, Some, length, reverse};
 ghost use Rattle.vsi_image.specs.declared.instr.Instr.TheVariants as spec;
 ghost use Rattle.vsi_bound.specs.declared.known.Known.{Known};
 ghost use Rattle.vsi_bound.specs.Stretch.{Evaluates};
+ghost use Rattle.vsi_bound.specs.Transfer.{IsValue, Puts, on_two, put as put_fact};
 ghost use Rattle.vsi_bound.specs.Values.{Acts, IsOperator, Operates};
 
-use crate::error::Stop;
+use crate::error::Fault;
 use crate::known::{Known, applied};
 use std::alloc::Global;
 use vsi_image::Instr;
@@ -14,7 +15,9 @@ use vsi_syntax::Op;
 
 /// The operator of an instruction.
 fn operator_of(instr: Instr) -> Option<Op>
-    ensures { IfSome result (IsOperator instr) }
+    ensures acts { IfSome result (IsOperator instr) }
+    ensures takes { IfSome result
+        (λ o. (facts s : List Known) → put_fact facts s instr ≡ on_two o s) }
 {
     match instr {
         Instr::Add => Some(Op::Add),
@@ -27,54 +30,68 @@ fn operator_of(instr: Instr) -> Option<Op>
 }
 
 /// Applies an operator to the two facts on top; the top one is about the right operand.
-fn operate(operands: &mut Vec<Known>, op: Op, place: usize) -> Result<(), Stop>
-    ensures { OnOk result (Operates op operands.old.items operands.new.items) }
+fn operate(operands: &mut Vec<Known>, op: Op, place: usize) -> Result<(), Fault>
+    ensures acts { OnOk result (Operates op operands.old.items operands.new.items) }
+    ensures takes { OnOk result
+        (on_two op (reverse operands.old.items) ≡ Some (reverse operands.new.items)) }
 {
     let Some(right) = operands.pop() else {
-        return Err(Stop::Unread(place));
+        return Err(Fault::Unread(place));
     };
     let Some(left) = operands.pop() else {
-        return Err(Stop::Unread(place));
+        return Err(Fault::Unread(place));
     };
     operands.push(applied(op, left, right))?;
     Ok(())
 }
 
 /// Puts a number on top.
-fn put_number(operands: &mut Vec<Known>, n: i64) -> Result<(), Stop>
-    ensures { OnOk result
+fn put_number(operands: &mut Vec<Known>, n: i64) -> Result<(), Fault>
+    ensures acts { OnOk result
         ((facts : List Known) → Acts (spec.Push n) facts operands.old.items operands.new.items) }
+    ensures puts { OnOk result ((facts : List Known) →
+        Puts facts operands.old.items (spec.Push n) operands.new.items) }
 {
     operands.push(Known::Number(n))?;
     Ok(())
 }
 
 /// Puts a slot's word on top.
-fn put_word(operands: &mut Vec<Known>, facts: &[Known], slot: u16, place: usize) -> Result<(), Stop>
-    ensures { OnOk result
+fn put_word(
+    operands: &mut Vec<Known>,
+    facts: &[Known],
+    slot: u16,
+    place: usize,
+) -> Result<(), Fault>
+    ensures acts { OnOk result
         (Acts (spec.Load slot) facts.now operands.old.items operands.new.items) }
+    ensures puts { OnOk result
+        (Puts facts.now operands.old.items (spec.Load slot) operands.new.items) }
 {
     if slot as usize >= facts.len() {
-        return Err(Stop::Unread(place));
+        return Err(Fault::Unread(place));
     }
     operands.push(facts[slot as usize])?;
     Ok(())
 }
 
 /// Puts an operator's word on top.
-fn put_operator(operands: &mut Vec<Known>, instr: Instr, place: usize) -> Result<(), Stop>
-    ensures { OnOk result
+fn put_operator(operands: &mut Vec<Known>, instr: Instr, place: usize) -> Result<(), Fault>
+    ensures acts { OnOk result
         ((facts : List Known) → Acts instr facts operands.old.items operands.new.items) }
+    ensures puts { OnOk result
+        ((facts : List Known) → Puts facts operands.old.items instr operands.new.items) }
 {
     match operator_of(instr) {
         Some(op) => operate(operands, op, place),
-        None => Err(Stop::Unread(place)),
+        None => Err(Fault::Unread(place)),
     }
 }
 
 /// Handles one instruction of an expression.
-fn put(operands: &mut Vec<Known>, facts: &[Known], instr: Instr, place: usize) -> Result<(), Stop>
-    ensures { OnOk result (Acts instr facts.now operands.old.items operands.new.items) }
+fn put(operands: &mut Vec<Known>, facts: &[Known], instr: Instr, place: usize) -> Result<(), Fault>
+    ensures acts { OnOk result (Acts instr facts.now operands.old.items operands.new.items) }
+    ensures puts { OnOk result (Puts facts.now operands.old.items instr operands.new.items) }
 {
     match instr {
         Instr::Push(n) => put_number(operands, n),
@@ -92,13 +109,13 @@ fn is_end(instr: Instr) -> bool {
 }
 
 /// The only fact of a list.
-fn only(operands: &[Known], place: usize) -> Result<Known, Stop>
+fn only(operands: &[Known], place: usize) -> Result<Known, Fault>
     ensures { IfOk result (λ known. operands.now ≡ known ∷ []) }
 {
     if operands.len() == 1 {
         Ok(operands[0])
     } else {
-        Err(Stop::Unread(place))
+        Err(Fault::Unread(place))
     }
 }
 
@@ -108,8 +125,9 @@ pub(crate) fn evaluate(
     code: &[Instr],
     facts: &[Known],
     start: usize,
-) -> Result<(usize, Known), Stop>
+) -> Result<(usize, Known), Fault>
     ensures value { IfOk result (λ r. Evaluates code.now facts.now start r.0 r.1) }
+    ensures exact { IfOk result (λ r. IsValue code.now facts.now start r.0 r.1) }
     ensures within { IfOk result (λ r. r.0 < length code.now) }
     ensures after { IfOk result (λ r. start ≤ r.0) }
 {
@@ -122,5 +140,5 @@ pub(crate) fn evaluate(
         }
         put(&mut operands, facts, instr, place)?;
     }
-    Err(Stop::Unread(code.len()))
+    Err(Fault::Unread(code.len()))
 }

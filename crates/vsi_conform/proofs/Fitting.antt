@@ -15,7 +15,7 @@ use Rattle.vsi_conform.specs.Asked.{HasWords}
 use Rattle.vsi_conform.specs.Bounded.{IsBoundedAs, ReportsBound}
 use Rattle.vsi_conform.specs.Conforms.{EndsAsAsked, AllEndAsAsked, Fits, IsAcceptedAs, Conforms}
 use Rattle.vsi_conform.specs.Points.{entries, word_points, words_of, state_points, trial_points, trials_points, global_points, points_of, is_none_told}
-use Rattle.vsi_conform.proofs.Bounded.{bounded_so}
+use Rattle.vsi_conform.proofs.BoundLines.{bounded_so}
 use Rattle.vsi_conform.proofs.Points.{both_empty, globals_kept, words_kept}
 
 -- If a test and its points add up to no point, the test holds and the points are empty.
@@ -51,7 +51,7 @@ trials_kept image n (t ∷ ts) h =
     (trial_kept image n t p.0, trials_kept image (n + 1) ts p.1)
 
 -- An image without points fits.
-pub image_fits : (image : Image) (i : Interface) → points_of image i ≡ [] → IsBoundedAs i.is_bounded image →
+pub image_fits : (image : Image) (i : Interface) → points_of image i ≡ [] → IsBoundedAs i.bounded image →
     Fits i image
 image_fits image i h bound =
     let p = both_empty (global_points i.is_ordered (globals i.globals.items) (globals image.globals.items))
@@ -72,11 +72,11 @@ nothing_told (p ∷ ps) line h = absurd cc
 -- A text conforms if its image is accepted, and nothing is reported of it.
 pub conforms_so : (l : Lattice) (text : List ℕ) (i : Interface) (image : Image) (ps : List Point)
     (line : Option (Vec ℕ)) → IsAcceptedAs (class_named l) (order l) i.judgement text image → ps ≡ points_of image i →
-    ReportsBound i.is_bounded image line → (is_none_told ps && not (is_some line)) ≡ true → Conforms l text i
+    ReportsBound i.bounded image line → (is_none_told ps && not (is_some line)) ≡ true → Conforms l text i
 conforms_so l text i image ps line accepted points bound h =
     let p = nothing_told ps line h in
     record {
       image = image;
       accepted = accepted;
-      fits = image_fits image i (sym points ∙ p.0) (bounded_so i.is_bounded image line bound p.1);
+      fits = image_fits image i (sym points ∙ p.0) (bounded_so i.bounded image line bound p.1);
     }

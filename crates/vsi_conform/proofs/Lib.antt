@@ -1,5 +1,5 @@
 pub mod Points
-pub mod Bounded
+pub mod BoundLines
 pub mod Fitting
 pub mod Converse
 pub mod Numbers

@@ -86,7 +86,7 @@ points_plain p (point ∷ points) =
     (items_have_float (items_of (json.objects_of_points p points)))
     (point_plain p point) (points_plain p points)
 
--- The object of a missing bound has none.
+-- The object of the bound has none.
 pub bound_plain : (line : Option (Vec ℕ)) → items_have_float (items_of (json.objects_of_bound line)) ≡ false
 bound_plain None = refl
 bound_plain (Some line) =

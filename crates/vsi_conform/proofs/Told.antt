@@ -37,7 +37,7 @@ differing_line_so true ds out line h = absurd cc
 differing_line_so false ds out line h =
     ((items_text false (items_of ds) ++ codes "}") ++ codes "\n", line ∙ differing_so ds)
 
--- The object of the refusal is followed by those of the points and of a missing bound.
+-- The object of the refusal is followed by those of the points and of the bound.
 pub json_so : (l : Lattice) (text : List ℕ) (i : Interface) (a : Answer) (ds : List Declared)
     (first begun all : List Data) (out : List ℕ) → Declares text ds →
     json.TellsRefusal l (page_of text ds i) a.refusal first →

@@ -25,7 +25,7 @@ use Rattle.vsi_conform.specs.declared.interface.Trial.{Trial}
 use Rattle.vsi_conform.specs.declared.point.Answer.{Answer}
 use Rattle.vsi_conform.specs.declared.point.Point.{Point}
 use Rattle.vsi_conform.specs.Asked.{HasGlobals, HasWords}
-use Rattle.vsi_conform.specs.Bounded.{IsBoundedAs, LacksBound, ReportsBound}
+use Rattle.vsi_conform.specs.Bounded.{FaultsBound, IsBoundedAs, ReportsBound, demands_bound}
 use Rattle.vsi_conform.specs.Points.{entries, points_of, words_of}
 
 -- ---- the runs.
@@ -46,7 +46,7 @@ AllEndAsAsked image (t ∷ ts) = EndsAsAsked image t × AllEndAsAsked image ts
 pub record Fits (i : Interface) (image : Image) : Type 0 where
   pub globals : HasGlobals i.is_ordered (globals i.globals.items) (globals image.globals.items)
   pub trials : AllEndAsAsked image i.trials.items
-  pub bound : IsBoundedAs i.is_bounded image
+  pub bound : IsBoundedAs i.bounded image
 
 -- ---- the judgement.
 
@@ -100,7 +100,7 @@ pub record TellsImage (known : Known) (text : List ℕ) (i : Interface) (ps : Li
   pub meaning : compiler.KeepsMeaning known text image
   pub code : compiler.IsImageOf known text image
   pub points : ps ≡ points_of image i
-  pub bound : ReportsBound i.is_bounded image line
+  pub bound : ReportsBound i.bounded image line
 
 -- The text has no program, and nothing is reported of an image.
 pub record TellsNothing (known : Known) (text : List ℕ) (ps : List Point) (line : Option (Vec ℕ)) : Type 0 where
@@ -118,7 +118,7 @@ pub record TellsAccepted (l : named.Lattice) (text : List ℕ) (i : Interface) (
   pub image : Image
   pub accepted : IsAcceptedAs (class_named l) (order l) i.judgement text image
   pub points : ps ≡ points_of image i
-  pub bound : ReportsBound i.is_bounded image line
+  pub bound : ReportsBound i.bounded image line
 
 -- A refused text has its refusal and, if it has a program, the points of its image and the report about its bound.
 pub record TellsRefused (l : named.Lattice) (text : List ℕ) (i : Interface) (e : UnsteadyError)
@@ -135,9 +135,9 @@ TellsBoth l text i (Some e) ps line = TellsRefused l text i e ps line
 abbrev pub Tells : named.Lattice → List ℕ → Interface → Answer → Type 0
 Tells l text i a = TellsBoth l text i a.refusal a.points.items a.unbounded
 
--- A bound is required, and this is the line about the bound of the text's image, for which there is no number.
+-- A bound is required, and this line says why the bound of the text's image isn't as required.
 pub record IsUnbounded (l : named.Lattice) (text : List ℕ) (i : Interface) (line : List ℕ) : Type 0 where
-  pub required : i.is_bounded ≡ true
+  pub required : demands_bound i.bounded ≡ true
   pub image : Image
   pub is_image : compiler.IsImageOf (class_named l) text image
-  pub lacks : LacksBound image line
+  pub faults : FaultsBound i.bounded image line

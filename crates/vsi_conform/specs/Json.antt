@@ -108,11 +108,11 @@ pub record TellsRefusal (l : Lattice) (p : Page) (r : Option UnsteadyError) (ds 
   pub refusal : AreFirst l p.text p.interface r lines
   pub objects : ds ≡ objects_of_refusal r lines
 
--- The members of the object of a missing bound, with the line about it.
+-- The members of the object of the bound, with the line about it.
 abbrev pub members_of_bound : List ℕ → Members
 members_of_bound line = with_text (codes "text") line (kind (codes "bound"))
 
--- The object of a missing bound, if there is a line about it.
+-- The object of the bound, if there is a line about it.
 abbrev pub objects_of_bound : Option (Vec ℕ) → List Data
 objects_of_bound None = []
 objects_of_bound (Some line) = object (members_of_bound line.items) ∷ []
@@ -134,8 +134,8 @@ conforming_line = codes "{\"conforms\":true,\"points\":[]}\n"
 abbrev pub differing_begin : List ℕ
 differing_begin = codes "{\"conforms\":false,\"points\":["
 
--- The line has whether the text conforms, the object of the refusal, one object for each point, in order, and that of a
--- missing bound.
+-- The line has whether the text conforms, the object of the refusal, one object for each point, in order, and that of
+-- the bound.
 pub record TellsObjects (l : Lattice) (text : List ℕ) (i : Interface) (a : Answer) (out : List ℕ) : Type 0 where
   pub globals : List Declared
   pub declares : Declares text globals

@@ -1,5 +1,5 @@
 -- The contents of an interface file, in terms of the table that its text denotes.
-use Rattle.std.specs.Prelude.{◌≡◌, ℕ, ◌+◌, ℤ, pos, negsuc, List, [], ◌∷◌, Bool, true, false, not, ◌&&◌, ◌||◌, if◌then◌else◌, Option, Some, None, IfSome, is_some, option_map, option_and_then, map, codes, bytes_eq}
+use Rattle.std.specs.Prelude.{◌≡◌, ℕ, ◌+◌, nat_lt, ℤ, pos, negsuc, List, [], ◌∷◌, Bool, true, false, not, ◌&&◌, ◌||◌, if◌then◌else◌, Option, Some, None, IfSome, is_some, option_map, option_and_then, map, codes, bytes_eq}
 use Rattle.std.specs.Borrow.{Bor}
 use Rattle.std.specs.Global.{Vec}
 use Rattle.std.specs.List.{All}
@@ -12,6 +12,8 @@ use Rattle.vsi_image.specs.Fields.{Global, globals, is_taken}
 use Rattle.vsi_conform.specs.declared.cycles.Cycle.{Cycle}
 use Rattle.vsi_conform.specs.declared.error.InterfaceError.{InterfaceError}
 use Rattle.vsi_conform.specs.declared.error.InterfaceError.TheVariants.{NotToml, Memory}
+use Rattle.vsi_conform.specs.declared.interface.Bounded.{Bounded}
+use Rattle.vsi_conform.specs.declared.interface.Bounded.TheVariants.{No, Yes, AtMost}
 use Rattle.vsi_conform.specs.declared.interface.Interface.{Interface}
 use Rattle.vsi_conform.specs.declared.interface.Judgement.{Judgement}
 use Rattle.vsi_conform.specs.declared.interface.Judgement.TheVariants.{Base, Strict, Steady}
@@ -82,10 +84,32 @@ abbrev pub order_from : Option Data → Option Bool
 order_from None = Some true
 order_from (Some d) = option_and_then order_of (as_str d)
 
--- Whether a bound is required, from the value at `bounded`, which may be missing.
-abbrev pub bounded_from : Option Data → Option Bool
-bounded_from None = Some false
-bounded_from (Some d) = as_bool d
+-- A number of at least 0.
+abbrev pub natural : ℤ → Option ℕ
+natural (pos n) = Some n
+natural (negsuc n) = None
+
+-- The maximum, if it is at least 1.
+abbrev pub at_most : ℕ → Option Bounded
+at_most maximum = if nat_lt 0 maximum then Some (AtMost maximum) else None
+
+-- The required bound, by its maximum.
+abbrev pub maximum_of : ℤ → Option Bounded
+maximum_of number = option_and_then at_most (natural number)
+
+-- The required bound, by its value as a truth or as a number.
+abbrev pub bounded_by : Option Bool → Option ℤ → Option Bounded
+bounded_by (Some b) number = Some (if b then Yes else No)
+bounded_by None number = option_and_then maximum_of number
+
+-- The required bound, by its value: `true`, `false` or a maximum.
+abbrev pub bounded_of : Data → Option Bounded
+bounded_of d = bounded_by (as_bool d) (as_integer d)
+
+-- The required bound, from the value at `bounded`, which may be missing.
+abbrev pub bounded_from : Option Data → Option Bounded
+bounded_from None = Some No
+bounded_from (Some d) = bounded_of d
 
 -- The globals: the pairs of texts at `globals`, in their order.
 abbrev pub globals_at : Members → Option (List Global)
@@ -121,11 +145,6 @@ run t = record { store = entries t.store.items; budget = t.budget; expect = entr
 abbrev pub store_from : Option Data → Option (List Entry)
 store_from None = Some []
 store_from (Some d) = entries_of d
-
--- A number of at least 0.
-abbrev pub natural : ℤ → Option ℕ
-natural (pos n) = Some n
-natural (negsuc n) = None
 
 -- The budget: the number at `budget`, if it is at least 0.
 abbrev pub budget_from : Option Data → Option ℕ
@@ -293,7 +312,7 @@ NameGlobals i = All (NamesGlobals (globals i.globals.items)) (map run i.trials.i
 pub record Asks (ms : Members) (i : Interface) : Type 0 where
   pub judgement : judgement_at ms ≡ Some i.judgement
   pub order : order_from (get_member (codes "order") ms) ≡ Some i.is_ordered
-  pub bounded : bounded_from (get_member (codes "bounded") ms) ≡ Some i.is_bounded
+  pub bounded : bounded_from (get_member (codes "bounded") ms) ≡ Some i.bounded
   pub globals : globals_at ms ≡ Some (globals i.globals.items)
   pub runs : runs_from (get_member (codes "runs") ms) ≡ Some (map run i.trials.items)
   pub named : NameGlobals i

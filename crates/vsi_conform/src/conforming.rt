@@ -7,6 +7,7 @@ ghost use Rattle.vsi_conform.specs.Conforms as spec;
 ghost use Rattle.vsi_conform.specs.Points.{is_conforming, points_of};
 
 use crate::accepting::judged;
+use crate::bounding::bound_report;
 use crate::globals::global_points;
 use crate::interface::Interface;
 use crate::point::{Answer, Point};
@@ -32,24 +33,21 @@ pub fn image_points(
     Ok(points)
 }
 
-/// The line about the bound of an image, if a bound is required and none was found.
-fn unbounded_line(
+/// The line about the bound of an image, if it isn't as required.
+fn bound_line(
     alloc: Global,
     lattice: &Lattice,
     text: &[u8],
     verified: &Verified,
-    is_bounded: bool,
+    interface: &Interface,
 ) -> Result<Option<Vec<u8>>, AllocError>
-    ensures { IfOk result (λ line. ReportsBound is_bounded verified.now line) }
+    ensures { IfOk result (λ line. ReportsBound interface.now.bounded verified.now line) }
 {
-    if !is_bounded {
+    if !interface.demands_bound() {
         return Ok(None);
     }
     let answer = bound_in(alloc, lattice, text, verified)?;
-    if answer.is_bounded {
-        return Ok(None);
-    }
-    Ok(Some(answer.text))
+    bound_report(alloc, verified, interface.bounded, answer)
 }
 
 /// The differences between an image and the requirements, and the line about its bound.
@@ -62,10 +60,10 @@ fn image_differences(
 ) -> Result<(Vec<Point>, Option<Vec<u8>>), AllocError>
     ensures points { IfOk result (λ pair. pair.0.items ≡ points_of verified.now interface.now) }
     ensures bound { IfOk result
-        (λ pair. ReportsBound interface.now.is_bounded verified.now pair.1) }
+        (λ pair. ReportsBound interface.now.bounded verified.now pair.1) }
 {
     let points = image_points(alloc, verified, interface)?;
-    let line = unbounded_line(alloc, lattice, text, verified, interface.is_bounded)?;
+    let line = bound_line(alloc, lattice, text, verified, interface)?;
     Ok((points, line))
 }
 
@@ -90,7 +88,7 @@ fn refused_differences(
 }
 
 /// The differences between a text and an interface: why it isn't accepted and, if it has a program,
-/// each global and each run that isn't as required, and a bound that is required and wasn't found.
+/// each global and each run that isn't as required, and the bound if it isn't as required.
 /// An error means that memory ran out.
 pub fn conform(
     alloc: Global,

@@ -29,8 +29,8 @@ pub enum InterfaceError {
     /// The value at `order` is neither `exact` nor `set`.
     #[error("the order of the globals is none")]
     BadOrder,
-    /// The value at `bounded` is neither `true` nor `false`.
-    #[error("whether a bound is required is neither true nor false")]
+    /// The value at `bounded` is none of `true`, `false` and a number of at least 1.
+    #[error("the required bound is neither true nor false nor a maximum")]
     BadBounded,
     /// The value at `globals` isn't an array of at most 256 pairs of texts.
     #[error("the interface has no array of globals")]

@@ -1,5 +1,8 @@
 //! The requirements on a text.
 
+ghost use Rattle.std.specs.Prelude.{◌≡◌};
+ghost use Rattle.vsi_conform.specs.Bounded as spec;
+
 /// How a text must be accepted.
 #[derive(Clone, Copy, PartialEq, Eq, Debug)]
 pub enum Judgement {
@@ -9,6 +12,17 @@ pub enum Judgement {
     Strict,
     /// With a steady image, under the strict profile.
     Steady,
+}
+
+/// The bound that an image must have: a number of instructions within which it halts.
+#[derive(Clone, Copy, PartialEq, Eq, Debug)]
+pub enum Bounded {
+    /// None.
+    No,
+    /// Any.
+    Yes,
+    /// One of at most this number.
+    AtMost(u64),
 }
 
 /// A required run: it halts within its budget with these words.
@@ -29,10 +43,22 @@ pub struct Interface {
     pub judgement: Judgement,
     /// Whether its globals must be in this order.
     pub is_ordered: bool,
-    /// Whether its image must have a bound.
-    pub is_bounded: bool,
+    /// The bound that its image must have.
+    pub bounded: Bounded,
     /// The names of its globals and of their classes.
     pub globals: Vec<(Vec<u8>, Vec<u8>)>,
     /// The required runs of its image.
     pub trials: Vec<Trial>,
+}
+
+impl Interface {
+    /// Whether an image must have a bound.
+    pub fn demands_bound(&self) -> bool
+        ensures demands { result ≡ spec.demands_bound self.now.bounded }
+    {
+        match self.bounded {
+            Bounded::No => false,
+            Bounded::Yes | Bounded::AtMost(_) => true,
+        }
+    }
 }

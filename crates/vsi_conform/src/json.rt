@@ -218,7 +218,7 @@ fn put_objects(
     Ok(())
 }
 
-/// The object of a missing bound.
+/// The object of the bound.
 fn no_bound(alloc: Global, line: &[u8]) -> Result<Map<String, Value>, AllocError>
     ensures { IfOk result (λ map. members_view map.entries ≡ spec.members_of_bound line.now) }
 {
@@ -227,7 +227,7 @@ fn no_bound(alloc: Global, line: &[u8]) -> Result<Map<String, Value>, AllocError
     Ok(map)
 }
 
-/// Adds the object of a missing bound, if there is a line about it.
+/// Adds the object of the bound, if there is a line about it.
 pub fn put_bound(
     alloc: Global,
     found: &mut Vec<Value>,

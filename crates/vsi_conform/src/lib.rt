@@ -15,6 +15,7 @@
 #![tactic(auto)]
 
 mod accepting;
+mod bounding;
 mod checking;
 mod conforming;
 mod cycles;
@@ -34,6 +35,7 @@ mod totals;
 mod trials;
 
 pub use accepting::{judged, judged_of};
+pub use bounding::bound_report;
 pub use checking::{
     Checked, audit_diagnostic, check_json, check_json_for, check_json_of, judgement_by,
     steady_diagnostic, unread_json, unsteady_diagnostic,
@@ -42,7 +44,7 @@ pub use conforming::{conform, image_points};
 pub use cycles::{Cycle, unknown_cycle};
 pub use declared::declarations;
 pub use error::{InterfaceError, fault_name, interface_text};
-pub use interface::{Interface, Judgement, Trial};
+pub use interface::{Bounded, Interface, Judgement, Trial};
 pub use json::points_json;
 pub use point::{Answer, Point};
 pub use reader::{InterfaceFile, Policy, path_beside, read_interface, unknown_class};

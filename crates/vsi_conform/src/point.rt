@@ -43,7 +43,7 @@ pub struct Answer {
     pub refusal: Option<UnsteadyError>,
     /// The differences between its globals or runs and the required ones.
     pub points: Vec<Point>,
-    /// The line of `vsi bound` about its image, if a bound is required and none was found.
+    /// The line about the bound of its image, if it isn't as required.
     pub unbounded: Option<Vec<u8>>,
 }
 

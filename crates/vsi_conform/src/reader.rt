@@ -17,10 +17,10 @@ ghost use Rattle.vsi_store.specs.View.{first_unknown};
 use crate::cycles::{Cycle, cycles_in};
 use crate::error::InterfaceError;
 use crate::globals::is_named;
-use crate::interface::{Interface, Judgement};
+use crate::interface::{Bounded, Interface, Judgement};
 use crate::keys::{other_key, table_in, text_at, value_at};
 use crate::outside::leads_out;
-use crate::runs::trials_in;
+use crate::runs::{natural, trials_in};
 use std::alloc::{AllocError, Global};
 use toml::{Table, Value};
 use vsi_lattice::Lattice;
@@ -214,17 +214,43 @@ fn order_of(word: &[u8]) -> Option<bool>
     }
 }
 
-/// Whether a bound is required.
-fn bounded_in(table: &Table) -> Result<bool, InterfaceError>
-    ensures { IfOk result (λ is_bounded. spec.bounded_from
-        (get_member (codes "bounded") (table_view table.now)) ≡ Some is_bounded) }
+/// The required bound.
+fn bounded_in(table: &Table) -> Result<Bounded, InterfaceError>
+    ensures { IfOk result (λ bounded. spec.bounded_from
+        (get_member (codes "bounded") (table_view table.now)) ≡ Some bounded) }
 {
     let Some(value) = value_at(table, "bounded") else {
-        return Ok(false);
+        return Ok(Bounded::No);
     };
-    match value.as_bool() {
-        Some(is_bounded) => Ok(is_bounded),
+    match bounded_of(value) {
+        Some(bounded) => Ok(bounded),
         None => Err(InterfaceError::BadBounded),
+    }
+}
+
+/// The required bound, by its value: `true`, `false` or a maximum.
+fn bounded_of(value: &Value) -> Option<Bounded>
+    ensures { result ≡ spec.bounded_of (view value.now) }
+{
+    match value.as_bool() {
+        Some(true) => Some(Bounded::Yes),
+        Some(false) => Some(Bounded::No),
+        None => {
+            let number = value.as_integer()?;
+            maximum_of(number)
+        }
+    }
+}
+
+/// The required bound, by its maximum, which is at least 1.
+fn maximum_of(number: i64) -> Option<Bounded>
+    ensures { result ≡ spec.maximum_of number }
+{
+    let maximum = natural(number)?;
+    if 0 < maximum {
+        Some(Bounded::AtMost(maximum))
+    } else {
+        None
     }
 }
 
@@ -311,13 +337,13 @@ fn interface_in(alloc: Global, table: &Table) -> Result<Interface, InterfaceErro
 {
     let judgement = judgement_in(table)?;
     let is_ordered = order_in(table)?;
-    let is_bounded = bounded_in(table)?;
+    let bounded = bounded_in(table)?;
     let globals = globals_in(alloc, table)?;
     let trials = trials_in(alloc, table, &globals)?;
     Ok(Interface {
         judgement,
         is_ordered,
-        is_bounded,
+        bounded,
         globals,
         trials,
     })

@@ -97,7 +97,7 @@ fn budget_in(number: usize, table: &Table) -> Result<u64, InterfaceError>
 }
 
 /// A number of at least 0.
-fn natural(number: i64) -> Option<u64>
+pub(crate) fn natural(number: i64) -> Option<u64>
     ensures { result ≡ spec.natural number }
 {
     if number < 0 {

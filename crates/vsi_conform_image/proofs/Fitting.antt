@@ -13,7 +13,7 @@ use Rattle.vsi_conform.specs.declared.point.Point.{Point}
 use Rattle.vsi_conform.specs.Bounded.{ReportsBound}
 use Rattle.vsi_conform.specs.Conforms.{Fits}
 use Rattle.vsi_conform.specs.Points.{is_none_told, points_of}
-use Rattle.vsi_conform.proofs.Bounded.{bounded_so}
+use Rattle.vsi_conform.proofs.BoundLines.{bounded_so}
 use Rattle.vsi_conform.proofs.Converse.{fitting_told}
 use Rattle.vsi_conform.proofs.Fitting.{image_fits}
 use Rattle.vsi_conform_image.specs.Conforms.{Conforms, IsAcceptedAs, IsJudged}
@@ -37,14 +37,14 @@ nothing_told (Some e) ps line h = absurd cc
 -- An image conforms if nothing is reported of it.
 pub conforms_so : (l : named.Lattice) (image : Image) (i : Interface) (r : Option Refusal) (ps : List Point)
     (line : Option (Vec ℕ)) → IsJudged (class_named l) (order l) i.judgement image r → ps ≡ points_of image i →
-    ReportsBound i.is_bounded image line → (not (is_some r) && is_none_told ps && not (is_some line)) ≡ true →
+    ReportsBound i.bounded image line → (not (is_some r) && is_none_told ps && not (is_some line)) ≡ true →
     Conforms l image i
 conforms_so l image i r ps line judged points bound h =
     let p = nothing_told r ps line h in
     record {
       accepted = accepted_so (class_named l) (order l) i.judgement image
           (subst (IsJudged (class_named l) (order l) i.judgement image) p.0 judged);
-      fits = image_fits image i (sym points ∙ p.1) (bounded_so i.is_bounded image line bound p.2);
+      fits = image_fits image i (sym points ∙ p.1) (bounded_so i.bounded image line bound p.2);
     }
 
 -- Nothing is reported of an image that fits, if there is neither a refusal nor a line about the bound.

@@ -38,7 +38,7 @@ differing_line_so true ds out line h = absurd cc
 differing_line_so false ds out line h =
     ((items_text false (items_of ds) ++ codes "}") ++ codes "\n", line ∙ differing_so ds)
 
--- The object of the refusal is followed by those of the points and of a missing bound.
+-- The object of the refusal is followed by those of the points and of the bound.
 pub json_so : (l : Lattice) (image : Image) (i : Interface) (a : Answer) (first begun all : List Data)
     (out : List ℕ) → json.TellsRefusal l image a.refusal first →
     begun ≡ first ++ json.objects_of_points image i a.points.items →

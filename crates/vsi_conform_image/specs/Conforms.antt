@@ -79,7 +79,7 @@ IsJudged known L Steady image = IsSteadied known L image
 pub record Tells (l : named.Lattice) (image : Image) (i : Interface) (a : Answer) : Type 0 where
   pub judged : IsJudged (class_named l) (order l) i.judgement image a.refusal
   pub points : a.points.items ≡ points_of image i
-  pub bound : ReportsBound i.is_bounded image a.unbounded
+  pub bound : ReportsBound i.bounded image a.unbounded
 
 -- Nothing differs.
 abbrev pub is_conforming : Answer → Bool

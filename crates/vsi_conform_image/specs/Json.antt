@@ -53,7 +53,7 @@ pub record TellsRefusal (l : Lattice) (image : Image) (r : Option Refusal) (ds :
   pub objects : ds ≡ objects_of_refusal r lines
 
 -- The line has whether the image conforms, the object of the refusal, one object for each point, in order, and that of
--- a missing bound.
+-- the bound.
 pub record TellsObjects (l : Lattice) (image : Image) (i : Interface) (a : Answer) (out : List ℕ) : Type 0 where
   pub first : List Data
   pub refusal : TellsRefusal l image a.refusal first

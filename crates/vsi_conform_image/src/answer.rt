@@ -24,7 +24,7 @@ pub struct Answer {
     pub refusal: Option<Refusal>,
     /// The differences between its globals or runs and the required ones.
     pub points: Vec<Point>,
-    /// The line of `vsi bound` about it, if a bound is required and none was found.
+    /// The line about its bound, if it isn't as required.
     pub unbounded: Option<Vec<u8>>,
 }
 

@@ -13,7 +13,7 @@ use crate::answer::{Answer, Refusal};
 use std::alloc::{AllocError, Global};
 use vsi_answers::bound;
 use vsi_audit::{AuditError, audit_in};
-use vsi_conform::{Interface, Judgement, image_points};
+use vsi_conform::{Interface, Judgement, bound_report, image_points};
 use vsi_image::Verified;
 use vsi_lattice::Lattice;
 use vsi_steady::{SteadyError, steady_in};
@@ -74,27 +74,24 @@ fn refusal_of(
     }
 }
 
-/// The line about the bound of an image, if a bound is required and none was found.
-fn unbounded_line(
+/// The line about the bound of an image, if it isn't as required.
+fn bound_line(
     alloc: Global,
     verified: &Verified,
-    is_bounded: bool,
+    interface: &Interface,
 ) -> Result<Option<Vec<u8>>, AllocError>
-    ensures { IfOk result (λ line. ReportsBound is_bounded verified.now line) }
+    ensures { IfOk result (λ line. ReportsBound interface.now.bounded verified.now line) }
 {
-    if !is_bounded {
+    if !interface.demands_bound() {
         return Ok(None);
     }
     let answer = bound(alloc, verified)?;
-    if answer.is_bounded {
-        return Ok(None);
-    }
-    Ok(Some(answer.text))
+    bound_report(alloc, verified, interface.bounded, answer)
 }
 
 /// The differences between an image and an interface: why the audit under the lattice and the
-/// profile of the interface refuses it, each global and each run that isn't as required, and a
-/// bound that is required and wasn't found. An error means that memory ran out.
+/// profile of the interface refuses it, each global and each run that isn't as required, and the
+/// bound if it isn't as required. An error means that memory ran out.
 pub fn conform_image(
     alloc: Global,
     lattice: &Lattice,
@@ -116,7 +113,7 @@ pub fn conform_image(
 {
     let refusal = refusal_of(alloc, interface.judgement, lattice, verified)?;
     let points = image_points(alloc, verified, interface)?;
-    let unbounded = unbounded_line(alloc, verified, interface.is_bounded)?;
+    let unbounded = bound_line(alloc, verified, interface)?;
     Ok(Answer {
         refusal,
         points,

@@ -1,12 +1,12 @@
 -- The answer about a bound as a line of JSON, with keys in byte order.
-use Rattle.std.specs.Prelude.{◌≡◌, ℕ, Bool, List, codes}
+use Rattle.std.specs.Prelude.{◌≡◌, ℕ, Bool, List, Option, codes}
 use Rattle.serde_json.specs.Data.{boolean, Members, no_members, put}
 use Rattle.vsi_image.specs.declared.instr.Image.{Image}
 use Rattle.vsi_bound.specs.Bound.{Answers}
 use Rattle.vsi_bound.specs.declared.bound.Bound.{Bound}
 use Rattle.vsi_bound.specs.declared.bound.Bound.TheVariants.{Halts, Endless, Unstructured, TooLarge}
-use Rattle.vsi_answers.specs.Bounds.{TellsBound, is_bounded}
-use Rattle.vsi_answers.specs.declared.bounds.BoundAnswer.{BoundAnswer}
+use Rattle.vsi_answers.specs.Bounds.{bound_line, is_bounded}
+use Rattle.vsi_answers.specs.declared.places.Place.{Place}
 use Rattle.vsi_diagnostics.specs.Members.{without_end, with_text, with_natural, object_line}
 
 -- The numbers of a bound: the least and the most instructions of a run, or the instruction for which there is none.
@@ -22,11 +22,10 @@ bound_members answer text =
     with_text (codes "text") (without_end text) (with_bound answer
     (put (codes "bounded") (boolean (is_bounded answer)) no_members))
 
--- The line has the numbers of an answer that is right for the image, and the line of `bound` about the image.
+-- The line has the numbers and the line of one answer that is right for the image. The place of a loop may be any.
 pub record IsBoundJson (image : Image) (bounded : Bool) (out : List ℕ) : Type 0 where
   pub answer : Bound
   pub is : Answers image answer
   pub says : bounded ≡ is_bounded answer
-  pub told : BoundAnswer
-  pub tells : TellsBound image told
-  pub line : out ≡ object_line (bound_members answer told.text.items)
+  pub place : Option Place
+  pub line : out ≡ object_line (bound_members answer (bound_line place answer))

@@ -2,14 +2,15 @@
 
 ghost use Rattle.std.specs.Prelude.{◌≡◌, IfOk, OnOk};
 ghost use Rattle.serde_json.specs.View.{members_view};
-ghost use Rattle.vsi_answers.specs.Bounds.{TellsBound, is_bounded as is_bounded_of};
+ghost use Rattle.vsi_answers.specs.Bounds.{IsBoundLine, is_bounded as is_bounded_of};
+ghost use Rattle.vsi_bound.specs.Bound.{Answers};
 ghost use Rattle.vsi_documents.specs.Bounds as spec;
 ghost use Rattle.vsi_diagnostics.specs.Members as lines;
 
 use crate::answer::Documented;
 use serde_json::{Map, Value, put};
 use std::alloc::{AllocError, Global};
-use vsi_answers::BoundAnswer;
+use vsi_answers::{bound_text, bound_text_in};
 use vsi_bound::{Bound, bound_of};
 use vsi_diagnostics::members::{object_line, put_natural, put_text, without_end};
 use vsi_image::Verified;
@@ -74,34 +75,36 @@ fn bound_line(alloc: Global, found: Bound, text: &[u8]) -> Result<Vec<u8>, Alloc
     Ok(line)
 }
 
-/// The answer about an image that has this line.
+/// An answer about an image, with its line.
 fn document_of(
     alloc: Global,
     verified: &Verified,
-    told: &BoundAnswer,
+    found: Bound,
+    text: &[u8],
 ) -> Result<Documented, AllocError>
-    requires { TellsBound verified.now told.now }
+    requires right { Answers verified.now found }
+    requires line { IsBoundLine found text.now }
     ensures { IfOk result
         (λ answer. spec.IsBoundJson verified.now answer.is_good answer.line.items) }
 {
-    let found = bound_of(alloc, verified)?;
-    let line = bound_line(alloc, found, &told.text)?;
+    let line = bound_line(alloc, found, text)?;
     Ok(Documented {
         is_good: is_bounded(found),
         line,
     })
 }
 
-/// The answer of `vsi bound` to an image as a line of JSON: an object with `bounded`, `text`, the
-/// line of `vsi_answers::bound` without its line feed, and the numbers `least` and `most` of
-/// instructions or, where there is no bound, the number `instruction` of the one that is named. An
-/// error means that memory ran out.
+/// The answer of `vsi bound` to an image as a line of JSON: an object with `bounded`, whether a
+/// bound was found, `text`, the line of `vsi_answers::bound` without its line feed, and the numbers
+/// `least` and `most` of instructions or, where there is no bound, the number `instruction` of the
+/// one that is named. An error means that memory ran out.
 pub fn bound_json(alloc: Global, verified: &Verified) -> Result<Documented, AllocError>
     ensures answer { IfOk result
         (λ answer. spec.IsBoundJson verified.now answer.is_good answer.line.items) }
 {
-    let told = vsi_answers::bound(alloc, verified)?;
-    document_of(alloc, verified, &told)
+    let found = bound_of(alloc, verified)?;
+    let text = bound_text(alloc, found)?;
+    document_of(alloc, verified, found, &text)
 }
 
 /// The same for the image of a source text, whose line has the position of a loop.
@@ -114,6 +117,7 @@ pub fn bound_json_in(
     ensures answer { IfOk result
         (λ answer. spec.IsBoundJson verified.now answer.is_good answer.line.items) }
 {
-    let told = vsi_answers::bound_in(alloc, lattice, source, verified)?;
-    document_of(alloc, verified, &told)
+    let found = bound_of(alloc, verified)?;
+    let text = bound_text_in(alloc, lattice, source, verified, found)?;
+    document_of(alloc, verified, found, &text)
 }

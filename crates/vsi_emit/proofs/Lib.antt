@@ -11,3 +11,4 @@ pub mod Apart
 pub mod Small
 pub mod Whole
 pub mod Prepaid
+pub mod Begun

@@ -1,4 +1,5 @@
 pub mod SmallC
+pub mod Origins
 pub mod Writing
 pub mod Emulation
 pub mod Jumps
@@ -10,6 +11,7 @@ pub mod Apart
 pub mod Whole
 pub mod Laws
 pub mod Closed
+pub mod Begun
 pub mod Depths
 pub mod Translation
 pub mod Prepaid

@@ -12,9 +12,10 @@
 //! calls take the same jumps (`specs/Jumps`). `laws` states the consequences for compiled images
 //! and for steady ones.
 //!
-//! To be believed: `specs/Apart`, `specs/Emitted`, `specs/Emulation`, `specs/Jumps`, `specs/Laws`,
-//! `specs/SmallC`, `specs/Whole` and `specs/Writing`, and `specs/Names` of `vsi_c_names`. The other
-//! files of `specs/` only support proofs.
+//! To be believed: `specs/Apart`, `specs/Bounded`, `specs/BoundedWriting`, `specs/Closed`,
+//! `specs/Emitted`, `specs/Emulation`, `specs/Jumps`, `specs/Laws`, `specs/Origins`, `specs/SmallC`,
+//! `specs/Translation`, `specs/Whole` and `specs/Writing`, and `specs/Names` of `vsi_c_names`. The
+//! other files of `specs/` only support proofs.
 #![tactic(auto)]
 
 mod blocks;
@@ -25,6 +26,7 @@ mod frame;
 pub mod laws;
 mod marks;
 mod operands;
+mod origin;
 mod paid;
 mod parts;
 mod pieces;
@@ -32,4 +34,5 @@ mod statements;
 
 pub use emit::{emit_bounded, emit_bounded_header, emit_c, emit_header};
 pub use error::EmitError;
+pub use origin::{Build, Origin};
 pub use vsi_c_names::is_function_name;

@@ -1,7 +1,10 @@
 //! Errors in a text, as objects.
 
-ghost use Rattle.std.specs.Prelude.{◌≡◌, ◌≢◌, [], ◌∷◌, IfOk};
+ghost use Rattle.std.specs.Prelude.{◌≡◌, ◌≢◌, [], ◌∷◌, All, IfOk};
+ghost use Rattle.vsi_lattice.specs.LatticeView.{class_named};
+ghost use Rattle.vsi_compiler.specs.Readable.{HasProgram};
 ghost use Rattle.vsi_compiler.specs.declared.error.CompileError.TheVariants.{Memory};
+ghost use Rattle.vsi_errors.specs.Severity.{IsError, IsWarning};
 ghost use Rattle.vsi_errors.specs.Verdict as spec;
 
 use crate::flows::flow_errors;
@@ -55,6 +58,9 @@ pub fn shown_in(
 ) -> Result<Shown, AllocError>
     ensures exact { IfOk result
         (λ shown. spec.IsVerdict lattice.now profile text.now shown.errors.items) }
+    ensures severe { IfOk result (λ shown. All IsError shown.errors.items) }
+    ensures warned { IfOk result (λ shown. HasProgram (class_named lattice.now) text.now
+        → All IsWarning shown.others.items) }
 {
     let document = DocumentText {
         uri,
@@ -67,6 +73,27 @@ pub fn shown_in(
     }
 }
 
+/// All that is shown for a text, the errors first.
+pub fn objects_in(
+    alloc: Global,
+    encoding: Encoding,
+    profile: Profile,
+    lattice: &Lattice,
+    uri: &[u8],
+    text: &[u8],
+) -> Result<Vec<Value>, AllocError>
+    ensures exact { IfOk result
+        (λ objects. spec.ShowsVerdict lattice.now profile text.now objects.items) }
+{
+    let shown = shown_in(alloc, encoding, profile, lattice, uri, text)?;
+    let Shown {
+        mut errors,
+        mut others,
+    } = shown;
+    errors.append(&mut others)?;
+    Ok(errors)
+}
+
 /// The errors in a text that has a program, and the warnings about it.
 fn shown_of_source(
     alloc: Global,
@@ -74,8 +101,10 @@ fn shown_of_source(
     profile: Profile,
     source: &Source<'_>,
 ) -> Result<Shown, AllocError>
-    ensures { IfOk result (λ shown.
+    ensures exact { IfOk result (λ shown.
         spec.IsVerdict source.now.lattice profile source.now.text shown.errors.items) }
+    ensures severe { IfOk result (λ shown. All IsError shown.errors.items) }
+    ensures warned { IfOk result (λ shown. All IsWarning shown.others.items) }
 {
     let errors = source_errors(alloc, document, profile, source)?;
     let others = source_warnings(alloc, document, source)?;
@@ -91,6 +120,7 @@ fn shown_of_refused(
 ) -> Result<Shown, AllocError>
     ensures some { IfOk result (λ shown. shown.errors.items ≢ []) }
     ensures judged { IfOk result (λ shown. error.now ≢ Memory) }
+    ensures severe { IfOk result (λ shown. All IsError shown.errors.items) }
 {
     let errors = refusal_errors(alloc, document, error)?;
     let others = further_errors(alloc, document, lattice, error)?;
@@ -104,8 +134,9 @@ fn source_errors(
     profile: Profile,
     source: &Source<'_>,
 ) -> Result<Vec<Value>, AllocError>
-    ensures { IfOk result (λ errors.
+    ensures exact { IfOk result (λ errors.
         spec.IsVerdict source.now.lattice profile source.now.text errors.items) }
+    ensures severe { IfOk result (λ errors. All IsError errors.items) }
 {
     match judge(alloc, profile, source) {
         Ok(_classes) => Ok(Vec::new(alloc)),
@@ -123,6 +154,7 @@ fn judged_errors(
 ) -> Result<Vec<Value>, AllocError>
     ensures some { IfOk result (λ errors. errors.items ≢ []) }
     ensures judged { IfOk result (λ errors. error.now ≢ Memory) }
+    ensures severe { IfOk result (λ errors. All IsError errors.items) }
 {
     match error {
         CompileError::Flow(walk) => flow_errors(
@@ -155,25 +187,12 @@ fn refusal_errors(
 ) -> Result<Vec<Value>, AllocError>
     ensures some { IfOk result (λ errors. errors.items ≢ []) }
     ensures judged { IfOk result (λ errors. error.now ≢ Memory) }
+    ensures severe { IfOk result (λ errors. All IsError errors.items) }
 {
     match error {
         CompileError::Memory => Err(AllocError),
         _ => one_error(alloc, refusal_object(alloc, document, error)?),
     }
-}
-
-/// The object of an error: its positions, its number and its message.
-pub(crate) fn ranged_object(
-    alloc: Global,
-    range: Range,
-    code: usize,
-    message: &[u8],
-) -> Result<Value, AllocError> {
-    let range = range_object(alloc, range)?;
-    let message = text_value(alloc, message)?;
-    json!(in alloc; {
-        "range": range, "severity": 1, "code": code, "source": "vsi", "message": message
-    })
 }
 
 /// The object of an error: its part, its number and its message.
@@ -183,8 +202,14 @@ pub fn error_object(
     span: Span,
     code: usize,
     message: &[u8],
-) -> Result<Value, AllocError> {
-    ranged_object(alloc, document.range(span), code, message)
+) -> Result<Value, AllocError>
+    ensures severe { IfOk result IsError }
+{
+    let range = range_object(alloc, document.range(span))?;
+    let message = text_value(alloc, message)?;
+    json!(in alloc; {
+        "range": range, "severity": 1, "code": code, "source": "vsi", "message": message
+    })
 }
 
 /// The object of a warning: its part and its message.
@@ -193,7 +218,9 @@ pub(crate) fn warning_object(
     document: DocumentText<'_>,
     span: Span,
     message: &[u8],
-) -> Result<Value, AllocError> {
+) -> Result<Value, AllocError>
+    ensures { IfOk result IsWarning }
+{
     let range = range_object(alloc, document.range(span))?;
     let message = text_value(alloc, message)?;
     json!(in alloc; {"range": range, "severity": 2, "source": "vsi", "message": message})
@@ -219,7 +246,9 @@ pub(crate) fn refusal_object(
     alloc: Global,
     document: DocumentText<'_>,
     error: &CompileError,
-) -> Result<Value, AllocError> {
+) -> Result<Value, AllocError>
+    ensures { IfOk result IsError }
+{
     let code = match refusal_diagnostic(document.text, error) {
         Some(diagnostic) => diagnostic.code,
         None => 0,

@@ -1,13 +1,14 @@
 //! The refused flows of a text, as objects.
 
-ghost use Rattle.std.specs.Prelude.{◌≢◌, [], IfOk};
+ghost use Rattle.std.specs.Prelude.{◌≢◌, [], All, IfOk};
+ghost use Rattle.vsi_errors.specs.Severity.{IsError};
 
-use crate::diagnostics::{DocumentText, line_of, one_error, ranged_object, refusal_object};
+use crate::diagnostics::{DocumentText, line_of, one_error, refusal_object};
 use crate::location::location_object;
 use crate::marks::{Marked, with_marks};
-use serde_json::{Value, json, put};
+use serde_json::{Value, json};
 use std::alloc::{AllocError, Global};
-use vsi_choices::text_value;
+use vsi_choices::{range_object, text_value};
 use vsi_compiler::{CompileError, Source};
 use vsi_diagnostics::refusal_diagnostic;
 use vsi_flows::WalkedPair;
@@ -52,16 +53,21 @@ fn step_objects(
     Ok(Value::Array(objects))
 }
 
-/// An object of an error with the steps of a walk.
-fn with_related(alloc: Global, object: Value, related: Value) -> Result<Value, AllocError> {
-    let Value::Object(mut members) = object else {
-        return Ok(object);
-    };
-    put(&mut members, alloc, "relatedInformation", related)?;
-    Ok(Value::Object(members))
+/// The message of a refused flow: the line of the text, and the classes of its ends.
+fn flow_message(
+    alloc: Global,
+    text: &RefusedText<'_, '_, '_>,
+    from: Var,
+    to: Var,
+) -> Result<Value, AllocError> {
+    let ends = ends_text(alloc, text.source, from, to)?;
+    let mut message = text.line.clone()?;
+    message.extend_from_slice(b"\n")?;
+    message.extend_from_slice(&ends)?;
+    text_value(alloc, &message)
 }
 
-/// The object of a refused flow: its line, the classes of its ends, and the steps of its walk.
+/// The object of a refused flow: its message, and the steps of its walk.
 fn flow_object(
     alloc: Global,
     text: &RefusedText<'_, '_, '_>,
@@ -69,15 +75,16 @@ fn flow_object(
     from: Var,
     to: Var,
     steps: &[Step],
-) -> Result<Value, AllocError> {
-    let ends = ends_text(alloc, text.source, from, to)?;
-    let mut message = text.line.clone()?;
-    message.extend_from_slice(b"\n")?;
-    message.extend_from_slice(&ends)?;
-    let range = text.marked.range(span);
-    let object = ranged_object(alloc, range, text.code, &message)?;
+) -> Result<Value, AllocError>
+    ensures { IfOk result IsError }
+{
+    let message = flow_message(alloc, text, from, to)?;
     let related = step_objects(alloc, text, steps)?;
-    with_related(alloc, object, related)
+    let range = range_object(alloc, text.marked.range(span))?;
+    json!(in alloc; {
+        "range": range, "severity": 1, "code": text.code, "source": "vsi", "message": message,
+        "relatedInformation": related
+    })
 }
 
 /// The objects of further flows, each at the place where the last step of its walk writes.
@@ -85,7 +92,9 @@ fn further_objects(
     alloc: Global,
     text: &RefusedText<'_, '_, '_>,
     flows: &[WalkedPair],
-) -> Result<Vec<Value>, AllocError> {
+) -> Result<Vec<Value>, AllocError>
+    ensures { IfOk result (λ objects. All IsError objects.items) }
+{
     let mut objects = Vec::new(alloc);
     for flow in flows {
         let Some(last) = flow.steps.last() else {
@@ -108,7 +117,8 @@ pub(crate) fn flow_errors(
     error: &CompileError,
     steps: &[Step],
 ) -> Result<Vec<Value>, AllocError>
-    ensures { IfOk result (λ errors. errors.items ≢ []) }
+    ensures some { IfOk result (λ errors. errors.items ≢ []) }
+    ensures severe { IfOk result (λ errors. All IsError errors.items) }
 {
     let Some(first) = steps.first() else {
         return one_error(alloc, refusal_object(alloc, document, error)?);

@@ -2,11 +2,12 @@
 //!
 //! `shown_in` judges a text: it has an error exactly if the text is refused (clause `exact`), and
 //! for a refused flow further ones, each with the steps of a walk. Beside them are the warnings
-//! about a text that has a program, or the further errors in one that has none. `error_object` and
-//! `location_object` make the objects for other documents. Only tests show where an error points,
-//! and what it says.
+//! about a text that has a program (clause `warned`), or the further errors in one that has none.
+//! `objects_in` lists both: either the text is accepted and all of them are warnings, or it isn't
+//! and there is an error among them. `error_object` and `location_object` make the objects for
+//! other documents. Only tests show where an error points, and what it says.
 //!
-//! To be believed: `specs/Verdict`.
+//! To be believed: `specs/Severity`, `specs/Verdict`.
 #![tactic(auto)]
 
 mod diagnostics;
@@ -16,5 +17,5 @@ mod location;
 mod marks;
 mod warned;
 
-pub use diagnostics::{DocumentText, Shown, error_object, one_error, shown_in};
+pub use diagnostics::{DocumentText, Shown, error_object, objects_in, one_error, shown_in};
 pub use location::location_object;

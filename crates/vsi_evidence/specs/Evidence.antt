@@ -1,5 +1,5 @@
--- The evidence of an audit that has accepted an image.
-use Rattle.std.specs.Prelude.{ℕ, ◌==◌, Bool, ◌||◌, if◌then◌else◌, List, [], ◌∷◌, ◌++◌, codes}
+-- The evidence of an audit that has accepted an image, and of a text or an image that conforms to an interface.
+use Rattle.std.specs.Prelude.{ℕ, ◌==◌, Bool, ◌||◌, if◌then◌else◌, List, [], ◌∷◌, ◌++◌, Option, Some, None, codes, decimal}
 use Rattle.std.specs.List.{flat_map, list_any}
 use Rattle.hex.specs.Hex.{encode_lower}
 use Rattle.sha2.specs.Sha256.{sha256}
@@ -39,8 +39,26 @@ abbrev pub sum_line : Filed → List ℕ
 sum_line f =
     mark f.0 ++ encode_lower (sha256 f.1) ++ codes "  " ++ flat_map escaped_byte f.0 ++ codes "\n"
 
--- The version of the program, the profile of the audit, and the lines of the files.
+-- The version of the program, a judgement, and the lines of the files that were judged.
+abbrev pub block_text : List ℕ → List ℕ → List Filed → List ℕ
+block_text version judgement files =
+    codes "# vsi " ++ version ++ codes "\n# " ++ judgement ++ codes "\n" ++ flat_map sum_line files
+
+-- The evidence of an audit by a profile.
 abbrev pub evidence_text : List ℕ → AuditProfile → List Filed → List ℕ
 evidence_text version profile files =
-    codes "# vsi " ++ version ++ codes "\n# audit " ++ profile_name profile ++ codes ": accepted\n"
-    ++ flat_map sum_line files
+    block_text version (codes "audit " ++ profile_name profile ++ codes ": accepted") files
+
+-- The most instructions of a run.
+abbrev pub most_text : ℕ → List ℕ
+most_text most = codes ", halts within " ++ decimal most ++ codes " instructions"
+
+-- The most instructions of a run, if a bound is named.
+abbrev pub bound_text : Option ℕ → List ℕ
+bound_text None = []
+bound_text (Some most) = most_text most
+
+-- The evidence of a judgement by an interface that requires this profile and, if one is named, this bound.
+abbrev pub conformity_text : List ℕ → AuditProfile → Option ℕ → List Filed → List ℕ
+conformity_text version profile most files =
+    block_text version (codes "conform " ++ profile_name profile ++ codes ": conforms" ++ bound_text most) files

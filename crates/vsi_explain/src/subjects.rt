@@ -206,7 +206,7 @@ written after its name, or else the least one that fits, as `vsi classes` shows.
 const PROFILES: &str = "\
 Profiles: how much of a run must reveal nothing
 
-  base      the values of variables: the default profile
+  base      the final values of globals, if runs halt: the default profile
   strict    also whether the run ends: no loop depends on a variable above the
             bottom class, or is under a guard that does
   steady    also how many instructions it takes: no branch depends on such a

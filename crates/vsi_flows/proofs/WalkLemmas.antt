@@ -1,6 +1,6 @@
 -- Each pair has a walk down the row of its target.
 use Rattle.std.proofs.Common.{◌≡◌, ℕ, suc, ◌+◌, ◌<◌, ◌≤◌, Bool, List, [], ◌∷◌, ◌++◌, length, get_or, Option, Some, None, refl, sym, ap, ◌∙◌, subst, arith, inl, inr, map, take, drop}
-use Rattle.std.specs.Prelude.{Result, Ok, Err, IfOk}
+use Rattle.std.specs.Prelude.{◌↔◌, Result, Ok, Err, IfOk}
 use Rattle.std.specs.List.{All, Contains, flat_map, slice_get}
 use Rattle.std.specs.Option.{MatchOption, IsSomeAnd}
 use Rattle.std.proofs.lemmas.Bool.{cases_lt}
@@ -15,8 +15,8 @@ use Rattle.vsi_types.specs.declared.rules.Step.{Step}
 use Rattle.vsi_types.specs.Security.{Program, IsWellFormed, program, steps_of}
 use Rattle.vsi_types.specs.Walks.{declared_class}
 use Rattle.vsi_lattice.specs.declared.lattice.Lattice as lattices
-use Rattle.vsi_lattice.specs.LatticeView.{class_named, order}
-use Rattle.vsi_compiler.specs.Stands.{Stands}
+use Rattle.vsi_lattice.specs.LatticeView.{order}
+use Rattle.vsi_compiler.specs.SourceView.{source_of, IsSource}
 use Rattle.vsi_scope.specs.Program.{Resolved}
 use Rattle.vsi_infer.specs.Explanation.{step_line}
 use Rattle.vsi_infer.specs.Distances.{Leads, AreLeast}
@@ -29,10 +29,11 @@ use Rattle.vsi_infer.proofs.Bridge.{step_there, at_place}
 use Rattle.vsi_infer.proofs.ShortestLemmas.{row_back, row_plain, source_within, path_place}
 use Rattle.vsi_flows.specs.declared.pair.Pair.{Pair}
 use Rattle.vsi_flows.specs.Rows.{AreRowsOf}
-use Rattle.vsi_flows.specs.Table.{IsTold, IsTable}
-use Rattle.vsi_flows.specs.Text.{Walked, IsWalkOf, pair_line, walked_lines, AddsLines, IsWalksText}
+use Rattle.vsi_flows.specs.Table.{AreAllowed, HasChoice, IsTold, IsTable}
+use Rattle.vsi_flows.specs.Text.{Walked, IsWalkOf, pair_line, walked_lines, AddsLines, DecideAcceptance, IsWalksText, ShowDependence}
 use Rattle.vsi_flows.specs.Walks.{IsUnreached, FindWalks, FindsPair, IsFound, AreWalkLines}
 use Rattle.vsi_flows.proofs.RowLemmas.{row_is}
+use Rattle.vsi_flows.proofs.TextLemmas.{decides, shows_dependence}
 
 -- One more row.
 pub find_more : (ss : List Step) (last : ℕ) (rows : List (List ℕ)) (found : List (Option WalksTo)) (row : List ℕ)
@@ -301,15 +302,17 @@ module _ (l : lattices.Lattice) (ss : List Step) (source : List ℕ) (r : Resolv
 
 -- The text consists of the lines of a table's pairs, each with a walk.
 pub walks_text : (l : lattices.Lattice) (P : Profile) (text : List ℕ) (r : Resolved)
-    → Stands (class_named l) text r → (pairs : List Pair) → IsTable (order l) P (program r) pairs
-    → (out : List ℕ) → AreWalkLines l (steps_of P (program r)) text r pairs out → IsWalksText l P text out
-walks_text l P text r stands pairs table out a = record {
+    → IsSource (source_of l text r) → (pairs : List Pair) → IsTable (order l) P (program r) pairs
+    → (AreAllowed pairs ↔ HasChoice (order l) P (program r)) → (out : List ℕ) → AreWalkLines l (steps_of P (program r)) text r pairs out → IsWalksText l P text out
+walks_text l P text r is pairs table verdict out a = record {
   resolved = r;
-  stands = stands;
+  stands = is.stands;
   walked = a.walked;
   table = subst (IsTable (order l) P (program r)) (sym a.pairs_kept) table;
   walks = a.walks;
   lines = a.lines;
+  verdict = subst (DecideAcceptance l P text) (sym a.pairs_kept) (decides l P text r is.stands pairs verdict);
+  dependence = subst (ShowDependence l text r) (sym a.pairs_kept) (shows_dependence l P text r is pairs table);
 }
 
 -- Pairs that are true have lines.
@@ -333,15 +336,15 @@ some_lines l P source r (pair ∷ pairs) told =
 
 -- The lines of a table's first pairs begin a text with the lines of all.
 pub lines_begin : (l : lattices.Lattice) (P : Profile) (source : List ℕ) (r : Resolved)
-    → Stands (class_named l) source r → (pairs : List Pair) → IsTable (order l) P (program r) pairs
-    → (number : ℕ) (part : List ℕ) → AreWalkLines l (steps_of P (program r)) source r (take number pairs) part
+    → IsSource (source_of l source r) → (pairs : List Pair) → IsTable (order l) P (program r) pairs
+    → (AreAllowed pairs ↔ HasChoice (order l) P (program r)) → (number : ℕ) (part : List ℕ) → AreWalkLines l (steps_of P (program r)) source r (take number pairs) part
     → (rest : List ℕ) × IsWalksText l P source (part ++ rest)
-lines_begin l P source r stands pairs table number part a =
+lines_begin l P source r is pairs table verdict number part a =
     let ss = steps_of P (program r) in
     let rest = some_lines l P source r (drop number pairs)
     (All-drop (IsTold (order l) P (program r)) number pairs table.told) in (
       rest.0,
-      walks_text l P source r stands pairs table (part ++ rest.0)
+      walks_text l P source r is pairs table verdict (part ++ rest.0)
           (subst (λ ps. AreWalkLines l ss source r ps (part ++ rest.0)) (take-append-drop number pairs)
           (lines_both l ss source r (take number pairs) (drop number pairs) part rest.0 a rest.1)),
     )

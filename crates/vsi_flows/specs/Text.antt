@@ -80,7 +80,8 @@ pub record AddsLines (l : Lattice) (ss : List Step) (source : List ℕ) (r : Res
   pub walk : IsWalkOf ss walked.pair walked.walk
   pub lines : new ≡ old ++ walked_lines l source r walked
 
--- The lines are those of the table of the text's program, and each pair has a walk of its fewest steps.
+-- The lines are those of the table of the text's program, whose pairs decide acceptance and show each dependence, and
+-- each pair has a walk of its fewest steps.
 pub record IsWalksText (l : Lattice) (P : Profile) (text out : List ℕ) : Type 0 where
   pub resolved : Resolved
   pub stands : Stands (class_named l) text resolved
@@ -88,3 +89,5 @@ pub record IsWalksText (l : Lattice) (P : Profile) (text out : List ℕ) : Type 
   pub table : IsTable (order l) P (program resolved) (map (λ w. w.pair) walked)
   pub walks : All (λ w. IsWalkOf (steps_of P (program resolved)) w.pair w.walk) walked
   pub lines : out ≡ flat_map (walked_lines l text resolved) walked
+  pub verdict : DecideAcceptance l P text (map (λ w. w.pair) walked)
+  pub dependence : ShowDependence l text resolved (map (λ w. w.pair) walked)

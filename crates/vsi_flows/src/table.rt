@@ -138,12 +138,12 @@ fn table_of<C: Classes>(
 }
 
 /// Establishes that some choice of classes is typable or some walk is bad.
-fn decide<C: Classes>(
+pub(crate) fn decide<C: Classes>(
     alloc: Heap,
     profile: Profile,
     lattice: &C,
     program: &Resolved<'_>,
-) -> Result<(), FlowsError>
+) -> Result<(), AllocError>
     requires globals { All (IsClass (C.lattice lattice.now)) (program_of program.now).globals }
     requires declared { AreClasses (C.lattice lattice.now) (program_of program.now).declared }
     ensures { OnOk result (HasChoice (C.lattice lattice.now) profile (program_of program.now)
@@ -152,7 +152,7 @@ fn decide<C: Classes>(
     match infer_in(alloc, profile, lattice, program) {
         Ok(_classes) => Ok(()),
         Err(InferError::Refused(_walk)) => Ok(()),
-        Err(InferError::Memory) => Err(FlowsError::Memory),
+        Err(InferError::Memory) => Err(AllocError),
     }
 }
 

@@ -8,7 +8,7 @@ ghost use Rattle.vsi_flows.specs.Walking.{AreWalks, IsWalkTable};
 use crate::finders::{found_in, walk_of};
 use crate::pair::Pair;
 use crate::rows::{declarations, program_rows};
-use crate::table::pairs_of;
+use crate::table::{decide, pairs_of};
 use crate::text::put_pair;
 use std::alloc::{AllocError, Global as Heap};
 use vsi_compiler::Source;
@@ -34,7 +34,8 @@ pub struct Walks<'t, 's, 'a> {
     marks: Vec<Mark>,
 }
 
-/// The table of a source text under a profile. This takes two passes over the program.
+/// The table of a source text under a profile. This takes two passes over the program, and an
+/// inference of its classes, which proves the verdict.
 pub fn walk_table<'s, 'a>(
     alloc: Heap,
     profile: Profile,
@@ -48,6 +49,7 @@ pub fn walk_table<'s, 'a>(
     let resolved = source.resolved();
     let rows = program_rows(alloc, profile, lattice, resolved)?;
     let pairs = pairs_of(alloc, lattice, resolved, &rows)?;
+    decide(alloc, profile, lattice, resolved)?;
     let last = declarations(resolved);
     let known = steps_down_each(alloc, profile, resolved, &rows, last)?;
     Ok(WalkTable {

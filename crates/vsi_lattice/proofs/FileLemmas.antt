@@ -24,19 +24,19 @@ order_fault f (order.NoJoin a b) e q h n = subst (IsFault f) (sym q) (h, n)
 order_fault f (order.NoMeet a b) e q h n = subst (IsFault f) (sym q) (h, n)
 
 -- The pairs of positions as the code computes them.
-pub numbered : (names : List (List ℕ)) (pairs : List (List ℕ × List ℕ)) (keys now : List (String Global))
+pub numbered : (names : List (List ℕ)) (pairs : List (List ℕ × List ℕ)) (kept now : List (String Global))
     (items found : List (ℕ × ℕ)) →
-    found ≡ items → items ≡ map (number_of (map string_bytes now)) pairs → now ≡ keys →
-    map string_bytes keys ≡ names →
+    found ≡ items → items ≡ map (number_of (map string_bytes now)) pairs → now ≡ kept →
+    map string_bytes kept ≡ names →
     found ≡ map (number_of names) pairs
-numbered names pairs keys now items found e f g h =
+numbered names pairs kept now items found e f g h =
     e ∙ (f ∙ (ap (λ ks. map (number_of (map string_bytes ks)) pairs) g ∙ ap (λ ns. map (number_of ns) pairs) h))
 
 -- No pair is unknown, in terms of the names that the code keeps.
-pub known_of : (names : List (List ℕ)) (pairs : List (List ℕ × List ℕ)) (keys now : List (String Global)) →
-    now ≡ keys →
-    map string_bytes keys ≡ names → Never (IsUnknownAt (map string_bytes now) pairs) → Never (IsUnknownAt names pairs)
-known_of names pairs keys now g h n =
+pub known_of : (names : List (List ℕ)) (pairs : List (List ℕ × List ℕ)) (kept now : List (String Global)) →
+    now ≡ kept →
+    map string_bytes kept ≡ names → Never (IsUnknownAt (map string_bytes now) pairs) → Never (IsUnknownAt names pairs)
+known_of names pairs kept now g h n =
     subst (λ ns. Never (IsUnknownAt ns pairs)) (ap (λ ks. map string_bytes ks) g ∙ h) n
 
 -- The names of a lattice, from those of the file.

@@ -7,4 +7,3 @@ pub mod NameLemmas
 pub mod FileLemmas
 pub mod TableLemmas
 pub mod PairLemmas
-pub mod KeyLemmas

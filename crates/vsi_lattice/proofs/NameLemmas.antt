@@ -1,6 +1,5 @@
 -- Names and their positions.
-use Rattle.std.proofs.Common.{◌≡◌, ℕ, zero, suc, ◌+◌, ◌<◌, Bool, true, false, cond, List, [], ◌∷◌, ◌++◌, length, map, get_or, take, Option, Some, None, option_map, bytes_eq, refl, sym, ap, ◌∙◌, subst, arith, true≢false, inl, inr, is_some, unwrap_or, slice_get, String, Global, string_bytes, string_eq, Bor, not, ◌||◌, length-take}
-use Rattle.std.specs.List.{list_any}
+use Rattle.std.proofs.Common.{◌≡◌, ℕ, zero, suc, ◌+◌, ◌<◌, Bool, true, false, cond, List, [], ◌∷◌, ◌++◌, length, map, get_or, take, Option, Some, None, option_map, bytes_eq, refl, sym, ap, ◌∙◌, subst, arith, true≢false, inl, inr, is_some, unwrap_or, slice_get, String, Global, string_bytes, Bor, length-take}
 use Rattle.std.proofs.lemmas.List.{take_more, map-append, get_or-take}
 use Rattle.std.proofs.lemmas.List.{get_or_default}
 use Rattle.std.proofs.Math.ListN.{get_or-map}
@@ -9,11 +8,6 @@ use Rattle.std.proofs.lemmas.Slice.Eq.{bytes_eq-Decides}
 use Rattle.std.proofs.lemmas.Bool.{cases_Bool}
 use Rattle.vsi_syntax.specs.Words.{is_name}
 use Rattle.vsi_lattice.specs.NamePlaces.{place_in, IsBadName, StandsIn, StandsEarlier}
-
--- A disjunction with a true part is true.
-or_true : (b : Bool) → (b || true) ≡ true
-or_true true = refl
-or_true false = refl
 
 -- A text that is not a bad name is a valid name.
 pub name_from : (names : List (List ℕ)) (i : ℕ) → i < length names → ¬ (IsBadName names i) →
@@ -64,13 +58,12 @@ found_at_own (y ∷ ys) (suc k) lt h =
     ∙ ap (option_map suc) (found_at_own ys k (omega (arith, lt)) (λ j p. h (suc j) (omega (arith, p))))
 
 -- The name at a position, as the code reads it.
-pub own_name : (keys now : List (String Global)) (i k : ℕ) (key : String Global) (text : List ℕ) → now ≡ keys →
-    i ≡ k →
-    key ≡ get_or now i key → text ≡ string_bytes key → k < length (map string_bytes keys) →
-    get_or (map string_bytes keys) k [] ≡ text
-own_name keys now i k key text e f g h lt =
-    get_or_default (map string_bytes keys) k [] (string_bytes key) lt ∙ get_or-map string_bytes keys k key
-    ∙ ap string_bytes (ap (λ l. get_or l k key) (sym e) ∙ ap (λ n. get_or now n key) (sym f) ∙ sym g) ∙ sym h
+pub own_name : (kept : List (String Global)) (i k : ℕ) (name : String Global) (text : List ℕ) → i ≡ k →
+    name ≡ get_or kept i name → text ≡ string_bytes name → k < length (map string_bytes kept) →
+    get_or (map string_bytes kept) k [] ≡ text
+own_name kept i k name text f g h lt =
+    get_or_default (map string_bytes kept) k [] (string_bytes name) lt ∙ get_or-map string_bytes kept k name
+    ∙ ap string_bytes (ap (λ n. get_or kept n name) (sym f) ∙ sym g) ∙ sym h
 
 -- A name at a position is read there.
 pub read_place : (names : List (List ℕ)) (name : List ℕ) (k r : ℕ) → r ≡ k → (k < length names) ×
@@ -129,42 +122,31 @@ from_earlier xs old i y lt e f (j, less, li, g) =
     let lj : j < length (take i xs) = omega (arith, length-take i xs, less, lt) in
     (j, subst (λ l. j < length l) (sym e) lj, ap (λ l. get_or l j []) e ∙ (get_or-take i xs j [] less ∙ (g ∙ sym f)))
 
--- A key for which the test succeeds is among the names.
-pub stands_from_any : (keys : List (String Global)) (name : String Global) → list_any (string_eq name) keys ≡ true →
-    StandsIn (map string_bytes keys) (string_bytes name)
-stands_from_any [] name h = absurd (true≢false (sym h))
-stands_from_any (k ∷ keys) name h = elim (cases_Bool (string_eq name k)) [
-  | inl e ↦ (0, omega arith, sym ((bytes_eq-Decides (string_bytes name) (string_bytes k)).0 e))
-  | inr e ↦ (let s = stands_from_any keys name (sym (ap (λ t. t || list_any (string_eq name) keys) e) ∙ h) in
-      (suc s.0, omega (arith, s.1), s.2))
-]
+-- A place that is there stays there, one further.
+placed_on : (b : Bool) (o : Option ℕ) → ((k : ℕ) × (o ≡ Some k)) → (k : ℕ) × (cond b (Some 0) (option_map suc o) ≡ Some k)
+placed_on true o h = (0, refl)
+placed_on false o h = (suc h.0, ap (option_map suc) h.1)
 
--- The converse: the test finds a key among the names.
-pub any_from_stands : (keys : List (String Global)) (name : String Global) →
-    StandsIn (map string_bytes keys) (string_bytes name) →
-    list_any (string_eq name) keys ≡ true
-any_from_stands [] name (j, lt, e) = absurd (omega (arith, lt))
-any_from_stands (k ∷ keys) name (zero, lt, e) =
-    ap (λ t. t || list_any (string_eq name) keys) ((bytes_eq-Decides (string_bytes name) (string_bytes k)).1 (sym e))
-any_from_stands (k ∷ keys) name (suc j, lt, e) =
-    ap (λ t. string_eq name k || t) (any_from_stands keys name (j, omega (arith, lt), e)) ∙ or_true (string_eq name k)
+-- A text in the list has a place.
+pub placed : (names : List (List ℕ)) (x : List ℕ) (j : ℕ) → j < length names → get_or names j [] ≡ x →
+    (k : ℕ) × (place_in names x ≡ Some k)
+placed [] x j lt e = absurd (omega (arith, lt))
+placed (y ∷ ys) x zero lt e =
+    (0, ap (λ t. cond t (Some 0) (option_map suc (place_in ys x))) ((bytes_eq-Decides y x).1 e))
+placed (y ∷ ys) x (suc j) lt e = placed_on (bytes_eq y x) (place_in ys x) (placed ys x j (omega (arith, lt)) e)
 
--- A test that is not false is true.
-not_false : (b : Bool) → not b ≡ false → b ≡ true
-not_false true h = refl
-not_false false h = sym h
+-- A text that no place has isn't in the list.
+pub absent : (names : List (List ℕ)) (x : List ℕ) → place_in names x ≡ None → ¬ (StandsIn names x)
+absent names x none (j, lt, e) =
+    none_some (sym none ∙ (placed names x j lt e).1)
 
--- A name that was added was not in the list.
-pub fresh_from : (keys : List (String Global)) (name : String Global) (text : List ℕ) (r : Bool) →
-    string_bytes name ≡ text →
-    r ≡ not (list_any (string_eq name) keys) → r ≡ true → ¬ (StandsIn (map string_bytes keys) text)
-fresh_from keys name text r e f g s =
-    true≢false (sym g ∙ (f ∙ ap not (any_from_stands keys name (subst (StandsIn (map string_bytes keys)) (sym e) s))))
+-- A text that is found is in the list.
+pub present : (names : List (List ℕ)) (x : List ℕ) (k : ℕ) → place_in names x ≡ Some k → StandsIn names x
+present names x k h = let r = found names x k h in (k, r.0, r.1)
 
--- A name that was not added was in the list.
-pub taken_from : (keys : List (String Global)) (name : String Global) (text : List ℕ) (r : Bool) →
-    string_bytes name ≡ text →
-    r ≡ not (list_any (string_eq name) keys) → r ≡ false → StandsIn (map string_bytes keys) text
-taken_from keys name text r e f g =
-    subst (StandsIn (map string_bytes keys)) e
-    (stands_from_any keys name (not_false (list_any (string_eq name) keys) (sym f ∙ g)))
+-- One more owned name.
+pub push_name : (kept new : List (String Global)) (name : String Global) (text : List ℕ) →
+    new ≡ kept ++ name ∷ [] → string_bytes name ≡ text → map string_bytes new ≡ map string_bytes kept ++ text ∷ []
+push_name kept new name text e f =
+    ap (map string_bytes) e ∙ (map-append string_bytes kept (name ∷ [])
+    ∙ ap (λ t. map string_bytes kept ++ t ∷ []) f)

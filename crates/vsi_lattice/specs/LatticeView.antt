@@ -7,7 +7,7 @@ use Rattle.vsi_lattice.specs.declared.lattice.Lattice.{Lattice}
 
 -- The names of the classes, in order.
 abbrev pub names : Lattice → List (List ℕ)
-names l = owned l.names.keys
+names l = owned l.names.items
 
 -- The order of the classes.
 abbrev pub order : Lattice → Order

@@ -6,16 +6,15 @@ ghost use Rattle.vsi_lattice.specs.NameRules.{AreNames};
 
 use crate::class::Class;
 use crate::mask::MaskLattice;
-use crate::names::key_place;
+use crate::names::place_of;
 use crate::order::Classes;
-use indexmap::IndexSet;
 
 /// A lattice of 1 to 64 classes, each with a name.
 #[derive(Drop)]
 pub struct Lattice {
-    names: IndexSet<String>,
+    names: Vec<String>,
     order: MaskLattice,
-    pub ghost named: { AreNames (owned names.keys) (length order.above.items) },
+    pub ghost named: { AreNames (owned names.items) (length order.above.items) },
 }
 
 impl Lattice {
@@ -25,9 +24,9 @@ impl Lattice {
     ghost use Rattle.vsi_lattice.specs.LatticeView as spec;
 
     /// The lattice with these names and this order.
-    pub(crate) fn new(names: IndexSet<String>, order: MaskLattice) -> Lattice
-        requires { AreNames (owned names.keys) (length order.above.items) }
-        ensures names { spec.names result ≡ owned names.keys }
+    pub(crate) fn new(names: Vec<String>, order: MaskLattice) -> Lattice
+        requires { AreNames (owned names.items) (length order.above.items) }
+        ensures names { spec.names result ≡ owned names.items }
         ensures order { spec.order result ≡ ⟦<MaskLattice as Classes>⟧.lattice order }
     {
         Lattice { names, order }
@@ -41,7 +40,7 @@ impl Lattice {
             (λ class. slice_get (spec.names self.now) class ≡ Some name.now) }
         ensures named { IfSome result (λ _. IsTrue (is_name name.now)) }
     {
-        match key_place(&self.names, name) {
+        match place_of(&self.names, name) {
             Some(place) => Some(Class::at(place as u8)),
             None => None,
         }
@@ -53,7 +52,7 @@ impl Lattice {
         ensures place { slice_get (spec.names self.now) class ≡ Some result.now }
         ensures class { spec.class_named self.now result.now ≡ Some class }
     {
-        self.names.as_slice()[class.index()].as_bytes()
+        self.names[class.index()].as_bytes()
     }
 }
 

@@ -7,33 +7,20 @@ ghost use Rattle.vsi_lattice.specs.Pairs.{ArePairsBelow};
 ghost use Rattle.vsi_lattice.specs.declared.fault.LatticeError.TheVariants as errors;
 
 use crate::fault::LatticeError;
-use indexmap::IndexSet;
 use std::alloc::Global;
 use vsi_syntax::is_name;
 
 /// The first position of a name.
-pub(crate) fn place_of(names: &[String], name: &[u8]) -> Option<u8>
-    requires few { length names.now ≤ 64 }
+pub(crate) fn place_of(names: &[String], name: &[u8]) -> Option<usize>
     ensures place { result ≡ place_in (owned names.now) name.now }
     ensures within { IfSome result (λ k. k < length names.now) }
 {
     for i in 0..names.len() {
         if names[i].as_bytes() == name {
-            return Some(i as u8);
+            return Some(i);
         }
     }
     None
-}
-
-/// The position of a name, looked up by key.
-pub(crate) fn key_place(names: &IndexSet<String>, name: &[u8]) -> Option<usize>
-    ensures place { result ≡ place_in (owned names.now.keys) name.now }
-    ensures within { IfSome result (λ k. k < length names.now.keys) }
-{
-    match str::from_utf8(name) {
-        Ok(text) => names.get_index_of(text),
-        Err(_) => None,
-    }
 }
 
 /// The position of the first text that is not a valid name.
@@ -63,36 +50,27 @@ pub(crate) fn number(names: &[String], low: &str, high: &str) -> Option<(u8, u8)
     let Some(b) = place_of(names, high.as_bytes()) else {
         return None;
     };
-    Some((a, b))
+    Some((a as u8, b as u8))
 }
 
-/// Adds a name if it is new, and returns whether it did.
-fn add_name(alloc: Global, set: &mut IndexSet<String>, name: &str) -> Result<bool, LatticeError>
-    ensures added { IfOk result
-        (λ r. r ≡ true → owned set.new.keys ≡ owned set.old.keys ++ name.now ∷ []) }
-    ensures fresh { IfOk result (λ r. r ≡ true → ¬ (StandsIn (owned set.old.keys) name.now)) }
-    ensures taken { IfOk result (λ r. r ≡ false → StandsIn (owned set.old.keys) name.now) }
-    ensures memory { IfErr result (λ e. e ≡ errors.Memory) }
-{
-    let name = String::from_str(alloc, name)?;
-    let (_, is_new) = set.insert_full(name)?;
-    Ok(is_new)
-}
-
-/// The set of the names, in order.
-pub(crate) fn collect_names(alloc: Global, names: &[&str]) -> Result<IndexSet<String>, LatticeError>
-    ensures names { IfOk result (λ set. owned set.keys ≡ texts names.now) }
+/// The names as owned texts, in order, if they are distinct. There are at most 64, so that each is
+/// compared with those before it.
+pub(crate) fn collect_names(alloc: Global, names: &[&str]) -> Result<Vec<String>, LatticeError>
+    ensures names { IfOk result (λ list. owned list.items ≡ texts names.now) }
     ensures distinct { OnOk result (Never (StandsEarlier (texts names.now))) }
     ensures duplicate { IfErr result (TellsDuplicate (texts names.now)) }
 {
-    let mut set = IndexSet::new(alloc);
+    let mut list = Vec::new(alloc);
     for i in 0..names.len() {
-        let is_new = add_name(alloc, &mut set, names[i])?;
-        if !is_new {
+        if let Some(_) = place_of(&list, names[i].as_bytes()) {
             return Err(LatticeError::DuplicateName(i));
         }
+        let name = String::from_str(alloc, names[i])?;
+        let Ok(()) = list.push(name) else {
+            return Err(LatticeError::Memory);
+        };
     }
-    Ok(set)
+    Ok(list)
 }
 
 /// The pairs of positions of their names.

@@ -34,10 +34,10 @@ fn lattice_of(
     if let Some(i) = first_bad(names) {
         return Err(LatticeError::BadName(i));
     }
-    let set = collect_names(alloc, names)?;
-    let numbers = number_pairs(alloc, set.as_slice(), pairs)?;
+    let list = collect_names(alloc, names)?;
+    let numbers = number_pairs(alloc, &list, pairs)?;
     match MaskLattice::new(alloc, names.len(), &numbers) {
-        Ok(order) => Ok(Lattice::new(set, order)),
+        Ok(order) => Ok(Lattice::new(list, order)),
         Err(e) => Err(LatticeError::from(e)),
     }
 }

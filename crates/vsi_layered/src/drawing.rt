@@ -4,8 +4,8 @@ ghost use Rattle.std.specs.Prelude.{IfOk, IfSome};
 ghost use Rattle.vsi_layered.specs.Drawing.{IsSound};
 
 use crate::columns::groups_of;
-use crate::frame::{Frame, HALF, frame_of};
-use crate::graph::{Drawing, Graph, Place, width_of};
+use crate::frame::{Frame, frame_of};
+use crate::graph::{Drawing, Graph, Node, Place};
 use crate::layers::layers_of;
 use crate::lists::at;
 use crate::rows::middles_of;
@@ -13,14 +13,13 @@ use crate::sound::is_sound;
 use crate::ways::{Placed, ways_of};
 use std::alloc::{AllocError, Global};
 
-/// The box of a node.
-fn place_of(graph: Graph<'_>, frame: &Frame, middles: &[usize], node: usize) -> Place {
-    let wide = width_of(graph, node);
+/// The box of the node at an index.
+fn place_of(node: Node, frame: &Frame, middles: &[usize], index: usize) -> Place {
     Place {
-        left: at(middles, node).saturating_sub(wide / 2),
-        top: at(&frame.heights, at(&frame.rows, node)).saturating_sub(HALF),
-        wide,
-        high: 2 * HALF,
+        left: at(middles, index).saturating_sub(node.wide / 2),
+        top: at(&frame.heights, at(&frame.rows, index)).saturating_sub(node.high / 2),
+        wide: node.wide,
+        high: node.high,
     }
 }
 
@@ -32,8 +31,8 @@ fn places_of(
     middles: &[usize],
 ) -> Result<Vec<Place>, AllocError> {
     let mut places = Vec::new(alloc);
-    for node in 0..graph.nodes.len() {
-        places.push(place_of(graph, frame, middles, node))?;
+    for (index, node) in graph.nodes.iter().enumerate() {
+        places.push(place_of(*node, frame, middles, index))?;
     }
     Ok(places)
 }
@@ -71,7 +70,7 @@ fn proposed(alloc: Global, graph: Graph<'_>) -> Result<Drawing, AllocError> {
 }
 
 /// The drawing of a graph, if the search finds one that is sound; it finds none if a node's group
-/// has no number below 64, or if numbers are too large.
+/// has no number below 64, if a node has no size, or if numbers are too large.
 ///
 /// # Errors
 ///

@@ -1,9 +1,10 @@
 //! Graphs and their drawings.
 
-/// A node: the width of its box, and the number of its group.
+/// A node: the width and the height of its box, and the number of its group.
 #[derive(Clone, Copy)]
 pub struct Node {
     pub wide: usize,
+    pub high: usize,
     pub group: usize,
 }
 

@@ -2,7 +2,8 @@
 
 ghost use Rattle.std.specs.Prelude.{◌≡◌, ◌≤◌, ◌<◌, ◌+◌, ℕ, length, IsTrue};
 ghost use Rattle.std.specs.List.{slice_index_or};
-ghost use Rattle.vsi_layered.specs.Drawing.{IsWithin, AreApart, AllApart, AllWithin, IsSound};
+ghost use Rattle.vsi_layered.specs.Drawing.{HasSize, IsWithin, IsInside, AreApart};
+ghost use Rattle.vsi_layered.specs.Drawing.{AllApart, AllSized, AllWithin, AllInside, IsSound};
 ghost use Rattle.vsi_layered.specs.declared.graph.Place.{Place as Box};
 
 use crate::graph::{Drawing, Node, Place};
@@ -28,6 +29,32 @@ fn ends_before(from: usize, length: usize, other: usize) -> bool
         return false;
     }
     length <= other - from
+}
+
+/// Whether a box has the size that its node asks for, and isn't empty.
+fn has_size(node: Node, place: Place) -> bool
+    ensures { IsTrue result → HasSize node place }
+{
+    if place.wide != node.wide {
+        return false;
+    }
+    if place.high != node.high {
+        return false;
+    }
+    if place.wide == 0 {
+        return false;
+    }
+    place.high > 0
+}
+
+/// Whether a box is within a picture of a width and a height.
+fn is_inside(place: Place, wide: usize, high: usize) -> bool
+    ensures { IsTrue result → IsInside wide high place }
+{
+    if !ends_before(place.left, place.wide, wide) {
+        return false;
+    }
+    ends_before(place.top, place.high, high)
 }
 
 /// Whether a box is within another one.
@@ -98,15 +125,49 @@ fn are_all_within(nodes: &[Node], places: &[Place], groups: &[Place]) -> bool
     true
 }
 
-/// Whether a drawing has a box for each node, within the box of its group, and no two boxes of
-/// nodes or of groups overlap.
+/// Whether each node's box has the size that the node asks for.
+fn are_all_sized(nodes: &[Node], places: &[Place]) -> bool
+    requires { length nodes.now ≤ length places.now }
+    ensures { IsTrue result → AllSized nodes.now places.now }
+{
+    for node in 0..nodes.len() {
+        if !has_size(nodes[node], places[node]) {
+            return false;
+        }
+    }
+    true
+}
+
+/// Whether each box is within a picture of a width and a height.
+fn are_all_inside(places: &[Place], wide: usize, high: usize) -> bool
+    ensures { IsTrue result → AllInside wide high places.now }
+{
+    for place in 0..places.len() {
+        if !is_inside(places[place], wide, high) {
+            return false;
+        }
+    }
+    true
+}
+
+/// Whether a drawing has a box for each node, of the size that it asks for and within the box of
+/// its group, and no two boxes of nodes or of groups overlap or reach out of the picture.
 pub(crate) fn is_sound(nodes: &[Node], drawing: &Drawing) -> bool
     ensures { IsTrue result → IsSound nodes.now drawing.now }
 {
     if drawing.places.len() != nodes.len() {
         return false;
     }
+    if !are_all_sized(nodes, &drawing.places) {
+        return false;
+    }
     if !are_all_within(nodes, &drawing.places, &drawing.groups) {
+        return false;
+    }
+    if !are_all_inside(&drawing.places, drawing.wide, drawing.high) {
+        return false;
+    }
+    if !are_all_inside(&drawing.groups, drawing.wide, drawing.high) {
         return false;
     }
     if !are_all_apart(&drawing.places) {

@@ -316,3 +316,33 @@ fn loops_in_turn(rt: HostRuntime) {
     assert!(rt; halts(alloc, &both_paths, 117, 127));
     assert!(rt; bound(alloc, &[Push(1), Jz(0), Halt]) == Some(Bound::Unstructured(1)));
 }
+
+#[test]
+fn second_loop_named(rt: HostRuntime) {
+    let alloc = rt.alloc();
+    // The first loop counts; the variable of the second one begins with any word.
+    let second = [
+        Push(0),
+        Store(0),
+        Load(0),
+        Push(10),
+        Lt,
+        Jz(11),
+        Load(0),
+        Push(1),
+        Add,
+        Store(0),
+        Jmp(2),
+        Load(1),
+        Push(20),
+        Lt,
+        Jz(20),
+        Load(1),
+        Push(1),
+        Add,
+        Store(1),
+        Jmp(11),
+        Halt,
+    ];
+    assert!(rt; is_endless(alloc, &second, 14, Reason::Start));
+}

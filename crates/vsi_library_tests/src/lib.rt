@@ -1,7 +1,7 @@
 //! The tests of the library that rows and transcripts can't hold: devices that fail mid-stream,
 //! images with changed bytes, leaks over given stores, controllers that share a store, refused
 //! flows and counts, bounds of small codes, raises of declared classes, continuations of unfinished
-//! texts, layouts that keep comments, positions with carets, names, and lines of JSON.
+//! texts, layouts that keep comments, positions with carets, names, lines of JSON, and drawings.
 #![tactic(auto)]
 
 #[cfg(test)]
@@ -10,6 +10,8 @@ mod beginnings;
 mod bounds;
 #[cfg(test)]
 mod counts;
+#[cfg(test)]
+mod drawings;
 #[cfg(test)]
 mod engine;
 #[cfg(test)]

@@ -7,7 +7,7 @@ use std::alloc::{AllocError, Global};
 use vsi_choices::text_value;
 use vsi_client::Encoding;
 use vsi_diagnostics::{Fault, fault_diagnostic, fault_text};
-use vsi_errors::{DocumentText, Shown, error_object, one_error, shown_in};
+use vsi_errors::{DocumentText, error_object, objects_in, one_error};
 use vsi_lattice::{LatticeError, read_lattice};
 use vsi_names::START;
 use vsi_policy::named_policy;
@@ -170,15 +170,6 @@ fn lattice_errors(alloc: Global, document: DocumentText<'_>) -> Result<Vec<Value
     one_error(alloc, refused_object(alloc, document, span, error)?)
 }
 
-/// All that is shown of a text, the errors first.
-fn all_shown(shown: Shown) -> Result<Vec<Value>, AllocError> {
-    let Shown { mut errors, others } = shown;
-    for other in others {
-        errors.push(other)?;
-    }
-    Ok(errors)
-}
-
 /// The errors and warnings of a source text under a lattice file.
 fn source_errors(
     alloc: Global,
@@ -189,8 +180,7 @@ fn source_errors(
     match read_lattice(alloc, bytes) {
         Ok(lattice) => {
             let (uri, text) = (document.uri, document.text);
-            let shown = shown_in(alloc, document.encoding, profile, &lattice, uri, text)?;
-            all_shown(shown)
+            objects_in(alloc, document.encoding, profile, &lattice, uri, text)
         }
         Err(error) => {
             let span = naming_span(document.text);

@@ -1,6 +1,7 @@
 //! The tests of the language server: positions and changes of a text, renaming, refused flows,
-//! variables that reach one another, what is offered at a place, and conversations: with messages
-//! that are malformed or out of turn, about a name, and about an interface file.
+//! errors beside warnings, variables that reach one another, what is offered at a place, and
+//! conversations: with messages that are malformed or out of turn, about a name, and about an
+//! interface file.
 #![tactic(auto)]
 
 #[cfg(test)]
@@ -13,5 +14,7 @@ mod refused;
 mod relations;
 #[cfg(test)]
 mod renames;
+#[cfg(test)]
+mod shown;
 #[cfg(test)]
 mod texts;

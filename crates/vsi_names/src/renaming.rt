@@ -1,29 +1,52 @@
 //! Renaming of a variable.
 
-ghost use Rattle.std.specs.Prelude.{◌≡◌, true, IfOk, IfSome};
+ghost use Rattle.std.specs.Prelude.{◌≡◌, true, [], ◌∷◌, length, map, slice_set, IfOk, IfSome};
 ghost use Rattle.vsi_lattice.specs.LatticeView.{class_named};
 ghost use Rattle.vsi_client.specs.Changes.{changed_by};
+ghost use Rattle.vsi_names.specs.Names.{after_first, with_name};
 ghost use Rattle.vsi_names.specs.Renamed as spec;
+ghost use Rattle.vsi_names.specs.Respelled.{AreInOrder, parts_of, respelled};
 
 use crate::mentions::Mention;
+use crate::spelling::{parts_of, respelled};
 use std::alloc::{AllocError, Global};
 use vsi_client::{Change, Encoding, changed_by, range_of};
 use vsi_code::generate;
 use vsi_compiler::{CompileError, Source, read_source};
 use vsi_image::Instr;
-use vsi_scope::{Entry, Global as Declared};
-use vsi_syntax::is_name;
+use vsi_scope::{Entry, Global as Declared, Resolved};
+use vsi_syntax::{Span, is_name};
 
-/// Whether a global keeps its class, and its name unless it gets the new one.
-fn keeps_global(name: &[u8], old: &Declared<'_>, new: &Declared<'_>) -> bool
-    ensures { result ≡ true → spec.KeepsGlobal name.now old.now new.now }
+/// The same place in the list without its first item.
+fn after_first(place: Option<usize>) -> Option<usize>
+    ensures { result ≡ after_first place }
 {
-    new.class == old.class && (new.name == old.name || new.name == name)
+    match place {
+        Some(place) => place.checked_sub(1),
+        None => None,
+    }
 }
 
-/// Whether each global does.
-fn keep_globals(name: &[u8], olds: &[Declared<'_>], news: &[Declared<'_>]) -> bool
-    ensures { result ≡ true → spec.KeepGlobals name.now olds.now news.now }
+/// Whether the first name of a list is kept, or is the new one if that is its place.
+fn keeps_name(place: Option<usize>, name: &[u8], old: &[u8], new: &[u8]) -> bool
+    ensures { result ≡ true → (new.now ∷ []) ≡ with_name place name.now (old.now ∷ []) }
+{
+    match place {
+        Some(0) => new == name,
+        _ => new == old,
+    }
+}
+
+/// Whether each global keeps its class, and its name unless it gets the new one.
+fn keep_globals(
+    place: Option<usize>,
+    name: &[u8],
+    olds: &[Declared<'_>],
+    news: &[Declared<'_>],
+) -> bool
+    ensures classes { result ≡ true → map (λ g. g.class) news.now ≡ map (λ g. g.class) olds.now }
+    ensures named { result ≡ true → map (λ g. g.name.now) news.now
+        ≡ with_name place name.now (map (λ g. g.name.now) olds.now) }
 {
     let [old, more @ ..] = olds else {
         return news.is_empty();
@@ -31,12 +54,16 @@ fn keep_globals(name: &[u8], olds: &[Declared<'_>], news: &[Declared<'_>]) -> bo
     let [new, others @ ..] = news else {
         return false;
     };
-    keeps_global(name, old, new) && keep_globals(name, more, others)
+    new.class == old.class
+        && keeps_name(place, name, old.name, new.name)
+        && keep_globals(after_first(place), name, more, others)
 }
 
-/// Whether each letvar keeps its declared class.
-fn keep_letvars(olds: &[Entry<'_>], news: &[Entry<'_>]) -> bool
-    ensures { result ≡ true → spec.KeepLetvars olds.now news.now }
+/// Whether each letvar keeps its declared class, and its name unless it gets the new one.
+fn keep_letvars(place: Option<usize>, name: &[u8], olds: &[Entry<'_>], news: &[Entry<'_>]) -> bool
+    ensures classes { result ≡ true → map (λ e. e.class) news.now ≡ map (λ e. e.class) olds.now }
+    ensures named { result ≡ true → map (λ e. e.name.now) news.now
+        ≡ with_name place name.now (map (λ e. e.name.now) olds.now) }
 {
     let [old, more @ ..] = olds else {
         return news.is_empty();
@@ -44,7 +71,24 @@ fn keep_letvars(olds: &[Entry<'_>], news: &[Entry<'_>]) -> bool
     let [new, others @ ..] = news else {
         return false;
     };
-    new.class == old.class && keep_letvars(more, others)
+    new.class == old.class
+        && keeps_name(place, name, old.name, new.name)
+        && keep_letvars(after_first(place), name, more, others)
+}
+
+/// Whether the variables keep their classes, and their names but for one, which gets the new one.
+fn keep_variables(variable: usize, name: &[u8], old: &Resolved<'_>, new: &Resolved<'_>) -> bool
+    ensures globals { result ≡ true →
+        map (λ g. g.class) new.now.globals ≡ map (λ g. g.class) old.now.globals }
+    ensures letvars { result ≡ true →
+        map (λ e. e.class) new.now.letvars ≡ map (λ e. e.class) old.now.letvars }
+    ensures named { result ≡ true →
+        spec.names new.now ≡ slice_set (spec.names old.now) variable name.now }
+{
+    let globals = old.globals();
+    let place = variable.checked_sub(globals.len());
+    keep_globals(Some(variable), name, globals, new.globals())
+        && keep_letvars(place, name, old.letvars(), new.letvars())
 }
 
 /// Whether two codes are the same.
@@ -75,71 +119,65 @@ fn code_alike(alloc: Global, old: &Source<'_>, new: &Source<'_>) -> Result<bool,
     Ok(is_same_code(&before.image().code, &after.image().code))
 }
 
-/// Whether a program is another one but for a name.
+/// Whether a program is another one but for the name of a variable.
 fn is_kept(
     alloc: Global,
+    variable: usize,
     name: &[u8],
     old: &Source<'_>,
     new: &Source<'_>,
 ) -> Result<bool, AllocError>
     ensures { IfOk result (λ kept. kept ≡ true →
-        spec.SameProgram name.now old.now.resolved new.now.resolved) }
+        spec.SameProgram variable name.now old.now.resolved new.now.resolved) }
 {
-    let before = old.resolved();
-    let after = new.resolved();
-    if !keep_globals(name, before.globals(), after.globals()) {
-        return Ok(false);
-    }
-    if !keep_letvars(before.letvars(), after.letvars()) {
+    if !keep_variables(variable, name, old.resolved(), new.resolved()) {
         return Ok(false);
     }
     code_alike(alloc, old, new)
 }
 
-/// Whether the program of a text is that of a source but for a name.
+/// Whether the program of a text is that of a source but for the name of a variable.
 fn keeps_program(
     alloc: Global,
+    variable: usize,
     name: &[u8],
     old: &Source<'_>,
     text: &[u8],
 ) -> Result<bool, AllocError>
     ensures kept { IfOk result (λ kept. kept ≡ true →
-        spec.KeepsProgram (class_named old.now.lattice) name.now old.now.text text.now) }
+        spec.KeepsProgram (class_named old.now.lattice) variable name.now old.now.text text.now) }
 {
     // `resolved` ensures that the program is the text's, which the proof needs.
     let _program = old.resolved();
     match read_source(alloc, old.lattice(), text) {
-        Ok(new) => is_kept(alloc, name, old, &new),
+        Ok(new) => is_kept(alloc, variable, name, old, &new),
         Err(CompileError::Memory) => Err(AllocError),
         Err(_) => Ok(false),
     }
 }
 
-/// The changes of a text that put a name at each of the parts that name a variable, the last first.
+/// The changes of a text that put a name at each of these parts, the last first.
 fn proposed<'a>(
     alloc: Global,
     encoding: Encoding,
     text: &[u8],
-    mentions: &[Mention],
-    variable: usize,
+    parts: &[Span],
     name: &'a [u8],
 ) -> Result<Vec<Change<'a>>, AllocError> {
     let mut changes = Vec::new(alloc);
-    for mention in mentions.iter().rev() {
-        if mention.variable == variable {
-            let range = range_of(encoding, text, mention.span.start, mention.span.stop);
-            let change = Change {
-                range: Some((range.start, range.stop)),
-                text: name,
-            };
-            changes.push(change)?;
-        }
+    for part in parts.iter().rev() {
+        let range = range_of(encoding, text, part.start, part.stop);
+        let change = Change {
+            range: Some((range.start, range.stop)),
+            text: name,
+        };
+        changes.push(change)?;
     }
     Ok(changes)
 }
 
-/// The changes that rename a variable of a source, each of the text that the one before it left:
-/// none if the new name is no name or the changes would change the program.
+/// The changes that put a new name at each mention of a variable of a source, each of the text that
+/// the one before it left: none if the new name is no name or the program would become another one.
 pub fn rename<'a>(
     alloc: Global,
     encoding: Encoding,
@@ -149,15 +187,26 @@ pub fn rename<'a>(
     name: &'a [u8],
 ) -> Result<Option<Vec<Change<'a>>>, AllocError>
     ensures kept { IfOk result (λ answer. IfSome answer (λ changes.
-        spec.KeepsProgram (class_named source.now.lattice) name.now source.now.text
+        spec.KeepsProgram (class_named source.now.lattice) variable name.now source.now.text
         (changed_by encoding changes.items source.now.text))) }
+    ensures respelled { IfOk result (λ answer. IfSome answer (λ changes.
+        changed_by encoding changes.items source.now.text
+        ≡ respelled name.now source.now.text 0 (parts_of variable mentions.now))) }
+    ensures in_order { IfOk result (λ answer. IfSome answer (λ changes.
+        AreInOrder (length source.now.text) 0 (parts_of variable mentions.now))) }
 {
     if !is_name(name) {
         return Ok(None);
     }
-    let changes = proposed(alloc, encoding, source.text(), mentions, variable, name)?;
-    let text = changed_by(alloc, encoding, source.text(), &changes)?;
-    if keeps_program(alloc, name, source, &text)? {
+    let parts = parts_of(alloc, variable, mentions)?;
+    let Some(text) = respelled(alloc, name, source.text(), &parts)? else {
+        return Ok(None);
+    };
+    let changes = proposed(alloc, encoding, source.text(), &parts, name)?;
+    let changed = changed_by(alloc, encoding, source.text(), &changes)?;
+    if changed.as_slice() == text.as_slice()
+        && keeps_program(alloc, variable, name, source, &changed)?
+    {
         return Ok(Some(changes));
     }
     Ok(None)

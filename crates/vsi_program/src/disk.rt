@@ -1,10 +1,14 @@
 //! The files of the system: what is read is opened, and what is replaced is replaced as a whole.
 
+use crate::beside::{Making, sweep};
+use crate::claims::Claim;
 use crate::kinds::is_of_kind;
-use std::fs::{File, OpenOptions, Permissions};
-use std::io::{ErrorKind, Write};
-use std::os::unix::fs::{MetadataExt, OpenOptionsExt, PermissionsExt, fchown};
-use std::{env, fs, io};
+use crate::replacing::{Filling, fill_whole, replace_by_new, sync_folder};
+use crate::troubles::{NO_FILE, Objection, Trouble, reason_of};
+use std::fs::{File, Metadata};
+use std::io::ErrorKind;
+use std::os::unix::fs::{FileTypeExt, MetadataExt};
+use std::{env, fs};
 use vsi::{Files, OutputKind, Writing};
 
 /// From how many bytes on a lattice file, a store file or an interface is too long.
@@ -16,12 +20,6 @@ const INPUT: &str = "/proc/self/fd/0";
 /// Why a file that the request reads isn't replaced.
 const IS_READ: &str = "this request reads the file, so it doesn't write over it.";
 
-/// Why a file that is no image isn't replaced by one.
-const NO_IMAGE: &str = "this file is no image; only --force replaces it.";
-
-/// Why a file that is no store isn't replaced by one.
-const NO_STORE: &str = "this file is no store; only --force replaces it.";
-
 /// The mode of a store file where there was none: a store may hold secrets, so its owner alone may
 /// read it.
 const OWNER_ALONE: u32 = 0o600;
@@ -30,14 +28,8 @@ const OWNER_ALONE: u32 = 0o600;
 /// give to others.
 const OPEN_TO_ALL: u32 = 0o666;
 
-/// The bits of a file's mode that say who may read, write and run it.
-const RIGHTS: u32 = 0o777;
-
 /// How many of the files that a request reads are known by their identities: more than it names.
 const MOST_READ: usize = 8;
-
-/// How many names are tried for the file beside the one that is to be replaced.
-const MOST_NAMES: u8 = 16;
 
 /// A file's device and its number there, by which it is known under each of its names.
 #[derive(Clone, Copy, PartialEq, Eq, Drop)]
@@ -56,28 +48,37 @@ pub(crate) struct Disk<'a> {
     kind: OutputKind,
     /// The file that this request reads and may replace, if it is there.
     replaced: Option<Identity>,
+    /// The file whose store this request keeps, if it keeps one.
+    claim: Claim,
     /// Whether the request replaces a file of another kind.
     is_forced: bool,
     /// Whether the request has filled its file, which is its own from then on.
     has_filled: bool,
     /// Whether a file wasn't written because this request has read it.
     is_spared: bool,
-    /// Why a file wasn't written that is of another kind.
-    objection: Option<&'static str>,
+    /// Why a file wasn't written that is of another kind, or that others may read.
+    objection: Option<Objection>,
+    /// Why the last file that wasn't read or written wasn't, if the system said it.
+    fault: Option<&'static str>,
+    /// Whether the request serves an editor, which waits for no file.
+    is_server: bool,
 }
 
 impl<'a> Disk<'a> {
     /// The files of the system, of which none has been read.
-    pub(crate) fn new(rt: &'a HostRuntime) -> Disk<'a> {
+    pub(crate) fn new(rt: &'a HostRuntime, is_server: bool) -> Disk<'a> {
         Disk {
             rt,
             read: [None; MOST_READ],
             kind: OutputKind::Image,
             replaced: None,
+            claim: Claim::Free,
             is_forced: false,
             has_filled: false,
             is_spared: false,
             objection: None,
+            fault: None,
+            is_server,
         }
     }
 
@@ -97,10 +98,14 @@ impl<'a> Disk<'a> {
         Some(identity_of(found.dev(), found.ino()))
     }
 
-    /// Whether the file at the path is left as it is: because this request has read it, under whatever
-    /// name, and may not replace it, or because it is of another kind. A file that the request has
-    /// filled itself never is.
+    /// Whether the file at the path is left as it is: because another drive keeps it, because this
+    /// request has read it, under whatever name, and may not replace it, or because it is of another
+    /// kind. A file that the request has filled itself is only the first.
     fn spares(&mut self, path: &str) -> bool {
+        if matches!(self.claim, Claim::Taken) {
+            self.objection = Some(Objection::Kept);
+            return true;
+        }
         let found = self.identity_at(path);
         if self.has_filled || found.is_none() || found == self.replaced {
             return false;
@@ -112,8 +117,9 @@ impl<'a> Disk<'a> {
         !self.is_forced && self.keeps(path)
     }
 
-    /// Whether the file at the path has bytes and isn't known to be of the kind that is written. If it
-    /// is known to be of another one, there is an objection.
+    /// Whether the file at the path has bytes and isn't known to be of the kind that is written, or is
+    /// another store than the one with which a drive began. If it is known to be so, there is an
+    /// objection.
     fn keeps(&mut self, path: &str) -> bool {
         if !self.has_bytes(path) {
             return false;
@@ -121,10 +127,11 @@ impl<'a> Disk<'a> {
         let Ok(file) = File::open(self.rt, path) else {
             return true;
         };
-        if is_of_kind(file, self.kind) {
+        let is_alike = is_of_kind(file, self.kind);
+        if is_alike && self.kind != OutputKind::State {
             return false;
         }
-        self.objection = Some(objection_of(self.kind));
+        self.objection = Some(objection_of(self.kind, is_alike));
         true
     }
 
@@ -133,7 +140,9 @@ impl<'a> Disk<'a> {
     fn has_bytes(&self, path: &str) -> bool {
         let found = match self.kind {
             OutputKind::Image => fs::metadata(self.rt, path),
-            OutputKind::Store | OutputKind::Source => fs::symlink_metadata(self.rt, path),
+            OutputKind::Store | OutputKind::State | OutputKind::Source => {
+                fs::symlink_metadata(self.rt, path)
+            }
         };
         match found {
             Ok(found) => found.is_file() && found.len() > 0,
@@ -149,110 +158,97 @@ impl<'a> Disk<'a> {
         }
     }
 
-    /// Makes a file with the name, which no file has yet.
-    fn create_new(&self, name: &str, mode: u32) -> io::Result<File> {
-        OpenOptions::new()
-            .write(true)
-            .create_new(true)
-            .mode(mode)
-            .open(self.rt, name)
+    /// Notes why a file wasn't written, and returns whether it was.
+    fn noted(&mut self, done: Result<(), Trouble>) -> Option<()> {
+        match done {
+            Ok(()) => return Some(()),
+            Err(Trouble::Objection(objection)) => self.objection = Some(objection),
+            Err(Trouble::Fault(reason)) => self.fault = reason,
+        }
+        None
     }
 
-    /// Makes a file beside the one to be replaced, with the name `fresh` or that and a number: never
-    /// one that is there already, nor one that a link leads to. It answers the number's name, if any.
-    fn create_beside(&self, fresh: &str, mode: u32) -> io::Result<(File, Option<String>)> {
-        match self.create_new(fresh, mode) {
-            Ok(file) => return Ok((file, None)),
-            Err(error) if error.kind() == ErrorKind::AlreadyExists => {}
-            Err(error) => return Err(error),
-        }
-        for number in 1..=MOST_NAMES {
-            let name = format!(in self.rt.alloc(); "{fresh}{number}")?;
-            match self.create_new(name.as_str(), mode) {
-                Ok(file) => return Ok((file, Some(name))),
-                Err(error) if error.kind() == ErrorKind::AlreadyExists => {}
-                Err(error) => return Err(error),
-            }
-        }
-        Err(io::Error::from(ErrorKind::AlreadyExists))
-    }
-
-    /// Makes a new file beside the one at the path, and puts it in its place once it is filled.
-    fn replace_by_new(&self, path: &str, fresh: &str, mode: u32, bytes: &[u8]) -> io::Result<()> {
-        let (file, numbered) = self.create_beside(fresh, mode)?;
-        match &numbered {
-            Some(name) => self.replace(path, file, name.as_str(), bytes),
-            None => self.replace(path, file, fresh, bytes),
-        }
-    }
-
-    /// Fills a new file with the bytes, gives it the rights and the owner of the one at the path, if
-    /// there is one, and puts it in its place once it is on the disk.
-    fn replace(&self, path: &str, file: File, name: &str, bytes: &[u8]) -> io::Result<()> {
-        let filled = self.fill(file, path, bytes);
-        let done = match filled {
-            Ok(()) => fs::rename(self.rt, name, path),
-            Err(error) => Err(error),
+    /// The new file with these bytes, in the place of the one at the path. Before the first time it is
+    /// known that the folder can be synced, and leftovers are removed.
+    fn replaced(&self, path: &str, fresh: &str, bytes: &[u8]) -> Result<File, Trouble> {
+        let is_store = matches!(self.kind, OutputKind::Store | OutputKind::State);
+        let making = Making {
+            fresh,
+            mode: OWNER_ALONE,
+            bytes: if is_store { None } else { Some(bytes) },
         };
-        if done.is_err() {
-            let _ = fs::remove_file(self.rt, name);
-        }
-        done
-    }
-
-    /// Gives the file the owner and the rights of the one at the path, if there is one, and the bytes,
-    /// which are on the disk afterwards.
-    fn fill(&self, mut file: File, path: &str, bytes: &[u8]) -> io::Result<()> {
-        match fs::symlink_metadata(self.rt, path) {
-            Ok(old) if !old.is_file() => return Err(io::Error::from(ErrorKind::InvalidInput)),
-            Ok(old) => {
-                let made = file.metadata()?;
-                if made.uid() != old.uid() || made.gid() != old.gid() {
-                    fchown(&file, Some(old.uid()), Some(old.gid()))?;
-                }
-                file.set_permissions(Permissions::from_mode(old.mode() & RIGHTS))?;
-            }
-            Err(error) if error.kind() == ErrorKind::NotFound => {}
-            Err(error) => return Err(error),
-        }
-        file.write_all(bytes)?;
-        file.sync_all()
-    }
-
-    /// Whether a new file may take the place of what is at the path: nothing, or a file of its own
-    /// that this user may write.
-    fn may_replace(&self, path: &str) -> bool {
-        match fs::symlink_metadata(self.rt, path) {
-            Ok(found) => {
-                found.is_file() && OpenOptions::new().write(true).open(self.rt, path).is_ok()
-            }
-            Err(error) => error.kind() == ErrorKind::NotFound,
-        }
-    }
-
-    /// Fills the file at the path as a whole, by a new one beside it. A device, a pipe, the target of
-    /// a link and a file in a folder that can't be written to are filled where they are, and so is
-    /// any file if there is no memory for a name.
-    fn fill_whole(&self, path: &str, bytes: &[u8]) -> io::Result<()> {
-        if self.may_replace(path) {
-            if let Ok(fresh) = format!(in self.rt.alloc(); "{path}.new") {
-                if let Ok((file, numbered)) = self.create_beside(fresh.as_str(), OPEN_TO_ALL) {
-                    return match &numbered {
-                        Some(name) => self.replace(path, file, name.as_str(), bytes),
-                        None => self.replace(path, file, fresh.as_str(), bytes),
-                    };
-                }
+        let filling = Filling {
+            bytes,
+            is_private: is_store && !self.is_forced,
+            claim: &self.claim,
+        };
+        if !self.has_filled {
+            sync_folder(self.rt, path)?;
+            if is_store {
+                sweep(self.rt, making);
             }
         }
-        File::create(self.rt, path)?.write_all(bytes)
+        replace_by_new(self.rt, path, making, filling)
+    }
+
+    /// Puts a new file with these bytes in the place of the one at the path, and keeps it.
+    fn replace_whole(&mut self, path: &str, fresh: &str, bytes: &[u8]) -> Result<(), Trouble> {
+        let file = self.replaced(path, fresh, bytes)?;
+        self.claim.hold(&file);
+        self.has_filled = true;
+        Ok(())
+    }
+
+    /// Whether the path leads to a pipe or a device that isn't one of the streams which the system
+    /// gives to the program, nor a device that the path names. The server has only files.
+    fn is_barred(&self, path: &str) -> bool {
+        match fs::metadata(self.rt, path) {
+            Ok(found) if found.is_file() || found.is_dir() => false,
+            Ok(_) if self.is_server => true,
+            Ok(found) if is_pipe(&found) => !is_stream(path),
+            Ok(_) => !is_stream(path) && !is_within(path, "/dev/"),
+            Err(_) => false,
+        }
     }
 }
 
-/// Why a file of another kind isn't replaced by one of this kind.
-fn objection_of(kind: OutputKind) -> &'static str {
+/// Whether this is a pipe or a socket.
+fn is_pipe(found: &Metadata) -> bool {
+    let kind = found.file_type();
+    kind.is_fifo() || kind.is_socket()
+}
+
+/// Whether the path is that of a file right in this folder.
+fn is_within(path: &str, folder: &str) -> bool {
+    match path.strip_prefix(folder) {
+        Some(name) => !name.contains('/'),
+        None => false,
+    }
+}
+
+/// Whether the path is that of a stream which the system gives to the program.
+fn is_stream(path: &str) -> bool {
+    path == "/dev/stdin" || is_within(path, "/dev/fd/") || is_within(path, "/proc/self/fd/")
+}
+
+/// Why a file isn't replaced by one of this kind, which it is of or not.
+fn objection_of(kind: OutputKind, is_alike: bool) -> Objection {
     match kind {
-        OutputKind::Image => NO_IMAGE,
-        OutputKind::Store | OutputKind::Source => NO_STORE,
+        OutputKind::Image => Objection::NoImage,
+        OutputKind::State if is_alike => Objection::OtherStore,
+        OutputKind::Store | OutputKind::State | OutputKind::Source => Objection::NoStore,
+    }
+}
+
+/// Why a path leads to nothing, if asking for it is answered by an error of this kind.
+fn reason_without(kind: ErrorKind) -> &'static str {
+    match kind {
+        ErrorKind::NotFound => "there is no file at this path.",
+        ErrorKind::PermissionDenied => "a folder on this path may not be entered.",
+        _ => match reason_of(kind) {
+            Some(reason) => reason,
+            None => "this path doesn't lead to a file.",
+        },
     }
 }
 
@@ -265,6 +261,10 @@ impl Files for Disk<'_> {
     type Input = File;
 
     fn open_file(&mut self, path: &str) -> Option<File> {
+        if self.is_barred(path) {
+            self.fault = Some(NO_FILE);
+            return None;
+        }
         let file = File::open(self.rt, path).ok()?;
         let found = file.metadata().ok()?;
         self.note(identity_of(found.dev(), found.ino()));
@@ -275,16 +275,26 @@ impl Files for Disk<'_> {
         if self.spares(path) {
             return None;
         }
-        self.fill_whole(path, bytes).ok()
+        let claim = Claim::Free;
+        let filling = Filling {
+            bytes,
+            is_private: false,
+            claim: &claim,
+        };
+        let done = fill_whole(self.rt, path, OPEN_TO_ALL, filling);
+        self.noted(done)
     }
 
     fn replace_file(&mut self, path: &str, fresh: &str, bytes: &[u8]) -> Option<()> {
         if self.spares(path) {
             return None;
         }
-        self.replace_by_new(path, fresh, OWNER_ALONE, bytes).ok()?;
-        self.has_filled = true;
-        Some(())
+        let done = self.replace_whole(path, fresh, bytes);
+        self.noted(done)
+    }
+
+    fn claim(&mut self, path: &str) {
+        self.claim = Claim::of(self.rt, path);
     }
 
     fn expect(&mut self, writing: Writing<'_>) {
@@ -302,7 +312,10 @@ impl Files for Disk<'_> {
     }
 
     fn objection(&mut self) -> Option<&'static str> {
-        self.objection
+        match self.objection {
+            Some(objection) => Some(objection.sentence()),
+            None => None,
+        }
     }
 
     fn may_wait(&self, path: &str) -> bool {
@@ -313,23 +326,19 @@ impl Files for Disk<'_> {
     }
 
     fn trouble(&mut self, path: &str) -> Option<&'static str> {
-        if self.objection.is_some() {
-            return self.objection;
+        if let Some(objection) = self.objection {
+            return Some(objection.sentence());
         }
         match fs::metadata(self.rt, path) {
             Ok(found) if found.is_dir() => Some("this is a folder."),
+            Ok(_) if self.is_spared => Some(IS_READ),
+            _ if self.fault.is_some() => self.fault,
+            Ok(found) if is_pipe(&found) => Some(NO_FILE),
             Ok(found) if found.len() >= LIMIT => {
                 Some("the file has more than 1048576 bytes, or may not be read or written.")
             }
-            Ok(_) if self.is_spared => Some(IS_READ),
             Ok(_) => Some("the file may not be read or written."),
-            Err(error) if error.kind() == ErrorKind::NotFound => {
-                Some("there is no file at this path.")
-            }
-            Err(error) if error.kind() == ErrorKind::PermissionDenied => {
-                Some("a folder on this path may not be entered.")
-            }
-            Err(_) => Some("this path doesn't lead to a file."),
+            Err(error) => Some(reason_without(error.kind())),
         }
     }
 

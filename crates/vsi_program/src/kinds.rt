@@ -126,7 +126,7 @@ fn begins_as_image(mut file: File) -> bool {
 pub(crate) fn is_of_kind(file: File, kind: OutputKind) -> bool {
     match kind {
         OutputKind::Image => begins_as_image(file),
-        OutputKind::Store => is_store(file),
+        OutputKind::Store | OutputKind::State => is_store(file),
         OutputKind::Source => true,
     }
 }

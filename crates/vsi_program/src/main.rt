@@ -1,9 +1,13 @@
 //! The program: its arguments, the files of the system and the standard streams.
 #![tactic(auto)]
 
+mod beside;
+mod claims;
 mod disk;
 mod kinds;
+mod replacing;
 mod screen;
+mod troubles;
 
 use crate::disk::Disk;
 use crate::screen::Screen;
@@ -27,6 +31,14 @@ fn arguments(rt: &HostRuntime) -> io::Result<Vec<String>> {
     Ok(arguments)
 }
 
+/// Whether the arguments ask to serve an editor.
+fn is_server(arguments: &[String]) -> bool {
+    match arguments.first() {
+        Some(word) => word.as_str() == "lsp",
+        None => false,
+    }
+}
+
 fn main(rt: HostRuntime) -> ExitCode {
     let arguments = match arguments(&rt) {
         Ok(arguments) => arguments,
@@ -39,7 +51,8 @@ fn main(rt: HostRuntime) -> ExitCode {
             return ExitCode::from(USAGE);
         }
     };
-    let Ok(mut files) = load(rt.alloc(), arguments.as_slice(), Disk::new(&rt)) else {
+    let disk = Disk::new(&rt, is_server(arguments.as_slice()));
+    let Ok(mut files) = load(rt.alloc(), arguments.as_slice(), disk) else {
         let _ = eprintln!(rt; "out of memory");
         return ExitCode::from(OUT_OF_MEMORY);
     };

@@ -77,7 +77,8 @@ lead_words l =
 -- The sentence about the pairs of an accepted text.
 abbrev pub allowed_words : ℕ → List ℕ
 allowed_words n =
-    if n == 0 then codes "<p class=\"lead\">No declared variable flows to another one.</p>\n"
+    if n == 0 then
+    codes "<p class=\"lead\">No declared variable flows to another: if runs halt, no global depends on another.</p>\n"
     else if n == 1 then
     codes "<p class=\"lead\">The only pair of declared variables joined by flows is allowed.</p>\n"
     else codes "<p class=\"lead\">All " ++ number n

@@ -6,7 +6,7 @@ use crate::page::{Page, Part};
 use std::alloc::{AllocError, Global};
 
 /// Half the height of a box.
-const HALF: usize = 17;
+pub(crate) const HALF: usize = 17;
 
 /// The position of a class, or an empty position.
 pub(crate) fn spot_at(layout: &Layout, place: usize) -> BoxMiddle {

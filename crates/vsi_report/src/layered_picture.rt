@@ -5,7 +5,7 @@ use crate::facts::{Facts, flows_between, is_inferred, number_of, variable_class,
 use crate::flows_picture::{
     TIPS, before_curve, is_against, looks, put_badge, put_step_path, put_told, put_variable_box,
 };
-use crate::lattice_picture::{colour, put_picture, put_short};
+use crate::lattice_picture::{HALF, colour, put_picture, put_short};
 use crate::layout::{BoxMiddle, box_width};
 use crate::order::{Order, name_of};
 use crate::page::{Page, Part};
@@ -78,6 +78,7 @@ fn nodes_of(alloc: Global, facts: &Facts, shown: usize) -> Result<Option<Vec<Nod
         };
         nodes.push(Node {
             wide: box_width(variable_name(facts, number).len()),
+            high: 2 * HALF,
             group,
         })?;
     }

@@ -148,6 +148,11 @@ pub(crate) fn put_lead(page: &mut Page, lead: &Lead<'_>) -> Result<(), AllocErro
     put_counts(page, lead.refused, lead.pairs)
 }
 
+/// The sentence about an accepted text without a pair.
+const NO_PAIR: &[u8] =
+    b"<p class=\"lead\">No declared variable flows to another: if runs halt, no global depends on \
+another.</p>\n";
+
 /// The sentence about the only pair of an accepted text.
 const ONE_PAIR: &[u8] =
     b"<p class=\"lead\">The only pair of declared variables joined by flows is allowed.</p>\n";
@@ -158,7 +163,7 @@ pub(crate) fn put_allowed(page: &mut Page, pairs: usize) -> Result<(), AllocErro
         (page.new.text.items ≡ page.old.text.items ++ spec.allowed_words pairs) }
 {
     if pairs == 0 {
-        return page.put(b"<p class=\"lead\">No declared variable flows to another one.</p>\n");
+        return page.put(NO_PAIR);
     }
     if pairs == 1 {
         return page.put(ONE_PAIR);

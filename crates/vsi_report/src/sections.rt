@@ -253,8 +253,9 @@ pub(crate) fn put_listing(page: &mut Page, lines: &[u8]) -> Result<(), AllocErro
 const PROMISE: &[u8] = b"<section aria-labelledby=\"promise\"><h2 id=\"promise\">What is promised\
 </h2>\n<p>The image does what the text says. \
 Take any class, and two stores that agree on each global whose class is at or below it: if the \
-runs of the image from both halt, their final stores agree on these globals too. So nothing that \
-an observer at the class reads at the end of a run depends on what the observer may not see.</p>\n";
+runs of the image from both halt, their final stores agree on these globals too. So, in runs that \
+halt, nothing that an observer at the class reads at the end depends on what the observer may not \
+see.</p>\n";
 
 /// The promise about the ending of runs under the strict profile.
 const ENDINGS: &[u8] =

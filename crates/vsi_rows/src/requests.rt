@@ -3,8 +3,8 @@
 use crate::row::Row;
 use crate::wrong::Wrong;
 use std::alloc::{AllocError, Global};
-use vsi_arguments::{ArgumentsError, Request, request_of};
-use vsi_asked::{asks_for, asks_help};
+use vsi_arguments::{ArgumentsError, Request, manner_of};
+use vsi_asked::{asks_help, request_of};
 use vsi_explain::page;
 
 /// The arguments in a line, each after a single space; an empty line has none.
@@ -23,8 +23,17 @@ fn put_verdict(row: &mut Row<'_>, is_so: bool) {
     row.put(if is_so { "yes\n" } else { "no\n" });
 }
 
-/// `asked LINE | OTHER`: whether the arguments of the other line make the request that is read from
-/// those of the first.
+/// Adds a line that says whether the arguments make the request.
+fn put_asked(alloc: Global, row: &mut Row<'_>, words: &[String], request: &Request<'_>) {
+    match request_of(alloc, words) {
+        Ok(Some(made)) => put_verdict(row, made == *request),
+        Ok(None) => put_verdict(row, false),
+        Err(_) => row.fail(Wrong::Memory),
+    }
+}
+
+/// `asked LINE | OTHER`: whether the arguments of the other line make the request that those of the
+/// first make.
 pub(crate) fn asked(alloc: Global, row: &mut Row<'_>) {
     let Some((line, other)) = row.rest.split_once(" | ") else {
         row.fail(Wrong::Row);
@@ -34,10 +43,13 @@ pub(crate) fn asked(alloc: Global, row: &mut Row<'_>) {
         row.fail(Wrong::Memory);
         return;
     };
-    match request_of(alloc, words.as_slice()) {
-        Ok(asked) => put_verdict(row, asks_for(others.as_slice(), &asked.request)),
-        Err(ArgumentsError::Memory) => row.fail(Wrong::Memory),
-        Err(_) => row.fail(Wrong::Row),
+    match (
+        manner_of(alloc, words.as_slice()),
+        request_of(alloc, words.as_slice()),
+    ) {
+        (Err(ArgumentsError::Memory), _) | (_, Err(_)) => row.fail(Wrong::Memory),
+        (Ok(_), Ok(Some(request))) => put_asked(alloc, row, others.as_slice(), &request),
+        _ => row.fail(Wrong::Row),
     }
 }
 
@@ -46,7 +58,7 @@ pub(crate) fn asked(alloc: Global, row: &mut Row<'_>) {
 pub(crate) fn page_asked(alloc: Global, row: &mut Row<'_>) {
     let request = Request::Explain(page(row.number()).unwrap_or(""));
     match words_of(alloc, row.rest) {
-        Ok(words) => put_verdict(row, asks_for(words.as_slice(), &request)),
+        Ok(words) => put_asked(alloc, row, words.as_slice(), &request),
         Err(_) => row.fail(Wrong::Memory),
     }
 }

@@ -61,7 +61,7 @@ refusal_plain uri true lines =
     one_plain (finding uri kind.Refused None lines) (finding_plain uri kind.Refused None lines)
 refusal_plain uri false lines = refl
 
--- Nor has that of a missing bound.
+-- Nor has that of the bound.
 bound_plain : (uri : List ℕ) (line : Option (Vec ℕ)) → items_have_float (items_of (bound_results uri line)) ≡ false
 bound_plain uri None = refl
 bound_plain uri (Some line) =
@@ -75,7 +75,7 @@ written_so rules results out are written plain =
     written (document_plain rules results (ap (λ (ds : List Data). items_have_float (items_of ds)) are ∙ rules_plain kinds)
     plain) ∙ ap (λ (ds : List Data). document_text ds results) are
 
--- The text of the document from the results of a refusal, of points and of a missing bound.
+-- The text of the document from the results of a refusal, of points and of the bound.
 whole_so : (first points bound begun all : List Data) (out : List ℕ) → begun ≡ first ++ points →
     all ≡ begun ++ bound → items_have_float (items_of first) ≡ false → items_have_float (items_of points) ≡ false →
     items_have_float (items_of bound) ≡ false → (items_have_float (items_of all) ≡ false → out ≡ findings_text all) →

@@ -19,8 +19,8 @@ use Rattle.vsi_sarif.specs.Location.{uri_of}
 abbrev pub findings_text : List Data → List ℕ
 findings_text results = document_text (rules_of kinds) results
 
--- The document has the result of the refusal, with its lines, one for each point of the text, in order, and that of a
--- missing bound.
+-- The document has the result of the refusal, with its lines, one for each point of the text, in order, and that of
+-- the bound.
 pub record IsConformSarif (l : Lattice) (path text : List ℕ) (i : Interface) (a : Answer) (out : List ℕ) : Type 0 where
   pub globals : List Declared
   pub declares : Declares text globals

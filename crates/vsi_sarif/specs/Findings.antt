@@ -41,7 +41,7 @@ abbrev pub refusal_results : List ℕ → Bool → List ℕ → List Data
 refusal_results uri true lines = object (finding uri kind.Refused None lines) ∷ []
 refusal_results uri false lines = []
 
--- The result of a missing bound, if there is a line about it.
+-- The result of the bound, if there is a line about it.
 abbrev pub bound_results : List ℕ → Option (Vec ℕ) → List Data
 bound_results uri None = []
 bound_results uri (Some line) = object (finding uri kind.Bound None line.items) ∷ []

@@ -217,7 +217,7 @@ pub(crate) fn refusal_results(
     Ok(found)
 }
 
-/// Adds the result of a missing bound, if there is a line about it.
+/// Adds the result of the bound, if there is a line about it.
 pub(crate) fn put_bound_result(
     alloc: Global,
     found: &mut Vec<Value>,

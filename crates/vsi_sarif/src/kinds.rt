@@ -9,7 +9,7 @@ use serde_json::{Map, Value};
 use std::alloc::{AllocError, Global};
 use vsi_conform::Point;
 
-/// The kind of a point. A refusal and a missing bound are points, too.
+/// The kind of a point. A refusal and the line about a bound are points, too.
 #[derive(Clone, Copy)]
 pub(crate) enum PointKind {
     Refused,

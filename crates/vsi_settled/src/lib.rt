@@ -1,7 +1,7 @@
-//! Laws of pairs of runs of an image that always halts, without a premise on their budgets. Nothing
-//! is computed here.
+//! Laws of pairs of runs and of drives of an image that always halts: with budgets of at least its
+//! bound there is no premise that runs halt. Nothing is computed here.
 //!
-//! To be believed: `specs/Settled`.
+//! To be believed: `specs/Settled` and `specs/Drives`.
 #![tactic(auto)]
 
 pub mod laws;

@@ -1,5 +1,5 @@
 -- The first line of a store that is saved, by which a change or a cut is noticed.
-use Rattle.std.specs.Prelude.{ℕ, nat_eq, nat_lt, Bool, true, false, if◌then◌else◌, bytes_eq, List, ◌++◌, codes, drop, length, take}
+use Rattle.std.specs.Prelude.{ℕ, nat_eq, nat_lt, Bool, false, not, if◌then◌else◌, bytes_eq, List, ◌++◌, codes, drop, length, take}
 use Rattle.std.specs.List.{starts_with}
 use Rattle.hex.specs.Hex.{encode_lower}
 use Rattle.sha2.specs.Sha256.{sha256}
@@ -25,6 +25,11 @@ abbrev pub has_own_line : List ℕ → Bool
 has_own_line bytes =
     if nat_lt (length bytes) LENGTH then false else bytes_eq (take LENGTH bytes) (seal (drop LENGTH bytes))
 
--- Bytes are whole if they don't begin with the mark, or else if their first line is that of all bytes after it.
+-- Bytes are a mark that was cut: some of its bytes, from its first on, and no others.
+abbrev pub is_cut_mark : List ℕ → Bool
+is_cut_mark bytes = if nat_eq (length bytes) 0 then false else starts_with nat_eq MARK bytes
+
+-- Bytes that begin with the mark are whole if their first line is that of all bytes after it. Others are whole unless
+-- they are a mark that was cut.
 abbrev pub is_whole : List ℕ → Bool
-is_whole bytes = if starts_with nat_eq bytes MARK then has_own_line bytes else true
+is_whole bytes = if starts_with nat_eq bytes MARK then has_own_line bytes else not (is_cut_mark bytes)

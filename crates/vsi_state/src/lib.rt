@@ -59,14 +59,24 @@ fn has_own_line(alloc: Global, bytes: &[u8]) -> Result<bool, AllocError>
     Ok(first == line.as_slice())
 }
 
-/// Whether bytes that begin with such a line have the one of the bytes after it; other bytes are
-/// whole.
+/// Whether bytes are a mark that was cut: some of its bytes, and no others.
+fn is_cut_mark(bytes: &[u8]) -> bool
+    ensures { result ≡ spec.is_cut_mark bytes.now }
+{
+    if bytes.is_empty() {
+        return false;
+    }
+    MARK.starts_with(bytes)
+}
+
+/// Whether bytes that begin with such a line have the one of the bytes after it. A mark that was cut
+/// isn't whole, and all other bytes are.
 pub fn is_whole(alloc: Global, bytes: &[u8]) -> Result<bool, AllocError>
     ensures whole { IfOk result (λ is. is ≡ spec.is_whole bytes.now) }
 {
     if bytes.starts_with(MARK) {
         has_own_line(alloc, bytes)
     } else {
-        Ok(true)
+        Ok(!is_cut_mark(bytes))
     }
 }

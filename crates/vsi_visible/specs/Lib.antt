@@ -1,2 +1,4 @@
+pub mod Globals
+pub mod Cycles
 pub mod Visible
 pub mod Unused

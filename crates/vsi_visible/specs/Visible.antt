@@ -1,25 +1,13 @@
--- The globals that each class sees under an interface: the table, and the differences of two interfaces.
-use Rattle.std.specs.Prelude.{ℕ, ◌++◌, Bool, false, ◌&&◌, not, List, [], ◌∷◌, codes, if◌then◌else◌}
-use Rattle.std.specs.Option.{option_map_or}
-use Rattle.vsi_lattice.specs.LatticeView.{class_named, order}
+-- The globals that each class sees, sets, reads and releases under an interface: the table, and the differences of two
+-- interfaces.
+use Rattle.std.specs.Prelude.{ℕ, ◌++◌, Bool, ◌&&◌, not, List, [], codes, if◌then◌else◌}
+use Rattle.vsi_lattice.specs.LatticeView.{order}
 use Rattle.vsi_lattice.specs.declared.lattice.Lattice.{Lattice}
 use Rattle.vsi_image.specs.Fields.{Global, globals}
-use Rattle.vsi_conform.specs.Asked.{class_of}
-use Rattle.vsi_conform.specs.declared.interface.Interface.{Interface}
-use Rattle.vsi_policy.specs.Seen.{each_below, name_at, or_unchanged, sees, sees_named}
-
--- The texts of some globals, in their order.
-abbrev pub each_global : (Global → List ℕ) → List Global → List ℕ
-each_global text [] = []
-each_global text (g ∷ gs) = text g ++ each_global text gs
-
--- A class sees the globals whose class is at or below it; a global whose class the lattice lacks isn't seen.
-abbrev pub sees_global : Lattice → ℕ → Global → Bool
-sees_global l viewer g = option_map_or (λ class. sees l viewer class) (class_named l g.1) false
-
--- The same for names: a name without a class sees nothing, and a name without a global isn't seen.
-abbrev pub sees_by_name : Lattice → List Global → List ℕ → List ℕ → Bool
-sees_by_name l gs viewer name = option_map_or (λ class. sees_named l viewer class) (class_of gs name) false
+use Rattle.vsi_conform.specs.declared.reader.InterfaceFile.{InterfaceFile}
+use Rattle.vsi_policy.specs.Seen.{each_below, name_at, or_unchanged}
+use Rattle.vsi_visible.specs.Globals.{each_global, sees_by_name, sees_global}
+use Rattle.vsi_visible.specs.Cycles.{boundaries, cycle_changes, cycle_rows}
 
 -- ---- the table.
 
@@ -32,9 +20,10 @@ abbrev pub visible_row : Lattice → List Global → ℕ → List ℕ
 visible_row l gs viewer =
     ((name_at l viewer ++ codes " sees") ++ each_global (visible_part l viewer) gs) ++ codes "\n"
 
--- The table: a row for each class, in the order of the lattice.
-abbrev pub visible_table : Lattice → Interface → List ℕ
-visible_table l i = each_below (visible_row l (globals i.globals.items)) (order l).count
+-- The table: a row for each class, in the order of the lattice, and then the rows of the tables of `cycle`.
+abbrev pub visible_table : Lattice → InterfaceFile → List ℕ
+visible_table l a =
+    each_below (visible_row l (globals a.interface.globals.items)) (order l).count ++ cycle_rows (boundaries l a)
 
 -- ---- the comparison.
 
@@ -61,7 +50,10 @@ abbrev pub changed_lines : Lattice → List Global → Lattice → List Global �
 changed_lines l gs old olds =
     lost_pairs (codes " now sees ") l gs old olds ++ lost_pairs (codes " no longer sees ") old olds l gs
 
--- The differences of an interface from an older one, each with its lattice.
-abbrev pub visible_changes : Lattice → Interface → Lattice → Interface → List ℕ
-visible_changes l i old before =
-    or_unchanged (changed_lines l (globals i.globals.items) old (globals before.globals.items))
+-- The differences of an interface from an older one, each with its lattice: in what classes see, and then in what they
+-- may do.
+abbrev pub visible_changes : Lattice → InterfaceFile → Lattice → InterfaceFile → List ℕ
+visible_changes l a old before =
+    or_unchanged
+    (changed_lines l (globals a.interface.globals.items) old (globals before.interface.globals.items)
+    ++ cycle_changes (boundaries l a) (boundaries old before))

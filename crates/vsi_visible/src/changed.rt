@@ -1,56 +1,18 @@
-//! The differences of two interfaces, by what each class sees.
+//! The differences of two interfaces, by what each class sees and may do.
 
-ghost use Rattle.std.specs.Prelude.{◌≡◌, ◌++◌, IfOk, OnOk, Some, option_map};
-ghost use Rattle.std.specs.Option.{option_copied};
-ghost use Rattle.vsi_conform.specs.Asked as asked;
+ghost use Rattle.std.specs.Prelude.{◌≡◌, ◌++◌, IfOk, OnOk};
 ghost use Rattle.vsi_image.specs.Fields.{global, globals};
 ghost use Rattle.vsi_lattice.specs.LatticeView.{order};
 ghost use Rattle.vsi_lattice.specs.Order.{IsClass};
-ghost use Rattle.vsi_policy.specs.Seen as seen;
 ghost use Rattle.vsi_visible.specs.Visible as spec;
 
-use crate::table::{name_of, put_two, sees_global};
+use crate::cycle_changes::put_changes;
+use crate::cycles::Side;
+use crate::globals::{sees_by_name, sees_global};
+use crate::table::{name_of, put_two};
 use std::alloc::{AllocError, Global};
-use vsi_conform::Interface;
+use vsi_conform::InterfaceFile;
 use vsi_lattice::{Classes, Lattice};
-
-/// The class name of the global with this name.
-fn class_of<'a>(variables: &'a [(Vec<u8>, Vec<u8>)], name: &[u8]) -> Option<&'a [u8]>
-    ensures { option_copied result ≡ asked.class_of (globals variables.now) name.now }
-{
-    for variable in variables {
-        if variable.0.as_slice() == name {
-            return Some(variable.1.as_slice());
-        }
-    }
-    None
-}
-
-/// Whether the class of one name sees the class of another.
-fn sees_named(lattice: &Lattice, viewer: &[u8], class: &[u8]) -> bool
-    ensures { result ≡ seen.sees_named lattice.now viewer.now class.now }
-{
-    match (lattice.class_named(viewer), lattice.class_named(class)) {
-        (Some(viewer), Some(class)) => lattice.leq(class, viewer),
-        _ => false,
-    }
-}
-
-/// Whether the class of a name sees the global of another name.
-fn sees_by_name(
-    lattice: &Lattice,
-    variables: &[(Vec<u8>, Vec<u8>)],
-    viewer: &[u8],
-    name: &[u8],
-) -> bool
-    ensures { result
-        ≡ spec.sees_by_name lattice.now (globals variables.now) viewer.now name.now }
-{
-    match class_of(variables, name) {
-        Some(class) => sees_named(lattice, viewer, class),
-        None => false,
-    }
-}
 
 /// Whether a viewer sees a global under one interface and not under the other, where both have the
 /// names that the first interface gives them.
@@ -152,8 +114,9 @@ fn changed_lines(
     Ok(out)
 }
 
-/// The differences of an interface from an older one, each with its lattice: a line for each class
-/// and each global that only one of them lets it see, by their names.
+/// The differences of an interface from an older one, each with its lattice, by their names: a line
+/// for each class and each global that only one of them lets it see, and then, if one of them has
+/// tables `[[cycle]]`, for each that only one of them lets it set, read or release.
 ///
 /// # Errors
 ///
@@ -161,16 +124,22 @@ fn changed_lines(
 pub fn visible_changes(
     alloc: Global,
     lattice: &Lattice,
-    interface: &Interface,
+    asked: &InterfaceFile,
     old_lattice: &Lattice,
-    old_interface: &Interface,
+    old_asked: &InterfaceFile,
 ) -> Result<Vec<u8>, AllocError>
-    ensures changes { IfOk result (λ text. text.items ≡ spec.visible_changes lattice.now
-        interface.now old_lattice.now old_interface.now) }
+    ensures changes { IfOk result (λ text. text.items ≡ spec.visible_changes lattice.now asked.now
+        old_lattice.now old_asked.now) }
 {
-    let variables = interface.globals.as_slice();
-    let olds = old_interface.globals.as_slice();
-    let lines = changed_lines(alloc, lattice, variables, old_lattice, olds)?;
+    let variables = asked.interface.globals.as_slice();
+    let olds = old_asked.interface.globals.as_slice();
+    let mut lines = changed_lines(alloc, lattice, variables, old_lattice, olds)?;
+    let side = Side { lattice, asked };
+    let old = Side {
+        lattice: old_lattice,
+        asked: old_asked,
+    };
+    put_changes(&mut lines, &side, &old)?;
     if lines.is_empty() {
         return Vec::from_slice(alloc, UNCHANGED);
     }

@@ -1,14 +1,18 @@
-//! The table of an interface: the globals that each class sees.
+//! The table of an interface: the globals that each class sees, and those of its tables.
 
 ghost use Rattle.std.specs.Prelude.{◌≡◌, ◌++◌, IfOk, OnOk};
 ghost use Rattle.vsi_image.specs.Fields.{global, globals};
 ghost use Rattle.vsi_lattice.specs.LatticeView.{order};
 ghost use Rattle.vsi_lattice.specs.Order.{IsClass};
 ghost use Rattle.vsi_policy.specs.Seen.{each_below, name_at};
+ghost use Rattle.vsi_visible.specs.Globals.{each_global};
 ghost use Rattle.vsi_visible.specs.Visible as spec;
 
+use crate::cycle_rows::put_cycles;
+use crate::cycles::Side;
+use crate::globals::sees_global;
 use std::alloc::{AllocError, Global};
-use vsi_conform::Interface;
+use vsi_conform::InterfaceFile;
 use vsi_lattice::{Class, Classes, Lattice};
 
 /// Adds two texts.
@@ -25,17 +29,6 @@ pub(crate) fn name_of(lattice: &Lattice, class: usize) -> &[u8]
     ensures { result.now ≡ name_at lattice.now class }
 {
     lattice.name(Class::at(class as u8))
-}
-
-/// Whether a class sees a global.
-pub(crate) fn sees_global(lattice: &Lattice, viewer: usize, variable: &(Vec<u8>, Vec<u8>)) -> bool
-    requires { IsClass (order lattice.now) viewer }
-    ensures { result ≡ spec.sees_global lattice.now viewer (global variable.now) }
-{
-    match lattice.class_named(variable.1.as_slice()) {
-        Some(class) => lattice.leq(class, Class::at(viewer as u8)),
-        None => false,
-    }
 }
 
 /// Adds the name of a global if the viewer sees it.
@@ -64,7 +57,7 @@ fn put_all_visible(
 ) -> Result<(), AllocError>
     requires { IsClass (order lattice.now) viewer }
     ensures { OnOk result (text.new.items ≡ text.old.items
-        ++ spec.each_global (spec.visible_part lattice.now viewer) (globals variables.now)) }
+        ++ each_global (spec.visible_part lattice.now viewer) (globals variables.now)) }
 {
     for variable in variables {
         put_visible(text, lattice, viewer, variable)?;
@@ -104,7 +97,7 @@ fn put_rows(
 }
 
 /// The table of an interface and its lattice: a row for each class, with the names of the globals
-/// whose class is at or below it.
+/// whose class is at or below it, and then the rows of the tables `[[cycle]]`.
 ///
 /// # Errors
 ///
@@ -112,12 +105,13 @@ fn put_rows(
 pub fn visible_table(
     alloc: Global,
     lattice: &Lattice,
-    interface: &Interface,
+    asked: &InterfaceFile,
 ) -> Result<Vec<u8>, AllocError>
     ensures table { IfOk result
-        (λ text. text.items ≡ spec.visible_table lattice.now interface.now) }
+        (λ text. text.items ≡ spec.visible_table lattice.now asked.now) }
 {
     let mut text = Vec::new(alloc);
-    put_rows(&mut text, lattice, interface.globals.as_slice())?;
+    put_rows(&mut text, lattice, asked.interface.globals.as_slice())?;
+    put_cycles(&mut text, &Side { lattice, asked })?;
     Ok(text)
 }

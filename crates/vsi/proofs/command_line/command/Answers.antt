@@ -1,11 +1,12 @@
 use Rattle.std.proofs.lemmas.Result.{IfErr-weaker}
 use Rattle.vsi_devices.specs.Counted.{device_of}
 use Rattle.vsi.specs.Done.{FailsAt}
+use Rattle.vsi.specs.Noted.{NotesFailure}
 use Rattle.vsi.specs.Words.{given_to}
 use Rattle.vsi.proofs.Filled.{unfilled_at}
 use Rattle.vsi.proofs.Leaving.{partly_at}
 use Rattle.vsi.proofs.NoteLemmas.{tells_note}
-use Rattle.vsi.proofs.CarriedOut.{fails_at}
+use Rattle.vsi.proofs.CarriedOut.{both_failed, fails_at}
 use Rattle.vsi.proofs.Failed.{done_at_zero, tells_failure}
 use Rattle.vsi.proofs.command_line.command.Goals as goal
 
@@ -15,9 +16,15 @@ returns-clause-told g c =
     let given = given_to c.args.words.now (g.R.Read.remaining (device_of c.args.input.now)) in
     let old = g.W.Write.contents (device_of c.args.output.now) in
     let new = g.W.Write.contents (device_of c.carried_out-answer.new.output) in
-    tells_failure (FailsAt holds given c.args.words.now old new) g.E.Write.contents c.args.error.now
-    c.ended.new.error c.carried_out-answer.new.error_text.lines.items c.carried_out-answer.result c.ended.result
-    (IfErr-weaker c.carried_out-answer.result _ _ (fails_at holds given c.args.words.now old new) c.carried_out-answer.ensures.failed)
+    tells_failure
+    (λ failure note. FailsAt holds given c.args.words.now old new failure
+    × NotesFailure holds c.args.words.now failure note)
+    g.E.Write.contents c.args.error.now c.ended.new.error c.carried_out-answer.new.error_text.lines.items
+    c.carried_out-answer.result c.ended.result
+    (both_failed _ _ c.carried_out-answer.result
+    (IfErr-weaker c.carried_out-answer.result _ _ (fails_at holds given c.args.words.now old new)
+    c.carried_out-answer.ensures.failed)
+    c.carried_out-answer.ensures.hushed)
     c.ended.ensures.done c.ended.ensures.failed c.ended.ensures.told
 
 pub returns-clause-noted : goal.returns-clause-noted

@@ -1,4 +1,4 @@
-use Rattle.std.proofs.Common.{◌<◌, ◌⊎◌, ap}
+use Rattle.std.proofs.Common.{◌≡◌, ◌<◌, ◌⊎◌, [], ap}
 use Rattle.vsi.specs.Input.{FailsRun}
 use Rattle.vsi.specs.Screen.{tamed}
 use Rattle.vsi.specs.Failures.{Gets}
@@ -44,9 +44,11 @@ returns-clause-fault_told g c =
 
 pub returns-clause-told : goal.returns-clause-told
 returns-clause-told g c =
-    tells_failure (λ failure. Unit {0}) g.E.Write.contents c.args.error.now c.ended.new.error c.new.result.lines.items
-    c.run_input-answer.result c.ended.result
-    (each_failure (λ failure. Unit {0}) c.run_input-answer.result (λ failure. tt)) c.ended.ensures.done
+    tells_failure (λ failure note. note ≡ []) g.E.Write.contents c.args.error.now c.ended.new.error
+    c.new.result.lines.items c.run_input-answer.result c.ended.result
+    (each_failure (λ failure. tamed c.new.result.lines.items ≡ []) c.run_input-answer.result
+    (λ failure. ap tamed c.new.ensures))
+    c.ended.ensures.done
     c.ended.ensures.failed c.ended.ensures.told
 
 pub returns-clause-partly : goal.returns-clause-partly

@@ -5,6 +5,8 @@ use Rattle.vsi_devices.specs.Counted.{device_of}
 use Rattle.vsi.specs.Partly.{AnswersCompare}
 use Rattle.vsi.specs.Refusals.{FailsBy}
 use Rattle.vsi.specs.Reasons.{LacksCompare, OtherCompare, WhyCompare}
+use Rattle.vsi.proofs.CarriedOut.{each_failure}
+use Rattle.vsi.proofs.NoteLemmas.{each_done}
 use Rattle.vsi.proofs.Partly.{answer_leaves, kept_leaves}
 use Rattle.vsi.proofs.Reasons.{FailsBy-weaker, handed}
 use Rattle.vsi.proofs.Unrun.{answer_failed}
@@ -64,3 +66,14 @@ returns-clause-left g c =
     ((c.in_ok-found.found.is_same ≡ false) × Appends old new c.deref.result.now) old new c.deref.result.now
     c.write_answer.result (c.in_ok-found.found, c.in_ok-found.ensures.told, c.deref.ensures.value)
     c.write_answer.ensures.failed c.write_answer.ensures.part
+
+pub returns-clause-noted : goal.returns-clause-noted
+returns-clause-noted g c = λ fresh. each_done _ c.write_answer.result (c.in_ok-found.ensures.noted fresh)
+
+pub returns-in_err-found-clause-hushed : goal.returns-in_err-found-clause-hushed
+returns-in_err-found-clause-hushed g c = λ fresh.
+    each_failure _ c.from_residual.result (λ failure. c.in_err-found.ensures.hushed fresh)
+
+pub returns-clause-hushed : goal.returns-clause-hushed
+returns-clause-hushed g c = λ fresh.
+    each_failure _ c.write_answer.result (λ failure. inr (c.in_ok-found.ensures.noted fresh))

@@ -5,13 +5,13 @@ use Rattle.vsi.specs.Undriven.{IsUnusable}
 use Rattle.vsi.proofs.Reasons.{handed, late_fails}
 use Rattle.vsi.proofs.conformance.interface_in.Goals as goal
 
-pub returns-in-Ok-clause-asked : goal.returns-in-Ok-clause-asked
-returns-in-Ok-clause-asked g c =
+pub returns-clause-asked : goal.returns-clause-asked
+returns-clause-asked g c =
     record {
       bytes = c.in_ok-bytes.bytes.items;
       read = c.in_ok-bytes.ensures.read;
-      is = subst (λ b. IsReadAs b c.in-Ok.asked) c.deref.ensures.value c.in-Ok.ensures.read;
-      inside = c.in-Ok.ensures.inside;
+      is = subst (λ b. IsReadAs b c.in_ok-found.found) c.deref.ensures.value c.in_ok-found.ensures.read;
+      inside = c.in_ok-found.ensures.inside;
     }
 
 pub returns-in_err-bytes-clause-failed : goal.returns-in_err-bytes-clause-failed

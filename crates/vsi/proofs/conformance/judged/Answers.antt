@@ -1,58 +1,83 @@
-use Rattle.std.proofs.Common.{inl, inr, sym, subst}
-use Rattle.std.proofs.lemmas.Result.{IfErr-weaker, IfOk-weaker}
+use Rattle.std.proofs.Common.{◌≡◌, ◌++◌, inl, inr, sym, subst}
+use Rattle.vsi.specs.Filed.{Follows}
 use Rattle.vsi.specs.Holding.{IsReadAt}
-use Rattle.vsi.specs.Performed.{ConformsFiles, TellsBytes}
+use Rattle.vsi.specs.Performed.{IsConformity, TellsBytes, judged_files}
+use Rattle.vsi.specs.Supplied.{begins_image}
 use Rattle.vsi.specs.Refusals.{NoOther, FailsBy}
 use Rattle.vsi.specs.Reasons.{RefusesBytes, RefusesConform}
 use Rattle.vsi.specs.Undriven.{IsUnusable, RefusesAsked}
-use Rattle.vsi.specs.Supplied.{begins_image}
+use Rattle.vsi.proofs.Conforming.{policy_at, policy_bytes_at}
 use Rattle.vsi.proofs.Reasons.{FailsBy-weaker, handed, late_fails, fails_by}
 use Rattle.vsi.proofs.conformance.judged.Goals as goal
 
 pub returns-clause-told : goal.returns-clause-told
 returns-clause-told g c =
-    IfOk-weaker c.bytes_answer.result
-    (λ pair. TellsBytes (begins_image c.deref.result.now) c.args.asked.form c.args.asked.source.now pair.0
-    c.in_ok-found.lattice c.deref.result.now c.in_ok-found.found.interface pair.1.items)
-    (λ pair. ConformsFiles (g.F.Files.holds c.args.files.now) c.args.asked pair.0 pair.1)
-    (λ pair tells. record {
-      asked = c.in_ok-found.found;
-      lattice = c.in_ok-found.lattice;
-      source = c.deref.result.now;
+    let holds = g.F.Files.holds c.args.files.now in
+    let request = c.args.asked in
+    let known = c.in_ok-read.read in
+    let source = c.in_ok-bytes.bytes.items in
+    let text = c.in_ok-text.text.items in
+    record {
+      asked = known.found;
+      lattice = known.lattice;
+      source = source;
       files = record {
-        interface = c.in_ok-found.ensures.asked;
-        lattice = c.in_ok-found.ensures.declared;
-        read = subst (λ h. IsReadAt h c.args.asked.source.now c.deref.result.now) c.in_ok-found.ensures.kept
-            (subst (IsReadAt (g.F.Files.holds c.asked_in.new.files) c.args.asked.source.now)
-            (sym c.deref.ensures.value) c.in_ok-bytes.ensures.read);
+        interface = record {
+          bytes = known.bytes.items;
+          read = c.in_ok-read.ensures.read;
+          is = c.in_ok-read.ensures.is;
+          inside = c.in_ok-read.ensures.inside;
+        };
+        lattice = policy_at holds request.interface.now known.found.policy known.lattice known.policy.items
+            c.in_ok-read.ensures.policy c.in_ok-read.ensures.declared;
+        read = subst (λ h. IsReadAt h request.source.now source) c.in_ok-read.ensures.kept c.in_ok-bytes.ensures.read;
       };
-      within = c.in_ok-found.ensures.within;
-      tells = tells;
-    })
-    c.bytes_answer.ensures.told
+      within = c.in_ok-read.ensures.within;
+      answer = c.in_ok-conforms.answer.items;
+      tells = subst
+          (λ b. TellsBytes (begins_image b) request.form request.source.now c.in_ok-conforms.conforms known.lattice b
+          known.found.interface c.in_ok-conforms.answer.items)
+          c.deref.ensures.value c.in_ok-conforms.ensures.told;
+      followed = record {
+        evidence = c.in_ok-lines.lines.items;
+        follows = subst
+            (λ p. Follows request.has_evidence c.in_ok-conforms.conforms
+            (IsConformity known.found known.lattice source
+            (judged_files request known.found known.bytes.items p source)) c.in_ok-lines.lines.items)
+            (sym (policy_bytes_at holds request.interface.now known.found.policy known.lattice known.policy.items
+            c.in_ok-read.ensures.policy c.in_ok-read.ensures.declared))
+            (subst
+            (λ b. Follows request.has_evidence c.in_ok-conforms.conforms
+            (IsConformity known.found known.lattice b
+            (judged_files request known.found known.bytes.items known.policy.items b)) c.in_ok-lines.lines.items)
+            c.deref-2.ensures.value c.in_ok-lines.ensures);
+        is = subst (λ b. text ≡ c.in_ok-conforms.answer.items ++ b) c.deref-3.ensures.value c.in_ok-text.ensures;
+      };
+    }
 
-pub returns-clause-failed : goal.returns-clause-failed
-returns-clause-failed g c =
+pub returns-in_err-conforms-clause-failed : goal.returns-in_err-conforms-clause-failed
+returns-in_err-conforms-clause-failed g c =
     let holds = g.F.Files.holds c.args.files.now in
     let why = RefusesConform holds c.args.asked in
-    IfErr-weaker c.bytes_answer.result (FailsBy (RefusesBytes c.deref.result.now) NoOther) (FailsBy why IsUnusable)
+    handed (FailsBy why IsUnusable) c.in_err-conforms.field-0.0 c.from_residual-in_err-conforms.result
+    c.from_residual-in_err-conforms.ensures.1
     (fails_by (RefusesBytes c.deref.result.now) why IsUnusable
     (λ reason is. inr (record {
       bytes = c.deref.result.now;
-      read = subst (λ h. IsReadAt h c.args.asked.source.now c.deref.result.now) c.in_ok-found.ensures.kept
-          (subst (IsReadAt (g.F.Files.holds c.asked_in.new.files) c.args.asked.source.now)
+      read = subst (λ h. IsReadAt h c.args.asked.source.now c.deref.result.now) c.in_ok-read.ensures.kept
+          (subst (IsReadAt (g.F.Files.holds c.asked_files.new.files) c.args.asked.source.now)
           (sym c.deref.ensures.value) c.in_ok-bytes.ensures.read);
       is = is;
-    })))
-    c.bytes_answer.ensures.failed
+    }))
+    c.in_err-conforms.field-0.0 c.in_err-conforms.ensures.failed)
 
-pub returns-in_err-found-clause-failed : goal.returns-in_err-found-clause-failed
-returns-in_err-found-clause-failed g c =
+pub returns-in_err-read-clause-failed : goal.returns-in_err-read-clause-failed
+returns-in_err-read-clause-failed g c =
     let holds = g.F.Files.holds c.args.files.now in
     let why = RefusesConform holds c.args.asked in
-    handed (FailsBy why IsUnusable) c.in_err-found.field-0.0 c.from_residual.result c.from_residual.ensures.1
+    handed (FailsBy why IsUnusable) c.in_err-read.field-0.0 c.from_residual.result c.from_residual.ensures.1
     (FailsBy-weaker (RefusesAsked holds c.args.asked.interface.now) why IsUnusable IsUnusable (λ reason is. inl is)
-    (λ failure is. is) c.in_err-found.field-0.0 c.in_err-found.ensures.failed)
+    (λ failure is. is) c.in_err-read.field-0.0 c.in_err-read.ensures.failed)
 
 pub returns-in_err-bytes-clause-failed : goal.returns-in_err-bytes-clause-failed
 returns-in_err-bytes-clause-failed g c =

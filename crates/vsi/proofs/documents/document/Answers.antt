@@ -53,3 +53,7 @@ returns-in-Leak-clause-told g c = rw c.in-Leak.is c.search_line.ensures.told
 
 pub returns-in-Leak-clause-failed : goal.returns-in-Leak-clause-failed
 returns-in-Leak-clause-failed g c = rw c.in-Leak.is c.search_line.ensures.failed
+
+pub returns-in-Compare-clause-noted : goal.returns-in-Compare-clause-noted
+returns-in-Compare-clause-noted g c =
+    rw c.in-Compare.is (λ fresh. (c.comparison_line.ensures.noted fresh, c.comparison_line.ensures.hushed fresh))

@@ -4,10 +4,12 @@ use Rattle.std.specs.Io.KnownBytes.{Appends}
 use Rattle.std.specs.Prelude.{IfErr}
 use Rattle.vsi_devices.specs.Counted.{device_of}
 use Rattle.vsi.specs.Failures.{status_of}
+use Rattle.vsi.specs.Noted.{document_noting}
 use Rattle.vsi.specs.Partly.{BytesOf, document_cut_from}
 use Rattle.vsi.specs.Performed.{DocumentOf}
 use Rattle.vsi.specs.Reasons.{LacksDocument, OtherDocument, RefusesDocument, WhyDocument}
 use Rattle.vsi.specs.Refusals.{FailsBy}
+use Rattle.vsi.proofs.NoteLemmas.{document_no_drive, noted_failed, noted_then}
 use Rattle.vsi.proofs.Partly.{kept_leaves}
 use Rattle.vsi.proofs.Reasons.{FailsBy-weaker, handed}
 use Rattle.vsi.proofs.Unrun.{fault_fails}
@@ -75,3 +77,14 @@ returns-clause-left g c =
     ⊎ (status_of failure ≡ 4)))
     c.failure_of-failure.ensures c.write_document.ensures.failed)
     c.write_document.ensures.part
+
+pub returns-clause-noted : goal.returns-clause-noted
+returns-clause-noted g c = λ fresh.
+    noted_then (g.F.Files.holds c.args.files.now) (document_noting c.args.asked)
+    (c.in_ok-good.good, c.in_ok-good.text) c.write_document.result c.document.new.note.items
+    (document_no_drive c.args.asked) (c.in_ok-good.ensures.noted fresh)
+
+pub returns-in_err-good-clause-noted : goal.returns-in_err-good-clause-noted
+returns-in_err-good-clause-noted g c = λ fresh.
+    noted_failed _ (g.F.Files.holds c.args.files.now) (document_noting c.args.asked) c.from_residual.result
+    c.in_err-good.field-0.0 c.document.new.note.items c.from_residual.ensures.1 (c.in_err-good.ensures.noted fresh)

@@ -16,10 +16,12 @@ use Rattle.vsi.proofs.Driven.{written_back}
 use Rattle.vsi.proofs.Cut.{Touches-trans, cut_on, cut_partly}
 use Rattle.vsi.proofs.Kept.{delivered_after, driven_state, early_state, first_state}
 use Rattle.vsi.proofs.Leaving.{driven_answers}
-use Rattle.vsi.proofs.Partly.{any_failure, kept_leaves, late_handed, late_leaves}
-use Rattle.vsi.proofs.Reasons.{late_failed}
-use Rattle.vsi.proofs.Undriven.{control_failed, first_failed, short_failed, unsteered_failed}
+use Rattle.vsi.proofs.Partly.{any_failure, kept_leaves, late_handed, late_leaves, on_ok_of}
+use Rattle.vsi.proofs.Reasons.{handed, late_failed}
+use Rattle.vsi.proofs.Undriven.{control_failed, first_failed, noted_drive, short_failed, unsteered_failed}
 use Rattle.vsi.proofs.Unrun.{handed_late, memory_failed, unbounded_failed}
+use Rattle.vsi.specs.Noted.{NotesStop}
+use Rattle.vsi.proofs.CarriedOut.{each_failure}
 use Rattle.vsi.proofs.driving.drive.Goals as goal
 
 pub returns-clause-performed : goal.returns-clause-performed
@@ -167,7 +169,9 @@ returns-in_err-drive_input-clause-left g c =
     c.in_ok-steering.ensures.held
     (subst (λ h. IsStoredAt h asked.store image words) c.in_ok-steering.ensures.kept c.in_ok-words.ensures.stored)
     c.in_ok-controller.ensures.control
-    c.in_ok-admit.ensures.admitted
+    c.in_ok-admit.ensures.admitted c.in_ok-controller.ensures.sound
+    (subst (λ h. IsFullAt h c.args.driving.execution.store image c.args.driving.is_full)
+    c.in_ok-steering.ensures.kept c.in_ok-words.ensures.full)
     (subst (λ m. Partly (DrivenText drives m given) old new) c.deref_mut.ensures.value
     (cut_partly _ _ drives _ _ given old new _ _ c.in_err-drive_input.ensures.cut)))
 
@@ -188,7 +192,9 @@ returns-clause-left g c =
     c.in_ok-steering.ensures.held
     (subst (λ h. IsStoredAt h asked.store image words) c.in_ok-steering.ensures.kept c.in_ok-words.ensures.stored)
     c.in_ok-controller.ensures.control
-    c.in_ok-admit.ensures.admitted
+    c.in_ok-admit.ensures.admitted c.in_ok-controller.ensures.sound
+    (subst (λ h. IsFullAt h c.args.driving.execution.store image c.args.driving.is_full)
+    c.in_ok-steering.ensures.kept c.in_ok-words.ensures.full)
     (subst (λ m. Partly (DrivenText drives m given) old new) c.deref_mut.ensures.value
     (cut_partly _ _ drives _ _ given old new _ _ c.in_ok-drive_input.ensures.cut)))
 
@@ -251,7 +257,10 @@ returns-in_err-drive_input-clause-state g c =
     (subst (λ h. IsStoredAt h c.args.driving.execution.store image words) c.in_ok-steering.ensures.kept
     c.in_ok-words.ensures.stored)
     c.in_ok-controller.ensures.control
-    c.in_ok-admit.ensures.admitted (c.in_ok-words.ensures.kept ∙ c.in_ok-steering.ensures.kept)
+    c.in_ok-admit.ensures.admitted c.in_ok-controller.ensures.sound
+    (subst (λ h. IsFullAt h c.args.driving.execution.store image c.args.driving.is_full)
+    c.in_ok-steering.ensures.kept c.in_ok-words.ensures.full)
+    (c.in_ok-words.ensures.kept ∙ c.in_ok-steering.ensures.kept)
     c.in_ok-save.ensures.touched
     (subst (λ m. Delivers c.args.driving.save (state_text image m) (holds c.first_store.new.files)
     (holds c.save.new.files)) c.as_slice.ensures.value c.in_ok-save.ensures.saved)
@@ -279,7 +288,10 @@ returns-clause-state g c =
     (subst (λ h. IsStoredAt h c.args.driving.execution.store image words) c.in_ok-steering.ensures.kept
     c.in_ok-words.ensures.stored)
     c.in_ok-controller.ensures.control
-    c.in_ok-admit.ensures.admitted (c.in_ok-words.ensures.kept ∙ c.in_ok-steering.ensures.kept)
+    c.in_ok-admit.ensures.admitted c.in_ok-controller.ensures.sound
+    (subst (λ h. IsFullAt h c.args.driving.execution.store image c.args.driving.is_full)
+    c.in_ok-steering.ensures.kept c.in_ok-words.ensures.full)
+    (c.in_ok-words.ensures.kept ∙ c.in_ok-steering.ensures.kept)
     c.in_ok-save.ensures.touched
     (subst (λ m. Delivers c.args.driving.save (state_text image m) (holds c.first_store.new.files)
     (holds c.save.new.files)) c.as_slice.ensures.value c.in_ok-save.ensures.saved)
@@ -294,3 +306,76 @@ returns-clause-state g c =
 
 pub drive_input-requires-clause-same : goal.drive_input-requires-clause-same
 drive_input-requires-clause-same g c = sym (ap (λ k. k.image) c.in_ok-controller.ensures.control)
+
+-- ---- what is noted.
+
+pub returns-clause-noted : goal.returns-clause-noted
+returns-clause-noted g c = λ unnoted.
+    let holds = g.F.Files.holds c.args.files.now in
+    on_ok_of c.save-2.result
+    (noted_drive holds c.args.driving c.in_ok-steering.steering.lattice
+    c.in_ok-steering.steering.driver c.in_ok-steering.steering.verified
+    (boundary_for c.args.driving.policy c.in_ok-steering.steering.cycle) c.in_ok-budget.budget c.admit.new.note.items
+    c.in_ok-steering.ensures.steered c.in_ok-steering.ensures.held c.in_ok-budget.ensures.budget
+    (c.in_ok-admit.ensures.told unnoted))
+
+pub returns-in_err-steering-clause-hushed : goal.returns-in_err-steering-clause-hushed
+returns-in_err-steering-clause-hushed g c = λ unnoted. each_failure _ c.from_residual.result (λ failure. inl unnoted)
+
+pub returns-in_err-words-clause-hushed : goal.returns-in_err-words-clause-hushed
+returns-in_err-words-clause-hushed g c = λ unnoted. each_failure _ c.from_residual-in_err-words.result (λ failure. inl unnoted)
+
+pub returns-in_err-budget-clause-hushed : goal.returns-in_err-budget-clause-hushed
+returns-in_err-budget-clause-hushed g c = λ unnoted. each_failure _ c.from_residual-in_err-budget.result (λ failure. inl unnoted)
+
+pub returns-in_err-names-clause-hushed : goal.returns-in_err-names-clause-hushed
+returns-in_err-names-clause-hushed g c = λ unnoted. each_failure _ c.from_residual-in_err-names.result (λ failure. inl unnoted)
+
+pub returns-in_err-controller-clause-hushed : goal.returns-in_err-controller-clause-hushed
+returns-in_err-controller-clause-hushed g c = λ unnoted. each_failure _ c.from_residual-in_err-controller.result (λ failure. inl unnoted)
+
+pub returns-in_err-admit-clause-hushed : goal.returns-in_err-admit-clause-hushed
+returns-in_err-admit-clause-hushed g c = λ unnoted.
+    each_failure _ c.from_residual-in_err-admit.result (λ failure. inl (c.in_err-admit.ensures.quiet ∙ unnoted))
+
+pub returns-in_err-save-clause-hushed : goal.returns-in_err-save-clause-hushed
+returns-in_err-save-clause-hushed g c = λ unnoted.
+    let holds = g.F.Files.holds c.args.files.now in
+    handed (λ failure. NotesStop holds c.args.driving failure c.admit.new.note.items) c.in_err-save.field-0.0
+    c.from_residual-in_err-save.result c.from_residual-in_err-save.ensures.1
+    (inr (
+      c.in_err-save.ensures.failure,
+      noted_drive holds c.args.driving c.in_ok-steering.steering.lattice
+          c.in_ok-steering.steering.driver c.in_ok-steering.steering.verified
+          (boundary_for c.args.driving.policy c.in_ok-steering.steering.cycle) c.in_ok-budget.budget c.admit.new.note.items
+          c.in_ok-steering.ensures.steered c.in_ok-steering.ensures.held c.in_ok-budget.ensures.budget
+          (c.in_ok-admit.ensures.told unnoted),
+    ))
+
+pub returns-in_err-drive_input-clause-hushed : goal.returns-in_err-drive_input-clause-hushed
+returns-in_err-drive_input-clause-hushed g c = λ unnoted.
+    let holds = g.F.Files.holds c.args.files.now in
+    handed (λ failure. NotesStop holds c.args.driving failure c.admit.new.note.items) c.in_err-drive_input.field-0.0
+    c.from_residual-in_err-drive_input.result c.from_residual-in_err-drive_input.ensures.1
+    (inr (
+      c.in_err-drive_input.ensures.failure,
+      noted_drive holds c.args.driving c.in_ok-steering.steering.lattice
+          c.in_ok-steering.steering.driver c.in_ok-steering.steering.verified
+          (boundary_for c.args.driving.policy c.in_ok-steering.steering.cycle) c.in_ok-budget.budget c.admit.new.note.items
+          c.in_ok-steering.ensures.steered c.in_ok-steering.ensures.held c.in_ok-budget.ensures.budget
+          (c.in_ok-admit.ensures.told unnoted),
+    ))
+
+pub returns-clause-hushed : goal.returns-clause-hushed
+returns-clause-hushed g c = λ unnoted.
+    let holds = g.F.Files.holds c.args.files.now in
+    IfErr-weaker c.save-2.result _ _
+    (λ failure late. inr (
+      late,
+      noted_drive holds c.args.driving c.in_ok-steering.steering.lattice
+          c.in_ok-steering.steering.driver c.in_ok-steering.steering.verified
+          (boundary_for c.args.driving.policy c.in_ok-steering.steering.cycle) c.in_ok-budget.budget c.admit.new.note.items
+          c.in_ok-steering.ensures.steered c.in_ok-steering.ensures.held c.in_ok-budget.ensures.budget
+          (c.in_ok-admit.ensures.told unnoted),
+    ))
+    c.save-2.ensures.failure

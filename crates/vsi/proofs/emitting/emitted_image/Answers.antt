@@ -7,7 +7,7 @@ pub returns-in-Some-clause-failed : goal.returns-in-Some-clause-failed
 returns-in-Some-clause-failed g c = rw c.in-Some.is c.built_image.ensures.failed
 
 pub returns-in-None-clause-told : goal.returns-in-None-clause-told
-returns-in-None-clause-told g c = rw c.in-None.is c.image_in.ensures.read
+returns-in-None-clause-told g c = rw c.in-None.is c.filed_image.ensures.told
 
 pub returns-in-None-clause-failed : goal.returns-in-None-clause-failed
-returns-in-None-clause-failed g c = rw c.in-None.is c.image_in.ensures.failed
+returns-in-None-clause-failed g c = rw c.in-None.is c.filed_image.ensures.failed

@@ -16,7 +16,7 @@ returns-clause-told g c =
       lattice = c.in_ok-found.lattice;
       declared = c.in_ok-found.ensures.declared;
       told = subst
-          (λ h. ToldVisible h c.args.asked.old c.in_ok-found.found.interface c.in_ok-found.lattice
+          (λ h. ToldVisible h c.args.asked.old c.in_ok-found.found c.in_ok-found.lattice
           c.in_ok-text.text.items)
           c.in_ok-found.ensures.kept c.in_ok-text.ensures.told;
     }

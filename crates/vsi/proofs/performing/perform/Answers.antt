@@ -246,91 +246,91 @@ returns-in-Lsp-clause-left g c = rw c.in-Lsp.is
 pub returns-in-Layout-clause-left : goal.returns-in-Layout-clause-left
 returns-in-Layout-clause-left g c = rw c.in-Layout.is c.lay_out.ensures.left
 
--- ---- what is left of the file that receives the store of a drive.
+-- ---- what is left of the files.
 
 pub returns-in-Classes-clause-state : goal.returns-in-Classes-clause-state
-returns-in-Classes-clause-state g c = rw c.in-Classes.is (any_failure _ _ tt)
+returns-in-Classes-clause-state g c = rw c.in-Classes.is (any_failure _ _ c.classes.ensures.kept)
 
 pub returns-in-Flows-clause-state : goal.returns-in-Flows-clause-state
-returns-in-Flows-clause-state g c = rw c.in-Flows.is (any_failure _ _ tt)
+returns-in-Flows-clause-state g c = rw c.in-Flows.is (any_failure _ _ c.put_flows.ensures.kept)
 
 pub returns-in-Mend-clause-state : goal.returns-in-Mend-clause-state
-returns-in-Mend-clause-state g c = rw c.in-Mend.is (any_failure _ _ tt)
+returns-in-Mend-clause-state g c = rw c.in-Mend.is (any_failure _ _ c.put_mend.ensures.kept)
 
 pub returns-in-List-clause-state : goal.returns-in-List-clause-state
-returns-in-List-clause-state g c = rw c.in-List.is (any_failure _ _ tt)
+returns-in-List-clause-state g c = rw c.in-List.is (any_failure _ _ c.list.ensures.kept)
 
 pub returns-in-Source-clause-state : goal.returns-in-Source-clause-state
-returns-in-Source-clause-state g c = rw c.in-Source.is (any_failure _ _ tt)
+returns-in-Source-clause-state g c = rw c.in-Source.is (any_failure _ _ c.source.ensures.kept)
 
 pub returns-in-EmitC-clause-state : goal.returns-in-EmitC-clause-state
-returns-in-EmitC-clause-state g c = rw c.in-EmitC.is (any_failure _ _ tt)
+returns-in-EmitC-clause-state g c = rw c.in-EmitC.is (any_failure _ _ c.emit.ensures.kept)
 
 pub returns-in-Leak-clause-state : goal.returns-in-Leak-clause-state
-returns-in-Leak-clause-state g c = rw c.in-Leak.is (any_failure _ _ tt)
+returns-in-Leak-clause-state g c = rw c.in-Leak.is (any_failure _ _ c.leak.ensures.kept)
 
 pub returns-in-Report-clause-state : goal.returns-in-Report-clause-state
-returns-in-Report-clause-state g c = rw c.in-Report.is (any_failure _ _ tt)
+returns-in-Report-clause-state g c = rw c.in-Report.is (any_failure _ _ c.report.ensures.kept)
 
 pub returns-in-Draw-clause-state : goal.returns-in-Draw-clause-state
-returns-in-Draw-clause-state g c = rw c.in-Draw.is (any_failure _ _ tt)
+returns-in-Draw-clause-state g c = rw c.in-Draw.is (any_failure _ _ c.draw.ensures.kept)
 
 pub returns-in-Policy-clause-state : goal.returns-in-Policy-clause-state
-returns-in-Policy-clause-state g c = rw c.in-Policy.is (any_failure _ _ tt)
+returns-in-Policy-clause-state g c = rw c.in-Policy.is (any_failure _ _ c.policy.ensures.kept)
 
 pub returns-in-Visible-clause-state : goal.returns-in-Visible-clause-state
-returns-in-Visible-clause-state g c = rw c.in-Visible.is (any_failure _ _ tt)
+returns-in-Visible-clause-state g c = rw c.in-Visible.is (any_failure _ _ c.visible.ensures.kept)
 
 pub returns-in-Format-clause-state : goal.returns-in-Format-clause-state
-returns-in-Format-clause-state g c = rw c.in-Format.is (any_failure _ _ tt)
+returns-in-Format-clause-state g c = rw c.in-Format.is (any_failure _ _ c.format.ensures.kept)
 
 pub returns-in-Try-clause-state : goal.returns-in-Try-clause-state
-returns-in-Try-clause-state g c = rw c.in-Try.is (any_failure _ _ tt)
+returns-in-Try-clause-state g c = rw c.in-Try.is (any_failure _ _ c.try_source.ensures.kept)
 
 pub returns-in-Lattice-clause-state : goal.returns-in-Lattice-clause-state
-returns-in-Lattice-clause-state g c = rw c.in-Lattice.is (any_failure _ _ tt)
+returns-in-Lattice-clause-state g c = rw c.in-Lattice.is (any_failure _ _ refl)
 
 pub returns-in-Audit-clause-state : goal.returns-in-Audit-clause-state
-returns-in-Audit-clause-state g c = rw c.in-Audit.is (any_failure _ _ tt)
+returns-in-Audit-clause-state g c = rw c.in-Audit.is (any_failure _ _ c.audit.ensures.kept)
 
 pub returns-in-Build-clause-state : goal.returns-in-Build-clause-state
-returns-in-Build-clause-state g c = rw c.in-Build.is (any_failure _ _ tt)
+returns-in-Build-clause-state g c = rw c.in-Build.is (any_failure _ _ c.build.ensures.others)
 
 pub returns-in-Explain-clause-state : goal.returns-in-Explain-clause-state
-returns-in-Explain-clause-state g c = rw c.in-Explain.is (any_failure _ _ tt)
+returns-in-Explain-clause-state g c = rw c.in-Explain.is (any_failure _ _ refl)
 
 pub returns-in-Check-clause-state : goal.returns-in-Check-clause-state
-returns-in-Check-clause-state g c = rw c.in-Check.is (any_failure _ _ tt)
+returns-in-Check-clause-state g c = rw c.in-Check.is (any_failure _ _ c.put_check.ensures.kept)
 
 pub returns-in-Conform-clause-state : goal.returns-in-Conform-clause-state
-returns-in-Conform-clause-state g c = rw c.in-Conform.is (any_failure _ _ tt)
+returns-in-Conform-clause-state g c = rw c.in-Conform.is (any_failure _ _ c.conform.ensures.kept)
 
 pub returns-in-Bound-clause-state : goal.returns-in-Bound-clause-state
-returns-in-Bound-clause-state g c = rw c.in-Bound.is (any_failure _ _ tt)
+returns-in-Bound-clause-state g c = rw c.in-Bound.is (any_failure _ _ c.bound.ensures.kept)
 
 pub returns-in-Compare-clause-state : goal.returns-in-Compare-clause-state
-returns-in-Compare-clause-state g c = rw c.in-Compare.is (any_failure _ _ tt)
+returns-in-Compare-clause-state g c = rw c.in-Compare.is (any_failure _ _ c.compare.ensures.kept)
 
 pub returns-in-Run-clause-state : goal.returns-in-Run-clause-state
-returns-in-Run-clause-state g c = rw c.in-Run.is (any_failure _ _ tt)
+returns-in-Run-clause-state g c = rw c.in-Run.is c.run.ensures.state
 
 pub returns-in-View-clause-state : goal.returns-in-View-clause-state
-returns-in-View-clause-state g c = rw c.in-View.is (any_failure _ _ tt)
+returns-in-View-clause-state g c = rw c.in-View.is c.view.ensures.state
 
 pub returns-in-ViewWithin-clause-state : goal.returns-in-ViewWithin-clause-state
-returns-in-ViewWithin-clause-state g c = rw c.in-ViewWithin.is (any_failure _ _ tt)
+returns-in-ViewWithin-clause-state g c = rw c.in-ViewWithin.is c.view_within.ensures.state
 
 pub returns-in-Drive-clause-state : goal.returns-in-Drive-clause-state
 returns-in-Drive-clause-state g c = rw c.in-Drive.is c.drive.ensures.state
 
 pub returns-in-Lsp-clause-state : goal.returns-in-Lsp-clause-state
-returns-in-Lsp-clause-state g c = rw c.in-Lsp.is (any_failure _ _ tt)
+returns-in-Lsp-clause-state g c = rw c.in-Lsp.is (any_failure _ _ c.serve.ensures.kept)
 
 pub returns-in-Layout-clause-state : goal.returns-in-Layout-clause-state
-returns-in-Layout-clause-state g c = rw c.in-Layout.is (any_failure _ _ tt)
+returns-in-Layout-clause-state g c = rw c.in-Layout.is c.lay_out.ensures.state
 
 pub returns-in-Document-clause-state : goal.returns-in-Document-clause-state
-returns-in-Document-clause-state g c = rw c.in-Document.is (any_failure _ _ tt)
+returns-in-Document-clause-state g c = rw c.in-Document.is (any_failure _ _ c.put_document.ensures.kept)
 
 -- ---- why it has failed.
 
@@ -456,5 +456,23 @@ returns-in-Lsp-clause-failed g c = rw c.in-Lsp.is c.serve.ensures.failed
 
 -- ---- what is noted.
 
+pub returns-in-Conform-clause-noted : goal.returns-in-Conform-clause-noted
+returns-in-Conform-clause-noted g c = rw c.in-Conform.is (c.conform.ensures.warned c.requires.unnoted)
+
 pub returns-in-Run-clause-noted : goal.returns-in-Run-clause-noted
 returns-in-Run-clause-noted g c = rw c.in-Run.is (c.run.ensures.counted c.requires.unnoted)
+
+pub returns-in-ViewWithin-clause-noted : goal.returns-in-ViewWithin-clause-noted
+returns-in-ViewWithin-clause-noted g c = rw c.in-ViewWithin.is
+    (c.view_within.ensures.noted c.requires.unnoted, c.view_within.ensures.hushed c.requires.unnoted)
+
+pub returns-in-Compare-clause-noted : goal.returns-in-Compare-clause-noted
+returns-in-Compare-clause-noted g c = rw c.in-Compare.is
+    (c.compare.ensures.noted c.requires.unnoted, c.compare.ensures.hushed c.requires.unnoted)
+
+pub returns-in-Document-clause-noted : goal.returns-in-Document-clause-noted
+returns-in-Document-clause-noted g c = rw c.in-Document.is (c.put_document.ensures.noted c.requires.unnoted)
+
+pub returns-in-Drive-clause-noted : goal.returns-in-Drive-clause-noted
+returns-in-Drive-clause-noted g c = rw c.in-Drive.is
+    (c.drive.ensures.noted c.requires.unnoted, c.drive.ensures.hushed c.requires.unnoted)

@@ -2,9 +2,12 @@ use Rattle.std.proofs.Common.{◌∙◌, inl, inr, subst}
 use Rattle.std.specs.Prelude.{Some}
 use Rattle.vsi_documents.specs.Comparisons.{IsComparisonJson}
 use Rattle.vsi.specs.Files.{IsStoredAt}
+use Rattle.vsi.specs.Holding.{IsLatticeAt}
 use Rattle.vsi.specs.Refusals.{LacksClassAt}
 use Rattle.vsi.specs.Reasons.{LacksCompare, WhyCompare}
+use Rattle.vsi.proofs.CarriedOut.{each_failure}
 use Rattle.vsi.proofs.Reasons.{handed_reason}
+use Rattle.vsi.proofs.Undriven.{falls_short}
 use Rattle.vsi.proofs.Unrun.{more_failed, store_failed, unbounded_failed, unseen_failed}
 use Rattle.vsi.proofs.run_documents.comparison_line.Goals as goal
 
@@ -26,6 +29,7 @@ returns-clause-told g c =
           (c.in_ok-first.ensures.kept ∙ c.in_ok-classes.ensures.kept) c.in_ok-second.ensures.stored;
       budget = c.in_ok-budget.budget;
       within = c.in_ok-budget.ensures.budget;
+      admitted = c.in_ok-admit.ensures.admitted;
       is = subst
           (λ w. IsComparisonJson c.in_ok-classes.classes c.in_ok-classes.class c.in_ok-classes.verified
           c.in_ok-first.first.items w c.in_ok-budget.budget c.in_ok-told.told.is_good c.in_ok-told.told.line.items)
@@ -36,12 +40,32 @@ returns-clause-told g c =
           c.deref.ensures.value c.in_ok-told.ensures.answer);
     }
 
+pub returns-clause-noted : goal.returns-clause-noted
+returns-clause-noted g c = λ fresh. record {
+  lattice = c.in_ok-classes.classes;
+  declared = c.in_ok-classes.ensures.looks.lattice;
+  image = c.in_ok-classes.verified;
+  held = c.in_ok-classes.ensures.held;
+  budget = c.in_ok-budget.budget;
+  within = c.in_ok-budget.ensures.budget;
+  is = c.in_ok-admit.ensures.told fresh;
+}
+
+pub returns-in_err-admit-clause-failed : goal.returns-in_err-admit-clause-failed
+returns-in_err-admit-clause-failed g c =
+    let holds = g.F.Files.holds c.args.files.now in
+    falls_short holds c.args.asked.is_unbounded (IsLatticeAt holds c.args.asked.lattice.now) c.args.asked.image.now
+    c.args.asked.budget (WhyCompare holds c.args.asked) (LacksCompare holds c.args.asked) c.in_ok-classes.classes
+    c.in_ok-classes.verified c.in_ok-budget.budget c.from_residual-in_err-admit.result c.in_err-admit.field-0.0
+    c.in_ok-classes.ensures.looks.lattice c.in_ok-classes.ensures.held c.in_ok-budget.ensures.budget
+    (λ s short. inr short) c.from_residual-in_err-admit.ensures.1 c.in_err-admit.ensures.failed
+
 pub returns-in_err-classes-clause-failed : goal.returns-in_err-classes-clause-failed
 returns-in_err-classes-clause-failed g c =
     let holds = g.F.Files.holds c.args.files.now in
     let why = WhyCompare holds c.args.asked in
     more_failed why (LacksClassAt holds c.args.asked.lattice.now c.args.asked.class.now)
-    (LacksCompare holds c.args.asked) c.from_residual.result (λ failure lacks. inl lacks)
+    (LacksCompare holds c.args.asked) c.from_residual.result (λ failure lacks. inl (inl lacks))
     (unseen_failed holds c.args.asked.lattice.now c.args.asked.image.now why
     (LacksClassAt holds c.args.asked.lattice.now c.args.asked.class.now) c.from_residual.result
     c.in_err-classes.field-0.0 (λ reason is. inl is) (λ reason is. inr (inl is)) c.from_residual.ensures.1
@@ -73,7 +97,7 @@ returns-in_err-budget-clause-failed g c =
     unbounded_failed holds c.args.asked.image.now c.args.asked.budget c.in_ok-classes.verified
     (WhyCompare holds c.args.asked) (LacksCompare holds c.args.asked)
     c.from_residual-in_err-budget.result c.in_err-budget.field-0.0 c.in_ok-classes.ensures.held
-    (λ s lacks. inr lacks) c.from_residual-in_err-budget.ensures.1 c.in_err-budget.ensures.failed
+    (λ s lacks. inl (inr lacks)) c.from_residual-in_err-budget.ensures.1 c.in_err-budget.ensures.failed
 
 pub returns-in_err-told-clause-failed : goal.returns-in_err-told-clause-failed
 returns-in_err-told-clause-failed g c =
@@ -93,3 +117,33 @@ returns-in_err-told-clause-failed g c =
       within = c.in_ok-budget.ensures.budget;
       is = c.in_err-told.ensures.answer;
     })))))
+
+-- ---- what is noted before a failure.
+
+pub returns-in_err-classes-clause-hushed : goal.returns-in_err-classes-clause-hushed
+returns-in_err-classes-clause-hushed g c = λ fresh. each_failure _ c.from_residual.result (λ failure. inl fresh)
+
+pub returns-in_err-first-clause-hushed : goal.returns-in_err-first-clause-hushed
+returns-in_err-first-clause-hushed g c = λ fresh. each_failure _ c.from_residual-in_err-first.result (λ failure. inl fresh)
+
+pub returns-in_err-second-clause-hushed : goal.returns-in_err-second-clause-hushed
+returns-in_err-second-clause-hushed g c = λ fresh. each_failure _ c.from_residual-in_err-second.result (λ failure. inl fresh)
+
+pub returns-in_err-budget-clause-hushed : goal.returns-in_err-budget-clause-hushed
+returns-in_err-budget-clause-hushed g c = λ fresh. each_failure _ c.from_residual-in_err-budget.result (λ failure. inl fresh)
+
+pub returns-in_err-admit-clause-hushed : goal.returns-in_err-admit-clause-hushed
+returns-in_err-admit-clause-hushed g c = λ fresh.
+    each_failure _ c.from_residual-in_err-admit.result (λ failure. inl (c.in_err-admit.ensures.quiet ∙ fresh))
+
+pub returns-in_err-told-clause-hushed : goal.returns-in_err-told-clause-hushed
+returns-in_err-told-clause-hushed g c = λ fresh.
+    each_failure _ c.from_residual-in_err-told.result (λ failure. inr record {
+      lattice = c.in_ok-classes.classes;
+      declared = c.in_ok-classes.ensures.looks.lattice;
+      image = c.in_ok-classes.verified;
+      held = c.in_ok-classes.ensures.held;
+      budget = c.in_ok-budget.budget;
+      within = c.in_ok-budget.ensures.budget;
+      is = c.in_ok-admit.ensures.told fresh;
+    })

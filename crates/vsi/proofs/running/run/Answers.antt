@@ -1,6 +1,6 @@
 use Rattle.std.proofs.Common.{◌∙◌, Err, ap, arith, inl, inr, refl, sym, subst}
 use Rattle.std.proofs.KnownBytes.{Appends-trans}
-use Rattle.std.proofs.lemmas.Result.{on_ok_weaker}
+use Rattle.std.proofs.lemmas.Result.{IfErr-weaker, on_ok_weaker}
 use Rattle.std.specs.Io.KnownBytes.{Appends}
 use Rattle.vsi_devices.specs.Counted.{device_of}
 use Rattle.vsi_machine.specs.Counting.{Halts}
@@ -12,9 +12,10 @@ use Rattle.vsi.specs.Reasons.{WhyRun}
 use Rattle.vsi.proofs.Filled.{both_done, delivered_of}
 use Rattle.vsi.proofs.Leaving.{cut_part, device_leaf, shown_part, traced_part}
 use Rattle.vsi.proofs.NoteLemmas.{each_done, left_halts}
-use Rattle.vsi.proofs.Partly.{kept_leaves, memory_handed, spent_leaf, spent_leaves}
+use Rattle.vsi.proofs.Partly.{any_failure, kept_leaves, memory_handed, spent_leaf, spent_leaves}
 use Rattle.vsi.proofs.Reasons.{failed_by}
 use Rattle.vsi.proofs.Unrun.{Unstarted, ended_fails, handed_late, memory_failed, unbounded_failed}
+use Rattle.vsi.proofs.Kept.{beside_after, beside_same}
 use Rattle.vsi.proofs.running.run.Goals as goal
 
 pub returns-in-Ok-Some-clause-performed : goal.returns-in-Ok-Some-clause-performed
@@ -223,3 +224,36 @@ returns-clause-left g c =
     c.in_ok-budget.budget c.in-Err.error old mid c.in_ok-budget.ensures.budget
     c.in_ok-verified.ensures.begins c.deref.ensures.value c.in-Err.ensures.only
     (λ e. c.in-Err.ensures.prefix (ap Err e)) (λ e. c.in-Err.ensures.memory (ap Err e)))
+
+pub returns-in_err-verified-clause-state : goal.returns-in_err-verified-clause-state
+returns-in_err-verified-clause-state g c = any_failure _ c.from_residual.result
+    (beside_same c.args.asked.now.initial_store.out _ _ c.in_err-verified.ensures.kept)
+
+pub returns-in_err-budget-clause-state : goal.returns-in_err-budget-clause-state
+returns-in_err-budget-clause-state g c = any_failure _ c.from_residual-in_err-budget.result
+    (beside_same c.args.asked.now.initial_store.out _ _ c.in_ok-verified.ensures.kept)
+
+pub returns-in-Ok-Some-clause-state : goal.returns-in-Ok-Some-clause-state
+returns-in-Ok-Some-clause-state g c =
+    IfErr-weaker c.deliver.result _ _
+    (λ failure stays. beside_after c.args.asked.now.initial_store.out (g.F.Files.holds c.args.files.now)
+    (g.F.Files.holds c.image_and_words.new.files) (g.F.Files.holds c.deliver.new.files)
+    c.in_ok-verified.ensures.kept stays c.deliver.ensures.touched)
+    c.deliver.ensures.stays
+
+pub returns-in_err-put_count-in-Ok-Some-clause-state : goal.returns-in_err-put_count-in-Ok-Some-clause-state
+returns-in_err-put_count-in-Ok-Some-clause-state g c =
+    any_failure _ c.from_residual-in_err-put_count-in-Ok-Some.result
+    (beside_same c.args.asked.now.initial_store.out _ _ c.in_ok-verified.ensures.kept)
+
+pub returns-in_err-put_count-in-Ok-None-clause-state : goal.returns-in_err-put_count-in-Ok-None-clause-state
+returns-in_err-put_count-in-Ok-None-clause-state g c =
+    any_failure _ c.from_residual-in_err-put_count-in-Ok-None.result
+    (beside_same c.args.asked.now.initial_store.out _ _ c.in_ok-verified.ensures.kept)
+
+pub returns-in-Ok-None-clause-state : goal.returns-in-Ok-None-clause-state
+returns-in-Ok-None-clause-state g c =
+    beside_same c.args.asked.now.initial_store.out _ _ c.in_ok-verified.ensures.kept
+
+pub returns-clause-state : goal.returns-clause-state
+returns-clause-state g c = beside_same c.args.asked.now.initial_store.out _ _ c.in_ok-verified.ensures.kept

@@ -1,5 +1,5 @@
 use Rattle.std.proofs.Common.{ap, inr, subst}
-use Rattle.std.proofs.lemmas.Result.{on_ok_weaker}
+use Rattle.std.proofs.lemmas.Result.{IfErr-weaker, on_ok_weaker}
 use Rattle.std.specs.Io.KnownBytes.{Appends}
 use Rattle.vsi_devices.specs.Counted.{device_of}
 use Rattle.vsi.specs.Partly.{AnswersView}
@@ -7,9 +7,10 @@ use Rattle.vsi.specs.Files.{shown}
 use Rattle.vsi.specs.Refusals.{LacksEither, FailsBy}
 use Rattle.vsi.specs.Reasons.{WhyView}
 use Rattle.vsi.proofs.Filled.{both_done, delivered_of}
-use Rattle.vsi.proofs.Partly.{kept_leaves, late_leaves}
+use Rattle.vsi.proofs.Partly.{any_failure, kept_leaves, late_leaves}
 use Rattle.vsi.proofs.Reasons.{handed}
 use Rattle.vsi.proofs.Unrun.{handed_late}
+use Rattle.vsi.proofs.Kept.{beside_after, beside_same}
 use Rattle.vsi.proofs.running.view.Goals as goal
 
 pub returns-clause-performed : goal.returns-clause-performed
@@ -63,3 +64,14 @@ returns-clause-failed g c =
     (LacksEither (g.F.Files.holds c.args.files.now) c.args.lattice.now c.args.class.now c.args.execution.image.now
     c.args.execution.budget) c.deliver.result
     c.deliver.ensures.failure
+
+pub returns-in_err-text-clause-state : goal.returns-in_err-text-clause-state
+returns-in_err-text-clause-state g c = any_failure _ c.from_residual.result
+    (beside_same c.args.initial_store.now.out _ _ c.in_err-text.ensures.kept)
+
+pub returns-clause-state : goal.returns-clause-state
+returns-clause-state g c =
+    IfErr-weaker c.deliver.result _ _
+    (λ failure stays. beside_after c.args.initial_store.now.out (g.F.Files.holds c.args.files.now)
+    (g.F.Files.holds c.seen.new.files) (g.F.Files.holds c.deliver.new.files) c.in_ok-text.ensures.kept stays c.deliver.ensures.touched)
+    c.deliver.ensures.stays

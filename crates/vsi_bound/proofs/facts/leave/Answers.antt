@@ -12,7 +12,8 @@ loop-k-preserved c =
     let second : c.loop-k.k < length c.args.turned.now = omega (arith, lt, u.count, c.requires.turned) in
     updated_more _ _ _ _ _ u lt
     (remains_as _ _ _ _ _ _ _ _ _ _ _ c.left.ensures (updated_next _ _ _ _ _ u lt)
-    c.are_same-is_same.ensures first second (omega (arith, ints)))
+    c.are_same-is_same.ensures.same
+    c.are_same-is_same.ensures.other first second (omega (arith, ints)))
 
 pub returns : goal.returns
 returns c =

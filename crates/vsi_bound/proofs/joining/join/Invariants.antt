@@ -1,4 +1,5 @@
-use Rattle.vsi_bound.proofs.Updating.{Updated, Meets}
+use Rattle.vsi_bound.specs.Loops.{Meets}
+use Rattle.vsi_bound.proofs.Updating.{Updated}
 use Rattle.vsi_bound.proofs.joining.join.Given as goal
 
 abbrev pub invariant-loop-slot : goal.invariant-loop-slot

@@ -1,9 +1,13 @@
 use Rattle.std.proofs.Common.{◌+◌, ◌*◌}
+use Rattle.vsi_bound.specs.Search.{Reaches}
 use Rattle.vsi_bound.specs.Stretch.{Leads}
 use Rattle.vsi_bound.proofs.stretches.+stretches.Given as goal
 
 abbrev pub invariant-stretch-loop-turn : goal.invariant-stretch-loop-turn
-invariant-stretch-loop-turn l = Leads l.code l.fn.facts l.from l.place l.cost l.facts
+invariant-stretch-loop-turn l = record {
+  leads : Leads l.code l.fn.facts l.from l.place l.cost l.facts;
+  reaches : Reaches l.code l.fn.facts l.from l.place l.facts;
+}
 
 abbrev pub decreases-stretch : goal.decreases-stretch
 decreases-stretch l = 4 * l.room + 3

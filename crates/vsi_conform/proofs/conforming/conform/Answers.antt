@@ -1,7 +1,7 @@
 use Rattle.std.proofs.Common.{◌∙◌, rules, refl}
 use Rattle.vsi_lattice.specs.LatticeView.{class_named, order}
 use Rattle.vsi_conform.specs.Points.{points_of}
-use Rattle.vsi_conform.proofs.Bounded.{readable_unbounded, unbounded_so}
+use Rattle.vsi_conform.proofs.BoundLines.{readable_unbounded, unbounded_so}
 use Rattle.vsi_conform.proofs.Converse.{accepted_image, accepted_told, never_refused, readable_told, none_told_so}
 use Rattle.vsi_conform.proofs.Fitting.{conforms_so}
 use Rattle.vsi_conform.proofs.conforming.conform.Goals as goal

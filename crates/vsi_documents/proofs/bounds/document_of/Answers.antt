@@ -5,10 +5,9 @@ use Rattle.vsi_documents.proofs.bounds.document_of.Goals as goal
 
 pub returns : goal.returns
 returns c = record {
-  answer = c.in_ok-found.found;
-  is = c.in_ok-found.ensures;
+  answer = c.args.found;
+  is = c.requires.right;
   says = c.is_bounded.ensures;
-  told = c.args.told.now;
-  tells = c.requires;
-  line = c.in_ok-line.ensures ∙ ap (λ t. object_line (bound_members c.in_ok-found.found t)) c.deref.ensures.value;
+  place = c.requires.line.0;
+  line = c.in_ok-line.ensures ∙ ap (λ t. object_line (bound_members c.args.found t)) c.requires.line.1;
 }

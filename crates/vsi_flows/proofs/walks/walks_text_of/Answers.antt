@@ -40,7 +40,7 @@ returns c =
     let all : take c.loop-number.number t.pairs.items ≡ t.pairs.items =
     take_all c.loop-number.number t.pairs.items (omega (arith, c.loop-number-test.false, c.len-number-end.ensures)) in
     let whole : IsWalksText s.lattice t.profile s.text out =
-    walks_text s.lattice t.profile s.text s.resolved is.stands t.pairs.items is.table out
+    walks_text s.lattice t.profile s.text s.resolved is.source t.pairs.items is.table is.verdict out
     (subst (λ ps. AreWalkLines s.lattice (steps_of t.profile (program s.resolved)) s.text s.resolved ps out) all
     c.loop-number.invariant) in
     subst (λ x. IsWalksText x.lattice c.args.profile x.text out)

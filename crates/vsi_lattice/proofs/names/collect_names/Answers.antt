@@ -1,17 +1,20 @@
-use Rattle.std.proofs.Common.{◌<◌, map, length, arith, sym, below_more}
+use Rattle.std.proofs.Common.{◌≡◌, ◌<◌, [], map, get_or, length, arith, sym, ap, ◌∙◌, below_more, string_bytes}
 use Rattle.std.proofs.lemmas.List.{length-map}
 use Rattle.vsi_lattice.specs.NamePlaces.{StandsEarlier}
-use Rattle.vsi_lattice.proofs.NameLemmas.{take_turn, earlier_from, from_earlier, text_of, name_at}
+use Rattle.vsi_lattice.proofs.NameLemmas.{take_turn, earlier_from, from_earlier, text_of, name_at, absent, present, push_name}
 use Rattle.vsi_lattice.proofs.names.collect_names.Goals as goal
 
-pub returns-then-not-is_new-clause-duplicate : goal.returns-then-not-is_new-clause-duplicate
-returns-then-not-is_new-clause-duplicate c =
+pub returns-in-Some-clause-duplicate : goal.returns-in-Some-clause-duplicate
+returns-in-Some-clause-duplicate c =
     let names = map text_of c.args.names.now in
     let lt : c.loop-i.i < length names = omega (arith, c.loop-i-test.true, length-map c.args.names.now text_of) in
+    let same : c.as_bytes.result.now ≡ get_or names c.loop-i.i [] =
+    c.as_bytes.ensures.value ∙ sym (name_at c.args.names.now c.loop-i.i) in
     record {
-      holds = earlier_from names _ c.loop-i.i _ lt c.loop-i.invariant.names
-          (sym (name_at c.args.names.now c.loop-i.i))
-          (c.in_ok-is_new.ensures.taken c.if-not-is_new.true);
+      holds = earlier_from names (map string_bytes c.deref.result.now) c.loop-i.i c.as_bytes.result.now lt
+          (ap (map string_bytes) c.deref.ensures.value ∙ c.loop-i.invariant.names) same
+          (present (map string_bytes c.deref.result.now) c.as_bytes.result.now c.in-Some.field-0
+          (sym c.in-Some.ensures.place));
       before = c.loop-i.invariant.fresh;
     }
 
@@ -20,12 +23,14 @@ loop-i-preserved c =
     let names = map text_of c.args.names.now in
     let lt : c.loop-i.i < length names = omega (arith, c.loop-i-test.true, length-map c.args.names.now text_of) in
     let at_i = sym (name_at c.args.names.now c.loop-i.i) in
+    let same : c.as_bytes.result.now ≡ get_or names c.loop-i.i [] = c.as_bytes.ensures.value ∙ at_i in
     record {
       names = take_turn names c.loop-i.i _ _ _ lt c.loop-i.invariant.names at_i
-          (c.in_ok-is_new.ensures.added c.if-not-is_new.false);
+          (push_name _ _ _ _ c.in-Ok.ensures.items c.in_ok-name.ensures.ok);
       fresh = below_more (λ k. ¬ (StandsEarlier names k)) c.loop-i.i c.loop-i.invariant.fresh
-          (λ h. c.in_ok-is_new.ensures.fresh c.if-not-is_new.false
-          (from_earlier names _ c.loop-i.i _ lt c.loop-i.invariant.names at_i h));
+          (λ h. absent (map string_bytes c.deref.result.now) c.as_bytes.result.now (sym c.in_default.ensures.place)
+          (from_earlier names (map string_bytes c.deref.result.now) c.loop-i.i c.as_bytes.result.now lt
+          (ap (map string_bytes) c.deref.ensures.value ∙ c.loop-i.invariant.names) same h));
     }
 
 pub returns-clause-distinct : goal.returns-clause-distinct

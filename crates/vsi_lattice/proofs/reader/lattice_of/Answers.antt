@@ -12,17 +12,17 @@ returns-in-Err-clause-refused c =
     let len : length f.names ≡ length c.args.names.now = length-map c.args.names.now text_of in
     let names : HasNames f =
     has_names f (length c.args.names.now) len (grind (arith, c.is_empty.ensures, c.if-is_empty.false))
-    (omega (arith, c.if-names-gt-MAX_CLASSES.false)) c.in_default.ensures.none c.in_ok-set.ensures.distinct in
+    (omega (arith, c.if-names-gt-MAX_CLASSES.false)) c.in_default.ensures.none c.in_ok-list.ensures.distinct in
     let pairs : HasPairs f = record {
       names = names;
-      known = known_of f.names f.pairs c.in_ok-set.set.keys c.as_slice.result.now c.as_slice.ensures.keys
-          c.in_ok-set.ensures.names
+      known = known_of f.names f.pairs c.in_ok-list.list.items c.deref.result.now c.deref.ensures.value
+          c.in_ok-list.ensures.names
           c.in_ok-numbers.ensures.known;
     } in
     let same =
-    numbered f.names f.pairs c.in_ok-set.set.keys c.as_slice.result.now c.in_ok-numbers.numbers.items
-    c.deref.result.now
-    c.deref.ensures.value c.in_ok-numbers.ensures.numbers c.as_slice.ensures.keys c.in_ok-set.ensures.names in
+    numbered f.names f.pairs c.in_ok-list.list.items c.deref.result.now c.in_ok-numbers.numbers.items
+    c.deref-2.result.now
+    c.deref-2.ensures.value c.in_ok-numbers.ensures.numbers c.deref.ensures.value c.in_ok-list.ensures.names in
     order_fault f c.in-Err.e c.from.result c.from.ensures pairs
     (fault_along (sym len) same c.in-Err.e c.in-Err.ensures.refused)
 
@@ -32,8 +32,8 @@ new-requires-in-Ok c =
     let len : length f.names ≡ length c.args.names.now = length-map c.args.names.now text_of in
     let names : HasNames f =
     has_names f (length c.args.names.now) len (grind (arith, c.is_empty.ensures, c.if-is_empty.false))
-    (omega (arith, c.if-names-gt-MAX_CLASSES.false)) c.in_default.ensures.none c.in_ok-set.ensures.distinct in
-    are_names f (map string_bytes c.in_ok-set.set.keys) (length c.in-Ok.order.above.items) c.in_ok-set.ensures.names
+    (omega (arith, c.if-names-gt-MAX_CLASSES.false)) c.in_default.ensures.none c.in_ok-list.ensures.distinct in
+    are_names f (map string_bytes c.in_ok-list.list.items) (length c.in-Ok.order.above.items) c.in_ok-list.ensures.names
     names
     (c.in-Ok.ensures.order.count_is ∙ sym len)
 
@@ -43,16 +43,16 @@ returns-in-Ok-clause-ok c =
     let len : length f.names ≡ length c.args.names.now = length-map c.args.names.now text_of in
     let names : HasNames f =
     has_names f (length c.args.names.now) len (grind (arith, c.is_empty.ensures, c.if-is_empty.false))
-    (omega (arith, c.if-names-gt-MAX_CLASSES.false)) c.in_default.ensures.none c.in_ok-set.ensures.distinct in
+    (omega (arith, c.if-names-gt-MAX_CLASSES.false)) c.in_default.ensures.none c.in_ok-list.ensures.distinct in
     let pairs : HasPairs f = record {
       names = names;
-      known = known_of f.names f.pairs c.in_ok-set.set.keys c.as_slice.result.now c.as_slice.ensures.keys
-          c.in_ok-set.ensures.names
+      known = known_of f.names f.pairs c.in_ok-list.list.items c.deref.result.now c.deref.ensures.value
+          c.in_ok-list.ensures.names
           c.in_ok-numbers.ensures.known;
     } in
     let same =
-    numbered f.names f.pairs c.in_ok-set.set.keys c.as_slice.result.now c.in_ok-numbers.numbers.items
-    c.deref.result.now
-    c.deref.ensures.value c.in_ok-numbers.ensures.numbers c.as_slice.ensures.keys c.in_ok-set.ensures.names in
-    is_of f _ c.deref.result.now _ _ _ pairs (sym len) same c.in-Ok.ensures.lattice c.in-Ok.ensures.order
-    (c.new-in-Ok.ensures.names ∙ c.in_ok-set.ensures.names) c.new-in-Ok.ensures.order
+    numbered f.names f.pairs c.in_ok-list.list.items c.deref.result.now c.in_ok-numbers.numbers.items
+    c.deref-2.result.now
+    c.deref-2.ensures.value c.in_ok-numbers.ensures.numbers c.deref.ensures.value c.in_ok-list.ensures.names in
+    is_of f _ c.deref-2.result.now _ _ _ pairs (sym len) same c.in-Ok.ensures.lattice c.in-Ok.ensures.order
+    (c.new-in-Ok.ensures.names ∙ c.in_ok-list.ensures.names) c.new-in-Ok.ensures.order

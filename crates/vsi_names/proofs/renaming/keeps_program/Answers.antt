@@ -13,6 +13,6 @@ returns-in-Ok c =
     subst (λ l. Stands (class_named l) c.args.text.now new.resolved) (s.lattice ∙ c.lattice.ensures)
     (subst (λ t. Stands (class_named new.lattice) t new.resolved) s.text s.kept.stands) in
     record {
-      kept = kept_program c.is_kept.result (class_named old.lattice) c.args.name.now old.text c.args.text.now
-          old.resolved new.resolved c.resolved-program.ensures.kept.stands again c.is_kept.ensures;
+      kept = kept_program c.is_kept.result (class_named old.lattice) c.args.variable c.args.name.now old.text
+          c.args.text.now old.resolved new.resolved c.resolved-program.ensures.kept.stands again c.is_kept.ensures;
     }

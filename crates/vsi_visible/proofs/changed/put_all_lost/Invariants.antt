@@ -1,6 +1,7 @@
 use Rattle.std.proofs.Common.{◌≡◌, ◌++◌, drop}
 use Rattle.vsi_image.specs.Fields.{globals}
-use Rattle.vsi_visible.specs.Visible.{each_global, lost_line}
+use Rattle.vsi_visible.specs.Visible.{lost_line}
+use Rattle.vsi_visible.specs.Globals.{each_global}
 use Rattle.vsi_visible.proofs.changed.put_all_lost.Given as goal
 
 -- The text so far and the lines of the remaining globals are all lines.

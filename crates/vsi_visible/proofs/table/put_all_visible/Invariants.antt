@@ -1,6 +1,7 @@
 use Rattle.std.proofs.Common.{◌≡◌, ◌++◌, drop}
 use Rattle.vsi_image.specs.Fields.{globals}
-use Rattle.vsi_visible.specs.Visible.{each_global, visible_part}
+use Rattle.vsi_visible.specs.Visible.{visible_part}
+use Rattle.vsi_visible.specs.Globals.{each_global}
 use Rattle.vsi_visible.proofs.table.put_all_visible.Given as goal
 
 -- The text so far and the names among the remaining globals are all names.

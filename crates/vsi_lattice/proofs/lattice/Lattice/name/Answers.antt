@@ -7,9 +7,9 @@ use Rattle.vsi_lattice.proofs.lattice.Lattice.name.Goals as goal
 pub returns-clause-class : goal.returns-clause-class
 returns-clause-class c =
     let l = c.args.self.now in
-    let e = own_name l.names.keys c.as_slice.result.now c.index.result c.args.class c.index-as_slice-index.result
+    let e = own_name l.names.items c.index.result c.args.class c.index-2.result.now
     c.as_bytes.result.now
-    c.as_slice.ensures.keys c.index.ensures c.index-as_slice-index.is c.as_bytes.ensures.value
+    c.index.ensures c.index-2.ensures c.as_bytes.ensures.value
     (omega (arith, l.named.one_each, c.requires)) in
     let lt : c.args.class < length (spec.names l) = omega (arith, l.named.one_each, c.requires) in
     ap (place_in (spec.names l)) (sym e) ∙ found_at_own (spec.names l) c.args.class lt

@@ -1,0 +1,22 @@
+-- Boxes with the sizes of their nodes, one more at a time.
+use Rattle.std.proofs.Common.{◌≡◌, ℕ, ◌+◌, ◌<◌, ◌≤◌, List, length, subst, ⊎_elim, arith}
+use Rattle.std.specs.List.{slice_index_or}
+use Rattle.std.proofs.lemmas.Bool.{cases_lt}
+use Rattle.std.proofs.lemmas.List.{get_or_default}
+use Rattle.vsi_layered.specs.declared.graph.Node.{Node}
+use Rattle.vsi_layered.specs.declared.graph.Place.{Place}
+use Rattle.vsi_layered.specs.Drawing.{HasSize}
+
+-- One more node has a box of its size.
+pub sized_more : (nodes : List Node) (places : List Place) (i : ℕ) (m : Node) (e : Place) → i < length nodes →
+    i < length places → HasSize (slice_index_or nodes i m) (slice_index_or places i e) →
+    ((k : ℕ) (n : Node) (d : Place) → k < i → HasSize (slice_index_or nodes k n) (slice_index_or places k d)) →
+    (k : ℕ) (n : Node) (d : Place) → k < i + 1 → HasSize (slice_index_or nodes k n) (slice_index_or places k d)
+sized_more nodes places i m e there beside here before k n d lt =
+    ⊎_elim (λ below. before k n d below)
+    (λ le.
+    let same : i ≡ k = omega (arith, lt, le) in
+    subst (λ j. HasSize (slice_index_or nodes j n) (slice_index_or places j d)) same
+    (subst (λ p. HasSize (slice_index_or nodes i n) p) (get_or_default places i e d beside)
+    (subst (λ x. HasSize x (slice_index_or places i e)) (get_or_default nodes i m n there) here)))
+    (cases_lt k i)
