@@ -226,7 +226,8 @@ fn is_dangling(rt: &HostRuntime, path: &str) -> bool {
 }
 
 /// Has the name of the file at the path on the disk, in the folder of its target if it is a link. A
-/// file without a name has none to keep.
+/// file without a name has none to keep. Where there is no memory for the target's path, its name
+/// isn't synced: the file was there before, and its bytes are on the disk.
 fn sync_target(rt: &HostRuntime, path: &str) -> Result<(), Trouble> {
     match fs::symlink_metadata(rt, path) {
         Ok(found) if found.is_symlink() => {}
@@ -234,7 +235,12 @@ fn sync_target(rt: &HostRuntime, path: &str) -> Result<(), Trouble> {
     }
     match fs::canonicalize(rt, path) {
         Ok(target) => sync_folder(rt, target.as_str()),
-        Err(error) if error.kind() == ErrorKind::NotFound => Ok(()),
+        Err(error) if has_no_name(error.kind()) => Ok(()),
         Err(error) => Err(Trouble::of_error(&error)),
     }
+}
+
+/// Whether an error of this kind says that a file has no path, or that there is no memory for one.
+fn has_no_name(kind: ErrorKind) -> bool {
+    matches!(kind, ErrorKind::NotFound | ErrorKind::OutOfMemory)
 }
