@@ -26,6 +26,7 @@ use Rattle.vsi_drive.specs.Control.{controlled}
 use Rattle.vsi_devices.specs.Running.{RunsApart}
 use Rattle.vsi_documents.specs.Leaks.{TellsSearch}
 use Rattle.vsi_leak.specs.declared.whole.Wanted.{Wanted}
+use Rattle.vsi_leak.specs.Leaks.{most_pairs}
 use Rattle.vsi_audit.specs.Standing.{HasKnownClasses}
 use Rattle.vsi_audit.specs.Text.{IsSourceText}
 use Rattle.vsi_evidence.specs.Evidence.{Filed, conformity_text, evidence_text}
@@ -257,14 +258,18 @@ wanted_of s viewer = record {
   effort = record { budget = s.budget; tries = s.tries; seed = s.seed };
 }
 
--- No leak was found in this many pairs of runs of a text that has a program, which says nothing about other pairs.
+-- No leak was found in this many pairs of runs of a text that has a program, at most the tries for each class and each
+-- sign; this says nothing about other pairs.
 pub record SearchesFiles (holds : Holding) (s : Search) (text : Vec ℕ) : Type 0 where
   pub lattice : Lattice
   pub declared : IsLatticeAt holds s.lattice.now lattice
   pub source : List ℕ
   pub read : IsReadAt holds s.source.now source
   pub program : HasProgram (class_named lattice) source
+  pub viewer : Option ℕ
+  pub looks : LooksFor lattice s.class viewer
   pub pairs : ℕ
+  pub tried : pairs ≤ most_pairs (order lattice) (wanted_of s viewer)
   pub line : text.items ≡ codes "no leak in " ++ decimal pairs ++ codes " pairs of runs\n"
 
 -- The line of JSON for a search of a source text, which found no leak or found one.

@@ -1,5 +1,5 @@
 -- A search for a leak as a line of JSON, with keys in byte order.
-use Rattle.std.specs.Prelude.{◌≡◌, ℕ, Bool, true, false, List, Some, None, codes, slice_get}
+use Rattle.std.specs.Prelude.{◌≡◌, ◌≤◌, ℕ, Bool, true, false, List, Some, None, codes, slice_get}
 use Rattle.serde_json.specs.Data.{boolean, Members, no_members, put}
 use Rattle.vsi_lattice.specs.Known.{Known}
 use Rattle.vsi_lattice.specs.LatticeView.{class_named, names, order}
@@ -9,7 +9,7 @@ use Rattle.vsi_image.specs.declared.instr.Image.{Image}
 use Rattle.vsi_image.specs.Fields.{Global, globals}
 use Rattle.vsi_compiler.specs.Headline.{IsImageOf}
 use Rattle.vsi_compiler.specs.Readable.{HasProgram}
-use Rattle.vsi_leak.specs.Leaks.{IsLeak, IsWanted}
+use Rattle.vsi_leak.specs.Leaks.{IsLeak, IsWanted, most_pairs}
 use Rattle.vsi_leak.specs.declared.found.Ending.{Ending}
 use Rattle.vsi_leak.specs.declared.found.Ending.TheVariants.{Halted, OutOfBudget}
 use Rattle.vsi_leak.specs.declared.found.Finding.TheVariants as finding
@@ -61,14 +61,15 @@ pub record TellsLeak (l : named.Lattice) (text : List ℕ) (wanted : Wanted) (ou
       ≡ object_line
       (leak_members (class_named l) (order l) name wanted.effort.budget (globals image.globals.items) leak)
 
--- The text has a program, and the line has a number of pairs of runs without a leak, which says nothing about other
--- pairs.
-pub record TellsNothing (l : named.Lattice) (text out : List ℕ) : Type 0 where
+-- The text has a program, and the line has a number of pairs of runs without a leak, at most the tries for each class
+-- and each sign; this says nothing about other pairs.
+pub record TellsNothing (l : named.Lattice) (text : List ℕ) (wanted : Wanted) (out : List ℕ) : Type 0 where
   pub program : HasProgram (class_named l) text
   pub pairs : ℕ
+  pub tried : pairs ≤ most_pairs (order l) wanted
   pub line : out ≡ object_line (nothing_members pairs)
 
 -- The line of a search that found no leak, or of one that found a leak.
 abbrev pub TellsSearch : named.Lattice → List ℕ → Wanted → Bool → List ℕ → Type 0
-TellsSearch l text wanted true out = TellsNothing l text out
+TellsSearch l text wanted true out = TellsNothing l text wanted out
 TellsSearch l text wanted false out = TellsLeak l text wanted out

@@ -4,3 +4,4 @@ pub mod Exact
 pub mod Leaks
 pub mod Rows
 pub mod Ones
+pub mod Tries

@@ -1,5 +1,5 @@
 -- Leaks: two runs of an image that an observer at a class tells apart, though their stores agreed there.
-use Rattle.std.specs.Prelude.{◌≡◌, ◌≢◌, ℕ, ◌-◌, ◌<◌, ◌≤◌, pos, List, length, replicate, slice_set, Some, false, IfSome, IsTrue}
+use Rattle.std.specs.Prelude.{◌≡◌, ◌≢◌, ℕ, ◌+◌, ◌-◌, ◌*◌, ◌<◌, ◌≤◌, pos, List, length, replicate, slice_set, Some, false, is_some, if◌then◌else◌, IfSome, IsTrue}
 use Rattle.std.specs.List.{Contains}
 use Rattle.vsi_image.specs.declared.instr.Image.{Image}
 use Rattle.vsi_image.specs.Meaning.{State}
@@ -107,6 +107,18 @@ IsAsked s a (finding.Nothing pairs) = Unit {0}
 abbrev pub TellsAtMost : ℕ → Finding → Type 0
 TellsAtMost tries (finding.Leak leak) = Unit {0}
 TellsAtMost tries (finding.Nothing pairs) = pairs ≤ tries
+
+-- The number of signs that a search uses.
+abbrev pub sign_count : Wanted → ℕ
+sign_count wanted = 1 + (if wanted.endings then 1 else 0) + (if wanted.steps then 1 else 0)
+
+-- The number of classes that a search looks at: the requested one alone, or each of the lattice.
+abbrev pub class_count : Lattice → Wanted → ℕ
+class_count L wanted = if is_some wanted.class then 1 else L.count
+
+-- The most pairs of runs that a search tries: its tries for each class and each sign.
+abbrev pub most_pairs : Lattice → Wanted → ℕ
+most_pairs L wanted = wanted.effort.tries * class_count L wanted * sign_count wanted
 
 -- If no leak is found and there were as many tries as globals, no 1 in a single global shows a leak.
 abbrev pub LeavesNoOne : Known → Lattice → Image → ℕ → Sign → ℕ → ℕ → Finding → Type 0

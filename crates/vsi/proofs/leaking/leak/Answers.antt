@@ -1,7 +1,7 @@
 use Rattle.std.proofs.Common.{inr, rules, sym, subst, append_assoc}
 use Rattle.vsi_image.specs.Fields.{globals}
 use Rattle.vsi_lattice.specs.LatticeView.{class_named, order}
-use Rattle.vsi_leak.specs.Leaks.{IsFinding, IsWanted}
+use Rattle.vsi_leak.specs.Leaks.{IsFinding, IsWanted, TellsAtMost, most_pairs}
 use Rattle.vsi_leak.specs.declared.found.Finding.{Finding}
 use Rattle.vsi_leak.specs.Texts.{IsLeakText}
 use Rattle.vsi.specs.Holding.{IsReadAt}
@@ -19,7 +19,13 @@ returns-clause-told g c =
           (subst (IsReadAt (g.F.Files.holds c.lattice_in.new.files) c.args.search.source.now)
           (sym c.as_slice.ensures.value) c.in_ok-text.ensures.read);
       program = c.in-Ok.ensures.found;
+      viewer = c.in_ok-class.class;
+      looks = c.in_ok-class.ensures.looks;
       pairs = c.in-Nothing.pairs;
+      tried = subst
+          (λ (f : Finding). TellsAtMost
+          (most_pairs (order c.in_ok-classes.classes) (wanted_of c.args.search c.in_ok-class.class)) f)
+          c.in-Nothing.is c.in-Ok.ensures.tried;
       line = rw c.into_bytes.ensures.value (search (rules, append_assoc));
     }
 
