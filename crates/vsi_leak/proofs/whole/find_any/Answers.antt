@@ -20,7 +20,7 @@ loop-sign-preserved c =
     let i = c.loop-sign.sign-index in
     let at : ℕ → Type 0 = λ done. done + each * wanted_in (drop (i + 1) signs) ≤ total in
     elim c.if-is_wanted.branch [
-      then-is_wanted+in_ok-leak+in-Nothing w ↦
+      | then-is_wanted+in_ok-leak+in-Nothing w ↦
           let few = subst (λ (f : Finding). TellsAtMost each f) w.in-Nothing.is w.in_ok-leak.ensures.tried in
           subst at (sym (w.done-is ∙ w.saturating_add-done.ensures))
           (after_wanted each c.loop-sign.done w.in-Nothing.pairs total i signs _ c.loop-sign-test.true
