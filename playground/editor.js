@@ -1,9 +1,9 @@
 // A text area over a coloured copy of its text. Both are in one cell of a grid, so they scroll together.
 import { h } from "./dom.js";
-import { declarations, tokens } from "./reading.js";
+import { bytes, declarations, tokens } from "./reading.js";
 
-/** The bytes of UTF-8 before a place in a line, as the columns of the program count them. */
-const bytes = (text) => new TextEncoder().encode(text).length;
+// A text with more letters has no colours and no numbers of lines: they would take seconds at each key.
+const MOST_LETTERS = 20000;
 
 /** One text with its colours: `program` is a source text, else it is TOML. */
 export class Editor {
@@ -16,6 +16,7 @@ export class Editor {
       autocapitalize: "off", wrap: "off", rows: "1" });
     this.copy = h("pre", { class: "copy", "aria-hidden": "true" });
     place.append(h("div", { class: "editor" }, this.copy, this.area));
+    this.given = "";
     this.area.addEventListener("input", () => {
       this.marks.clear();
       this.colour();
@@ -28,11 +29,21 @@ export class Editor {
     return this.area.value;
   }
 
+  /** Whether the text is the one that was given last, and not one that was typed. */
+  get isGiven() {
+    return this.text === this.given;
+  }
+
   set text(text) {
     this.area.value = text;
+    this.given = this.text;
     this.marks.clear();
     this.inferred.clear();
     this.colour();
+  }
+
+  get isLarge() {
+    return this.text.length > MOST_LETTERS;
   }
 
   set isFixed(isFixed) {
@@ -80,8 +91,13 @@ export class Editor {
     return found;
   }
 
-  /** Writes the coloured copy. */
+  /** Writes the coloured copy, unless the text is large. */
   colour() {
+    this.area.parentElement.classList.toggle("large", this.isLarge);
+    if (this.isLarge) {
+      this.copy.replaceChildren();
+      return;
+    }
     const list = this.isProgram ? tokens(this.text) : [];
     const classes = this.classes(list);
     const lines = this.isProgram ? this.programLines(list, classes) : this.plainLines();

@@ -2,10 +2,10 @@
 
 const KEY = "vsi-playground.";
 
-/** A kept value, or `otherwise` where there is none or the browser keeps nothing. */
-export function kept(name, otherwise) {
+/** A kept value, or `otherwise` where there is none or the browser keeps nothing; `isOfTab` asks for this tab's. */
+export function kept(name, otherwise, isOfTab = false) {
   try {
-    const text = localStorage.getItem(KEY + name);
+    const text = (isOfTab ? sessionStorage : localStorage).getItem(KEY + name);
     return text === null ? otherwise : JSON.parse(text);
   } catch {
     return otherwise;
@@ -13,12 +13,23 @@ export function kept(name, otherwise) {
 }
 
 /** Keeps a value, if the browser lets the page. */
-export function keep(name, value) {
+export function keep(name, value, isOfTab = false) {
   try {
-    localStorage.setItem(KEY + name, JSON.stringify(value));
+    (isOfTab ? sessionStorage : localStorage).setItem(KEY + name, JSON.stringify(value));
   } catch {
     // Private windows keep nothing; the page works without.
   }
+}
+
+/** A value that this tab has kept, else the one that any tab has. Tabs don't overwrite each other's. */
+export function keptHere(name, otherwise) {
+  return kept(name, null, true) ?? kept(name, null) ?? otherwise;
+}
+
+/** Keeps a value for this tab, and for tabs that are opened later. */
+export function keepHere(name, value) {
+  keep(name, value, true);
+  keep(name, value);
 }
 
 /** Gives the reader a file of this name, which holds a text. */

@@ -2,8 +2,9 @@
 import { ask, load } from "./api.js";
 import { at, fill, h } from "./dom.js";
 import { Editor } from "./editor.js";
-import { keep, kept, packed, unpacked } from "./keeping.js";
+import { keepHere, keptHere, packed, unpacked } from "./keeping.js";
 import { Policy, READY } from "./lattice.js";
+import { Lesson, uncommented } from "./lesson.js";
 import { Machine } from "./machine.js";
 import { Panes } from "./panes.js";
 import { globals, isLattice } from "./reading.js";
@@ -13,10 +14,14 @@ import { Verdict } from "./verdict.js";
 const FIRST = "# Which variable leaks into which? Change the text until it is accepted.\n"
   + "var salary : H;\nvar report : L;\n\nreport := salary + 100\n";
 const TABS = ["run", "flows", "leak", "pair", "machine", "cycles", "report"];
+// The panes that show the verdict or a leak, and those that show a leak.
+const TELLING = ["flows", "leak", "machine", "report"], SEARCHING = ["leak", "report"];
 const SUBJECTS = ["language", "lattice", "store", "classes", "profiles"];
+// How many texts can be brought back after something has replaced them.
+const MOST_UNDONE = 50;
 
 class App {
-  constructor() {
+  constructor({ exercises, levels, examples, isLesson }) {
     this.policy = new Policy(() => this.recolour());
     this.verdict = new Verdict(this);
     this.program = new Editor(at("program-editor"), { id: "text", label: "Program", isProgram: true,
@@ -25,8 +30,12 @@ class App {
       change: () => this.typed() });
     this.panes = new Panes(this);
     this.machine = new Machine(this);
-    this.tasks = null;
+    this.examples = examples;
+    this.tasks = new Tasks(this, exercises, levels);
+    this.lesson = new Lesson(this, isLesson);
     this.item = "";
+    this.pane = TABS[0];
+    this.past = [];
     this.wire();
   }
 
@@ -45,10 +54,15 @@ class App {
   wire() {
     at("profile").addEventListener("change", () => this.verdict.now());
     at("ready").addEventListener("change", (event) => this.takeLattice(event.target.value));
-    at("open").addEventListener("change", (event) => this.openItem(event.target.value));
+    at("open").addEventListener("change", (event) => {
+      this.remember();
+      this.openItem(event.target.value);
+    });
     at("share").addEventListener("click", () => this.share());
     at("print").addEventListener("click", () => print());
     at("tidy").addEventListener("click", () => this.tidy());
+    at("undo").addEventListener("click", () => this.undo());
+    at("text").addEventListener("keydown", (event) => this.undoByKey(event));
     at("explain").addEventListener("click", () => this.explain(at("about").value));
     at("dialog-close").addEventListener("click", () => at("dialog").close());
     at("report-form").addEventListener("submit", () => this.fillReport());
@@ -57,23 +71,34 @@ class App {
   }
 
   wireTabs() {
-    for (const [index, name] of TABS.entries()) {
+    for (const name of TABS) {
       const tab = at(`tab-${name}`);
       tab.addEventListener("click", () => this.open(name));
       tab.addEventListener("keydown", (event) => {
         const change = { ArrowRight: 1, ArrowLeft: -1 }[event.key];
-        const to = event.key === "Home" ? 0 : event.key === "End" ? TABS.length - 1
-          : change ? (index + change + TABS.length) % TABS.length : -1;
-        if (to < 0) return;
+        const free = TABS.filter((one) => !at(`tab-${one}`).disabled);
+        const now = free.indexOf(name);
+        const to = event.key === "Home" ? free[0] : event.key === "End" ? free[free.length - 1]
+          : change ? free[(now + change + free.length) % free.length] : null;
+        if (!to) return;
         event.preventDefault();
-        this.open(TABS[to]);
-        at(`tab-${TABS[to]}`).focus();
+        this.open(to);
+        at(`tab-${to}`).focus();
       });
     }
   }
 
-  /** Shows a pane, and presses its button if one is named. */
+  /** Closes the panes that would show a verdict before Show, or a leak before a try of one's own; opens the others. */
+  showTabs() {
+    const closed = new Set([...(this.lesson.isHidden ? TELLING : []), ...(this.tasks.isUntried ? SEARCHING : [])]);
+    for (const name of TABS) at(`tab-${name}`).disabled = closed.has(name);
+    if (closed.has(this.pane)) this.open("run");
+  }
+
+  /** Shows a pane, unless it is closed, and presses its button if one is named. */
   open(name, pressed = "") {
+    if (at(`tab-${name}`).disabled) return;
+    this.pane = name;
     for (const other of TABS) {
       at(other).hidden = other !== name;
       at(`tab-${other}`).setAttribute("aria-selected", String(other === name));
@@ -86,16 +111,47 @@ class App {
 
   typed() {
     this.panes.refresh();
-    this.tasks?.keepDraft();
-    if (!this.item) keep("draft", { text: this.text, lattice: this.lattice, profile: this.profile });
+    this.showTabs();
+    this.tasks.keepDraft();
+    if (!this.item) keepHere("draft", { text: this.text, lattice: this.lattice, profile: this.profile });
     this.verdict.later();
   }
 
-  /** Changes the text for its reader. */
+  /** Changes the text for its reader, who can undo it. */
   change(text) {
+    this.remember();
     this.program.text = text;
     this.typed();
     this.verdict.now();
+  }
+
+  /** Remembers what is open, before something replaces it. */
+  remember() {
+    this.past.push({ item: this.item, text: this.text, lattice: this.lattice, profile: this.profile });
+    if (this.past.length > MOST_UNDONE) this.past.shift();
+    at("undo").disabled = false;
+  }
+
+  /** Brings back what was replaced last. */
+  undo() {
+    const before = this.past.pop();
+    if (!before) return;
+    at("undo").disabled = !this.past.length;
+    if (before.item !== this.item) this.openItem(before.item);
+    this.program.text = before.text;
+    this.latticeEditor.text = before.lattice;
+    this.showReady();
+    at("profile").value = before.profile;
+    this.typed();
+    this.verdict.now();
+  }
+
+  /** Ctrl-Z undoes a replacement, too. What was typed since then the browser takes back itself. */
+  undoByKey(event) {
+    if (event.key !== "z" || event.shiftKey || event.altKey || !(event.ctrlKey || event.metaKey)) return;
+    if (this.past[this.past.length - 1]?.item !== this.item || !this.program.isGiven) return;
+    event.preventDefault();
+    this.undo();
   }
 
   recolour() {
@@ -131,6 +187,7 @@ class App {
     this.panes.offer(files, base);
     this.policy.look(observer);
     this.panes.refresh();
+    this.showTabs();
     this.open(tab);
     this.verdict.now();
   }
@@ -143,6 +200,7 @@ class App {
 
   takeLattice(value) {
     if (value === "") return;
+    this.remember();
     this.latticeEditor.text = READY[Number(value)][1];
     this.typed();
     this.verdict.now();
@@ -150,13 +208,18 @@ class App {
 
   /** Opens a task, an example or the free text by its name. */
   openItem(name) {
-    at("open").value = name;
-    this.item = name;
-    history.replaceState(null, "", name ? `#${name}` : location.pathname);
+    const example = this.examples.find((one) => one.name === name || one.neutral === name);
+    this.item = example ? this.nameOf(example) : name;
+    at("open").value = this.item;
+    history.replaceState(null, "", this.item ? `#${this.item}` : location.pathname);
     if (this.tasks.start(name)) return;
-    const example = this.examples.find(({ folder, file }) => `${folder}/${file}` === name);
-    if (example) this.show(example.shown);
-    else this.show(kept("draft", { text: FIRST, lattice: READY[0][1] }));
+    if (example && this.lesson.isOn) this.show({ ...example.shown, text: uncommented(example.shown.text) });
+    else this.show(example ? example.shown : keptHere("draft", { text: FIRST, lattice: READY[0][1] }));
+  }
+
+  /** The name of an example. In a lesson it doesn't give the verdict away. */
+  nameOf(example) {
+    return this.lesson.isOn ? example.neutral : example.name;
   }
 
   /** Lists everything that can be opened. */
@@ -164,7 +227,7 @@ class App {
     const folders = Object.entries(Object.groupBy ? Object.groupBy(this.examples, ({ folder }) => folder)
       : this.examples.reduce((all, one) => ({ ...all, [one.folder]: [...(all[one.folder] ?? []), one] }), {}));
     const groups = [...this.tasks.list(), ...folders.map(([folder, list]) => [`Example: ${folder}`,
-      list.map(({ file }) => [`${folder}/${file}`, file])])];
+      list.map((one) => [this.nameOf(one), this.nameOf(one)])])];
     fill(at("open"), h("option", { value: "" }, "A text of your own"), groups.map(([label, items]) =>
       h("optgroup", { label }, items.map(([value, title]) => h("option", { value }, title)))));
     at("open").value = this.item;
@@ -224,21 +287,20 @@ function readExamples(folders) {
     const lattices = Object.values(files).filter(isLattice);
     const fits = (lattice, text) => globals(text).every((one) => lattice.includes(`"${one.class}"`));
     const fitting = (text) => lattices.find((lattice) => fits(lattice, text));
-    return Object.keys(files).filter((file) => file.endsWith(".vsi") && fitting(files[file])).map((file) => ({
-      folder: name, file,
+    return Object.keys(files).filter((file) => file.endsWith(".vsi") && fitting(files[file])).map((file, index) => ({
+      folder: name, name: `${name}/${file}`, neutral: `${name}-${index + 1}`,
       shown: { text: files[file], lattice: fitting(files[file]), files, base: file.slice(0, -4) } }));
   });
 }
 
 /** Begins with what the address names, or with the text of the last visit. */
 async function start() {
-  const app = new App();
   fill(at("ready"), h("option", { value: "" }, "own lattice"), READY.map(([label], index) =>
     h("option", { value: String(index) }, label)));
   at("about").append(...SUBJECTS.map((subject) => h("option", { value: subject }, subject)));
-  const [exercises, levels, folders] = await Promise.all(["exercises.json", "levels.json", "examples.json"].map(load));
-  app.examples = readExamples(folders);
-  app.tasks = new Tasks(app, exercises, levels);
+  const [exercises, levels, folders, isLesson] = await Promise.all(["exercises.json", "levels.json", "examples.json",
+    "lesson.json"].map(load));
+  const app = new App({ exercises, levels, examples: readExamples(folders), isLesson });
   app.listItems();
   app.openAddress();
   document.body.dataset.ready = "yes";

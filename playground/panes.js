@@ -150,7 +150,7 @@ export class Panes {
     }
     const runs = twoRuns(answer.errors);
     fill(at("leak-result"), h("p", { class: "no" }, `A leak at ${runs.observer}.`), runsTable(runs),
-      button("Take both stores to Two runs", () => this.take(runs)));
+      this.app.tasks.takesStores ? button("Take both stores to Two runs", () => this.take(runs)) : null);
   }
 
   /** Puts the stores of a leak into the pane of two runs. */
@@ -177,7 +177,7 @@ export class Panes {
     const sees = answer.status === 0 ? "sees" : "doesn't see";
     fill(at("pair-result"), h("p", { class: answer.status === 0 ? "yes" : "no" },
       `${observer} ${sees} the same after both runs.`), runsTable(runs));
-    if (this.app.tasks) this.app.tasks.judge(runs, answer);
+    this.app.tasks.judge(runs);
     return runs;
   }
 

@@ -1,7 +1,11 @@
 // Reads the texts that the program prints, and cuts source texts into tokens for their colours. It judges nothing.
 
 const KEYWORDS = new Set(["var", "letvar", "in", "if", "then", "else", "while", "do"]);
+const GLOBAL = /\bvar\s+([A-Za-z]\w*)(?:\s*:\s*([A-Za-z]\w*))?/g;
 const TOKEN = /(#[^\n]*)|([A-Za-z0-9_]+)|(:=|[:;+\-*=<(){}])|([ \t\r\n]+)|([^])/g;
+
+/** How many bytes of UTF-8 a text has, as the columns of the program count them. */
+export const bytes = (text) => new TextEncoder().encode(text).length;
 
 /** The tokens of a text: kind, text, and the line and column of the first byte. */
 export function tokens(text) {
@@ -15,7 +19,7 @@ export function tokens(text) {
     found.push({ kind, text: word, line, column });
     const parts = word.split("\n");
     line += parts.length - 1;
-    column = (parts.length > 1 ? 1 : column) + new TextEncoder().encode(parts[parts.length - 1]).length;
+    column = (parts.length > 1 ? 1 : column) + (kind === "name" ? word.length : bytes(parts[parts.length - 1]));
   }
   return found;
 }
@@ -35,11 +39,11 @@ export function declarations(list) {
   return found;
 }
 
-/** The globals of a text, in their order, each name once. */
+/** The globals of a text, in their order, each name once. It reads no tokens, since it is done at each key. */
 export function globals(text) {
   const seen = new Map();
-  for (const found of declarations(tokens(text))) {
-    if (found.isGlobal && !seen.has(found.name)) seen.set(found.name, found.class);
+  for (const [, name, kind] of text.replace(/#[^\n]*/g, "").matchAll(GLOBAL)) {
+    if (!seen.has(name)) seen.set(name, kind ?? null);
   }
   return [...seen].map(([name, kind]) => ({ name, class: kind }));
 }

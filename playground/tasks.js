@@ -4,7 +4,7 @@ import { at, button, fill, h } from "./dom.js";
 import { markdown } from "./markdown.js";
 import { complaint } from "./panes.js";
 import { twoRuns } from "./reading.js";
-import { keep, kept, save } from "./keeping.js";
+import { keep, keepHere, kept, keptHere, save } from "./keeping.js";
 
 const GOALS = {
   words: "Find two stores that look the same to the observer, and whose ends don't.",
@@ -17,6 +17,8 @@ const HERE = {
   policy: "Your answer is the lattice on this page.",
   leak: "Your answer is the two stores of the pane Two runs.",
 };
+
+const LOCKED = "The search opens once you have compared two different stores of your own.";
 
 /** Whether two runs reach a goal. Their stores look the same to the observer if no row before them differs. */
 export function reaches(goal, runs) {
@@ -36,7 +38,7 @@ function command(app, line) {
     [/^vsi check.*--steady/, "Check", () => app.setProfile("steady")],
     [/^vsi check/, "Check", () => app.verdict.now()],
     [/^vsi flows/, "List the flows", () => app.open("flows", "flows-button")],
-    [/^vsi leak/, "Look for a leak", () => app.open("leak", "leak-button")],
+    [/^vsi leak/, "Look for a leak", () => app.tasks.search()],
     [/^vsi compare/, "Compare", () => app.open("pair", "pair-button")],
     [/^vsi drive/, "Drive", () => app.open("cycles", "cycles-button")],
   ].find(([pattern]) => pattern.test(line));
@@ -45,6 +47,9 @@ function command(app, line) {
   return h("li", {}, h("code", {}, line), " ",
     does ? button(does[1], does[2], { class: "plain" }) : h("small", {}, note));
 }
+
+/** The answer to these exercises and levels is two stores, for which one looks before a search does. */
+const isOfStores = (task) => Boolean(task) && (task.kind ?? "leak") === "leak";
 
 /** The task that is open, an exercise or a level. */
 export class Tasks {
@@ -63,6 +68,35 @@ export class Tasks {
       ["Show me, a game", this.levels.map((one, index) => [one.name, `${sign(one.name)}${index + 1}. ${one.title}`])]];
   }
 
+  /** Whether the search is closed: until two stores of one's own, that differ, were compared. */
+  get isUntried() {
+    return isOfStores(this.open) && !kept("tried", {})[this.open.name];
+  }
+
+  /** Whether a search may fill in its stores. They would be the answer. */
+  get takesStores() {
+    return !isOfStores(this.open);
+  }
+
+  /** Looks for a leak, if the search is open. */
+  search() {
+    if (this.isUntried) this.result(false, LOCKED);
+    else this.app.open("leak", "leak-button");
+  }
+
+  /** Both stores of the pane Two runs. */
+  get stores() {
+    return this.app.panes.pair.text(0) + this.app.panes.pair.text(1);
+  }
+
+  /** Counts a try of one's own. */
+  tried() {
+    const { pair } = this.app.panes;
+    if (!this.isUntried || pair.text(0) === pair.text(1) || this.stores === this.begun) return;
+    keep("tried", { ...kept("tried", {}), [this.open.name]: true });
+    this.app.showTabs();
+  }
+
   /** Opens a task by its name; answers whether there is one. */
   start(name) {
     const exercise = this.exercises.find((one) => one.name === name);
@@ -73,14 +107,14 @@ export class Tasks {
     at("task-result").className = "";
     if (exercise) this.startExercise(exercise);
     if (level) this.startLevel(level);
+    this.begun = this.stores;
     return Boolean(this.open);
   }
 
   startExercise(exercise) {
     const { files, kind } = exercise;
-    const draft = kept("drafts", {})[exercise.name];
-    const stores = draft?.one === undefined ? [files["start_one.toml"], files["start_other.toml"]]
-      : [draft.one, draft.other];
+    const draft = keptHere(`draft.${exercise.name}`, null);
+    const stores = draft ? [draft.one, draft.other] : [files["start_one.toml"], files["start_other.toml"]];
     const text = files["start.vsi"] ?? files["broken.vsi"] ?? files["accepted_round.vsi"];
     const lattice = kind === "policy" ? files["start.toml"] : files[exercise.lattice];
     const profile = /profile = "(\w+)"/.exec(files["interface.toml"] ?? "")?.[1] ?? "base";
@@ -91,7 +125,7 @@ export class Tasks {
       budget: (files["budget.txt"] ?? draft?.budget ?? files["start_budget.txt"] ?? "10000").trim(),
       tab: kind === "leak" ? "pair" : "run" });
     fill(at("task-body"), h("p", { class: "note" }, `${HERE[kind]} Type no command: the verdict is below the text, `
-      + "and the panes do the rest."),
+      + `and the panes do the rest.${kind === "leak" ? ` ${LOCKED}` : ""}`),
     markdown(exercise.task, { level: 1, command: (line) => command(this.app, line) }));
     fill(at("task-buttons"), button("Mark my answer", () => this.mark(), { class: "main", id: "mark-button" }),
       button("Begin again", () => this.again()), button("Download my answers", () => this.download(),
@@ -104,7 +138,7 @@ export class Tasks {
     const number = this.levels.indexOf(level) + 1;
     fill(at("task-body"), h("h2", {}, `Show me ${number}: ${level.title}`), level.task.map((text) => h("p", {}, text)),
       h("p", { class: "goal" }, GOALS[level.goal]),
-      h("details", {}, h("summary", {}, "Hint"), h("p", {}, level.hint)));
+      h("p", { class: "note" }, LOCKED), h("details", {}, h("summary", {}, "Hint"), h("p", {}, level.hint)));
     fill(at("task-buttons"), button("Show me", () => this.app.panes.compare(), { class: "main", id: "show-button" }),
       this.next());
   }
@@ -117,9 +151,8 @@ export class Tasks {
 
   /** Forgets the draft of an exercise and opens its start. */
   again() {
-    const drafts = kept("drafts", {});
-    delete drafts[this.open.name];
-    keep("drafts", drafts);
+    this.app.remember();
+    keepHere(`draft.${this.open.name}`, null);
     this.start(this.open.name);
   }
 
@@ -129,7 +162,7 @@ export class Tasks {
     const { text, lattice, panes } = this.app;
     const answer = { text, policy: lattice,
       leak: { one: panes.pair.text(0), other: panes.pair.text(1), budget: String(panes.budget) } }[this.open.kind];
-    keep("drafts", { ...kept("drafts", {}), [this.open.name]: answer });
+    keepHere(`draft.${this.open.name}`, answer);
   }
 
   /** Gives all answers as one file, which `exercises/grade` reads. */
@@ -186,6 +219,7 @@ export class Tasks {
 
   /** Judges a level by the rows that `compare` has printed. */
   judge(runs) {
+    this.tried();
     if (!this.open || this.open.kind) return;
     if (runs.observer === this.open.observer && reaches(this.open.goal, runs)) {
       this.result(true, `Shown: ${this.open.shown}`);
@@ -203,14 +237,14 @@ export class Tasks {
   }
 }
 
-/** The answers that the browser keeps, by exercise and file, as the exercises' pages name them. */
+/** The latest answers of all tabs, by exercise and file, as the exercises' pages name them. */
 export function handedIn(exercises) {
-  const drafts = kept("drafts", {});
+  const drafts = Object.fromEntries(exercises.map(({ name }) => [name, kept(`draft.${name}`, null)]));
   const files = ({ kind, files }, draft) => (kind === "text" ? { "answer.vsi": draft }
     : kind === "policy" ? { "answer.toml": draft }
       : { "one.toml": draft.one, "other.toml": draft.other,
         ...(files["budget.txt"] ? {} : { "budget.txt": `${draft.budget}\n` }) });
-  return Object.fromEntries(exercises.filter(({ name }) => drafts[name] !== undefined)
+  return Object.fromEntries(exercises.filter(({ name }) => drafts[name] !== null)
     .map((exercise) => [exercise.name, files(exercise, drafts[exercise.name])]));
 }
 

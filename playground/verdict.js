@@ -5,14 +5,15 @@ import { classLines, declarations, joined, steps, tokens } from "./reading.js";
 
 // Milliseconds: after the last key, and until the verdict of the text before is taken away.
 const PAUSE = 250, LATE = 2000;
+// The most steps of a refusal that are listed, and letters of its explanation that are shown.
+const MOST_STEPS = 100, MOST_LETTERS = 20000;
 
 /** The changes of the text that the program's own explanation offers, each with a label. */
 export function fixes(text, explained) {
   const prose = joined(explained);
-  const declared = declarations(tokens(text));
   const found = [];
   const raise = /declare `(\w+)` as (\w+)\b/i.exec(prose);
-  const target = raise && declared.find((one) => one.name === raise[1] && one.classPlace);
+  const target = raise && declarations(tokens(text)).find((one) => one.name === raise[1] && one.classPlace);
   if (target && target.class !== raise[2]) {
     found.push({ label: `Declare ${raise[1]} as ${raise[2]}`,
       apply: () => replaced(text, target.classPlace, target.class, raise[2]) });
@@ -65,6 +66,14 @@ export class Verdict {
   async judge() {
     const { text, lattice, profile } = this.app;
     const isWanted = () => text === this.app.text && lattice === this.app.lattice && profile === this.app.profile;
+    this.app.showTabs();
+    this.app.lesson.refresh();
+    if (this.app.lesson.isHidden) {
+      this.hide();
+      await this.app.policy.read(lattice, isWanted);
+      if (!isWanted()) this.isStale = true;
+      return;
+    }
     const late = setTimeout(() => this.show("doubt", "Reading", h("p", {}, "The server hasn't answered yet.")), LATE);
     const answer = await this.app.policy.read(lattice, isWanted)
       ?? await ask("check", { text, lattice, profile }, isWanted);
@@ -82,11 +91,19 @@ export class Verdict {
     else this.refuse(json, answer.explained);
   }
 
+  /** Shows nothing that depends on the verdict. */
+  hide() {
+    this.accepted = null;
+    this.app.program.infer(new Map());
+    this.app.program.mark(new Map());
+    this.show("doubt", "Accepted or refused?");
+  }
+
   async accept(asked, isWanted) {
     this.show("good", "Accepted", h("p", {}, `By the ${asked.profile} profile.`));
     this.app.program.mark(new Map());
-    const answer = await ask("classes", asked, isWanted);
-    if (!isWanted() || answer.status !== 0) return;
+    const answer = this.app.program.isLarge ? null : await ask("classes", asked, isWanted);
+    if (!answer || !isWanted() || answer.status !== 0) return;
     const declared = new Set(declarations(tokens(asked.text)).filter((one) => one.class)
       .map((one) => `${one.place.line}:${one.place.column}`));
     this.app.program.infer(new Map(classLines(answer.output).map((one) => [`${one.line}:${one.column}`, one.class])
@@ -116,8 +133,10 @@ export class Verdict {
       this.app.program.go(place.line, place.column), { class: "place" });
     if (walk.length) {
       const last = json.text.split("\n").pop();
-      return [h("ol", { class: "walk" }, walk.map((step) => h("li", {}, h("b", {}, step.from), " at ", go(step.read),
-        " flows to ", h("b", {}, step.to), " at ", go(step.written), " by ", h("code", {}, step.rule)))),
+      return [h("ol", { class: "walk" }, walk.slice(0, MOST_STEPS).map((step) => h("li", {}, h("b", {}, step.from),
+        " at ", go(step.read), " flows to ", h("b", {}, step.to), " at ", go(step.written), " by ",
+        h("code", {}, step.rule)))),
+      walk.length > MOST_STEPS ? h("p", {}, `and ${walk.length - MOST_STEPS} steps more`) : null,
       h("p", { class: "end" }, last)];
     }
     return json.line ? h("p", {}, "At ", go(json)) : null;
@@ -137,8 +156,9 @@ export class Verdict {
     const fold = { toggle: (event) => {
       this.isOpen = event.target.open;
     } };
+    const told = text.length > MOST_LETTERS ? `${text.slice(0, MOST_LETTERS)} ..` : text.trimEnd();
     return text.trim() ? h("details", { open: this.isOpen, on: fold }, h("summary", {}, "Explanation"),
-      h("pre", { class: "prose", tabindex: "0", "aria-label": "Explanation" }, text.trimEnd())) : null;
+      h("pre", { class: "prose", tabindex: "0", "aria-label": "Explanation" }, told)) : null;
   }
 
   show(mark, title, ...parts) {

@@ -23,6 +23,7 @@ PACKAGES = {
     "make": ["make"],
     "man": ["man-db"],
     "nvim": ["neovim"],
+    "pandoc": ["pandoc"],
     "qemu-arm": ["qemu-user"],
     "qemu-system-arm": ["qemu-system-arm"],
     "riscv64-linux-gnu-gcc": ["gcc-riscv64-linux-gnu", "libc6-dev-riscv64-cross"],

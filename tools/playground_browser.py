@@ -91,11 +91,11 @@ def complain(*parts: object) -> None:
     print(*parts, file=sys.stderr, flush=True)
 
 
-def serve(program: str, is_unproved: bool) -> "tuple[subprocess.Popen[str], str]":
+def serve(program: str, is_unproved: bool, *words: str) -> "tuple[subprocess.Popen[str], str]":
     """Starts the server on a free port, with time for each request on a busy machine; answers it with its address."""
-    more = ["--seconds", str(REQUEST), *(["--memory", "0"] if is_unproved else [])]
-    words = [sys.executable, os.path.join(ROOT, "playground", "serve"), "--port", "0", "--vsi", program, *more]
-    server = subprocess.Popen(words, stdout=subprocess.PIPE, text=True)
+    more = [*words, "--seconds", str(REQUEST), *(["--memory", "0"] if is_unproved else [])]
+    call = [sys.executable, os.path.join(ROOT, "playground", "serve"), "--port", "0", "--vsi", program, *more]
+    server = subprocess.Popen(call, stdout=subprocess.PIPE, text=True)
     assert server.stdout
     return server, server.stdout.readline().split(" at ")[1].strip()
 
@@ -209,7 +209,7 @@ class Student:
     def verdict(self, begins: str) -> None:
         """Waits for a verdict; asks again where the server was too busy."""
         def is_shown() -> bool:
-            self.js("document.querySelector('#verdict.doubt button:not([aria-busy])')?.click()")
+            self.js("document.querySelector('.doubt #verdict-body button:not([aria-busy])')?.click()")
             return self.text("verdict-title").startswith(begins)
         self.wait(f"the verdict {begins}", is_shown)
 
@@ -366,6 +366,39 @@ def visits(options: argparse.Namespace) -> "list[tuple[tuple[int, int], str]]":
             for scheme in ("light", "dark") if options.scheme in (None, scheme)]
 
 
+def held(doc: "Optional[str]", hold: "Callable[[str], None]", *words: str) -> None:
+    """Serves the program that a script has as its first argument, and does `hold` at the server's address."""
+    if len(sys.argv) < 2:
+        sys.exit(doc)
+    if missing():
+        print(f"{os.path.basename(sys.argv[0])} opened no browser; missing:", ", ".join(missing()))
+        return
+    if not has_selenium(sys.executable):
+        os.execv(DEBIAN_PYTHON, [DEBIAN_PYTHON, "-B", *sys.argv])
+    server, address = serve(os.path.abspath(shutil.which(sys.argv[1]) or sys.argv[1]), "--unproved" in sys.argv, *words)
+    try:
+        hold(address)
+    finally:
+        server.terminate()
+        server.wait()
+    sys.exit(1 if faults else 0)
+
+
+def go_through(options: argparse.Namespace, address: str) -> None:
+    """Goes through the widths and schemes, or takes the pictures of README."""
+    for size, scheme in visits(options):
+        student = Student(address, size, scheme, options.pictures)
+        try:
+            if options.readme:
+                student.portrait(options.readme)
+            else:
+                for part in (student.fix, student.panes, student.share, student.busy, student.keys,
+                             student.exercise, student.level):
+                    part()
+        finally:
+            student.end()
+
+
 def main() -> None:
     parser = argparse.ArgumentParser(description=(__doc__ or "").split("\n")[0])
     parser.add_argument("program")
@@ -376,28 +409,7 @@ def main() -> None:
     parser.add_argument("--pictures")
     parser.add_argument("--readme")
     options = parser.parse_args()
-    if missing():
-        print("the playground was not opened in a browser; missing:", ", ".join(missing()))
-        return
-    if not has_selenium(sys.executable):
-        os.execv(DEBIAN_PYTHON, [DEBIAN_PYTHON, "-B", *sys.argv])
-    server, address = serve(os.path.abspath(options.program), options.unproved)
-    try:
-        for size, scheme in visits(options):
-            student = Student(address, size, scheme, options.pictures)
-            try:
-                if options.readme:
-                    student.portrait(options.readme)
-                else:
-                    for part in (student.fix, student.panes, student.share, student.busy, student.keys,
-                                 student.exercise, student.level):
-                        part()
-            finally:
-                student.end()
-    finally:
-        server.terminate()
-        server.wait()
-    sys.exit(1 if faults else 0)
+    held(__doc__, lambda address: go_through(options, address))
 
 
 if __name__ == "__main__":

@@ -1,19 +1,19 @@
 #!/usr/bin/env python3
 """Holds the lesson of docs/COURSE.md in the playground alone, in a browser, and compares with what the course shows.
 
-usage: tools/playground_lesson.py PROGRAM [--unproved]
+usage: tools/playground_lesson.py PROGRAM [--unproved] [--lesson]
 
 PROGRAM is the built program. Each step of the table opens an example, or types a text or a lattice, and does on the
 page what the course does at a shell; what the page then shows must have the words of the course. The argument and the
-board (parts 4 and 9) need no program. Silent where all is well; it needs what tools/playground_browser.py needs.
+board (parts 4 and 9) need no program. With --lesson it is held in the lesson mode: each program must hide its verdict,
+and is shown then. Silent where all is well; it needs what tools/playground_browser.py needs.
 """
 
 from __future__ import annotations
 
 import os
-import shutil
 import sys
-from typing import Any, NamedTuple, Optional
+from typing import NamedTuple, Optional
 
 sys.dont_write_bytecode = True
 import playground_browser as browser  # noqa: E402
@@ -110,18 +110,35 @@ area.dispatchEvent(new Event(arguments[2], {bubbles: true}));
 """
 
 
+def neutral(item: str) -> str:
+    """The name of an example in a lesson."""
+    folder, _, name = item.partition("/")
+    names = sorted(os.listdir(os.path.join(browser.ROOT, "examples", folder))) if name else []
+    return f"{folder}-{[one for one in names if one.endswith('.vsi')].index(name) + 1}" if name else ""
+
+
 class Teacher(browser.Student):
     """A visit that holds the lesson."""
+
+    is_lesson = "--lesson" in sys.argv
+    shown: "set[tuple[Optional[str], ...]]" = set()
 
     def take(self, step: Step) -> None:
         """Does a step, and waits for what the course shows."""
         self.js("document.getElementById('about').focus()")
-        self.set("open", step.item, "change")
+        self.set("open", neutral(step.item) if self.is_lesson else step.item, "change")
         if step.text is not None:
             self.set("text", step.text, "input")
         if step.lattice is not None:
             self.set("lattice-text", step.lattice, "input")
         self.set("profile", step.profile, "change")
+        program = (step.item, step.text, step.lattice, step.profile)
+        if self.is_lesson and program not in self.shown:
+            self.wait("a vote", lambda: self.text("verdict-title") == "Accepted or refused?"
+                      and not self.text("verdict-body") and self.at("show-verdict").is_displayed())
+            self.press("show-verdict")
+            self.shown.add(program)
+        self.wait("a shown verdict", lambda: self.text("verdict-title") != "Accepted or refused?")
         self.wait("a verdict", lambda: self.text("verdict-title") != "Reading")
         if step.observer is not None:
             self.set("observer", str(step.observer), "input")
@@ -157,33 +174,16 @@ class Teacher(browser.Student):
         return {"machine": "step-now" if does == "machine" else "machine-result"}.get(pane, f"{pane}-result")
 
 
-def hold(teacher: Any) -> None:
+def hold(address: str) -> None:
     """Holds the lesson from its first step to its last."""
-    teacher.go(teacher.address)
-    for step in STEPS:
-        teacher.take(step)
-
-
-def main() -> None:
-    if len(sys.argv) < 2:
-        sys.exit(__doc__)
-    if browser.missing():
-        print("the lesson was not held in a browser; missing:", ", ".join(browser.missing()))
-        return
-    if not browser.has_selenium(sys.executable):
-        os.execv(browser.DEBIAN_PYTHON, [browser.DEBIAN_PYTHON, "-B", *sys.argv])
-    server, address = browser.serve(os.path.abspath(shutil.which(sys.argv[1]) or sys.argv[1]), "--unproved" in sys.argv)
+    teacher = Teacher(address, (1600, 1100), "light", None)
     try:
-        teacher = Teacher(address, (1600, 1100), "light", None)
-        try:
-            hold(teacher)
-        finally:
-            teacher.end()
+        teacher.go(teacher.address)
+        for step in STEPS:
+            teacher.take(step)
     finally:
-        server.terminate()
-        server.wait()
-    sys.exit(1 if browser.faults else 0)
+        teacher.end()
 
 
 if __name__ == "__main__":
-    main()
+    browser.held(__doc__, hold, *(["--lesson"] if Teacher.is_lesson else []))

@@ -10,6 +10,7 @@ use Rattle.vsi_drive.specs.BoundaryFaults.{boundary_fault}
 use Rattle.vsi_drive.specs.Control.{Control, controlled}
 use Rattle.vsi_arguments.specs.declared.request.Driving.{Driving}
 use Rattle.vsi.specs.Admitted.{IsAdmitted}
+use Rattle.vsi.specs.Beginning.{IsBegun, IsBegunFrom}
 use Rattle.vsi.specs.Files.{IsBudgetOf, IsFullAt, IsStoredAt}
 use Rattle.vsi.specs.Holding.{Delivers, Holding, IsImageAt}
 use Rattle.vsi.specs.Saved.{CutsInput, LeavesState, SavesInput}
@@ -41,6 +42,17 @@ pub beside_after : (out : Option (Bor (List ℕ))) (old mid new : Holding) → m
     Touches out mid new → StaysBeside out old new
 beside_after out old mid new same stays touched = subst (λ h. StaysBeside out h new) same (stays, touched)
 
+-- A drive begins with the words of the file at a path that it begins from.
+pub words_begun : (holds mid : Holding) (d : Driving) (image : Image) (words : List ℤ)
+    (path : Option (Bor (List ℕ))) → IsBegunFrom holds d path → mid ≡ holds → IsStoredAt mid path image words →
+    IsFullAt mid path image d.is_full → IsBegun holds d image words
+words_begun holds mid d image words path from same stored full = record {
+  path = path;
+  from = from;
+  stored = subst (λ h. IsStoredAt h path image words) same stored;
+  full = subst (λ h. IsFullAt h path image d.is_full) same full;
+}
+
 -- A drive that hasn't begun leaves every file.
 pub early_state : (holds : Holding) (d : Driving) (given : Option (List ℕ)) (left : Holding) (old : Option (List ℕ)) →
     left ≡ holds → LeavesState holds d given left old old
@@ -62,15 +74,15 @@ first_state holds mid d given left old same touched stays = record {
 pub driven_state : (holds mid h left : Holding) (d : Driving) (given old new : Option (List ℕ)) (l : Lattice)
     (driver : ℕ) (image : Image) (b : Boundary) (first : List ℤ) (budget most : ℕ) (k : Control) →
     IsBudgetOf d.execution.budget image budget → IsSteered holds d l driver image b →
-    IsImageAt holds d.execution.image.now image → IsStoredAt holds d.execution.store image first →
+    IsImageAt holds d.execution.image.now image → IsBegun holds d image first →
     k ≡ controlled l driver image budget b → IsAdmitted d.is_unbounded l image budget →
-    boundary_fault k ≡ None → IsFullAt holds d.execution.store image d.is_full → mid ≡ holds →
+    boundary_fault k ≡ None → mid ≡ holds →
     Touches d.save mid h → Delivers d.save (state_text image first) mid h → Touches d.save h left →
     most ≡ d.every - 1 → CutsInput d.save image k first most given old new h left →
     LeavesState holds d given left old new
-driven_state holds mid h left d given old new l driver image b first budget most k within steered held stored same
-    admitted sound full kept begun saved touched is cut = record {
-      touches = Touches-trans d.save holds h left (subst (λ f. Touches d.save f h) kept begun) touched;
+driven_state holds mid h left d given old new l driver image b first budget most k within steered held begun same
+    admitted sound kept saving saved touched is cut = record {
+      touches = Touches-trans d.save holds h left (subst (λ f. Touches d.save f h) kept saving) touched;
       state = inr (record {
         lattice = l;
         driver = driver;
@@ -79,12 +91,11 @@ driven_state holds mid h left d given old new l driver image b first budget most
         steered = steered;
         held = held;
         first = first;
-        stored = stored;
+        begun = begun;
         budget = budget;
         within = within;
         admitted = admitted;
         sound = subst (λ c. boundary_fault c ≡ None) same sound;
-        full = full;
         saves = subst (λ c. SavesInput d.save image c first d.every given old new left) same
             (cut_saves d.save image k first most d.every given old new h left is
             (delivered_state d.save (state_text image first) mid h saved) cut);

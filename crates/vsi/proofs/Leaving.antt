@@ -29,7 +29,8 @@ use Rattle.vsi.specs.declared.failure.Failure.TheVariants.{Memory}
 use Rattle.vsi.specs.Admitted.{IsAdmitted}
 use Rattle.vsi.specs.Holding.{Holding, IsImageAt}
 use Rattle.vsi.specs.Partly.{AnswersCheck, AnswersDrive, AnswersRun, DrivenText, Leaves, Partly, WritesPart, cut_from, document_cut_from}
-use Rattle.vsi.specs.Files.{BeginsAt, IsBudgetOf, IsFullAt, IsStoredAt, OfFiles, shown}
+use Rattle.vsi.specs.Beginning.{IsBegun}
+use Rattle.vsi.specs.Files.{BeginsAt, IsBudgetOf, OfFiles, shown}
 use Rattle.vsi.specs.Performed.{ToldJson, judgement_of}
 use Rattle.vsi.specs.Reasons.{ToldRefusal}
 use Rattle.vsi.specs.Failures.{status_of}
@@ -219,11 +220,10 @@ device_leaf Kind engine.Memory old new failure only write memory part =
 pub driven_answers : (holds : Holding) (d : Driving) (given old new : Option (List ℕ)) (l : Lattice) (driver : ℕ)
     (image : Image) (b : Boundary) (first : List ℤ) (budget : ℕ) (k : Control) →
     IsBudgetOf d.execution.budget image budget → IsSteered holds d l driver image b →
-    IsImageAt holds d.execution.image.now image → IsStoredAt holds d.execution.store image first →
+    IsImageAt holds d.execution.image.now image → IsBegun holds d image first →
     k ≡ controlled l driver image budget b → IsAdmitted d.is_unbounded l image budget →
-    boundary_fault k ≡ None → IsFullAt holds d.execution.store image d.is_full →
-    Partly (DrivenText k first given) old new → Partly (AnswersDrive holds d given) old new
-driven_answers holds d given old new l driver image b first budget k within steered held stored same admitted sound full =
+    boundary_fault k ≡ None → Partly (DrivenText k first given) old new → Partly (AnswersDrive holds d given) old new
+driven_answers holds d given old new l driver image b first budget k within steered held begun same admitted sound =
     Partly-weaker (DrivenText k first given) (AnswersDrive holds d given) old new
     (λ text is. record {
       lattice = l;
@@ -233,11 +233,10 @@ driven_answers holds d given old new l driver image b first budget k within stee
       steered = steered;
       held = held;
       first = first;
-      stored = stored;
+      begun = begun;
       budget = budget;
       within = within;
       admitted = admitted;
       sound = subst (λ c. boundary_fault c ≡ None) same sound;
-      full = full;
       driven = subst (λ c. DrivenText c first given text) same is;
     })

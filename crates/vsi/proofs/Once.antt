@@ -11,7 +11,7 @@ use Rattle.vsi_arguments.specs.declared.request.InitialStore.{InitialStore}
 use Rattle.vsi_arguments.specs.declared.request.Request.{Request}
 use Rattle.vsi_arguments.specs.declared.request.Viewing.{Viewing}
 use Rattle.vsi_arguments.specs.declared.request.Document.TheVariants as document
-use Rattle.vsi_arguments.specs.declared.request.Request.TheVariants.{Build, Document, Explain, Layout, Mend, View, ViewWithin}
+use Rattle.vsi_arguments.specs.declared.request.Request.TheVariants.{Build, Document, Drive, Explain, Layout, Mend, View, ViewWithin}
 use Rattle.vsi_asked.specs.Asked.{AsksFor, Spells, given, interface_of, is_bounding, lists_of, name_of}
 use Rattle.vsi_asked.specs.Words.{has_flag, operands_in, shown, texts, values_in}
 
@@ -105,6 +105,9 @@ one_build words c i asks (ViewWithin viewing) asked =
     asks.spelled.named asked.spelled.asks.named refl refl)
 one_build words c i asks (Mend mending) asked =
     absurd (other_name (texts words) (codes "build") (codes "mend") asks.spelled.rest asked.spelled.asks.rest
+    asks.spelled.named asked.spelled.asks.named refl refl)
+one_build words c i asks (Drive driving) asked =
+    absurd (other_name (texts words) (codes "build") (codes "drive") asks.spelled.rest asked.spelled.asks.rest
     asks.spelled.named asked.spelled.asks.named refl refl)
 one_build words c i asks request asked =
     absurd (other_name (texts words) (codes "build") (name_of request) asks.spelled.rest asked.spelled.rest
@@ -230,6 +233,9 @@ one_view words l x e o asks (ViewWithin viewing) asked =
     absurd (apart_lists words l x e o viewing asks.spelled asked.spelled)
 one_view words l x e o asks (Mend mending) asked =
     absurd (other_name (texts words) (codes "view") (codes "mend") asks.spelled.rest asked.spelled.asks.rest
+    asks.spelled.named asked.spelled.asks.named refl refl)
+one_view words l x e o asks (Drive driving) asked =
+    absurd (other_name (texts words) (codes "view") (codes "drive") asks.spelled.rest asked.spelled.asks.rest
     asks.spelled.named asked.spelled.asks.named refl refl)
 one_view words l x e o asks request asked =
     absurd (other_name (texts words) (codes "view") (name_of request) asks.spelled.rest asked.spelled.rest

@@ -6,6 +6,7 @@ pub mod Words
 pub mod Holding
 pub mod Loading
 pub mod Driven
+pub mod Beginning
 pub mod Naming
 pub mod Tried
 pub mod Served
@@ -13,6 +14,7 @@ pub mod Shaping
 pub mod Seeing
 pub mod Laying
 pub mod Raises
+pub mod Reached
 pub mod Admitted
 pub mod Boundaries
 pub mod Interfaces
@@ -25,6 +27,7 @@ pub mod State
 pub mod Feeding
 pub mod Viewing
 pub mod Supplied
+pub mod Referred
 pub mod Performed
 pub mod Refusals
 pub mod Undriven

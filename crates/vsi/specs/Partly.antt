@@ -32,7 +32,8 @@ use Rattle.vsi.specs.Admitted.{IsAdmitted}
 use Rattle.vsi.specs.Driven.{lines_of}
 use Rattle.vsi.specs.Holding.{Holding, IsImageAt}
 use Rattle.vsi.specs.Laying.{AnswersLayout, ToldCanonical}
-use Rattle.vsi.specs.Files.{AreFiles, BeginsAt, IsBudgetOf, IsFullAt, IsStoredAt, OfFile, OfFiles, shown}
+use Rattle.vsi.specs.Beginning.{IsBegun}
+use Rattle.vsi.specs.Files.{AreFiles, BeginsAt, IsBudgetOf, OfFile, OfFiles, shown}
 use Rattle.vsi.specs.Performed.{AuditsTo, BoundsFile, ComparesFiles, ConformsFiles, DocumentOf, DrawsFiles, EmitsFile, RunsFiles, SearchesFiles, SourceOfFile, ToldAccepted, ToldClasses, ToldFlows, ToldJson, ToldListing, ToldPage, ToldRaises, ViewsFiles, judgement_of, profile_of}
 use Rattle.vsi.specs.Raises.{ToldUnserved}
 use Rattle.vsi.specs.Reasons.{ToldRefusal}
@@ -129,12 +130,11 @@ pub record AnswersDrive (holds : Holding) (d : Driving) (given : Option (List �
   pub steered : IsSteered holds d lattice driver image boundary
   pub held : IsImageAt holds d.execution.image.now image
   pub first : List ℤ
-  pub stored : IsStoredAt holds d.execution.store image first
+  pub begun : IsBegun holds d image first
   pub budget : ℕ
   pub within : IsBudgetOf d.execution.budget image budget
   pub admitted : IsAdmitted d.is_unbounded lattice image budget
   pub sound : boundary_fault (controlled lattice driver image budget boundary) ≡ None
-  pub full : IsFullAt holds d.execution.store image d.is_full
   pub driven : DrivenText (controlled lattice driver image budget boundary) first given text
 
 -- `compare`: what the class sees of both runs, the same or not.

@@ -76,10 +76,12 @@ use Rattle.vsi.specs.Documents.{AuditsJson, AuditsSarif, BoundsJson, ComparesJso
 use Rattle.vsi.specs.Driven.{DrivesInput}
 use Rattle.vsi.specs.Filed.{IsFiledBound, IsFollowed, IsJudged, filed_profile, lattice_file, policy_bytes}
 use Rattle.vsi.specs.Holding.{Delivers, Fills, Holding, IsImageAt, IsLatticeAt, IsReadAt}
+use Rattle.vsi.specs.Referred.{IsTried}
 use Rattle.vsi.specs.Interfaces.{IsAskedAt, IsPolicyAt}
 use Rattle.vsi.specs.Laying.{PerformsLayout, ToldCanonical}
 use Rattle.vsi.specs.Naming.{function_name}
 use Rattle.vsi.specs.Raises.{ToldMended}
+use Rattle.vsi.specs.Reached.{IsReachedAs}
 use Rattle.vsi.specs.Seeing.{SeesFiles}
 use Rattle.vsi.specs.Visible.{ShowsFiles}
 use Rattle.vsi.specs.Served.{Serves}
@@ -87,7 +89,8 @@ use Rattle.vsi.specs.Shaping.{ShapedText}
 use Rattle.vsi.specs.Steering.{IsSteered}
 use Rattle.vsi.specs.Supplied.{TellsSupplied, begins_image}
 use Rattle.vsi.specs.Tried.{TriesFile}
-use Rattle.vsi.specs.Files.{BeginsAt, IsBudgetOf, IsFullAt, IsStoredAt, LooksAt, OfFile, OfFiles, Writes, shown}
+use Rattle.vsi.specs.Beginning.{IsBegun}
+use Rattle.vsi.specs.Files.{BeginsAt, IsBudgetOf, IsStoredAt, LooksAt, OfFile, OfFiles, Writes, shown}
 use Rattle.vsi.specs.State.{state_text}
 use Rattle.vsi.specs.Viewing.{PerformsViewWithin}
 
@@ -422,17 +425,24 @@ IsEvidence holds c asked l source files =
     (judged_files c asked files.interface.bytes (policy_bytes holds c.interface.now asked.policy l files.lattice) source)
 
 -- The text written for the files of a conformance, whose source text or image conforms to the interface under its
--- lattice or doesn't: the answer, and the evidence after it. The runs of the interface take together no more
--- instructions than the budget has.
-pub record ConformsFiles (holds : Holding) (c : Conformance) (conforms : Bool) (text : Vec ℕ) : Type 0 where
+-- lattice or doesn't: the answer, with its points and the released outputs, the line about its reference, if it names
+-- one, and the evidence after it. The runs of the interface take together no more instructions than the budget has.
+-- Without a reference the file conforms exactly if no point and no released output differs, and with one only then.
+pub record ConformsFiles (holding : Holding) (c : Conformance) (conforms : Bool) (text : Vec ℕ) : Type 0 where
   pub asked : InterfaceFile
   pub lattice : Lattice
   pub source : List ℕ
-  pub files : AreAsked holds c asked lattice source
+  pub files : AreAsked holding c asked lattice source
   pub within : total_of asked.interface ≤ c.budget
+  pub fits : Bool
+  pub points : List ℕ
+  pub tells : TellsBytes (begins_image source) c.form c.source.now fits lattice source asked.interface points
+  pub holds : Bool
   pub answer : List ℕ
-  pub tells : TellsBytes (begins_image source) c.form c.source.now conforms lattice source asked.interface answer
-  pub followed : IsFollowed c.has_evidence conforms (IsEvidence holds c asked lattice source files) answer text.items
+  pub reached : IsReachedAs c.form (begins_image source) lattice source asked fits points holds answer
+  pub told : List ℕ
+  pub tried : IsTried c.form asked.reference holds conforms answer told
+  pub followed : IsFollowed c.has_evidence conforms (IsEvidence holding c asked lattice source files) told text.items
 
 -- The document that answers a request, and that says of its files that all is well or that something is wrong.
 abbrev pub DocumentOf : Holding → Document → Bool → Vec ℕ → Type 0
@@ -497,8 +507,8 @@ pub record PerformsView (holds : Holding) (path class : List ℕ) (e : Execution
   pub delivered : Delivers o.out text.items holds left
 
 -- `drive`: a class drives the image by a lattice file or by an interface, its boundary has no fault, its budget is
--- enough or `--unbounded` is given, a cycle has run for each line of the input, beginning with the words of the store
--- file, its text has been written, and the last store goes to a file if one is given.
+-- enough or `--unbounded` is given, a cycle has run for each line of the input, beginning with the words of its first
+-- store, its text has been written, and the last store goes to a file if one is given.
 pub record PerformsDrive (holds : Holding) (d : Driving) (given : Option (List ℕ)) (left : Holding)
     (old new : Option (List ℕ)) : Type 0 where
   pub lattice : Lattice
@@ -508,14 +518,13 @@ pub record PerformsDrive (holds : Holding) (d : Driving) (given : Option (List �
   pub steered : IsSteered holds d lattice driver image boundary
   pub held : IsImageAt holds d.execution.image.now image
   pub first : List ℤ
-  pub stored : IsStoredAt holds d.execution.store image first
+  pub begun : IsBegun holds d image first
   pub words : List ℤ
   pub budget : ℕ
   pub within : IsBudgetOf d.execution.budget image budget
   pub admitted : IsAdmitted d.is_unbounded lattice image budget
   pub sound : boundary_fault (controlled lattice driver image budget boundary) ≡ None
   pub drives : DrivesInput (controlled lattice driver image budget boundary) first words given old new
-  pub full : IsFullAt holds d.execution.store image d.is_full
   pub saved : Delivers d.save (state_text image words) holds left
 
 -- `compare`: the class sees no difference, and what it sees has been written.

@@ -16,7 +16,8 @@ use Rattle.vsi_arguments.specs.declared.request.Request.TheVariants.{Build, Driv
 use Rattle.vsi_asked.specs.Asked.{AsksFor}
 use Rattle.vsi.specs.Admitted.{IsAdmitted}
 use Rattle.vsi.specs.Driven.{lines_of}
-use Rattle.vsi.specs.Files.{IsBudgetOf, IsFullAt, IsStoredAt}
+use Rattle.vsi.specs.Beginning.{IsBegun}
+use Rattle.vsi.specs.Files.{IsBudgetOf}
 use Rattle.vsi.specs.Holding.{Holding, HoldsAt, IsImageAt, KeepsOthers}
 use Rattle.vsi.specs.Laying.{written_by}
 use Rattle.vsi.specs.Partly.{WritesPart}
@@ -92,12 +93,11 @@ pub record SavesDrive (holds : Holding) (d : Driving) (given : Option (List ℕ)
   pub steered : IsSteered holds d lattice driver image boundary
   pub held : IsImageAt holds d.execution.image.now image
   pub first : List ℤ
-  pub stored : IsStoredAt holds d.execution.store image first
+  pub begun : IsBegun holds d image first
   pub budget : ℕ
   pub within : IsBudgetOf d.execution.budget image budget
   pub admitted : IsAdmitted d.is_unbounded lattice image budget
   pub sound : boundary_fault (controlled lattice driver image budget boundary) ≡ None
-  pub full : IsFullAt holds d.execution.store image d.is_full
   pub saves : SavesInput d.save image (controlled lattice driver image budget boundary) first d.every given old new left
 
 -- A drive that fails leaves its file as it was, and no answer, or with the store after some of the lines. No other file

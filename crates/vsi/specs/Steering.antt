@@ -19,6 +19,7 @@ use Rattle.vsi.specs.Boundaries.{boundary_at, requested}
 use Rattle.vsi.specs.Files.{LooksAt}
 use Rattle.vsi.specs.Holding.{Holding, IsLatticeAt}
 use Rattle.vsi.specs.Interfaces.{IsAskedAt, IsPolicyAt}
+use Rattle.vsi.specs.Reached.{AllowsReleases}
 
 -- The interface of a file and its lattice, with runs that take together at most the default budget of `conform`.
 pub record IsInForce (holds : Holding) (interface : List ℕ) (asked : InterfaceFile) (l : Lattice) : Type 0 where
@@ -27,8 +28,8 @@ pub record IsInForce (holds : Holding) (interface : List ℕ) (asked : Interface
   pub within : total_of asked.interface ≤ RUNS_BUDGET
 
 -- By the interface of a file, a class drives or views an image within a boundary: the image conforms to the interface
--- under the lattice of the interface, the lattice has the class, and the boundary is the one that the interface has for
--- it. An interface that requires a bound insists on it: `--unbounded` isn't given.
+-- under the lattice of the interface, and no released output is reached by a global that isn't allowed; the lattice has the
+-- class, and the boundary is the one that the interface has for it. An interface that requires a bound insists on it: `--unbounded` isn't given.
 pub record IsGoverned (holds : Holding) (interface class : List ℕ) (is_unbounded : Bool) (l : Lattice) (driver : ℕ)
     (im : Image) (b : Boundary) : Type 0 where
   pub asked : InterfaceFile
@@ -36,6 +37,7 @@ pub record IsGoverned (holds : Holding) (interface class : List ℕ) (is_unbound
   pub named : class_named l class ≡ Some driver
   pub is : IsClass (order l) driver
   pub conforms : Conforms l im asked.interface
+  pub allows : AllowsReleases l im asked
   pub bounded : boundary_at (map cycle asked.cycles.items) class ≡ Some b
   pub insists : is_unbounded ≡ true → demands_bound asked.interface.bounded ≡ false
 

@@ -1,5 +1,6 @@
 -- Why an image isn't driven, or why no class views it.
-use Rattle.std.specs.Prelude.{◌≡◌, ◌⊎◌, ℕ, Bool, true, false, List, map, Some, None, Err}
+use Rattle.std.specs.Prelude.{◌≡◌, ◌⊎◌, ℕ, Bool, true, false, List, map, Option, Some, None, Err}
+use Rattle.std.specs.Borrow.{Bor}
 use Rattle.vsi_lattice.specs.declared.lattice.Lattice.{Lattice}
 use Rattle.vsi_image.specs.declared.instr.Image.{Image}
 use Rattle.vsi_drive.specs.BoundaryFaults.{boundary_fault}
@@ -10,9 +11,7 @@ use Rattle.vsi_drive.specs.declared.starts.StartFault.{StartFault}
 use Rattle.vsi_drive.specs.declared.starts.StartFault.TheVariants as start
 use Rattle.vsi_conform.specs.Bounded.{demands_bound}
 use Rattle.vsi_conform.specs.Faulty.{interface_line}
-use Rattle.vsi_conform_image.specs.Lines.{IsConformText}
 use Rattle.vsi_conform.specs.Reading.{ClassBoundary, cycle}
-use Rattle.vsi_conform.specs.declared.interface.Interface.{Interface}
 use Rattle.vsi_conform.specs.declared.reader.InterfaceFile.{InterfaceFile}
 use Rattle.vsi_conform.specs.declared.reader.Policy.{Policy}
 use Rattle.vsi_conform.specs.declared.reader.Policy.TheVariants.{File, Tables}
@@ -28,11 +27,12 @@ use Rattle.vsi_arguments.specs.declared.request.Viewing.{Viewing}
 use Rattle.vsi.specs.declared.failure.Failure.{Failure}
 use Rattle.vsi.specs.declared.failure.Failure.TheVariants as fails
 use Rattle.vsi.specs.Admitted.{IsShort}
+use Rattle.vsi.specs.Beginning.{IsBegunFrom}
 use Rattle.vsi.specs.Boundaries.{boundary_at}
 use Rattle.vsi.specs.Holding.{Holding, IsImageAt}
 use Rattle.vsi.specs.Interfaces.{IsAskedAt, named_path}
 use Rattle.vsi.specs.Steering.{IsInForce, IsLatticeOf, IsSteered, insisting_line, no_cycle_line}
-use Rattle.vsi.specs.Supplied.{TellsImage}
+use Rattle.vsi.specs.Reached.{TellsDifference}
 use Rattle.vsi.specs.Files.{IsBudgetOf}
 use Rattle.vsi.specs.Refusals.{LacksBoundAt, LacksClass, LacksClassAt, RefusesFirst, RefusesImage, RefusesLattice}
 
@@ -94,13 +94,18 @@ abbrev pub RefusesSteering : Holding → DrivePolicy → Unanswered → Type 0
 RefusesSteering holds (policy.Lattice path lists) reason = RefusesLattice holds path.now reason
 RefusesSteering holds (policy.Interface path) reason = RefusesAsked holds path.now reason
 
--- `drive`: the lattice is refused, or the image, or the store file, or it leaves out a global that it must have, or no
--- controller begins; a wrong line of the input isn't a reason, because its cycle writes the fault.
+-- `drive`: the store file with which the drive begins is refused, or it leaves out a global that it must have.
+abbrev pub RefusesBegun : Holding → Driving → Unanswered → Type 0
+RefusesBegun holds d reason =
+    (path : Option (Bor (List ℕ))) × IsBegunFrom holds d path
+    × RefusesFirst holds d.execution.image.now path d.is_full reason
+
+-- `drive`: the lattice is refused, or the image, or the store file, or no controller begins; a wrong line of the input
+-- isn't a reason, because its cycle writes the fault.
 abbrev pub WhyDrive : Holding → Driving → Unanswered → Type 0
 WhyDrive holds d reason =
     RefusesSteering holds d.policy reason ⊎ RefusesImage holds d.execution.image.now reason
-    ⊎ RefusesFirst holds d.execution.image.now d.execution.store d.is_full reason ⊎ RefusesController holds d reason
-    ⊎ RefusesBoundary holds d reason
+    ⊎ RefusesBegun holds d reason ⊎ RefusesController holds d reason ⊎ RefusesBoundary holds d reason
 
 -- The text of the failure says why a budget isn't enough.
 abbrev pub SaysShort : Lattice → Image → ℕ → Failure → Type 0
@@ -120,9 +125,9 @@ pub record FallsShort (holds : Holding) (is_unbounded : Bool) (Kind : Lattice �
   pub is : SaysShort lattice image budget failure
 
 -- The text of the failure has the lines that `conform` writes of an image that doesn't conform to an interface.
-abbrev pub SaysDiffering : Lattice → Image → Interface → Failure → Type 0
-SaysDiffering l image i (fails.Refused text None) = TellsImage IsConformText false l image i text.items
-SaysDiffering l image i failure = ⊥
+abbrev pub SaysDiffering : Lattice → Image → InterfaceFile → Failure → Type 0
+SaysDiffering l image asked (fails.Refused text None) = TellsDifference l image asked text.items
+SaysDiffering l image asked failure = ⊥
 
 -- By an interface: the image of a file doesn't conform to it.
 pub record DiffersGoverned (holds : Holding) (interface path : List ℕ) (failure : Failure) : Type 0 where
@@ -131,7 +136,7 @@ pub record DiffersGoverned (holds : Holding) (interface path : List ℕ) (failur
   pub force : IsInForce holds interface asked lattice
   pub image : Image
   pub held : IsImageAt holds path image
-  pub is : SaysDiffering lattice image asked.interface failure
+  pub is : SaysDiffering lattice image asked failure
 
 -- These boundaries leave out a class, and the text of the failure says so.
 abbrev pub LacksCycle : List ClassBoundary → List ℕ → Failure → Type 0

@@ -13,6 +13,8 @@ pub(crate) enum InputKind {
     Image,
     Store,
     Interface,
+    /// The source text of the reference of an interface.
+    Reference,
     /// A setting of the command line, which isn't a file.
     Setting,
     /// A list of names on the command line, which isn't one either.

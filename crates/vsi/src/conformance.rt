@@ -25,7 +25,9 @@ use crate::cache::{InputCache, InputKind};
 use crate::failure::{Failure, write_answer};
 use crate::files::Files;
 use crate::filing::{asked_files, lines_after, with_lines};
+use crate::reached::reached_answer;
 use crate::reading::{bytes_in, declared_lattice, whole_in};
+use crate::references::with_reference;
 use std::alloc::{AllocError, Global};
 use std::io::Write;
 use vsi_answers::judged_image;
@@ -48,7 +50,7 @@ const IMAGE_WARNING: &[u8] =
     b"warning: `conform` refuses an image of this text, in which variables share slots\n";
 
 /// The failure for a refused interface file.
-fn unusable<'a>(alloc: Global, error: InterfaceError) -> Failure<'a>
+pub(crate) fn unusable<'a>(alloc: Global, error: InterfaceError) -> Failure<'a>
     ensures { FailsBy (λ reason. ⊥) IsUnusable result }
 {
     if let InterfaceError::Memory = &error {
@@ -72,11 +74,27 @@ pub(crate) fn named_bytes<'a, F: Files>(
         (utf8_lossy (beside interface.now path.now)) bytes.items) }
     ensures failed { IfErr result (λ failure. 3 < status_of failure) }
 {
+    named_file(cache, InputKind::Lattice, interface, path, files)
+}
+
+/// The bytes of a file of this kind that another file names. It must be a regular file.
+pub(crate) fn named_file<'a, F: Files>(
+    cache: &mut InputCache,
+    kind: InputKind,
+    interface: &str,
+    path: &[u8],
+    files: &mut F,
+) -> Result<Vec<u8>, Failure<'a>>
+    ensures kept { F.holds files.new ≡ F.holds files.old }
+    ensures read { IfOk result (λ bytes. IsReadAt (F.holds files.old)
+        (utf8_lossy (beside interface.now path.now)) bytes.items) }
+    ensures failed { IfErr result (λ failure. 3 < status_of failure) }
+{
     let beside = path_beside(cache.alloc, interface, path)?;
     if files.may_wait(beside.as_str()) {
         return Err(Failure::LostFile(beside));
     }
-    match bytes_in(cache, InputKind::Lattice, beside.as_str(), files) {
+    match bytes_in(cache, kind, beside.as_str(), files) {
         Ok(bytes) => return Ok(bytes),
         Err(Failure::FileFault(_)) => {}
         Err(_) => return Err(Failure::Memory),
@@ -427,7 +445,7 @@ fn judged<'a, F: Files>(
 {
     let read = asked_files(cache, asked.interface, asked.budget, files)?;
     let bytes = operand_in(cache, asked.source, files)?;
-    let (conforms, answer) = bytes_answer(
+    let (fits, points) = bytes_answer(
         cache.alloc,
         asked.form,
         asked.source,
@@ -436,8 +454,10 @@ fn judged<'a, F: Files>(
         &read.found.interface,
         note,
     )?;
+    let (holds, answer) = reached_answer(cache.alloc, asked.form, &read, &bytes, fits, &points)?;
+    let (conforms, told) = with_reference(cache, asked, &read, &bytes, holds, answer, files)?;
     let lines = lines_after(cache.alloc, asked, conforms, &read, &bytes)?;
-    let text = with_lines(answer, &lines)?;
+    let text = with_lines(told, &lines)?;
     Ok((conforms, text))
 }
 

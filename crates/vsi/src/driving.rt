@@ -27,7 +27,7 @@ use crate::cache::InputCache;
 use crate::failure::{Failure, STREAM, write};
 use crate::files::Files;
 use crate::reading::{faulty, store_in};
-use crate::saving::{Drive, first_store, save, save_line};
+use crate::saving::{Drive, first_path, first_store, save, save_line};
 use crate::steering::steered;
 use std::io::{Read, Write};
 use vsi_arguments::Driving;
@@ -43,7 +43,8 @@ const CHUNK: usize = 4096;
 /// Drives an image file: each line of the input sets globals, and the part of the store that a
 /// class sees after its run is written. The store goes to the requested file before the first line,
 /// after lines before their answers are written, and at the end. The note gets a line if the budget
-/// isn't enough and is taken all the same.
+/// isn't enough and is taken all the same. Whether this is a first start is decided before any file
+/// is read.
 pub(crate) fn drive<'a, F: Files, R: Read, W: Write>(
     cache: &mut InputCache,
     driving: Driving<'a>,
@@ -77,14 +78,9 @@ pub(crate) fn drive<'a, F: Files, R: Read, W: Write>(
     let policy = driving.policy;
     let class = driving.class;
     let image = driving.execution.image;
+    let path = first_path(driving, files);
     let steering = steered(cache, policy, class, image, driving.is_unbounded, files)?;
-    let mut words = first_store(
-        cache,
-        &steering.verified,
-        driving.execution.store,
-        driving.is_full,
-        files,
-    )?;
+    let mut words = first_store(cache, &steering.verified, path, driving.is_full, files)?;
     let budget = budget_of(cache.alloc, driving.execution.budget, &steering.verified)?;
     let names = names_in(cache.alloc, driving.policy, &steering.cycle)?;
     let controller = controller_of(cache, driving.policy, &names, &steering, budget)?;

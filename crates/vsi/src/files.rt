@@ -1,6 +1,6 @@
 //! The files that a command line names.
 
-ghost use Rattle.std.specs.Prelude.{◌≡◌, ◌≢◌, ℕ, List, Contains, Option, Some, None, IfSome};
+ghost use Rattle.std.specs.Prelude.{◌≡◌, ◌≢◌, ℕ, List, true, Contains, Option, Some, None, IfSome};
 ghost use Rattle.vsi.specs.Holding.{HoldsAt, KeepsOthers};
 ghost use Rattle.vsi.specs.Objections.{OBJECTIONS};
 
@@ -66,6 +66,14 @@ pub trait Files {
     /// Whether the file at the path may be one that isn't a regular file, such as a pipe, whose
     /// reader would wait.
     fn may_wait(&self, _path: &str) -> bool {
+        false
+    }
+
+    /// Whether there is nothing at the path: no file, and no folder, pipe or link either, where it
+    /// leads nowhere too. It isn't so if the system doesn't say what is there.
+    fn lacks(&self, _path: &str) -> bool
+        ensures { result ≡ true → holds self.now _path.now ≡ None }
+    {
         false
     }
 

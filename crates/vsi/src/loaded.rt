@@ -241,6 +241,13 @@ impl<F: Files> Files for Loaded<F> {
         self.system.may_wait(path)
     }
 
+    fn lacks(&self, path: &str) -> bool {
+        match found(self.texts.as_slice(), path.as_bytes()) {
+            Some(_) => false,
+            None => self.system.lacks(path),
+        }
+    }
+
     fn claim(&mut self, path: &str) {
         self.system.claim(path)
     }

@@ -1,6 +1,7 @@
 //! Saves the store of a drive.
 
 ghost use Rattle.std.specs.Prelude.{◌≡◌, ◌<◌, ◌≤◌, ℕ, List, [], length, IfOk, IfErr, OnOk, Err};
+ghost use Rattle.vsi.specs.Beginning.{IsBegunFrom};
 ghost use Rattle.vsi.specs.Files.{IsFullAt, IsStoredAt};
 ghost use Rattle.vsi.specs.Holding.{Delivers, IsStoreAt};
 ghost use Rattle.vsi.specs.Refusals.{NoOther, FailsBy};
@@ -16,6 +17,7 @@ use crate::filling::replace;
 use crate::reading::store_in;
 use std::alloc::Global;
 use vsi_answers::start_words;
+use vsi_arguments::Driving;
 use vsi_drive::Controller;
 use vsi_image::Verified;
 use vsi_state::sealed;
@@ -31,6 +33,17 @@ pub(crate) struct Drive<'a, 'c> {
     pub(crate) save: Option<&'a str>,
     /// The most lines after which the store isn't saved yet.
     pub(crate) most: u64,
+}
+
+/// The path of the store with which a drive begins: that of its start store, if it has one and there
+/// is no file at the path of its store.
+pub(crate) fn first_path<'a, F: Files>(driving: Driving<'a>, files: &F) -> Option<&'a str>
+    ensures { IsBegunFrom (F.holds files.now) driving.entry result }
+{
+    match (driving.start, driving.execution.store) {
+        (Some(start), Some(store)) if files.lacks(store) => Some(start),
+        _ => driving.execution.store,
+    }
 }
 
 /// The words that a store file gives to the globals of an image, or zeros without one. With

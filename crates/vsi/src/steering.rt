@@ -9,6 +9,7 @@ ghost use Rattle.vsi_lattice.specs.LatticeView.{order};
 ghost use Rattle.vsi.specs.Boundaries.{boundary_at, boundary_for, bound_by, table_of};
 ghost use Rattle.vsi.specs.Files.{LooksAt};
 ghost use Rattle.vsi.specs.Holding.{IsImageAt};
+ghost use Rattle.vsi.specs.Reached.{AllowsReleases};
 ghost use Rattle.vsi.specs.Undriven.{LacksCycle, LacksGoverned, LacksPolicy, RefusesAsked, RefusesSteering, SaysDiffering, SaysLine};
 ghost use Rattle.vsi.specs.Refusals.{LacksClassAt, RefusesImage, RefusesLattice, FailsBy};
 ghost use Rattle.vsi.specs.Steering.{IsGoverned, IsSteeredBy, insisting_line, no_cycle_line};
@@ -21,8 +22,8 @@ use crate::ordering::policy_before_image;
 use crate::reading::{class_in, image_in, policy_and_image};
 use std::alloc::{AllocError, Global};
 use vsi_arguments::{DrivePolicy, RUNS_BUDGET};
-use vsi_conform::{Cycle, Interface};
-use vsi_conform_image::{conform_image, points_text};
+use vsi_conform::{Cycle, Interface, InterfaceFile, are_within, with_reached_lines};
+use vsi_conform_image::{conform_image, image_reaches, points_text};
 use vsi_image::Verified;
 use vsi_lattice::{Class, Lattice};
 
@@ -66,17 +67,24 @@ fn know_image<'a>(
     alloc: Global,
     lattice: &Lattice,
     verified: &Verified,
-    interface: &Interface,
+    asked: &InterfaceFile,
 ) -> Result<(), Failure<'a>>
-    ensures conforms { OnOk result (Conforms lattice.now verified.now interface.now) }
+    ensures conforms { OnOk result (Conforms lattice.now verified.now asked.now.interface) }
+    ensures allows { OnOk result (AllowsReleases lattice.now verified.now asked.now) }
     ensures failed { IfErr result
-        (FailsBy (λ reason. ⊥) (SaysDiffering lattice.now verified.now interface.now)) }
+        (FailsBy (λ reason. ⊥) (SaysDiffering lattice.now verified.now asked.now)) }
 {
+    let interface = &asked.interface;
     let answer = conform_image(alloc, lattice, verified, interface)?;
-    if answer.conforms() {
+    let judgement = interface.judgement;
+    let reaches = image_reaches(alloc, lattice, verified, judgement, &asked.cycles)?;
+    let fits = answer.conforms();
+    let conforms = fits && are_within(&reaches);
+    if conforms {
         return Ok(());
     }
-    let lines = points_text(alloc, lattice, verified.image(), interface, &answer)?;
+    let points = points_text(alloc, lattice, verified.image(), interface, &answer)?;
+    let lines = with_reached_lines(alloc, fits, &points, &reaches)?;
     Err(Failure::Refused(lines, None))
 }
 
@@ -206,7 +214,7 @@ fn by_interface<'a, F: Files>(
     insist(cache.alloc, is_unbounded, &asked.interface)?;
     let driver = class_in(&lattice, class)?;
     let verified = image_in(cache, image, files)?;
-    know_image(cache.alloc, &lattice, &verified, &asked.interface)?;
+    know_image(cache.alloc, &lattice, &verified, &asked)?;
     let cycle = cycle_for(cache.alloc, asked.cycles, class)?;
     Ok(Steering {
         lattice,

@@ -6,7 +6,7 @@ use vsi_image::{Image, Instr};
 use vsi_infer::Walk;
 use vsi_lattice::{Classes, Lattice};
 use vsi_steady::{SteadyError, chain_source};
-use vsi_telling::names::{Part, class_names, put_names_between, put_parts, put_word_between};
+use vsi_telling::names::{Part, class_names, put_parts, say};
 
 /// A refused image, and the lattice by which it was judged.
 #[derive(Clone, Copy)]
@@ -43,43 +43,15 @@ fn rule_of(instruction: Option<&Instr>) -> &'static str {
     }
 }
 
-/// Adds an instruction with its number, as a listing has it.
-fn put_instruction(
-    words: &mut Vec<u8>,
-    number: usize,
-    instruction: Instr,
-) -> Result<(), AllocError> {
-    let start = [Part::Text(b"  "), Part::Number(number), Part::Text(b": ")];
-    put_parts(words, &start)?;
-    instruction.write_to(words)?;
-    words.extend_from_slice(b"\n")
-}
-
-/// Adds that a global of an image has a class that isn't one of these.
-fn put_other_class(
-    words: &mut Vec<u8>,
-    name: &[u8],
-    class: &[u8],
-    classes: &[&[u8]],
-) -> Result<(), AllocError> {
-    put_word_between(words, b"The global ", name, b" has the class ")?;
-    put_word_between(words, b"", class, b", which the lattice file lacks: ")?;
-    put_names_between(
-        words,
-        b"its classes are ",
-        classes,
-        b".\nHint: give the lattice file with which the image was built; `vsi list IMAGE` shows \
-        each global with its class.\n",
-    )
-}
-
 impl Judged<'_> {
-    /// Adds the line of an instruction, if there is one with this number.
+    /// Adds the line of an instruction as a listing has it, if there is one with this number.
     fn put_line(&self, words: &mut Vec<u8>, number: usize) -> Result<(), AllocError> {
-        match self.image.code.get(number) {
-            Some(instruction) => put_instruction(words, number, *instruction),
-            None => Ok(()),
-        }
+        let Some(instruction) = self.image.code.get(number) else {
+            return Ok(());
+        };
+        say(words, "  %: ", &[Part::Number(number)])?;
+        instruction.write_to(words)?;
+        words.extend_from_slice(b"\n")
     }
 
     /// Adds the explanation of a global whose class the lattice lacks.
@@ -88,7 +60,18 @@ impl Judged<'_> {
             return Ok(());
         };
         let classes = class_names(self.alloc, self.lattice)?;
-        put_other_class(words, name, class, &classes)
+        say(words, "The global % has ", &[Part::Quoted(name)])?;
+        say(
+            words,
+            "the class %, which the lattice file lacks: ",
+            &[Part::Quoted(class)],
+        )?;
+        say(
+            words,
+            "its classes are %.\nHint: give the lattice file with which the image was built; `vsi \
+            list IMAGE` shows each global with its class.\n",
+            &[Part::Names(&classes)],
+        )
     }
 
     /// Adds the explanation of code that doesn't consist of commands.
@@ -106,18 +89,14 @@ impl Judged<'_> {
 
     /// Adds the explanation of fields that the code doesn't need.
     fn put_fields(&self, words: &mut Vec<u8>) -> Result<(), AllocError> {
-        put_parts(
+        say(
             words,
+            "The image has the fields slots % and stack %, but its commands need another number for \
+            one of them.\nHint: `vsi source IMAGE` prints the commands as a text; build an image \
+            from that.\n",
             &[
-                Part::Text(b"The image has the fields slots "),
                 Part::Number(self.image.slots as usize),
-                Part::Text(b" and stack "),
                 Part::Number(self.image.stack as usize),
-                Part::Text(
-                    b", but its commands need another number for one of them.\n\
-                    Hint: `vsi source IMAGE` prints the commands as a text; build an image from \
-                    that.\n",
-                ),
             ],
         )
     }
@@ -162,23 +141,22 @@ impl Judged<'_> {
     fn put_unsteady(&self, words: &mut Vec<u8>, number: usize) -> Result<(), AllocError> {
         let source = self.source_of(number)?;
         if let Some(Instr::Store(_)) = self.image.code.get(number) {
-            let before = b"This instruction writes a value that depends on ";
-            put_word_between(words, before, &source, b":\n")?;
+            let told = "This instruction writes a value that depends on %:\n";
+            say(words, told, &[Part::Quoted(&source)])?;
             self.put_line(words, number)?;
             return words.extend_from_slice(
                 b"Hint: give the global that it writes a class at or above that one, or write a \
                 value there that doesn't depend on it.\n",
             );
         }
-        put_word_between(words, b"This jump depends on ", &source, b":\n")?;
+        say(words, "This jump depends on %:\n", &[Part::Quoted(&source)])?;
         self.put_line(words, number)?;
-        put_word_between(
+        say(
             words,
-            b"With --steady a jump depends on nothing above the least class, which is ",
-            self.lattice.name(self.lattice.bottom()),
-            b".\nHint: compute both results and select one by arithmetic, as in \
-            `out := g * a + (1 - g) * b` for a guard g that is 0 or 1, and build the image \
-            again.\n",
+            "With --steady a jump depends on nothing above the least class, which is %.\nHint: \
+            compute both results and select one by arithmetic, as in `out := g * a + (1 - g) * b` \
+            for a guard g that is 0 or 1, and build the image again.\n",
+            &[Part::Quoted(self.lattice.name(self.lattice.bottom()))],
         )
     }
 }

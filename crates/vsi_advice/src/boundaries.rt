@@ -4,7 +4,7 @@ use std::alloc::{AllocError, Global};
 use vsi_drive::BoundaryFault;
 use vsi_image::Image;
 use vsi_syntax::Span;
-use vsi_telling::names::{part_of, put_quoted, put_word_between};
+use vsi_telling::names::{Part, part_of, say};
 use vsi_telling::nearest::put_nearest_or;
 use vsi_telling::stores::{names_of, put_no_global};
 
@@ -57,9 +57,12 @@ fn put_unknown(
 
 /// Adds that the class of a global isn't at or below the class of `--class`.
 fn put_above(words: &mut Vec<u8>, name: &[u8], class: &[u8]) -> Result<(), AllocError> {
-    put_word_between(words, b"The class of ", name, b" is ")?;
-    put_quoted(words, class)?;
-    words.extend_from_slice(b", which isn't at or below the class given by --class.\n")
+    say(words, "The class of % is ", &[Part::Quoted(name)])?;
+    say(
+        words,
+        "%, which isn't at or below the class given by --class.\n",
+        &[Part::Quoted(class)],
+    )
 }
 
 /// Adds the explanation of a name of this class.
@@ -69,27 +72,22 @@ fn put_known(
     class: &[u8],
     fault: BoundaryFault,
 ) -> Result<(), AllocError> {
-    match fault {
-        BoundaryFault::OutputAboveClass(_) => {
-            put_above(words, name, class)?;
-            words.extend_from_slice(
-                b"Hint: leave the name out or, if whoever reads the output may learn its value,\n\
-                add it to --release.\n",
-            )
-        }
-        BoundaryFault::NotAnOutput(_) => {
-            put_word_between(words, b"The global ", name, b" isn't one of the outputs.\n")?;
-            words.extend_from_slice(
-                b"Hint: add it to --outputs, or leave it out of --release if nobody is to see it.\n",
-            )
-        }
-        _ => {
-            put_above(words, name, class)?;
-            words.extend_from_slice(
-                b"Hint: leave the name out, or let a class set it that is above this one.\n",
-            )
-        }
+    if let BoundaryFault::NotAnOutput(_) = fault {
+        return say(
+            words,
+            "The global % isn't one of the outputs.\nHint: add it to --outputs, or leave it out of \
+            --release if nobody is to see it.\n",
+            &[Part::Quoted(name)],
+        );
     }
+    put_above(words, name, class)?;
+    words.extend_from_slice(match fault {
+        BoundaryFault::OutputAboveClass(_) => {
+            b"Hint: leave the name out or, if whoever reads the output may learn its value,\n\
+            add it to --release.\n"
+        }
+        _ => b"Hint: leave the name out, or let a class set it that is above this one.\n",
+    })
 }
 
 /// The number of the name at fault.

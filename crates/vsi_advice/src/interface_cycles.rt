@@ -6,9 +6,9 @@ use std::alloc::AllocError;
 use toml::{Table, Value};
 use vsi_conform::InterfaceError;
 use vsi_lattice::Lattice;
-use vsi_syntax::Span;
+use vsi_syntax::{Span, put_number};
 use vsi_telling::finding::key_place;
-use vsi_telling::names::{class_names, put_names_between, put_word_between};
+use vsi_telling::names::{Part, class_names};
 use vsi_telling::tables::{array_in, value_in};
 
 /// An example of a boundary.
@@ -16,7 +16,7 @@ const SHAPE: &str = "A boundary is written like this:\n  [[cycle]]\n  class = \"
     inputs = [\"typed\"]\n  outputs = [\"open\"]\n  released = [\"open\"]\n";
 
 /// The keys of a boundary.
-pub(crate) const CYCLE_KEYS: [&[u8]; 4] = [b"class", b"inputs", b"outputs", b"released"];
+pub(crate) const CYCLE_KEYS: [&[u8]; 5] = [b"class", b"inputs", b"outputs", b"released", b"from"];
 
 /// Whether a key is valid in a boundary.
 fn is_cycle_key(key: &[u8]) -> bool {
@@ -57,7 +57,7 @@ fn is_list(value: &Value) -> bool {
 }
 
 /// The keys of a boundary whose values are lists.
-const LIST_KEYS: [&str; 3] = ["inputs", "outputs", "released"];
+const LIST_KEYS: [&str; 4] = ["inputs", "outputs", "released", "from"];
 
 /// The first key of a boundary whose value isn't an array of texts, and should be one.
 fn faulty_list(cycle: &Table) -> Option<&'static str> {
@@ -108,13 +108,6 @@ fn class_of(cycle: &Table) -> Option<&str> {
 }
 
 impl InterfaceAdvice<'_> {
-    /// Adds a text, the boundary's number and another text.
-    fn cycle(&mut self, before: &str, number: usize, after: &str) -> Result<(), AllocError> {
-        self.put(before)?;
-        self.count(number)?;
-        self.put(after)
-    }
-
     /// Explains a `cycle` that isn't an array of tables.
     fn no_cycles(&mut self) -> Result<Option<Span>, AllocError> {
         self.put(
@@ -130,45 +123,42 @@ impl InterfaceAdvice<'_> {
 
     /// Explains a boundary with a key that boundaries don't have.
     fn cycle_key(&mut self, number: usize, key: &[u8]) -> Result<Option<Span>, AllocError> {
-        self.cycle("Boundary ", number, " has a key ")?;
-        put_word_between(
-            self.words,
-            b"",
-            key,
-            b", which isn't a key of a boundary: the keys are ",
+        self.say(
+            "Boundary % has a key %, which isn't a key of a boundary: the keys are ",
+            &[Part::Number(number), Part::Quoted(key)],
         )?;
-        put_names_between(self.words, b"", &CYCLE_KEYS, b".\n")?;
+        self.say("%.\n", &[Part::Names(&CYCLE_KEYS)])?;
         self.hint(key, &CYCLE_KEYS, "Hint: leave it out.\n")?;
         Ok(cycle_key_place(self.bytes, number, key))
     }
 
     /// Explains a boundary without a class, with a faulty list, or with the class of a later one.
     fn cycle_value(&mut self, number: usize, cycle: &Table) -> Result<Option<Span>, AllocError> {
-        let Some(class) = class_of(cycle) else {
-            self.cycle("Boundary ", number, " has no text at `class`. ")?;
-            self.put("Hint: write the name of a class there, as in `class = \"user\"`.\n")?;
-            return Ok(cycle_key_place(self.bytes, number, b"class"));
-        };
-        if let Some(key) = faulty_list(cycle) {
-            put_word_between(
-                self.words,
-                b"The value of ",
-                key.as_bytes(),
-                b" in boundary ",
+        let counted = Part::Number(number);
+        let mut key = "class";
+        if let Some(list) = faulty_list(cycle).filter(|_| class_of(cycle).is_some()) {
+            key = list;
+            let list = Part::Quoted(list.as_bytes());
+            self.say(
+                "The value of % in boundary % isn't an array of names between quotes.\n",
+                &[list, counted],
             )?;
-            self.count(number)?;
-            self.put(" isn't an array of names between quotes.\n")?;
             self.put(SHAPE)?;
-            return Ok(cycle_key_place(self.bytes, number, key.as_bytes()));
+        } else if let Some(class) = class_of(cycle) {
+            let class = Part::Quoted(class.as_bytes());
+            self.say(
+                "Boundary % and a later one have the same class, %. Hint: leave one of them out. A \
+                class has only one boundary.\n",
+                &[counted, class],
+            )?;
+        } else {
+            self.say(
+                "Boundary % has no text at `class`. Hint: write the name of a class there, as in \
+                `class = \"user\"`.\n",
+                &[counted],
+            )?;
         }
-        self.cycle(
-            "Boundary ",
-            number,
-            " and a later one have the same class, ",
-        )?;
-        self.quote(class.as_bytes())?;
-        self.put(". Hint: leave one of them out. A class has only one boundary.\n")?;
-        Ok(cycle_key_place(self.bytes, number, b"class"))
+        Ok(cycle_key_place(self.bytes, number, key.as_bytes()))
     }
 
     /// Explains a boundary that isn't valid.
@@ -178,7 +168,7 @@ impl InterfaceAdvice<'_> {
         }
         let table = self.table;
         let Some(cycle) = cycle_in(table, number) else {
-            self.cycle("Boundary ", number, " isn't a table.\n")?;
+            self.say("Boundary % isn't a table.\n", &[Part::Number(number)])?;
             self.put(SHAPE)?;
             return Ok(cycle_place(self.bytes, number));
         };
@@ -186,6 +176,24 @@ impl InterfaceAdvice<'_> {
             Some(key) => self.cycle_key(number, key),
             None => self.cycle_value(number, cycle),
         }
+    }
+
+    /// Adds that the class of a boundary isn't one of these.
+    fn other_cycle_class(
+        &mut self,
+        number: usize,
+        class: &[u8],
+        classes: &[&[u8]],
+    ) -> Result<(), AllocError> {
+        self.say("The class % of boundary ", &[Part::Quoted(class)])?;
+        put_number(self.words, number)?;
+        self.put(" isn't in the lattice. ")?;
+        self.say("The lattice has the classes %.\n", &[Part::Names(classes)])?;
+        self.hint(
+            class,
+            classes,
+            "Hint: write one of these, or declare the class in the lattice.\n",
+        )
     }
 
     /// Explains a boundary of a class that isn't in the lattice.
@@ -199,19 +207,7 @@ impl InterfaceAdvice<'_> {
             Some(lattice) => class_names(self.alloc, lattice)?,
             None => own_classes(self.alloc, self.table)?,
         };
-        put_word_between(self.words, b"The class ", class, b" of boundary ")?;
-        self.cycle("", number, " isn't in the lattice. ")?;
-        put_names_between(
-            self.words,
-            b"The lattice has the classes ",
-            &classes,
-            b".\n",
-        )?;
-        self.hint(
-            class,
-            &classes,
-            "Hint: write one of these, or declare the class in the lattice.\n",
-        )?;
+        self.other_cycle_class(number, class, &classes)?;
         Ok(cycle_key_place(self.bytes, number, b"class"))
     }
 
@@ -223,14 +219,11 @@ impl InterfaceAdvice<'_> {
         key: &str,
     ) -> Result<Option<Span>, AllocError> {
         let names = global_names(self.alloc, self.table)?;
-        self.cycle("Boundary ", number, " names ")?;
-        self.quote(name)?;
-        put_names_between(
-            self.words,
-            b", which isn't a global of the interface: its globals are ",
-            &names,
-            b".\n",
+        self.say(
+            "Boundary % names %, which isn't a global of the interface: ",
+            &[Part::Number(number), Part::Quoted(name)],
         )?;
+        self.say("its globals are %.\n", &[Part::Names(&names)])?;
         self.hint(name, &names, "Hint: leave it out of the boundary.\n")?;
         Ok(cycle_key_place(self.bytes, number, key.as_bytes()))
     }

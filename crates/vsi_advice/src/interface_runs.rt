@@ -7,7 +7,7 @@ use toml::{Table, Value};
 use vsi_conform::InterfaceError;
 use vsi_syntax::Span;
 use vsi_telling::finding::key_place;
-use vsi_telling::names::{put_names_between, put_word_between};
+use vsi_telling::names::Part;
 use vsi_telling::tables::value_in;
 
 /// An example of a run.
@@ -48,11 +48,9 @@ fn faulty_word<'t>(table: &'t Table, number: usize, key: &str) -> Option<&'t [u8
 }
 
 impl InterfaceAdvice<'_> {
-    /// Adds a text, the run's number and another text.
-    fn run(&mut self, before: &str, number: usize, behind: &str) -> Result<(), AllocError> {
-        self.put(before)?;
-        self.count(number)?;
-        self.put(behind)
+    /// Adds a sentence, with the run's number in place of `%`.
+    fn run(&mut self, sentence: &str, number: usize) -> Result<(), AllocError> {
+        self.say(sentence, &[Part::Number(number)])
     }
 
     /// Explains `runs` that aren't valid.
@@ -71,18 +69,15 @@ impl InterfaceAdvice<'_> {
     /// Explains a run that isn't a table or has an invalid key.
     fn other(&mut self, number: usize) -> Result<Option<Span>, AllocError> {
         let Some(key) = other_key(self.table, number) else {
-            self.run("Run ", number, " isn't a table.\n")?;
+            self.run("Run % isn't a table.\n", number)?;
             self.put(SHAPE)?;
             return Ok(run_place(self.bytes, number));
         };
-        self.run("Run ", number, " has a key ")?;
-        put_word_between(
-            self.words,
-            b"",
-            key,
-            b", which isn't a key of a run: the keys are ",
+        self.say(
+            "Run % has a key %, which isn't a key of a run: the keys are ",
+            &[Part::Number(number), Part::Quoted(key)],
         )?;
-        put_names_between(self.words, b"", &RUN_KEYS, b".\n")?;
+        self.say("%.\n", &[Part::Names(&RUN_KEYS)])?;
         self.hint(
             key,
             &RUN_KEYS,
@@ -91,26 +86,23 @@ impl InterfaceAdvice<'_> {
         Ok(run_key_place(self.bytes, number, key))
     }
 
-    /// Adds that a name has no word in a table of a run.
-    fn word(&mut self, number: usize, key: &[u8], name: &[u8]) -> Result<(), AllocError> {
-        put_word_between(self.words, b"The value of ", name, b" in ")?;
-        put_word_between(self.words, b"", key, b" of run ")?;
-        self.count(number)?;
-        self.put(
-            " isn't a whole number. Hint: write digits, after a `-` if it is below 0, without \
-            quotes and without a decimal point.\n",
-        )
-    }
-
     /// Explains a table of words that isn't valid.
     fn table(&mut self, number: usize, key: &str) -> Result<Option<Span>, AllocError> {
-        if let Some(name) = faulty_word(self.table, number, key) {
-            self.word(number, key.as_bytes(), name)?;
+        let table = self.table;
+        let (within, counted) = (Part::Quoted(key.as_bytes()), Part::Number(number));
+        if let Some(name) = faulty_word(table, number, key) {
+            self.say("The value of % in ", &[Part::Quoted(name)])?;
+            self.say(
+                "% of run % isn't a whole number. Hint: write digits, after a `-` if it is below \
+                0, without quotes and without a decimal point.\n",
+                &[within, counted],
+            )?;
             return Ok(entry_place(self.bytes, number, name));
         }
-        put_word_between(self.words, b"The value of ", key.as_bytes(), b" in run ")?;
-        self.count(number)?;
-        self.put(" isn't a table of whole numbers.\n")?;
+        self.say(
+            "The value of % in run % isn't a table of whole numbers.\n",
+            &[within, counted],
+        )?;
         self.put(SHAPE)?;
         Ok(run_key_place(self.bytes, number, key.as_bytes()))
     }
@@ -118,26 +110,27 @@ impl InterfaceAdvice<'_> {
     /// Explains a budget that isn't valid.
     fn budget(&mut self, number: usize) -> Result<Option<Span>, AllocError> {
         if run_value(self.table, number, "budget").is_none() {
-            self.run("Run ", number, " has no budget. ")?;
-            self.put("Hint: write how many instructions it may execute, as in `budget = 1000`.\n")?;
+            self.run(
+                "Run % has no budget. Hint: write how many instructions it may execute, as in \
+                `budget = 1000`.\n",
+                number,
+            )?;
         } else {
             self.run(
-                "The budget of run ",
+                "The budget of run % isn't a whole number of at least 0. Hint: write only digits, \
+                as in `budget = 1000`.\n",
                 number,
-                " isn't a whole number of at least 0. ",
             )?;
-            self.put("Hint: write only digits, as in `budget = 1000`.\n")?;
         }
         Ok(run_key_place(self.bytes, number, b"budget"))
     }
 
     /// Explains budgets that add up to more than the budget of all runs.
     fn budgets(&mut self, most: u64) -> Result<Option<Span>, AllocError> {
-        self.put("The budgets of the runs add up to more than ")?;
-        self.count(most as usize)?;
-        self.put(
-            " instructions. Hint: give more with `--budget`, if you want to wait for that many, \
-            or give each run a smaller budget.\n",
+        self.run(
+            "The budgets of the runs add up to more than % instructions. Hint: give more with \
+            `--budget`, if you want to wait for that many, or give each run a smaller budget.\n",
+            most as usize,
         )?;
         Ok(run_key_place(self.bytes, 1, b"budget"))
     }
@@ -146,52 +139,39 @@ impl InterfaceAdvice<'_> {
     fn expect(&mut self, number: usize) -> Result<Option<Span>, AllocError> {
         let has_halts = run_value(self.table, number, "halts").is_some();
         if run_value(self.table, number, "expect").is_none() {
-            self.run("Run ", number, " has neither `expect` nor `halts = true`. ")?;
-            self.put(
-                "Hint: write the values that globals end with, as in `expect = { out = 3 }`, or \
-                `halts = true` if it only has to halt.\n",
+            self.run(
+                "Run % has neither `expect` nor `halts = true`. Hint: write the values that globals \
+                end with, as in `expect = { out = 3 }`, or `halts = true` if it only has to halt.\n",
+                number,
             )?;
             return Ok(run_key_place(self.bytes, number, b"halts"));
         }
         if has_halts {
-            self.run("Run ", number, " has both `expect` and `halts`. ")?;
-            self.put("Hint: leave out `halts`: a run that ends with these values halts.\n")?;
+            self.run(
+                "Run % has both `expect` and `halts`. Hint: leave out `halts`: a run that ends with \
+                these values halts.\n",
+                number,
+            )?;
             return Ok(run_key_place(self.bytes, number, b"halts"));
         }
         self.table(number, "expect")
     }
 
-    /// Adds that a name isn't one of the globals.
-    fn other_global(
-        &mut self,
-        number: usize,
-        name: &[u8],
-        names: &[&[u8]],
-    ) -> Result<(), AllocError> {
-        self.run("Run ", number, " names ")?;
-        self.quote(name)?;
+    /// Explains a name that isn't a global.
+    fn global(&mut self, number: usize, name: &[u8]) -> Result<Option<Span>, AllocError> {
+        let names = global_names(self.alloc, self.table)?;
+        self.say("Run % names %", &[Part::Number(number), Part::Quoted(name)])?;
         if names.is_empty() {
             self.put(", but the interface has no global.\n")?;
         } else {
-            let before = b", which isn't a global of the interface: its globals are ";
-            put_names_between(self.words, before, names, b".\n")?;
+            self.put(", which isn't a global of the interface: its globals are ")?;
+            self.say("%.\n", &[Part::Names(&names)])?;
         }
         self.hint(
             name,
-            names,
+            &names,
             "Hint: add it to `globals` with its class, or leave it out of the run.\n",
-        )
-    }
-
-    /// Adds that a name isn't a global.
-    fn no_global(&mut self, number: usize, name: &[u8]) -> Result<(), AllocError> {
-        let names = global_names(self.alloc, self.table)?;
-        self.other_global(number, name, &names)
-    }
-
-    /// Explains a name that isn't a global.
-    fn global(&mut self, number: usize, name: &[u8]) -> Result<Option<Span>, AllocError> {
-        self.no_global(number, name)?;
+        )?;
         Ok(entry_place(self.bytes, number, name))
     }
 }

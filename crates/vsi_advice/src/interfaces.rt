@@ -7,9 +7,9 @@ use std::alloc::{AllocError, Global};
 use toml::{Table, Value};
 use vsi_conform::InterfaceError;
 use vsi_lattice::Lattice;
-use vsi_syntax::{Span, put_number};
+use vsi_syntax::Span;
 use vsi_telling::finding::{key_place, quoted_place};
-use vsi_telling::names::{class_names, put_names_between, put_quoted, put_word_between};
+use vsi_telling::names::{Part, class_names, say};
 use vsi_telling::nearest::put_nearest_or;
 use vsi_telling::tables::{put_syntax, table_in, value_in};
 
@@ -18,9 +18,17 @@ const SHAPE: &[u8] = b"An interface begins like this:\n  lattice = \"two.toml\"\
     profile = \"base\"\n  globals = [[\"key\", \"H\"], [\"out\", \"L\"]]\n";
 
 /// The keys of an interface.
-const KEYS: [&[u8]; 9] = [
-    b"lattice", b"classes", b"below", b"profile", b"order", b"bounded", b"globals", b"runs",
+const KEYS: [&[u8]; 10] = [
+    b"lattice",
+    b"classes",
+    b"below",
+    b"profile",
+    b"order",
+    b"bounded",
+    b"globals",
+    b"runs",
     b"cycle",
+    b"reference",
 ];
 
 /// The keys of a run.
@@ -88,14 +96,9 @@ impl InterfaceAdvice<'_> {
         self.words.extend_from_slice(text.as_bytes())
     }
 
-    /// Adds a text between back quotes.
-    pub(crate) fn quote(&mut self, word: &[u8]) -> Result<(), AllocError> {
-        put_quoted(self.words, word)
-    }
-
-    /// Adds a number.
-    pub(crate) fn count(&mut self, number: usize) -> Result<(), AllocError> {
-        put_number(self.words, number)
+    /// Adds a sentence, with a part in place of each `%`.
+    pub(crate) fn say(&mut self, sentence: &str, parts: &[Part<'_>]) -> Result<(), AllocError> {
+        say(self.words, sentence, parts)
     }
 
     /// Adds which of the names was perhaps meant, or else a hint.
@@ -116,23 +119,18 @@ impl InterfaceAdvice<'_> {
 
     /// Explains a key that no interface has.
     fn key(&mut self, key: &[u8]) -> Result<Option<Span>, AllocError> {
+        let quoted = Part::Quoted(key);
         if is_run_key(key) {
-            put_word_between(
-                self.words,
-                b"An interface has no key ",
-                key,
-                b" of its own. Hint: it is a key of a run, and goes after a line `[[runs]]`.\n",
+            self.say(
+                "An interface has no key % of its own. Hint: it is a key of a run, and goes after a \
+                line `[[runs]]`.\n",
+                &[quoted],
             )?;
             return Ok(key_place(self.bytes, key));
         }
-        put_word_between(
-            self.words,
-            b"An interface has no key ",
-            key,
-            b": its keys are ",
-        )?;
-        put_names_between(self.words, b"", &KEYS[..5], b", ")?;
-        put_names_between(self.words, b"", &KEYS[5..], b".\n")?;
+        self.say("An interface has no key %: its keys are ", &[quoted])?;
+        let (some, others) = (Part::Names(&KEYS[..5]), Part::Names(&KEYS[5..]));
+        self.say("%, %.\n", &[some, others])?;
         self.hint(key, &KEYS, "Hint: remove the line.\n")?;
         Ok(key_place(self.bytes, key))
     }
@@ -180,15 +178,40 @@ impl InterfaceAdvice<'_> {
         Ok(key_place(self.bytes, b"lattice"))
     }
 
+    /// Explains a reference that isn't a text or is outside the folder.
+    fn reference(&mut self) -> Result<Option<Span>, AllocError> {
+        if text_at(self.table, "reference").is_some() {
+            self.put(
+                "The path of the reference leads out of the folder of the interface. Hint: put the \
+                reference into that folder, or into one in it, and write its path without `..` and \
+                without `/` at the beginning.\n",
+            )?;
+        } else {
+            self.put(
+                "The value of `reference` isn't a text. Hint: write the path of a source text \
+                between quotes, as in `reference = \"lock.vsi\"`.\n",
+            )?;
+        }
+        Ok(key_place(self.bytes, b"reference"))
+    }
+
+    /// Explains a reference that isn't accepted.
+    fn refused_reference(&mut self) -> Result<Option<Span>, AllocError> {
+        self.put(
+            "The reference of the interface isn't accepted under its lattice and its profile. \
+            Hint: `vsi check --explain` says more about it.\n",
+        )?;
+        Ok(key_place(self.bytes, b"reference"))
+    }
+
     /// Explains a key whose value isn't a text and should be one of the choices.
     fn no_choice(&mut self, key: &str, choices: &[&[u8]]) -> Result<Option<Span>, AllocError> {
-        let fault: &[u8] = match self.table.get(key) {
-            Some(_) => b"` must be one of ",
-            None => b"` is missing. It must be one of ",
+        let fault = match self.table.get(key) {
+            Some(_) => "The key `%` must be one of ",
+            None => "The key `%` is missing. It must be one of ",
         };
-        self.put("The key `")?;
-        self.put(key)?;
-        put_names_between(self.words, fault, choices, b", between quotes.\n")?;
+        self.say(fault, &[Part::Text(key.as_bytes())])?;
+        self.say("%, between quotes.\n", &[Part::Names(choices)])?;
         self.words.extend_from_slice(SHAPE)?;
         Ok(key_place(self.bytes, key.as_bytes()))
     }
@@ -200,8 +223,9 @@ impl InterfaceAdvice<'_> {
         noun: &str,
         choices: &[&[u8]],
     ) -> Result<Option<Span>, AllocError> {
-        put_word_between(self.words, b"", text, noun.as_bytes())?;
-        put_names_between(self.words, b"", choices, b".\n")?;
+        self.say("%", &[Part::Quoted(text)])?;
+        self.put(noun)?;
+        self.say("%.\n", &[Part::Names(choices)])?;
         self.hint(text, choices, "")?;
         Ok(quoted_place(self.bytes, text, 0))
     }
@@ -246,9 +270,11 @@ impl InterfaceAdvice<'_> {
         }
         let is_array = value.as_array().is_some();
         if is_array {
-            self.put("Entry ")?;
-            self.count(faulty_pair(self.table).saturating_add(1))?;
-            self.put(" of `globals` isn't a pair of a name and a class.")?;
+            let number = Part::Number(faulty_pair(self.table).saturating_add(1));
+            self.say(
+                "Entry % of `globals` isn't a pair of a name and a class.",
+                &[number],
+            )?;
         } else {
             self.put("The value of `globals` isn't an array.")?;
         }
@@ -259,7 +285,7 @@ impl InterfaceAdvice<'_> {
 
     /// Explains a name of a global.
     fn name(&mut self, name: &[u8], others: usize, text: &str) -> Result<Option<Span>, AllocError> {
-        self.quote(name)?;
+        self.say("%", &[Part::Quoted(name)])?;
         self.put(text)?;
         let Some(number) = pair_named(self.table, name, others) else {
             return Ok(None);
@@ -274,9 +300,9 @@ impl InterfaceAdvice<'_> {
         class: &[u8],
         classes: &[&[u8]],
     ) -> Result<(), AllocError> {
-        put_word_between(self.words, b"The class ", class, b" of the global ")?;
-        put_word_between(self.words, b"", name, b" isn't in the lattice. ")?;
-        put_names_between(self.words, b"Its classes are ", classes, b".\n")?;
+        self.say("The class % of the global ", &[Part::Quoted(class)])?;
+        self.say("% isn't in the lattice. ", &[Part::Quoted(name)])?;
+        self.say("Its classes are %.\n", &[Part::Names(classes)])?;
         self.hint(
             class,
             classes,
@@ -387,6 +413,8 @@ fn put_fault(
         InterfaceError::BadCycle(_) | InterfaceError::UnknownInCycle(_, _) => {
             of_cycle(advice, lattice, error)
         }
+        InterfaceError::BadReference => advice.reference(),
+        InterfaceError::RefusedReference(_) => advice.refused_reference(),
         other => of_run(advice, other),
     }
 }

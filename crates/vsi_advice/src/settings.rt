@@ -5,7 +5,7 @@ use std::alloc::{AllocError, Global};
 use vsi_drive::{LineFault, StartFault};
 use vsi_image::Image;
 use vsi_syntax::Span;
-use vsi_telling::names::{part_of, put_quoted, put_word_between};
+use vsi_telling::names::{Part, part_of, say};
 use vsi_telling::nearest::put_nearest_or;
 use vsi_telling::stores::{names_of, put_no_global};
 
@@ -92,23 +92,6 @@ fn put_form(words: &mut Vec<u8>, setting: &[u8]) -> Result<Option<Span>, AllocEr
     }))
 }
 
-/// Adds the explanation of a name that isn't one of the globals.
-fn put_other_name(
-    alloc: Global,
-    words: &mut Vec<u8>,
-    name: &[u8],
-    names: &[&[u8]],
-) -> Result<(), AllocError> {
-    put_no_global(words, name, names)?;
-    put_nearest_or(
-        alloc,
-        words,
-        name,
-        names,
-        b"Hint: leave out the setting; a local variable has no value before the run.\n",
-    )
-}
-
 /// Adds the explanation of a name that no global of an image has.
 fn put_unknown(
     alloc: Global,
@@ -117,7 +100,14 @@ fn put_unknown(
     name: &[u8],
 ) -> Result<(), AllocError> {
     let names = names_of(alloc, &image.globals)?;
-    put_other_name(alloc, words, name, &names)
+    put_no_global(words, name, &names)?;
+    put_nearest_or(
+        alloc,
+        words,
+        name,
+        &names,
+        b"Hint: leave out the setting; a local variable has no value before the run.\n",
+    )
 }
 
 /// Adds the explanation of a setting whose name isn't a global.
@@ -136,9 +126,10 @@ fn put_name(
 fn put_number(words: &mut Vec<u8>, setting: &[u8]) -> Result<Option<Span>, AllocError> {
     let (_name, place) = sides(setting);
     let value = part_of(setting, place);
-    put_quoted(words, value)?;
-    words.extend_from_slice(
-        b" isn't a whole number from -9223372036854775808 to 9223372036854775807.\n",
+    say(
+        words,
+        "% isn't a whole number from -9223372036854775808 to 9223372036854775807.\n",
+        &[Part::Quoted(value)],
     )?;
     words.extend_from_slice(number_hint(value).as_bytes())?;
     Ok(Some(place))
@@ -147,10 +138,11 @@ fn put_number(words: &mut Vec<u8>, setting: &[u8]) -> Result<Option<Span>, Alloc
 /// Adds the explanation of a setting of a global that isn't an input.
 fn put_no_input(words: &mut Vec<u8>, setting: &[u8]) -> Result<Option<Span>, AllocError> {
     let (place, _value) = sides(setting);
-    put_quoted(words, part_of(setting, place))?;
-    words.extend_from_slice(
-        b" isn't an input. With --interface a setting sets only the inputs of the class.\nHint: leave \
-        the setting out, or give the number in the store file of --store.\n",
+    say(
+        words,
+        "% isn't an input. With --interface a setting sets only the inputs of the class.\nHint: \
+        leave the setting out, or give the number in the store file of --store.\n",
+        &[Part::Quoted(part_of(setting, place))],
     )?;
     Ok(Some(place))
 }
@@ -165,17 +157,13 @@ fn global_name(image: &Image, number: usize) -> &[u8] {
 
 /// Adds the explanation of a global that has no word.
 fn put_unnamed(words: &mut Vec<u8>, name: &[u8]) -> Result<(), AllocError> {
-    put_word_between(
+    say(
         words,
-        b"The global ",
-        name,
-        b" has no value. With --full-store each global needs a line in the store file or a \
-        `--set`.\nHint: add `--set ",
-    )?;
-    words.extend_from_slice(name)?;
-    words.extend_from_slice(b"=0` to the command, or the line `")?;
-    words.extend_from_slice(name)?;
-    words.extend_from_slice(b" = 0` to a store file, with the value that you mean.\n")
+        "The global % has no value. With --full-store each global needs a line in the store file or \
+        a `--set`.\nHint: add `--set %=0` to the command, or the line `% = 0` to a store file, with \
+        the value that you mean.\n",
+        &[Part::Quoted(name), Part::Text(name), Part::Text(name)],
+    )
 }
 
 /// Adds the explanation of a run of an image that doesn't begin, and returns the position of the

@@ -9,7 +9,7 @@ use vsi_opt::optimise;
 use vsi_scope::{Cmd, Ex, Resolved};
 use vsi_steady::{SteadyError, chain_source};
 use vsi_syntax::{Span, line_column};
-use vsi_telling::names::{Part, part_of, put_parts};
+use vsi_telling::names::{Part, part_of, say};
 
 /// A flow from a variable to another one, or to a jump. Variables have numbers, globals first.
 #[derive(Clone, Copy)]
@@ -251,22 +251,16 @@ fn put_sharers(
     first: Span,
     second: Span,
 ) -> Result<(), AllocError> {
-    put_parts(
+    say(
         words,
+        "The flows of the text are allowed, but its image isn't steady: % (line %) and % (line %) \
+        have the same slot of the image, one after the other, and a slot has one class for the whole \
+        code.\nHint: nest one `letvar` in the other, and each has a slot of its own.\n",
         &[
-            Part::Text(b"The flows of the text are allowed, but its image isn't steady: "),
             Part::Quoted(part_of(text, first)),
-            Part::Text(b" (line "),
             Part::Number(line_column(text, first.start).0),
-            Part::Text(b") and "),
             Part::Quoted(part_of(text, second)),
-            Part::Text(b" (line "),
             Part::Number(line_column(text, second.start).0),
-            Part::Text(
-                b") have the same slot of the image, one after the other, and a slot has one \
-                class for the whole code.\nHint: nest one `letvar` in the other, and each has a \
-                slot of its own.\n",
-            ),
         ],
     )
 }

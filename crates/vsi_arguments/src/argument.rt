@@ -6,8 +6,8 @@ use std::alloc::{AllocError, Global};
 /// The values of `--color`: when an explanation is coloured.
 const WHEN: [&str; 3] = ["auto", "always", "never"];
 
-/// How an argument is given. An option that takes a value has the name that the help gives this
-/// value.
+/// How an argument is given: by position, or by `--NAME`, with the name of its value in the help.
+/// `Needed` forms are required, and plural ones may be given several times.
 #[derive(Clone, Copy)]
 pub(crate) enum Form {
     /// By position, required.
@@ -18,22 +18,15 @@ pub(crate) enum Form {
     PlaceUnless(&'static str),
     /// By position, one or more.
     Places,
-    /// `--NAME`, optional.
     Flag,
-    /// `--NAME VALUE`, optional.
     Value(&'static str),
-    /// `--NAME VALUE`, required.
     NeededValue(&'static str),
-    /// `--NAME VALUE`, any number of times.
     Values(&'static str),
-    /// `--NAME VALUE`, one or more times.
     NeededValues(&'static str),
-    /// `--NAME NUMBER`, optional. The number is checked later, and a value that begins with a sign
-    /// isn't taken for another argument.
+    /// The number is checked later, and its sign doesn't make it another argument.
     Number(&'static str),
-    /// `--NAME NUMBER`, required.
     NeededNumber(&'static str),
-    /// `--NAME WHEN`, where `WHEN` is one of the values above.
+    /// With one of the values of `WHEN`.
     When(&'static str),
 }
 
@@ -46,7 +39,31 @@ pub(crate) struct Argument {
     pub(crate) whole: &'static str,
 }
 
+/// An argument, as a row: its form, its name, and its short and long help; or a constant that has
+/// the row.
+macro_rules! argument {
+    ($shared:ident) => { $shared };
+    ($form:ident $(($value:literal))? $name:literal $line:literal $whole:expr) => {
+        Argument {
+            name: $name,
+            form: Form::$form $(($value))?,
+            line: $line,
+            whole: $whole,
+        }
+    };
+}
+
+pub(crate) use argument;
+
 impl Argument {
+    /// Whether it is given by its name.
+    pub(crate) fn is_option(&self) -> bool {
+        !matches!(
+            self.form,
+            Form::Place | Form::FreePlace | Form::PlaceUnless(_) | Form::Places
+        )
+    }
+
     /// Builds the argument for the command-line parser.
     pub(crate) fn made<'a>(&self, alloc: Global) -> Result<Arg<'a>, AllocError> {
         let told = Arg::new(alloc, self.name)

@@ -3,24 +3,17 @@
 use clap::ArgMatches;
 
 /// The options that take numbers, each with the message for a value that isn't such a number.
-const NUMBERS: [(&str, &str); 4] = [
-    (
-        "budget",
-        "--budget takes a number from 0 to 18446744073709551615, in digits alone",
-    ),
-    (
-        "tries",
-        "--tries takes a number from 0 to 18446744073709551615, in digits alone",
-    ),
-    (
-        "seed",
-        "--seed takes a number from 0 to 18446744073709551615, in digits alone",
-    ),
-    (
-        "save-every",
-        "--save-every takes a number from 1 to 18446744073709551615, in digits alone",
-    ),
-];
+macro_rules! numbers {
+    ($($name:literal from $least:literal),*) => {
+        [$(($name, concat!("--", $name, " takes a number from ", $least,
+            " to 18446744073709551615, in digits alone"))),*]
+    };
+}
+
+/// The options that take numbers, each with the message for a value that isn't such a number.
+const NUMBERS: [(&str, &str); 4] = numbers! {
+    "budget" from "0", "tries" from "0", "seed" from "0", "save-every" from "1"
+};
 
 /// The message for a budget of a subcommand that runs an image, whose bound can be the budget.
 const BUDGET_OR_AUTO: &str =

@@ -3,7 +3,6 @@
 use crate::error::ArgumentsError;
 use crate::escaped::escaped;
 use crate::judging::mistake_in;
-use crate::mistake::Mistake;
 use crate::request::{Colour, Manner, Reporting};
 use crate::tips::reformatted;
 use crate::usage::program;
@@ -56,14 +55,14 @@ fn parsed(alloc: Global, arguments: &[String]) -> Result<Manner, Error> {
     let matches = command.try_get_matches_from_mut(arguments)?;
     match judged(&matches) {
         Ok(manner) => Ok(manner),
-        Err(mistake) => Err(command.error(mistake.kind(), mistake.text())?),
+        Err(mistake) => Err(command.error(ErrorKind::ValueValidation, mistake)?),
     }
 }
 
 /// How the request is carried out, if its arguments have no mistake.
-fn judged(matches: &ArgMatches<'_>) -> Result<Manner, Mistake> {
+fn judged(matches: &ArgMatches<'_>) -> Result<Manner, &'static str> {
     let Some((name, inner)) = matches.subcommand() else {
-        return Err(Mistake::NoSubcommand);
+        return Err("a subcommand is needed");
     };
     match mistake_in(name, inner) {
         Some(mistake) => Err(mistake),

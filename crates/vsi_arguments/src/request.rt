@@ -1,7 +1,6 @@
-//! The requests that the arguments of a command line can make.
+//! The requests that the arguments of a command line can make. Each file is given by its path.
 
-/// A compilation: the paths of a lattice file and of a source text, and whether the strict profile
-/// is used.
+/// A compilation of a source text under a lattice file, by the strict or the base profile.
 #[derive(Clone, Copy, PartialEq, Eq)]
 pub struct Compilation<'a> {
     pub lattice: &'a str,
@@ -17,8 +16,7 @@ pub enum Budget {
     Auto,
 }
 
-/// A run: the path of an image, the budget of instructions, and the path of a store file. Without a
-/// store file the run begins with zeros.
+/// A run of an image, which begins with zeros if there is no store file.
 #[derive(Clone, Copy, PartialEq, Eq)]
 pub struct Execution<'a> {
     pub image: &'a str,
@@ -26,9 +24,8 @@ pub struct Execution<'a> {
     pub store: Option<&'a str>,
 }
 
-/// The rest of a run's input and output: globals set after the store file is read, each as
-/// `NAME=NUMBER`; whether each global must be in the file or set; and the path of a file that
-/// receives the store's text in place of standard output.
+/// The rest of a run's input and output: settings after the store file, each `NAME=NUMBER`, whether
+/// each global must be given, and the file for the store's text.
 #[derive(Drop, PartialEq, Eq)]
 pub struct InitialStore<'a> {
     pub settings: Vec<&'a [u8]>,
@@ -36,8 +33,7 @@ pub struct InitialStore<'a> {
     pub out: Option<&'a str>,
 }
 
-/// The lists of names that bound a controller: of its inputs, of its outputs, and of the outputs
-/// that are released. Each has commas between its names.
+/// The lists of names that bound a controller, each with commas between its names.
 #[derive(Clone, Copy, PartialEq, Eq)]
 pub struct NameLists<'a> {
     pub inputs: Option<&'a str>,
@@ -54,25 +50,24 @@ pub enum DrivePolicy<'a> {
     Interface(&'a str),
 }
 
-/// The driving of a controller: its policy, the class that sets inputs and sees outputs, the run of
-/// each cycle, the path of a file that receives the store, after how many lines it does, whether each
-/// global must be in the store file, and whether a budget is taken that runs may exceed for a reason
-/// that the class doesn't see.
+/// The driving of a controller by a class, with a run for each cycle, and the store saved after
+/// `every` lines, to the path that it is read from if there is a `start`: the path of a store to begin
+/// with if there is no file at that path. If `is_unbounded`, a run may exceed the budget for a reason
+/// unseen by the class.
 #[derive(Clone, Copy, PartialEq, Eq)]
 pub struct Driving<'a> {
     pub policy: DrivePolicy<'a>,
     pub class: &'a str,
     pub execution: Execution<'a>,
+    pub start: Option<&'a str>,
     pub save: Option<&'a str>,
     pub every: u64,
     pub is_full: bool,
     pub is_unbounded: bool,
 }
 
-/// A view within a boundary: its policy, the class that sees the outputs, the run, the rest of its
-/// input and output, and whether a budget is taken that the run may exceed for a reason that the class
-/// doesn't see. With a lattice file, the list of outputs or that of released outputs is given, and that
-/// of inputs isn't.
+/// A view within a boundary. With a lattice file, the outputs or the released outputs are listed,
+/// and the inputs aren't. `is_unbounded` is as for a drive.
 #[derive(Drop, PartialEq, Eq)]
 pub struct Viewing<'a> {
     pub policy: DrivePolicy<'a>,
@@ -82,9 +77,7 @@ pub struct Viewing<'a> {
     pub is_unbounded: bool,
 }
 
-/// A comparison: the paths of a lattice file, of an image and of two store files, the class of the
-/// observer, the budget of each run, and whether a budget is taken that the runs may exceed for a
-/// reason that the class doesn't see.
+/// A comparison of runs from two store files. `is_unbounded` is as for a drive.
 #[derive(Clone, Copy, PartialEq, Eq)]
 pub struct Comparison<'a> {
     pub lattice: &'a str,
@@ -95,9 +88,7 @@ pub struct Comparison<'a> {
     pub is_unbounded: bool,
 }
 
-/// A search for a leak: the paths of a lattice file and of a source text; the class of the
-/// observer, or every class; the budget of a run, the largest number of pairs of runs, and the
-/// seed; and whether endings and steps are observed.
+/// A search for a leak to a class, or to every class, in at most `tries` pairs of runs.
 #[derive(Clone, Copy, PartialEq, Eq)]
 pub struct Search<'a> {
     pub lattice: &'a str,
@@ -110,8 +101,7 @@ pub struct Search<'a> {
     pub has_steps: bool,
 }
 
-/// An audit: the paths of a lattice file and of an image, whether the strict profile is used, whether
-/// the image's jumps are judged instead, and whether evidence is written.
+/// An audit of an image, by its commands, or by its jumps if `is_steady`.
 #[derive(Clone, Copy, PartialEq, Eq)]
 pub struct Audit<'a> {
     pub lattice: &'a str,
@@ -132,8 +122,7 @@ pub enum AnswerForm {
     Sarif,
 }
 
-/// A judgement by an interface: the paths of the interface file and of a source text or an image,
-/// the budget of all its runs together, how the answer is written, and whether evidence follows it.
+/// A judgement of a source text or an image by an interface, with one budget for all its runs.
 #[derive(Clone, Copy, PartialEq, Eq)]
 pub struct Conformance<'a> {
     pub interface: &'a str,
@@ -143,8 +132,7 @@ pub struct Conformance<'a> {
     pub has_evidence: bool,
 }
 
-/// A drawing: the paths of a lattice file and, if flows are drawn too, of a source text; whether
-/// the flows are those of the strict profile; and whether they are drawn without the lattice.
+/// A drawing of a lattice, and of the flows of a source text if there is one, or of these alone.
 #[derive(Clone, Copy, PartialEq, Eq)]
 pub struct Drawing<'a> {
     pub lattice: &'a str,
@@ -153,24 +141,21 @@ pub struct Drawing<'a> {
     pub is_alone: bool,
 }
 
-/// A look at a policy: the paths of a lattice file and, if it is compared with an older one, of that.
+/// A look at a lattice file, which is compared with an older one if there is one.
 #[derive(Clone, Copy, PartialEq, Eq)]
 pub struct Looking<'a> {
     pub lattice: &'a str,
     pub old: Option<&'a str>,
 }
 
-/// A look at who sees which globals: the paths of an interface file and, if it is compared with an
-/// older one, of that.
+/// A look at who sees which globals of an interface, which is compared with an older one, if any.
 #[derive(Clone, Copy, PartialEq, Eq)]
 pub struct Visibility<'a> {
     pub interface: &'a str,
     pub old: Option<&'a str>,
 }
 
-/// An emission of C: the path of an image, or of a source text together with the path of a lattice
-/// file; the prefix of the function's name, if one is given; whether the header is written; and
-/// whether the function takes no budget.
+/// C from an image or, with a lattice file, from a source text; `name` is the prefix of its names.
 #[derive(Clone, Copy, PartialEq, Eq)]
 pub struct Emission<'a> {
     pub lattice: Option<&'a str>,
@@ -180,16 +165,14 @@ pub struct Emission<'a> {
     pub is_bounded: bool,
 }
 
-/// A search for a bound: the path of an image or, with the path of a lattice file, of a source
-/// text.
+/// A search for a bound of an image or, with a lattice file, of a source text.
 #[derive(Clone, Copy, PartialEq, Eq)]
 pub struct Bounding<'a> {
     pub lattice: Option<&'a str>,
     pub file: &'a str,
 }
 
-/// A judgement of a source text: its compilation, whether its image must also be steady, whether
-/// the answer is written as JSON, and whether warnings follow it.
+/// A judgement of a source text, whose image must also be steady if `is_steady`.
 #[derive(Clone, Copy, PartialEq, Eq)]
 pub struct Judging<'a> {
     pub compilation: Compilation<'a>,
@@ -198,8 +181,7 @@ pub struct Judging<'a> {
     pub has_warnings: bool,
 }
 
-/// An attempt: the path of a source text; the path of a lattice file and the class of the observer,
-/// if they are given; the budget; and globals to set, each as `NAME=NUMBER`.
+/// An attempt to judge and run a source text, with settings, each `NAME=NUMBER`.
 #[derive(Drop, PartialEq, Eq)]
 pub struct Attempt<'a> {
     pub source: &'a str,
@@ -209,8 +191,7 @@ pub struct Attempt<'a> {
     pub settings: Vec<&'a [u8]>,
 }
 
-/// A request for raises: the files of a compilation, and whether the text with the raised classes,
-/// or a line of JSON, is printed instead of a line for each raise.
+/// A request for raises, or for the text with the raised classes if `is_applied`.
 #[derive(Clone, Copy, PartialEq, Eq)]
 pub struct Mending<'a> {
     pub compilation: Compilation<'a>,
@@ -218,16 +199,14 @@ pub struct Mending<'a> {
     pub is_json: bool,
 }
 
-/// A language server: the path of the lattice file of texts that name none, and whether the strict
-/// profile is used.
+/// A language server, with a lattice file for texts that name none.
 #[derive(Clone, Copy, PartialEq, Eq)]
 pub struct Serving<'a> {
     pub lattice: Option<&'a str>,
     pub is_strict: bool,
 }
 
-/// A layout that keeps comments: the path of a source text, whether `--keep-comments` was given, and
-/// whether the text is only compared with its layout or replaced by it.
+/// A layout that keeps comments; whether the text is only compared with it or replaced by it.
 #[derive(Clone, Copy, PartialEq, Eq)]
 pub struct Layout<'a> {
     pub source: &'a str,
@@ -280,8 +259,7 @@ pub enum Reporting {
     Explained(Colour),
 }
 
-/// How a request is carried out: how its refusal is reported, and whether its file replaces one of
-/// another kind.
+/// How a refusal of a request is reported, and whether its file replaces one of another kind.
 #[derive(Clone, Copy, PartialEq, Eq)]
 pub struct Manner {
     pub reporting: Reporting,

@@ -1,81 +1,26 @@
 //! The parts of the parser's messages besides the mistake itself: its tips, if they help.
 
+use crate::usage::owners_of;
 use std::alloc::{AllocError, Global};
 
-/// The options that only some subcommands have, as a mistake quotes them, and the subcommands that
-/// have each.
-const OWNERS: [(&str, &str); 38] = [
-    ("'--apply'", "mend"),
-    ("'--bounded'", "emit-c"),
-    (
-        "'--budget'",
-        "try, conform, run, view, drive, compare and leak",
-    ),
-    ("'--check'", "fmt"),
-    ("'--class'", "try, view, drive, compare and leak"),
-    (
-        "'--color'",
-        "every subcommand except lattice, lsp and explain, and comes after the subcommand",
-    ),
-    ("'--count'", "run"),
-    ("'--endings'", "leak"),
-    ("'--evidence'", "conform and audit"),
-    (
-        "'--explain'",
-        "every subcommand except lattice, lsp and explain, and comes after the subcommand, as in \
-        `vsi try a.vsi --explain`",
-    ),
-    ("'--flows'", "draw"),
-    ("'--force'", "build, run, view and drive"),
-    ("'--full-store'", "run, view and drive"),
-    ("'--header'", "emit-c"),
-    ("'--inputs'", "drive"),
-    ("'--interface'", "view, drive and policy"),
-    (
-        "'--json'",
-        "check, conform, classes, flows, mend, audit, bound, run, compare and leak",
-    ),
-    ("'--keep-comments'", "fmt"),
-    ("'--lattice'", "try, emit-c and lsp"),
-    ("'--name'", "emit-c"),
-    ("'--out'", "run and view"),
-    ("'--outputs'", "view and drive"),
-    ("'--release'", "view and drive"),
-    ("'--sarif'", "check, conform and audit"),
-    ("'--save'", "drive"),
-    ("'--save-every'", "drive"),
-    ("'--seed'", "leak"),
-    ("'--set'", "try, run and view"),
-    ("'--steady'", "check and audit"),
-    ("'--steps'", "leak"),
-    ("'--store'", "run, view, drive and compare"),
-    (
-        "'--strict'",
-        "check, classes, flows, mend, build, audit, report, draw and lsp",
-    ),
-    ("'--trace'", "run"),
-    ("'--tries'", "leak"),
-    ("'--unbounded'", "view, drive and compare"),
-    ("'--walks'", "flows"),
-    ("'--warnings'", "check"),
-    ("'--write'", "fmt"),
-];
+/// The subcommands that have the options of how a refusal is reported.
+const MOST: &str =
+    "every subcommand except lattice, lsp and explain, and comes after the subcommand";
+
+/// Texts and tips, as rows.
+macro_rules! tips {
+    ($($part:literal => $tip:literal;)*) => { [$(($part, $tip)),*] };
+}
 
 /// A part of a mistake, and the tip that helps with it.
-const TIPS: [(&str, &str); 3] = [
-    (
-        "  --class <C>",
-        "the observer: a class of the lattice file, as in `--class L`",
-    ),
-    (
-        "  --budget <N>",
-        "how many instructions may be executed, as in `--budget 1000` or `--budget auto`",
-    ),
-    (
-        ", in digits alone",
-        "write digits alone, as in 1000: no sign, no point and no `_`",
-    ),
-];
+const TIPS: [(&str, &str); 4] = tips! {
+    "  --class <C>" => "the observer: a class of the lattice file, as in `--class L`";
+    "  --budget <N>" =>
+    "how many instructions may be executed, as in `--budget 1000` or `--budget auto`";
+    "`--init` needs" =>
+    "write the path of the state twice, as in `--store state --init start.toml --save state`";
+    ", in digits alone" => "write digits alone, as in 1000: no sign, no point and no `_`";
+};
 
 /// The gap between the paragraphs of a text.
 const GAP: &str = "\n\n";
@@ -101,7 +46,7 @@ pub(crate) fn reformatted(alloc: Global, text: &str) -> Result<String, AllocErro
     told.push_str(mistake)?;
     put_tips(&mut told, mistake)?;
     put_attempt(&mut told, mistake)?;
-    let is_owned = put_owners(&mut told, mistake)?;
+    let is_owned = put_owners(alloc, &mut told, mistake)?;
     let Some((tip, behind)) = tip_of(rest) else {
         put_paragraph(&mut told, rest)?;
         return Ok(told);
@@ -131,21 +76,48 @@ fn tip_of(rest: &str) -> Option<(&str, &str)> {
     }
 }
 
+/// The name of the first option that a mistake quotes, if it is about an unexpected argument.
+fn unexpected_option(mistake: &str) -> Option<&str> {
+    let argument = mistake.strip_prefix("error: unexpected argument ")?;
+    let (_, quoted) = argument.split_once("'--")?;
+    let (option, _) = quoted.split_once("'")?;
+    Some(option)
+}
+
 /// Adds a tip that lists the subcommands with the option of the mistake, if there are any.
-fn put_owners(told: &mut String, mistake: &str) -> Result<bool, AllocError> {
-    if !mistake.starts_with("error: unexpected argument ") {
+fn put_owners(alloc: Global, told: &mut String, mistake: &str) -> Result<bool, AllocError> {
+    let Some(option) = unexpected_option(mistake) else {
+        return Ok(false);
+    };
+    let owners = owners_of(alloc, option)?;
+    let is_of_most = option == "color" || option == "explain";
+    if owners.is_empty() && !is_of_most {
         return Ok(false);
     }
-    for (option, owners) in &OWNERS {
-        if mistake.contains(*option) {
-            put_paragraph(told, TIP)?;
-            told.push_str(option)?;
-            told.push_str(" is an option of ")?;
-            told.push_str(owners)?;
-            return Ok(true);
-        }
+    put_paragraph(told, TIP)?;
+    told.push_str("'--")?;
+    told.push_str(option)?;
+    told.push_str("' is an option of ")?;
+    if is_of_most {
+        told.push_str(MOST)?;
     }
-    Ok(false)
+    if option == "explain" {
+        told.push_str(", as in `vsi try a.vsi --explain`")?;
+    }
+    put_names(told, owners.as_str())?;
+    Ok(true)
+}
+
+/// Adds names, each of them after a comma, with `and` before the last in place of its comma.
+fn put_names(told: &mut String, names: &str) -> Result<(), AllocError> {
+    let Some((others, last)) = names.rsplit_once(", ") else {
+        return Ok(());
+    };
+    if let Some(others) = others.strip_prefix(", ") {
+        told.push_str(others)?;
+        told.push_str(" and ")?;
+    }
+    told.push_str(last)
 }
 
 /// Adds a tip that shows `try`, if the path of a source text is given in place of a subcommand.

@@ -1,13 +1,11 @@
-//! The subcommands of the program, each with its arguments and its help.
+//! The program with its subcommands, for the command-line parser.
 
-use crate::argument::Argument;
-use crate::flags::EXPLAIN;
 use crate::images::IMAGES;
-use crate::options::COLOR;
-use crate::pages::{PAGES, UNREFUSED};
+use crate::pages::PAGES;
 use crate::runs::RUNS;
+use crate::subcommand::Subcommand;
 use crate::texts::TEXTS;
-use clap::{Arg, Command};
+use clap::Command;
 use std::alloc::{AllocError, Global};
 
 /// What `vsi --help` prints.
@@ -44,79 +42,6 @@ Example:
 /// The version that `--version` prints after the program's name.
 const VERSION: &str = "0.1.0";
 
-/// A subcommand: its name, its short and long help, an example, and its arguments.
-pub(crate) struct Subcommand {
-    pub(crate) name: &'static str,
-    pub(crate) line: &'static str,
-    pub(crate) whole: &'static str,
-    pub(crate) example: &'static str,
-    pub(crate) arguments: &'static [Argument],
-}
-
-/// The arguments that say how a refusal is reported.
-const MANNER: [Argument; 2] = [EXPLAIN, COLOR];
-
-/// The usage of `view`, which has two forms.
-const VIEW_USAGE: &str = "vsi view [OPTIONS] --class <C> --budget <N> <LATTICE> <IMAGE>
-       vsi view [OPTIONS] --class <C> --budget <N> --interface <FILE> <IMAGE>";
-
-/// The usage of `drive`, which has two forms.
-const DRIVE_USAGE: &str = "vsi drive [OPTIONS] --class <C> <LATTICE> <IMAGE>
-       vsi drive [OPTIONS] --class <C> --interface <FILE> <IMAGE>";
-
-/// The usage of `policy`, which has two forms.
-const POLICY_USAGE: &str = "vsi policy [OPTIONS] <LATTICE> [OLD]
-       vsi policy [OPTIONS] --interface <FILE> [OLD]";
-
-/// The usage of a subcommand that has two forms.
-fn usage_of(name: &str) -> Option<&'static str> {
-    match name {
-        "view" => Some(VIEW_USAGE),
-        "drive" => Some(DRIVE_USAGE),
-        "policy" => Some(POLICY_USAGE),
-        _ => None,
-    }
-}
-
-impl Subcommand {
-    /// Builds the subcommand for the command-line parser.
-    fn made<'a>(&self, alloc: Global) -> Result<Command<'a>, AllocError> {
-        let command = Command::new(alloc, self.name)
-            .about(self.line)
-            .long_about(self.whole)
-            .after_help(self.example);
-        let command = match usage_of(self.name) {
-            Some(usage) => command.override_usage(usage),
-            None => command,
-        };
-        taking(alloc, command, self.arguments)
-    }
-}
-
-/// Adds arguments to a command.
-fn taking<'a>(
-    alloc: Global,
-    command: Command<'a>,
-    arguments: &[Argument],
-) -> Result<Command<'a>, AllocError> {
-    let mut taken = Ok(command);
-    for argument in arguments {
-        taken = with_argument(taken, argument.made(alloc)?);
-    }
-    taken
-}
-
-/// Adds one argument to a command.
-fn with_argument<'a>(
-    command: Result<Command<'a>, AllocError>,
-    argument: Arg<'a>,
-) -> Result<Command<'a>, AllocError> {
-    match command {
-        Ok(command) => command.arg(argument),
-        Err(refused) => Err(refused),
-    }
-}
-
 /// The subcommand of a list with this name.
 fn subcommand_of<'b>(list: &'b [Subcommand], name: &str) -> Option<&'b Subcommand> {
     for subcommand in list {
@@ -125,12 +50,6 @@ fn subcommand_of<'b>(list: &'b [Subcommand], name: &str) -> Option<&'b Subcomman
         }
     }
     None
-}
-
-/// Builds a subcommand whose refusals can be explained.
-fn explained<'a>(alloc: Global, subcommand: &Subcommand) -> Result<Command<'a>, AllocError> {
-    let command = subcommand.made(alloc)?;
-    taking(alloc, command, &MANNER)
 }
 
 /// The program without its subcommands.
@@ -144,7 +63,7 @@ fn bare<'a>(alloc: Global) -> Result<Command<'a>, AllocError> {
         .bin_name("vsi")
 }
 
-/// Adds subcommands whose refusals can be explained to the program.
+/// Adds subcommands to the program.
 fn having<'a>(
     alloc: Global,
     program: Command<'a>,
@@ -152,7 +71,7 @@ fn having<'a>(
 ) -> Result<Command<'a>, AllocError> {
     let mut program = program;
     for subcommand in subcommands {
-        program = program.subcommand(explained(alloc, subcommand)?)?;
+        program = program.subcommand(subcommand.made(alloc)?)?;
     }
     Ok(program)
 }
@@ -162,11 +81,7 @@ fn whole<'a>(alloc: Global) -> Result<Command<'a>, AllocError> {
     let program = having(alloc, bare(alloc)?, &TEXTS)?;
     let program = having(alloc, program, &IMAGES)?;
     let program = having(alloc, program, &RUNS)?;
-    let mut program = having(alloc, program, &PAGES)?;
-    for subcommand in &UNREFUSED {
-        program = program.subcommand(subcommand.made(alloc)?)?;
-    }
-    Ok(program)
+    having(alloc, program, &PAGES)
 }
 
 /// The program with the subcommands that the parser needs for arguments that begin with this one.
@@ -178,12 +93,29 @@ pub(crate) fn program<'a>(alloc: Global, first: &str) -> Result<Command<'a>, All
         .or(subcommand_of(&RUNS, first))
         .or(subcommand_of(&PAGES, first))
     {
-        let command = explained(alloc, subcommand)?;
-        return bare(alloc)?.subcommand(command);
-    }
-    if let Some(subcommand) = subcommand_of(&UNREFUSED, first) {
         let command = subcommand.made(alloc)?;
         return bare(alloc)?.subcommand(command);
     }
     whole(alloc)
+}
+
+/// The names of the subcommands with this option of their own, as the help has them, after commas.
+pub(crate) fn owners_of(alloc: Global, option: &str) -> Result<String, AllocError> {
+    let mut owners = String::new(alloc);
+    add_owners(&mut owners, &TEXTS, option)?;
+    add_owners(&mut owners, &IMAGES, option)?;
+    add_owners(&mut owners, &RUNS, option)?;
+    add_owners(&mut owners, &PAGES, option)?;
+    Ok(owners)
+}
+
+/// Adds the names of the subcommands of a list that have the option.
+fn add_owners(owners: &mut String, list: &[Subcommand], option: &str) -> Result<(), AllocError> {
+    for subcommand in list {
+        if subcommand.has_option(option) {
+            owners.push_str(", ")?;
+            owners.push_str(subcommand.name)?;
+        }
+    }
+    Ok(())
 }

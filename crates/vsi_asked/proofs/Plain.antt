@@ -9,7 +9,7 @@ use Rattle.vsi_arguments.specs.declared.request.Judging.{Judging}
 use Rattle.vsi_arguments.specs.declared.request.Request.{Request}
 use Rattle.vsi_arguments.specs.declared.request.Document.{Document}
 use Rattle.vsi_arguments.specs.declared.request.Document.TheVariants as document
-use Rattle.vsi_arguments.specs.declared.request.Request.TheVariants.{Check, Document as Documented, Explain, Layout, Mend, ViewWithin}
+use Rattle.vsi_arguments.specs.declared.request.Request.TheVariants.{Check, Document as Documented, Drive, Explain, Layout, Mend, ViewWithin}
 use Rattle.vsi_asked.specs.Asked.{AsksFor, Spells, name_of}
 use Rattle.vsi_asked.specs.Help.{front_of, is_first, is_help, is_short}
 use Rattle.vsi_asked.specs.Laws.{ArePlainCheck, CheckIsAsked, IsPlainCheck}
@@ -31,6 +31,7 @@ unvalued word plain =
       apart word (codes "--budget") plain refl,
       apart word (codes "--class") plain refl,
       apart word (codes "--color") plain refl,
+      apart word (codes "--init") plain refl,
       apart word (codes "--inputs") plain refl,
       apart word (codes "--interface") plain refl,
       apart word (codes "--lattice") plain refl,
@@ -151,6 +152,8 @@ one_request words lattice source plain (Mend mending) asks =
     absurd (unnamed (texts words) _ asks.spelled.asks.rest (codes "mend") plain.are asks.spelled.asks.named refl)
 one_request words lattice source plain (ViewWithin viewing) asks =
     absurd (unnamed (texts words) _ asks.spelled.asks.rest (codes "view") plain.are asks.spelled.asks.named refl)
+one_request words lattice source plain (Drive driving) asks =
+    absurd (unnamed (texts words) _ asks.spelled.asks.rest (codes "drive") plain.are asks.spelled.asks.named refl)
 one_request words lattice source plain request asks =
     absurd (unnamed (texts words) _ asks.spelled.rest (name_of request) plain.are asks.spelled.named refl)
 

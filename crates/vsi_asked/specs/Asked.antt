@@ -280,7 +280,8 @@ bounding lists =
 abbrev pub drive_options : Driving → Option (Bor (List ℕ)) → NameLists → List (List ℕ × List (List ℕ))
 drive_options driving interface lists =
     (codes "--class", driving.class.now ∷ []) ∷ (codes "--store", given driving.execution.store)
-    ∷ (codes "--save", given driving.save) ∷ (codes "--interface", given interface) ∷ bounding lists
+    ∷ (codes "--init", given driving.start) ∷ (codes "--save", given driving.save)
+    ∷ (codes "--interface", given interface) ∷ bounding lists
 
 -- The options that bound a view, each with its values.
 abbrev pub listing : Option (Bor (List ℕ)) → Option (Bor (List ℕ)) → Option (Bor (List ℕ)) →
@@ -445,6 +446,18 @@ pub record AsksViewWithin (words : List (String Global)) (viewing : Viewing) : T
   pub unfed : (lists_of viewing.policy).inputs ≡ None
   pub listed : is_bounding viewing.policy ≡ true
 
+-- A drive with a start store reads and saves its store at one path.
+abbrev pub IsKept : Option (Bor (List ℕ)) → Option (Bor (List ℕ)) → Option (Bor (List ℕ)) → Type 0
+IsKept None store save = Unit {0}
+IsKept (Some start) store save = (is_some store ≡ true) × (given save ≡ given store)
+
+-- The arguments are `drive` with its operands, flags, options and numbers, and if a start store is given, with one path
+-- at which the store is read and saved.
+pub record AsksDrive (words : List (String Global)) (driving : Driving) : Type 0 where
+  pub asks : Asks words (codes "drive") (operands_of (Drive driving)) (flags_of (Drive driving))
+      (options_of (Drive driving)) (numbers_of (Drive driving))
+  pub kept : IsKept driving.start driving.execution.store driving.save
+
 -- The arguments spell the request: its subcommand, then its operands, flags, options and numbers or, for `explain`, an
 -- operand that names its page.
 abbrev pub Spells : List (String Global) → Request → Type 0
@@ -454,6 +467,7 @@ Spells words (View lattice class execution initial_store) =
     (flags_of (View lattice class execution initial_store)) (unlisted class execution initial_store)
     (numbers_of (View lattice class execution initial_store))
 Spells words (ViewWithin viewing) = AsksViewWithin words viewing
+Spells words (Drive driving) = AsksDrive words driving
 Spells words (Layout layout) = AsksLayout words layout
 Spells words (Explain page) = AsksPage words page.now
 Spells words request =

@@ -23,7 +23,7 @@ is_among (name ∷ names) word = if bytes_eq word name then true else is_among n
 -- The options that take a value.
 abbrev pub VALUED : List (List ℕ)
 VALUED =
-    codes "--budget" ∷ codes "--class" ∷ codes "--color" ∷ codes "--inputs" ∷ codes "--interface"
+    codes "--budget" ∷ codes "--class" ∷ codes "--color" ∷ codes "--init" ∷ codes "--inputs" ∷ codes "--interface"
     ∷ codes "--lattice" ∷ codes "--name" ∷ codes "--out" ∷ codes "--outputs" ∷ codes "--release" ∷ codes "--save"
     ∷ codes "--save-every" ∷ codes "--seed" ∷ codes "--set" ∷ codes "--store" ∷ codes "--tries" ∷ []
 

@@ -6,12 +6,6 @@ ghost use Rattle.vsi_asked.specs.Words as spec;
 
 use crate::reading::{is_among, is_dashed, is_end, is_valued, joined};
 
-/// The flag of a subcommand that has no other one.
-pub(crate) const EXPLAIN: [&str; 1] = ["--explain"];
-
-/// The option of a subcommand that has no other one.
-pub(crate) const COLOR: [&str; 1] = ["--color"];
-
 /// Whether an argument is one of these options, alone or with `=` and its value.
 fn is_option(options: &[&str], word: &[u8]) -> bool
     ensures { result ≡ spec.is_option (spec.shown options.now) word.now }
@@ -75,3 +69,13 @@ pub(crate) fn behind<'a>(
     let rest = behind_name(words, name)?;
     are_own(words, flags, options).then_some(rest)
 }
+
+/// The arguments after the first, as `behind` returns them, by a row: the name, the flags and the
+/// options of the subcommand.
+macro_rules! rest_of {
+    ($words:ident $name:literal [$($flag:literal)*] [$($option:literal)*]) => {
+        behind($words, $name, [$($flag),*].as_slice(), [$($option),*].as_slice())?
+    };
+}
+
+pub(crate) use rest_of;

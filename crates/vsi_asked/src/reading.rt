@@ -7,25 +7,16 @@ ghost use Rattle.vsi_asked.specs.Words as spec;
 
 use std::alloc::{AllocError, Global};
 
+/// Texts, as a row.
+macro_rules! texts {
+    ($($text:literal)*) => { [$($text),*] };
+}
+
 /// The options that take a value.
-const VALUED: [&str; 16] = [
-    "--budget",
-    "--class",
-    "--color",
-    "--inputs",
-    "--interface",
-    "--lattice",
-    "--name",
-    "--out",
-    "--outputs",
-    "--release",
-    "--save",
-    "--save-every",
-    "--seed",
-    "--set",
-    "--store",
-    "--tries",
-];
+const VALUED: [&str; 17] = texts! {
+    "--budget" "--class" "--color" "--init" "--inputs" "--interface" "--lattice" "--name" "--out"
+    "--outputs" "--release" "--save" "--save-every" "--seed" "--set" "--store" "--tries"
+};
 
 /// Whether an argument is `--`, after which every argument is an operand.
 pub(crate) fn is_end(word: &[u8]) -> bool

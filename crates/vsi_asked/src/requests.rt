@@ -5,7 +5,7 @@ ghost use Rattle.vsi_asked.specs.Asked as spec;
 ghost use Rattle.vsi_asked.specs.Words.{has_flag as is_flag, operands_in, texts};
 
 use crate::numbers::{number, number_in};
-use crate::own::{COLOR, EXPLAIN, behind};
+use crate::own::{behind, rest_of};
 use crate::reading::{has_flag, has_operands, one, one_or_none, one_or_two, two, value};
 use vsi_arguments::{
     AnswerForm, Audit, Bounding, Compilation, Conformance, Document, Drawing, Emission, Judging,
@@ -32,15 +32,9 @@ pub(crate) fn compilation<'a>(words: &[String], proposed: &[&'a str]) -> Option<
 pub(crate) fn check<'a>(words: &[String], proposed: &[&'a str]) -> Option<Request<'a>>
     ensures { IfSome result (spec.AsksFor words.now) }
 {
-    let flags = [
-        "--strict",
-        "--steady",
-        "--json",
-        "--sarif",
-        "--warnings",
-        "--explain",
-    ];
-    let rest = behind(words, "check", flags.as_slice(), COLOR.as_slice())?;
+    let rest = rest_of! { words "check"
+    ["--strict" "--steady" "--json" "--sarif" "--warnings" "--explain"]
+    ["--color"] };
     let judging = Judging {
         compilation: compilation(rest, proposed)?,
         is_steady: has_flag(rest, "--steady"),
@@ -72,9 +66,8 @@ fn form(words: &[String]) -> Option<AnswerForm>
 pub(crate) fn conform<'a>(words: &[String], proposed: &[&'a str]) -> Option<Request<'a>>
     ensures { IfSome result (spec.AsksFor words.now) }
 {
-    let flags = ["--json", "--sarif", "--evidence", "--explain"];
-    let options = ["--budget", "--color"];
-    let rest = behind(words, "conform", flags.as_slice(), options.as_slice())?;
+    let rest = rest_of! { words "conform" ["--json" "--sarif" "--evidence" "--explain"]
+    ["--budget" "--color"] };
     let (interface, source) = two(rest, proposed)?;
     Some(Request::Conform(Conformance {
         interface,
@@ -89,8 +82,7 @@ pub(crate) fn conform<'a>(words: &[String], proposed: &[&'a str]) -> Option<Requ
 pub(crate) fn classes<'a>(words: &[String], proposed: &[&'a str]) -> Option<Request<'a>>
     ensures { IfSome result (spec.AsksFor words.now) }
 {
-    let flags = ["--strict", "--json", "--explain"];
-    let rest = behind(words, "classes", flags.as_slice(), COLOR.as_slice())?;
+    let rest = rest_of! { words "classes" ["--strict" "--json" "--explain"] ["--color"] };
     let compilation = compilation(rest, proposed)?;
     if has_flag(rest, "--json") {
         return Some(Request::Document(Document::Classes(compilation)));
@@ -102,8 +94,7 @@ pub(crate) fn classes<'a>(words: &[String], proposed: &[&'a str]) -> Option<Requ
 pub(crate) fn flows<'a>(words: &[String], proposed: &[&'a str]) -> Option<Request<'a>>
     ensures { IfSome result (spec.AsksFor words.now) }
 {
-    let flags = ["--strict", "--walks", "--json", "--explain"];
-    let rest = behind(words, "flows", flags.as_slice(), COLOR.as_slice())?;
+    let rest = rest_of! { words "flows" ["--strict" "--walks" "--json" "--explain"] ["--color"] };
     let compilation = compilation(rest, proposed)?;
     match (has_flag(rest, "--walks"), has_flag(rest, "--json")) {
         (true, true) => None,
@@ -119,8 +110,7 @@ pub(crate) fn flows<'a>(words: &[String], proposed: &[&'a str]) -> Option<Reques
 pub(crate) fn mend<'a>(words: &[String], proposed: &[&'a str]) -> Option<Request<'a>>
     ensures { IfSome result (spec.AsksFor words.now) }
 {
-    let flags = ["--strict", "--apply", "--json", "--explain"];
-    let rest = behind(words, "mend", flags.as_slice(), COLOR.as_slice())?;
+    let rest = rest_of! { words "mend" ["--strict" "--apply" "--json" "--explain"] ["--color"] };
     let compilation = compilation(rest, proposed)?;
     let is_applied = has_flag(rest, "--apply");
     let is_json = has_flag(rest, "--json");
@@ -138,15 +128,9 @@ pub(crate) fn mend<'a>(words: &[String], proposed: &[&'a str]) -> Option<Request
 pub(crate) fn audit<'a>(words: &[String], proposed: &[&'a str]) -> Option<Request<'a>>
     ensures { IfSome result (spec.AsksFor words.now) }
 {
-    let flags = [
-        "--strict",
-        "--steady",
-        "--evidence",
-        "--json",
-        "--sarif",
-        "--explain",
-    ];
-    let rest = behind(words, "audit", flags.as_slice(), COLOR.as_slice())?;
+    let rest = rest_of! { words "audit"
+    ["--strict" "--steady" "--evidence" "--json" "--sarif" "--explain"]
+    ["--color"] };
     let (lattice, image) = two(rest, proposed)?;
     let audit = Audit {
         lattice,
@@ -166,9 +150,8 @@ pub(crate) fn audit<'a>(words: &[String], proposed: &[&'a str]) -> Option<Reques
 pub(crate) fn leak<'a>(words: &'a [String], proposed: &[&'a str]) -> Option<Request<'a>>
     ensures { IfSome result (spec.AsksFor words.now) }
 {
-    let flags = ["--endings", "--steps", "--json", "--explain"];
-    let options = ["--class", "--budget", "--tries", "--seed", "--color"];
-    let rest = behind(words, "leak", flags.as_slice(), options.as_slice())?;
+    let rest = rest_of! { words "leak" ["--endings" "--steps" "--json" "--explain"]
+    ["--class" "--budget" "--tries" "--seed" "--color"] };
     let (lattice, source) = two(rest, proposed)?;
     let search = Search {
         lattice,
@@ -190,8 +173,7 @@ pub(crate) fn leak<'a>(words: &'a [String], proposed: &[&'a str]) -> Option<Requ
 pub(crate) fn build<'a>(words: &[String], proposed: &[&'a str]) -> Option<Request<'a>>
     ensures { IfSome result (spec.AsksFor words.now) }
 {
-    let flags = ["--strict", "--explain", "--force"];
-    let rest = behind(words, "build", flags.as_slice(), COLOR.as_slice())?;
+    let rest = rest_of! { words "build" ["--strict" "--explain" "--force"] ["--color"] };
     let [lattice, source, image] = proposed else {
         return None;
     };
@@ -211,7 +193,7 @@ pub(crate) fn build<'a>(words: &[String], proposed: &[&'a str]) -> Option<Reques
 pub(crate) fn list<'a>(words: &[String], proposed: &[&'a str]) -> Option<Request<'a>>
     ensures { IfSome result (spec.AsksFor words.now) }
 {
-    let rest = behind(words, "list", EXPLAIN.as_slice(), COLOR.as_slice())?;
+    let rest = rest_of! { words "list" ["--explain"] ["--color"] };
     Some(Request::List(one(rest, proposed)?))
 }
 
@@ -219,7 +201,7 @@ pub(crate) fn list<'a>(words: &[String], proposed: &[&'a str]) -> Option<Request
 pub(crate) fn source<'a>(words: &[String], proposed: &[&'a str]) -> Option<Request<'a>>
     ensures { IfSome result (spec.AsksFor words.now) }
 {
-    let rest = behind(words, "source", EXPLAIN.as_slice(), COLOR.as_slice())?;
+    let rest = rest_of! { words "source" ["--explain"] ["--color"] };
     Some(Request::Source(one(rest, proposed)?))
 }
 
@@ -227,9 +209,8 @@ pub(crate) fn source<'a>(words: &[String], proposed: &[&'a str]) -> Option<Reque
 pub(crate) fn emit_c<'a>(words: &'a [String], proposed: &[&'a str]) -> Option<Request<'a>>
     ensures { IfSome result (spec.AsksFor words.now) }
 {
-    let flags = ["--header", "--bounded", "--explain"];
-    let options = ["--lattice", "--name", "--color"];
-    let rest = behind(words, "emit-c", flags.as_slice(), options.as_slice())?;
+    let rest = rest_of! { words "emit-c" ["--header" "--bounded" "--explain"]
+    ["--lattice" "--name" "--color"] };
     Some(Request::EmitC(Emission {
         lattice: value(rest, "--lattice")?,
         file: one(rest, proposed)?,
@@ -243,8 +224,7 @@ pub(crate) fn emit_c<'a>(words: &'a [String], proposed: &[&'a str]) -> Option<Re
 pub(crate) fn bound<'a>(words: &[String], proposed: &[&'a str]) -> Option<Request<'a>>
     ensures { IfSome result (spec.AsksFor words.now) }
 {
-    let flags = ["--json", "--explain"];
-    let rest = behind(words, "bound", flags.as_slice(), COLOR.as_slice())?;
+    let rest = rest_of! { words "bound" ["--json" "--explain"] ["--color"] };
     let bounding = match one_or_two(rest, proposed)? {
         (file, None) => Bounding {
             lattice: None,
@@ -265,8 +245,7 @@ pub(crate) fn bound<'a>(words: &[String], proposed: &[&'a str]) -> Option<Reques
 pub(crate) fn report<'a>(words: &[String], proposed: &[&'a str]) -> Option<Request<'a>>
     ensures { IfSome result (spec.AsksFor words.now) }
 {
-    let flags = ["--strict", "--explain"];
-    let rest = behind(words, "report", flags.as_slice(), COLOR.as_slice())?;
+    let rest = rest_of! { words "report" ["--strict" "--explain"] ["--color"] };
     Some(Request::Report(compilation(rest, proposed)?))
 }
 
@@ -274,8 +253,7 @@ pub(crate) fn report<'a>(words: &[String], proposed: &[&'a str]) -> Option<Reque
 pub(crate) fn draw<'a>(words: &[String], proposed: &[&'a str]) -> Option<Request<'a>>
     ensures { IfSome result (spec.AsksFor words.now) }
 {
-    let flags = ["--strict", "--flows", "--explain"];
-    let rest = behind(words, "draw", flags.as_slice(), COLOR.as_slice())?;
+    let rest = rest_of! { words "draw" ["--strict" "--flows" "--explain"] ["--color"] };
     let (lattice, source) = one_or_two(rest, proposed)?;
     Some(Request::Draw(Drawing {
         lattice,
@@ -290,8 +268,7 @@ pub(crate) fn draw<'a>(words: &[String], proposed: &[&'a str]) -> Option<Request
 pub(crate) fn policy<'a>(words: &'a [String], proposed: &[&'a str]) -> Option<Request<'a>>
     ensures { IfSome result (spec.AsksFor words.now) }
 {
-    let options = ["--interface", "--color"];
-    let rest = behind(words, "policy", EXPLAIN.as_slice(), options.as_slice())?;
+    let rest = rest_of! { words "policy" ["--explain"] ["--interface" "--color"] };
     let Some(interface) = value(rest, "--interface")? else {
         let (lattice, old) = one_or_two(rest, proposed)?;
         return Some(Request::Policy(Looking { lattice, old }));
@@ -315,8 +292,8 @@ fn keeps_comments(layout: &Layout<'_>) -> bool
 pub(crate) fn layout<'a>(words: &[String], proposed: &[&'a str]) -> Option<Request<'a>>
     ensures { IfSome result (spec.AsksFor words.now) }
 {
-    let flags = ["--keep-comments", "--check", "--write", "--explain"];
-    let rest = behind(words, "fmt", flags.as_slice(), COLOR.as_slice())?;
+    let rest = rest_of! { words "fmt" ["--keep-comments" "--check" "--write" "--explain"]
+    ["--color"] };
     let layout = Layout {
         source: one(rest, proposed)?,
         is_kept: has_flag(rest, "--keep-comments"),
@@ -326,7 +303,7 @@ pub(crate) fn layout<'a>(words: &[String], proposed: &[&'a str]) -> Option<Reque
     if keeps_comments(&layout) {
         return Some(Request::Layout(layout));
     }
-    let rest = behind(words, "fmt", EXPLAIN.as_slice(), COLOR.as_slice())?;
+    let rest = rest_of! { words "fmt" ["--explain"] ["--color"] };
     Some(Request::Format(one(rest, proposed)?))
 }
 
@@ -346,8 +323,7 @@ pub(crate) fn lattice<'a>(words: &[String], proposed: Vec<&'a [u8]>) -> Option<R
 pub(crate) fn lsp<'a>(words: &'a [String]) -> Option<Request<'a>>
     ensures { IfSome result (spec.AsksFor words.now) }
 {
-    let flags = ["--strict"];
-    let rest = behind(words, "lsp", flags.as_slice(), ["--lattice"].as_slice())?;
+    let rest = rest_of! { words "lsp" ["--strict"] ["--lattice"] };
     if !has_operands(rest, &[]) {
         return None;
     }

@@ -5,7 +5,7 @@ ghost use Rattle.vsi_asked.specs.Asked as spec;
 ghost use Rattle.vsi_asked.specs.Words.{has_flag as is_flag, operands_in, shown, texts, values_in};
 
 use crate::numbers::{budget, budget_or_auto, number};
-use crate::own::{EXPLAIN, behind};
+use crate::own::{behind, rest_of};
 use crate::reading::{has_flag, has_values, one, two, value};
 use vsi_arguments::{
     Attempt, Comparison, Document, DrivePolicy, Driving, EVERY, Execution, InitialStore, NameLists,
@@ -20,8 +20,8 @@ pub(crate) fn attempt<'a>(
 ) -> Option<Request<'a>>
     ensures { IfSome result (spec.AsksFor words.now) }
 {
-    let options = ["--lattice", "--class", "--set", "--budget", "--color"];
-    let rest = behind(words, "try", EXPLAIN.as_slice(), options.as_slice())?;
+    let rest = rest_of! { words "try" ["--explain"]
+    ["--lattice" "--class" "--set" "--budget" "--color"] };
     if !has_values(rest, "--set", settings.as_slice()) {
         return None;
     }
@@ -76,16 +76,9 @@ pub(crate) fn run<'a>(
 ) -> Option<Request<'a>>
     ensures { IfSome result (spec.AsksFor words.now) }
 {
-    let flags = [
-        "--full-store",
-        "--trace",
-        "--count",
-        "--json",
-        "--explain",
-        "--force",
-    ];
-    let options = ["--store", "--out", "--set", "--budget", "--color"];
-    let rest = behind(words, "run", flags.as_slice(), options.as_slice())?;
+    let rest = rest_of! { words "run"
+    ["--full-store" "--trace" "--count" "--json" "--explain" "--force"]
+    ["--store" "--out" "--set" "--budget" "--color"] };
     let execution = execution(rest, one(rest, proposed)?)?;
     let initial_store = initial_store(rest, settings)?;
     let (has_trace, has_count) = (has_flag(rest, "--trace"), has_flag(rest, "--count"));
@@ -158,19 +151,10 @@ pub(crate) fn view<'a>(
 ) -> Option<Request<'a>>
     ensures { IfSome result (spec.AsksFor words.now) }
 {
-    let flags = ["--full-store", "--unbounded", "--explain", "--force"];
-    let options = [
-        "--class",
-        "--store",
-        "--out",
-        "--set",
-        "--interface",
-        "--outputs",
-        "--release",
-        "--budget",
-        "--color",
-    ];
-    let rest = behind(words, "view", flags.as_slice(), options.as_slice())?;
+    let rest = rest_of! { words "view"
+    ["--full-store" "--unbounded" "--explain" "--force"]
+    ["--class" "--store" "--out" "--set" "--interface" "--outputs" "--release" "--budget"
+    "--color"] };
     let (policy, image) = policy(rest, proposed, None)?;
     let class = value(rest, "--class")??;
     let execution = execution(rest, image)?;
@@ -208,34 +192,57 @@ pub(crate) fn view<'a>(
     })
 }
 
+/// The paths of the store files of a drive.
+#[derive(Clone, Copy)]
+struct StorePaths<'a> {
+    store: Option<&'a str>,
+    start: Option<&'a str>,
+    save: Option<&'a str>,
+}
+
+/// The paths of the store files of a drive. With a start store, the store is read and saved at one
+/// path.
+fn stores<'a>(words: &'a [String]) -> Option<StorePaths<'a>>
+    ensures store { IfSome result (λ made.
+        values_in (codes "--store") false (texts words.now) ≡ spec.given made.store) }
+    ensures start { IfSome result (λ made.
+        values_in (codes "--init") false (texts words.now) ≡ spec.given made.start) }
+    ensures save { IfSome result (λ made.
+        values_in (codes "--save") false (texts words.now) ≡ spec.given made.save) }
+    ensures kept { IfSome result (λ made. spec.IsKept made.start made.store made.save) }
+{
+    let store = value(words, "--store")?;
+    let start = value(words, "--init")?;
+    let save = value(words, "--save")?;
+    match (start, store, save) {
+        (None, _, _) => {}
+        (Some(_), Some(read), Some(saved)) if read.as_bytes() == saved.as_bytes() => {}
+        _ => return None,
+    }
+    Some(StorePaths { store, start, save })
+}
+
 /// The request of `drive`.
 pub(crate) fn drive<'a>(words: &'a [String], proposed: &[&'a str]) -> Option<Request<'a>>
     ensures { IfSome result (spec.AsksFor words.now) }
 {
-    let flags = ["--full-store", "--unbounded", "--explain", "--force"];
-    let options = [
-        "--class",
-        "--store",
-        "--save",
-        "--interface",
-        "--inputs",
-        "--outputs",
-        "--release",
-        "--budget",
-        "--save-every",
-        "--color",
-    ];
-    let rest = behind(words, "drive", flags.as_slice(), options.as_slice())?;
+    let rest = rest_of! { words "drive"
+    ["--full-store" "--unbounded" "--explain" "--force"]
+    ["--class" "--store" "--init" "--save" "--interface" "--inputs" "--outputs" "--release"
+    "--budget" "--save-every" "--color"] };
     let (policy, image) = policy(rest, proposed, value(rest, "--inputs")?)?;
+    let class = value(rest, "--class")??;
+    let stores = stores(rest)?;
     Some(Request::Drive(Driving {
         policy,
-        class: value(rest, "--class")??,
+        class,
         execution: Execution {
             image,
             budget: budget_or_auto(rest)?,
-            store: value(rest, "--store")?,
+            store: stores.store,
         },
-        save: value(rest, "--save")?,
+        start: stores.start,
+        save: stores.save,
         every: number(rest, "--save-every", Some(EVERY))?,
         is_full: has_flag(rest, "--full-store"),
         is_unbounded: has_flag(rest, "--unbounded"),
@@ -250,9 +257,8 @@ pub(crate) fn compare<'a>(
 ) -> Option<Request<'a>>
     ensures { IfSome result (spec.AsksFor words.now) }
 {
-    let flags = ["--unbounded", "--json", "--explain"];
-    let options = ["--class", "--store", "--budget", "--color"];
-    let rest = behind(words, "compare", flags.as_slice(), options.as_slice())?;
+    let rest = rest_of! { words "compare" ["--unbounded" "--json" "--explain"]
+    ["--class" "--store" "--budget" "--color"] };
     let (lattice, image) = two(rest, proposed)?;
     let [first, second] = stores else {
         return None;

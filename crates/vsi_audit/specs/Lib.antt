@@ -12,3 +12,4 @@ pub mod Steps
 pub mod Structure
 pub mod Unread
 pub mod Laws
+pub mod Flows

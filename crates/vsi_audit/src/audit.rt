@@ -171,7 +171,7 @@ fn searched_program<'a>(
 
 /// The program of an image's code; the text declares its globals. If the search reads no program
 /// back, each letvar is taken to last to the end of its branch or body.
-fn program_of<'a>(
+pub(crate) fn program_of<'a>(
     alloc: Global,
     lattice: &Lattice,
     text: &'a [u8],

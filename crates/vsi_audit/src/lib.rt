@@ -5,11 +5,11 @@
 //! accepted image is noninterfering, however the commands were read back; code that is that of
 //! commands within the limits of texts is always read back. `source_text` writes the commands as a
 //! text, reads the text again, and compares both with the code and the commands. `audit_text`
-//! writes why an image is refused.
+//! writes why an image is refused. `image_flows` hands out the table of flows of the commands.
 //!
 //! `laws` says that no compiled image is refused as code without commands.
 //!
-//! To be believed: `specs/Laws`, `specs/MadeNames`, `specs/Refusal`, `specs/Standing`, `specs/Structure`,
+//! To be believed: `specs/Flows`, `specs/Laws`, `specs/MadeNames`, `specs/Refusal`, `specs/Standing`, `specs/Structure`,
 //! `specs/Telling`, `specs/Text` and `specs/Writing`; the other files of `specs/` are only steps of
 //! proofs.
 #![tactic(auto)]
@@ -21,6 +21,7 @@ mod error;
 mod events;
 mod fitting;
 mod flow;
+mod flowing;
 mod globals;
 mod lasting;
 pub mod laws;
@@ -33,4 +34,5 @@ mod writing;
 pub use audit::audit_in;
 pub use error::AuditError;
 pub use flow::audit_text;
+pub use flowing::image_flows;
 pub use source::source_text;

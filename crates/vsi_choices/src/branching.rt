@@ -6,7 +6,7 @@ use crate::scope::names_after;
 use serde_json::{Value, json};
 use std::alloc::{AllocError, Global};
 use vsi_client::range_of;
-use vsi_expected::{Sort, expected_after};
+use vsi_recovery::{Sort, expected_after};
 use vsi_syntax::{Kind, LexError, ParseError, Token, lex, parse};
 
 /// The tokens of a text, if each part of it has one.

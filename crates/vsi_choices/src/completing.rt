@@ -5,8 +5,8 @@ use crate::scope::names_after;
 use serde_json::{Value, json};
 use std::alloc::{AllocError, Global};
 use vsi_client::{Encoding, Place, offset_of};
-use vsi_expected::{Sort, expected_after};
 use vsi_lattice::{Class, Classes, Lattice};
+use vsi_recovery::{Sort, expected_after};
 use vsi_syntax::{Kind, LexError, Token, lex};
 
 /// The numbers of the protocol for kinds of items.

@@ -1,7 +1,7 @@
 -- The line of a refused interface.
 use Rattle.std.specs.Prelude.{ℕ, List, [], ◌++◌, codes, decimal, Option, Some, None}
 use Rattle.vsi_conform.specs.declared.error.InterfaceError.{InterfaceError}
-use Rattle.vsi_conform.specs.declared.error.InterfaceError.TheVariants.{NotToml, UnknownKey, BadLattice, BadProfile, BadOrder, BadBounded, BadGlobals, BadName, RepeatedGlobal, UnknownClass, BadRuns, BadRun, BadStore, NoBudget, NothingExpected, UnknownGlobal, BadCycle, UnknownInCycle, AboveBudget, Memory}
+use Rattle.vsi_conform.specs.declared.error.InterfaceError.TheVariants.{NotToml, UnknownKey, BadLattice, BadProfile, BadOrder, BadBounded, BadGlobals, BadName, RepeatedGlobal, UnknownClass, BadRuns, BadRun, BadStore, NoBudget, NothingExpected, UnknownGlobal, BadCycle, UnknownInCycle, BadReference, RefusedReference, AboveBudget, Memory}
 
 -- The name of a fault.
 abbrev pub name_of : InterfaceError → List ℕ
@@ -23,6 +23,8 @@ name_of (NothingExpected run) = codes "NothingExpected"
 name_of (UnknownGlobal run name) = codes "UnknownGlobal"
 name_of (BadCycle cycle) = codes "BadCycle"
 name_of (UnknownInCycle cycle name) = codes "UnknownInCycle"
+name_of BadReference = codes "BadReference"
+name_of (RefusedReference lines) = codes "RefusedReference"
 name_of (AboveBudget budget) = codes "AboveBudget"
 name_of Memory = codes "Memory"
 
@@ -38,7 +40,7 @@ run_of (UnknownInCycle cycle name) = Some cycle
 run_of (AboveBudget budget) = Some budget
 run_of _ = None
 
--- The faulty name or key.
+-- The faulty name or key, or the path and the refusal of the reference.
 abbrev pub word_of : InterfaceError → Option (List ℕ)
 word_of (UnknownKey key) = Some key.items
 word_of (BadName name) = Some name.items
@@ -46,6 +48,7 @@ word_of (RepeatedGlobal name) = Some name.items
 word_of (UnknownClass name) = Some name.items
 word_of (UnknownGlobal run name) = Some name.items
 word_of (UnknownInCycle cycle name) = Some name.items
+word_of (RefusedReference lines) = Some lines.items
 word_of _ = None
 
 -- A space and a number, if there is one.
@@ -53,12 +56,12 @@ abbrev pub run_field : Option ℕ → List ℕ
 run_field None = []
 run_field (Some run) = codes " " ++ decimal run
 
--- A space and a name or a key, if there is one.
+-- A space and a name, a key or a refusal, if there is one.
 abbrev pub word_field : Option (List ℕ) → List ℕ
 word_field None = []
 word_field (Some word) = codes " " ++ word
 
--- `refused interface: NAME`, the run, the name or the key, and a line feed.
+-- `refused interface: NAME`, the run, the name, the key or the refusal, and a line feed.
 abbrev pub interface_line : InterfaceError → List ℕ
 interface_line e =
     codes "refused interface: " ++ name_of e ++ run_field (run_of e) ++ word_field (word_of e) ++ codes "\n"

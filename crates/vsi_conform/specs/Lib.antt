@@ -6,6 +6,8 @@ pub mod Conforms
 pub mod Tables
 pub mod Reading
 pub mod Faulty
+pub mod Reaching
+pub mod ReachedLines
 pub mod Beside
 pub mod Shown
 pub mod Lines

@@ -21,6 +21,7 @@ use Rattle.vsi_conform.specs.declared.interface.Trial.{Trial}
 use Rattle.vsi_conform.specs.declared.reader.InterfaceFile.{InterfaceFile}
 use Rattle.vsi_conform.specs.declared.reader.Policy.{Policy}
 use Rattle.vsi_conform.specs.declared.reader.Policy.TheVariants.{File, Tables}
+use Rattle.vsi_conform.specs.Beside.{leads_out}
 use Rattle.vsi_conform.specs.Points.{Entry, entries}
 use Rattle.vsi_conform.specs.Tables.{IsTablesText}
 
@@ -54,7 +55,7 @@ has_keys keys (member key d ms) = is_among keys key && has_keys keys ms
 abbrev pub interface_keys : List (List ℕ)
 interface_keys =
     codes "lattice" ∷ codes "classes" ∷ codes "below" ∷ codes "profile" ∷ codes "order" ∷ codes "bounded"
-    ∷ codes "globals" ∷ codes "runs" ∷ codes "cycle" ∷ []
+    ∷ codes "globals" ∷ codes "runs" ∷ codes "cycle" ∷ codes "reference" ∷ []
 
 -- The keys of a run.
 abbrev pub run_keys : List (List ℕ)
@@ -190,7 +191,7 @@ runs_from (Some d) = option_and_then (all_of run_of) (as_array d)
 
 -- The keys of a boundary.
 abbrev pub cycle_keys : List (List ℕ)
-cycle_keys = codes "class" ∷ codes "inputs" ∷ codes "outputs" ∷ codes "released" ∷ []
+cycle_keys = codes "class" ∷ codes "inputs" ∷ codes "outputs" ∷ codes "released" ∷ codes "from" ∷ []
 
 -- The boundary of a class's controllers, as a value of these definitions.
 pub record ClassBoundary : Type 0 where
@@ -198,6 +199,7 @@ pub record ClassBoundary : Type 0 where
   pub inputs : Option (List (List ℕ))
   pub outputs : Option (List (List ℕ))
   pub released : List (List ℕ)
+  pub from : Option (List (List ℕ))
 
 -- The bytes of each name.
 abbrev pub bytes_of : List (Vec ℕ) → List (List ℕ)
@@ -211,13 +213,14 @@ cycle c =
       inputs = option_map (λ names. bytes_of names.items) c.inputs;
       outputs = option_map (λ names. bytes_of names.items) c.outputs;
       released = bytes_of c.released.items;
+      from = option_map (λ names. bytes_of names.items) c.from;
     }
 
 -- The names of an array of texts.
 abbrev pub names_of : Data → Option (List (List ℕ))
 names_of d = option_and_then (all_of as_str) (as_array d)
 
--- The list of inputs or of outputs, from the value at its key, which may be missing.
+-- The list of inputs, of outputs or of `from`, from the value at its key, which may be missing.
 abbrev pub list_from : Option Data → Option (Option (List (List ℕ)))
 list_from None = Some None
 list_from (Some d) = option_map (λ names. Some names) (names_of d)
@@ -229,20 +232,22 @@ released_from (Some d) = names_of d
 
 -- A boundary with these parts.
 abbrev pub cycle_from : Option (List ℕ) → Option (Option (List (List ℕ))) → Option (Option (List (List ℕ))) →
-    Option (List (List ℕ)) → Option ClassBoundary
-cycle_from None inputs outputs released = None
-cycle_from (Some class) None outputs released = None
-cycle_from (Some class) (Some inputs) None released = None
-cycle_from (Some class) (Some inputs) (Some outputs) None = None
-cycle_from (Some class) (Some inputs) (Some outputs) (Some released) =
-    Some (record { class = class; inputs = inputs; outputs = outputs; released = released })
+    Option (List (List ℕ)) → Option (Option (List (List ℕ))) → Option ClassBoundary
+cycle_from None inputs outputs released from = None
+cycle_from (Some class) None outputs released from = None
+cycle_from (Some class) (Some inputs) None released from = None
+cycle_from (Some class) (Some inputs) (Some outputs) None from = None
+cycle_from (Some class) (Some inputs) (Some outputs) (Some released) None = None
+cycle_from (Some class) (Some inputs) (Some outputs) (Some released) (Some from) =
+    Some (record { class = class; inputs = inputs; outputs = outputs; released = released; from = from })
 
 -- The boundary of a table that has no keys other than those of one.
 abbrev pub cycle_in : Members → Option ClassBoundary
 cycle_in ms =
     if has_keys cycle_keys ms then
     cycle_from (text_at (codes "class") ms) (list_from (get_member (codes "inputs") ms))
-    (list_from (get_member (codes "outputs") ms)) (released_from (get_member (codes "released") ms)) else None
+    (list_from (get_member (codes "outputs") ms)) (released_from (get_member (codes "released") ms))
+    (list_from (get_member (codes "from") ms)) else None
 
 -- The boundary of a value that is a table.
 abbrev pub cycle_of : Data → Option ClassBoundary
@@ -262,6 +267,7 @@ pub record BoundsGlobals (gs : List Global) (b : ClassBoundary) : Type 0 where
   pub inputs : IfSome b.inputs (All (IsKnown gs))
   pub outputs : IfSome b.outputs (All (IsKnown gs))
   pub released : All (IsKnown gs) b.released
+  pub from : IfSome b.from (All (IsKnown gs))
 
 -- One of the boundaries is that of this class.
 abbrev pub has_class : List ClassBoundary → List ℕ → Bool
@@ -294,6 +300,11 @@ IsPolicy ms (File path) =
     × (get_member (codes "classes") ms ≡ None) × (get_member (codes "below") ms ≡ None)
 IsPolicy ms (Tables text) = (get_member (codes "lattice") ms ≡ None) × IsTablesText ms text.items
 
+-- The reference is at the path at `reference`, which doesn't lead out of the folder of the interface, if there is one.
+abbrev pub IsReference : Members → Option (Vec ℕ) → Type 0
+IsReference ms None = get_member (codes "reference") ms ≡ None
+IsReference ms (Some path) = (text_at (codes "reference") ms ≡ Some path.items) × (leads_out path.items ≡ false)
+
 -- Each name is the name of a global.
 abbrev pub are_named : List Global → List Entry → Bool
 are_named gs [] = true
@@ -325,3 +336,4 @@ pub record IsReadAs (text : List ℕ) (a : InterfaceFile) : Type 0 where
   pub policy : IsPolicy table a.policy
   pub interface : Asks table a.interface
   pub cycles : Bounds table (globals a.interface.globals.items) a.cycles.items
+  pub reference : IsReference table a.reference

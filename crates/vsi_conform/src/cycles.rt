@@ -18,7 +18,7 @@ use toml::{Table, Value};
 use vsi_lattice::Lattice;
 
 /// The keys of a boundary.
-const CYCLE_KEYS: [&str; 4] = ["class", "inputs", "outputs", "released"];
+const CYCLE_KEYS: [&str; 5] = ["class", "inputs", "outputs", "released", "from"];
 
 /// The boundary of the controllers that a class drives: names of globals of the interface.
 #[derive(Debug, Drop)]
@@ -31,6 +31,8 @@ pub struct Cycle {
     pub outputs: Option<Vec<Vec<u8>>>,
     /// The outputs that are written whatever their class is.
     pub released: Vec<Vec<u8>>,
+    /// The globals that may reach the released outputs; without a list, all.
+    pub from: Option<Vec<Vec<u8>>>,
 }
 
 /// A name, if it is that of a global.
@@ -188,11 +190,13 @@ fn cycle_of(
     let inputs = names_at(alloc, number, table, "inputs", globals)?;
     let outputs = names_at(alloc, number, table, "outputs", globals)?;
     let released = released_in(alloc, number, table, globals)?;
+    let from = names_at(alloc, number, table, "from", globals)?;
     Ok(Cycle {
         class,
         inputs,
         outputs,
         released,
+        from,
     })
 }
 

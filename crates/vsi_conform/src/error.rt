@@ -70,6 +70,12 @@ pub enum InterfaceError {
     /// class, which the lattice doesn't have.
     #[error("cycle {0} names an unknown global or class")]
     UnknownInCycle(usize, Vec<u8>),
+    /// The value at `reference` isn't a text, or the path leads out of the folder of the interface.
+    #[error("the reference is no path in the folder of the interface")]
+    BadReference,
+    /// The reference isn't accepted: its path, and the lines of its refusal without the last byte.
+    #[error("the reference isn't accepted")]
+    RefusedReference(Vec<u8>),
     /// The runs may take more instructions together than this number.
     #[error("the runs may take more than {0} instructions")]
     AboveBudget(u64),
@@ -117,13 +123,15 @@ pub fn fault_name(error: &InterfaceError) -> &'static [u8]
         InterfaceError::UnknownGlobal(_, _) => b"UnknownGlobal",
         InterfaceError::BadCycle(_) => b"BadCycle",
         InterfaceError::UnknownInCycle(_, _) => b"UnknownInCycle",
+        InterfaceError::BadReference => b"BadReference",
+        InterfaceError::RefusedReference(_) => b"RefusedReference",
         InterfaceError::AboveBudget(_) => b"AboveBudget",
         InterfaceError::Memory => b"Memory",
     }
 }
 
 /// The fields after the name of a fault: the number of a run or of a boundary, or a budget, and a
-/// name or a key.
+/// name or a key, or what is said of the reference.
 fn fault_fields(error: &InterfaceError) -> (Option<usize>, Option<&[u8]>)
     ensures run { result.0 ≡ spec.run_of error.now }
     ensures word { option_copied result.1 ≡ spec.word_of error.now }
@@ -132,7 +140,8 @@ fn fault_fields(error: &InterfaceError) -> (Option<usize>, Option<&[u8]>)
         InterfaceError::UnknownKey(word)
         | InterfaceError::BadName(word)
         | InterfaceError::RepeatedGlobal(word)
-        | InterfaceError::UnknownClass(word) => (None, Some(word.as_slice())),
+        | InterfaceError::UnknownClass(word)
+        | InterfaceError::RefusedReference(word) => (None, Some(word.as_slice())),
         InterfaceError::BadRun(run)
         | InterfaceError::BadStore(run)
         | InterfaceError::NoBudget(run)

@@ -6,7 +6,9 @@
 //! the judgement, the globals with their classes, the required runs, and the boundaries of
 //! controllers. `conform` reports each point in which a text differs from an interface; if there is
 //! none, the text conforms to it (`specs/Conforms`). `image_points` reports the points of an image.
-//! `is_within` compares the budgets of all runs with one budget (`specs/Totals`). `parts` has the
+//! `is_within` compares the budgets of all runs with one budget (`specs/Totals`). `text_reaches` lists
+//! the globals that reach each released output, and `are_within` says whether the interface allows
+//! them (`specs/Reaching`, `specs/ReachedLines`). `parts` has the
 //! lines and objects of points that name no position in a text. `points_text` and `points_json`
 //! write an answer (`specs/Lines`, `specs/Json`), and `interface_text` writes why an interface is
 //! refused (`specs/Faulty`).
@@ -28,6 +30,9 @@ mod keys;
 mod outside;
 pub mod parts;
 mod point;
+mod reached;
+mod reached_lines;
+mod reaching;
 mod reader;
 mod runs;
 mod texts;
@@ -47,6 +52,9 @@ pub use error::{InterfaceError, fault_name, interface_text};
 pub use interface::{Bounded, Interface, Judgement, Trial};
 pub use json::points_json;
 pub use point::{Answer, Point};
+pub use reached::{flows_profile, text_reaches};
+pub use reached_lines::{with_reached_json, with_reached_lines};
+pub use reaching::{GlobalFlows, Reach, are_within, have_released, reaches_of};
 pub use reader::{InterfaceFile, Policy, path_beside, read_interface, unknown_class};
 pub use texts::{first_lines, points_text, refusal_lines, refusal_lines_of};
 pub use totals::is_within;

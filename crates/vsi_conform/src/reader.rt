@@ -27,8 +27,17 @@ use vsi_lattice::Lattice;
 use vsi_syntax::is_name;
 
 /// The keys of an interface.
-const KEYS: [&str; 9] = [
-    "lattice", "classes", "below", "profile", "order", "bounded", "globals", "runs", "cycle",
+const KEYS: [&str; 10] = [
+    "lattice",
+    "classes",
+    "below",
+    "profile",
+    "order",
+    "bounded",
+    "globals",
+    "runs",
+    "cycle",
+    "reference",
 ];
 
 /// The most globals of a program.
@@ -53,6 +62,9 @@ pub struct InterfaceFile {
     pub interface: Interface,
     /// The boundaries of controllers, at most one for each class.
     pub cycles: Vec<Cycle>,
+    /// The path of the reference, which is relative to the folder of the interface and doesn't lead
+    /// out of it.
+    pub reference: Option<Vec<u8>>,
 }
 
 /// The path of a file that an interface names, taken relative to the folder of the interface.
@@ -349,12 +361,30 @@ fn interface_in(alloc: Global, table: &Table) -> Result<Interface, InterfaceErro
     })
 }
 
+/// The path of the reference, if there is one.
+fn reference_in(alloc: Global, table: &Table) -> Result<Option<Vec<u8>>, InterfaceError>
+    ensures { IfOk result (spec.IsReference (table_view table.now)) }
+{
+    if value_at(table, "reference").is_none() {
+        return Ok(None);
+    }
+    let Some(named) = text_at(table, "reference") else {
+        return Err(InterfaceError::BadReference);
+    };
+    if leads_out(named.as_bytes()) {
+        return Err(InterfaceError::BadReference);
+    }
+    let path = Vec::from_slice(alloc, named.as_bytes())?;
+    Ok(Some(path))
+}
+
 /// The contents of an interface file. Whether its classes are classes of the lattice isn't checked.
 ///
 /// # Errors
 ///
 /// `NotToml` if the text is no document, isn't UTF-8, or has an integer beyond 64 bits; otherwise
-/// the first fault in the order keys, lattice, profile, order, bound, globals, runs, cycles.
+/// the first fault in the order keys, lattice, profile, order, bound, globals, runs, cycles,
+/// reference.
 pub fn read_interface(alloc: Global, text: &[u8]) -> Result<InterfaceFile, InterfaceError>
     ensures read { IfOk result (spec.IsReadAs text.now) }
     ensures inside { IfOk result (λ asked. IsInside asked.policy) }
@@ -367,10 +397,12 @@ pub fn read_interface(alloc: Global, text: &[u8]) -> Result<InterfaceFile, Inter
     let policy = policy_in(alloc, &table)?;
     let interface = interface_in(alloc, &table)?;
     let cycles = cycles_in(alloc, &table, &interface.globals)?;
+    let reference = reference_in(alloc, &table)?;
     Ok(InterfaceFile {
         policy,
         interface,
         cycles,
+        reference,
     })
 }
 

@@ -4,17 +4,28 @@
 //! `conform_image` judges the image under the lattice and the profile of the interface, as
 //! `vsi audit` does, and reports each point in which its globals, its runs and its bound differ
 //! from the required ones (`specs/Conforms`). `points_text` and `points_json` write the answer
-//! (`specs/Lines`, `specs/Json`).
+//! (`specs/Lines`, `specs/Json`). `image_reaches` lists the globals that reach each released output
+//! (`specs/Reaching`). `compare_reference` runs an image beside that of a reference from random
+//! stores, and `reference_line` reports what it finds. This is a test: nothing is proved of the
+//! differences that it misses (`specs/Reference`).
 //!
 //! To be believed: all files of `specs/`.
 #![tactic(auto)]
 
 mod answer;
 mod conforming;
+mod drawing;
 mod json;
+mod reaching;
+mod reference;
+mod reference_texts;
+mod side;
 mod texts;
 
 pub use answer::{Answer, Refusal};
 pub use conforming::conform_image;
 pub use json::points_json;
+pub use reaching::image_reaches;
+pub use reference::{Comparison, Contrast, Difference, Reference, compare_reference};
+pub use reference_texts::{json_with, lines_with, reference_line};
 pub use texts::{first_lines, points_text};

@@ -8,9 +8,3 @@ four_pieces w a b c d x y z r e f g h =
     let two : y ≡ w ++ (a ++ b) = f ∙ ap (λ l. l ++ b) e ∙ append_assoc w a b in
     let three : z ≡ w ++ ((a ++ b) ++ c) = g ∙ ap (λ l. l ++ c) two ∙ append_assoc w (a ++ b) c in
     h ∙ ap (λ l. l ++ d) three ∙ append_assoc w ((a ++ b) ++ c) d
-
--- A copy of a text with a piece after it.
-pub copied : (start first whole text shown piece : List ℕ) → start ≡ [] → first ≡ start ++ shown → shown ≡ text →
-    whole ≡ first ++ piece → whole ≡ text ++ piece
-copied start first whole text shown piece e f g h =
-    h ∙ ap (λ l. l ++ piece) (f ∙ ap (λ l. l ++ shown) e ∙ g)

@@ -1,6 +1,6 @@
 -- The sentence of a hint, and the texts that it may offer.
 use Rattle.std.specs.Prelude.{ℕ, List, [], ◌++◌, Option, Some, None, take, codes}
-use Rattle.vsi_foreign.specs.Offered.{IsExpression, IsProgramText}
+use Rattle.vsi_hints.specs.Offered.{IsExpression, IsProgramText}
 use Rattle.vsi_hints.specs.declared.wording.Hint.{Hint}
 use Rattle.vsi_hints.specs.declared.wording.Hint.TheVariants.{Offer, Put, Operator, Piece, Plain}
 use Rattle.vsi_hints.specs.declared.wording.Reason.{Reason}

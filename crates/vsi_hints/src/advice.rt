@@ -4,10 +4,14 @@ ghost use Rattle.std.specs.Prelude.{IfOk, IfSome};
 ghost use Rattle.vsi_hints.specs.Hints.{OffersRead};
 
 use crate::choice::hint_of;
+use crate::expression::{is_false, is_true};
+use crate::look::Look;
+use crate::offers::Sense;
+use crate::pieces::pieces_of;
+use crate::shapes::{Found, Shape, shape_at};
+use crate::structure::{halved_at, structure_at};
 use crate::wording::{Hint, put_sentence};
 use std::alloc::{AllocError, Global};
-use vsi_foreign::{is_false, is_true, pieces_of};
-use vsi_shapes::{Found, Look, Shape, halved_at, shape_at, structure_at};
 use vsi_syntax::put_place;
 
 /// The largest number of further places that are listed.
@@ -62,11 +66,16 @@ fn all_structures(alloc: Global, look: &Look) -> Result<Vec<Found>, AllocError> 
     Ok(found)
 }
 
+/// Whether a piece belongs to a construct or directly follows it.
+fn covers(found: &Found, piece: usize) -> bool {
+    found.first <= piece && piece <= found.next
+}
+
 /// The last construct that a piece belongs to or directly follows.
 fn covering(shapes: &[Found], piece: usize) -> Option<Found> {
     let mut last = None;
     for found in shapes {
-        if found.first <= piece && piece <= found.next {
+        if covers(found, piece) {
             last = Some(*found);
         }
     }
@@ -93,28 +102,21 @@ pub fn hint_at<'s>(
 /// The key of a construct. Constructs with the same key have the same advice.
 fn key(look: &Look, found: &Found) -> (u8, usize) {
     match found.shape {
-        Shape::Say(before, after) => (
-            0,
-            before
-                .len()
-                .saturating_mul(1000)
-                .saturating_add(after.len()),
-        ),
+        Shape::Say(before, after) => (0, joint(before, after)),
         Shape::Tell(sentence) => (1, sentence.len()),
         Shape::Put(text, _) => (2, text.len()),
         Shape::Value(cause) => (3, sum(look.text(cause))),
-        Shape::Assign(_) => (4, 0),
-        Shape::Compound(_) => (5, 0),
-        Shape::Step(_) => (6, 0),
-        Shape::Swap => (7, 0),
-        Shape::Number => (8, 0),
-        Shape::Hyphen => (9, 0),
-        Shape::Keyword => (10, 0),
-        Shape::Initial => (11, 0),
-        Shape::Listed => (12, 0),
-        Shape::Comment => (13, 0),
-        Shape::Divide => (14, 0),
+        Shape::Offer(_, _, rule, plain) => (4, joint(rule, plain)),
+        Shape::Comment => (5, 0),
     }
+}
+
+/// A number that distinguishes two parts of a sentence by their lengths.
+fn joint(before: &str, after: &str) -> usize {
+    before
+        .len()
+        .saturating_mul(1000)
+        .saturating_add(after.len())
 }
 
 /// A number that distinguishes short texts.
@@ -124,6 +126,42 @@ fn sum(text: &[u8]) -> usize {
         total = total.wrapping_mul(31).wrapping_add(*byte as usize);
     }
     total
+}
+
+/// Adds those constructs to a list whose advice has no key yet, and their keys.
+fn choose(
+    look: &Look,
+    shapes: &[Found],
+    keys: &mut Vec<(u8, usize)>,
+    chosen: &mut Vec<Found>,
+) -> Result<(), AllocError> {
+    for found in shapes {
+        let own = key(look, found);
+        if !keys.contains(&own) && keys.len() <= MOST {
+            keys.push(own)?;
+            chosen.push(*found)?;
+        }
+    }
+    Ok(())
+}
+
+/// The constructs and the structures of a text that need advice of their own beside that for the
+/// refused piece, and the number of the constructs among them.
+fn all_chosen(
+    alloc: Global,
+    look: &Look,
+    shapes: &[Found],
+    piece: usize,
+) -> Result<(Vec<Found>, usize), AllocError> {
+    let mut keys = Vec::new(alloc);
+    let mut chosen = Vec::new(alloc);
+    if let Some(found) = covering(shapes, piece) {
+        keys.push(key(look, &found))?;
+    }
+    choose(look, shapes, &mut keys, &mut chosen)?;
+    let count = chosen.len();
+    choose(look, &all_structures(alloc, look)?, &mut keys, &mut chosen)?;
+    Ok((chosen, count))
 }
 
 /// Adds one further place.
@@ -145,32 +183,6 @@ fn put_further_place<'s>(
     words.extend_from_slice(b": ")?;
     put_sentence(words, &hint)?;
     words.extend_from_slice(b"\n")
-}
-
-/// Adds the places of those that need advice of their own; `keys` has the advice already given.
-fn put_each<'s>(
-    alloc: Global,
-    words: &mut Vec<u8>,
-    source: &'s [u8],
-    look: &Look<'s, '_>,
-    shapes: &[Found],
-    is_within: bool,
-    piece: usize,
-    keys: &mut Vec<(u8, usize)>,
-) -> Result<(), AllocError> {
-    for found in shapes {
-        let own = key(look, found);
-        if keys.contains(&own) || keys.len() > MOST {
-            continue;
-        }
-        keys.push(own)?;
-        let covers = found.first <= piece && piece <= found.next;
-        if found.first == piece || piece == found.next || is_within && covers {
-            continue;
-        }
-        put_further_place(alloc, words, source, look, found)?;
-    }
-    Ok(())
 }
 
 /// Adds names, each between back quotes, after the first text, and then the last text, if there are
@@ -240,19 +252,9 @@ fn is_said(shapes: &[Found], at: usize) -> bool {
         if found.first <= at && at < found.next {
             match found.shape {
                 Shape::Say(_, _) | Shape::Tell(_) | Shape::Put(_, _) => return true,
-                Shape::Hyphen | Shape::Keyword | Shape::Listed | Shape::Initial => return true,
+                Shape::Offer(Sense::Expression | Sense::Declarations, _, _, _) => return true,
                 _ => {}
             }
-        }
-    }
-    false
-}
-
-/// Whether a name is within pieces.
-fn is_within(look: &Look, found: &Found, name: &[u8]) -> bool {
-    for at in found.first..found.next {
-        if look.is(at, name) {
-            return true;
         }
     }
     false
@@ -270,8 +272,10 @@ fn is_renaming(old: &[u8], name: &[u8]) -> bool {
 fn gets_declared(look: &Look, shapes: &[Found], name: &[u8]) -> bool {
     for found in shapes {
         let gets = match found.shape {
-            Shape::Say(_, _) | Shape::Listed | Shape::Initial => is_within(look, found, name),
-            Shape::Hyphen | Shape::Keyword => is_renaming(look.text(found.first), name),
+            Shape::Say(_, _) | Shape::Offer(Sense::Declarations, _, _, _) => {
+                (found.first..found.next).any(|at| look.is(at, name))
+            }
+            Shape::Offer(Sense::Expression, _, _, _) => is_renaming(look.text(found.first), name),
             _ => false,
         };
         if gets {
@@ -323,26 +327,6 @@ fn put_undeclared(
     put_list(words, b"Also undeclared: ", &names, last)
 }
 
-/// Adds the places of constructs that need advice of their own, as `put_each` chooses them.
-fn put_places(
-    look: &Look,
-    shapes: &[Found],
-    keys: &mut Vec<(u8, usize)>,
-    places: &mut Vec<usize>,
-) -> Result<(), AllocError> {
-    for found in shapes {
-        let own = key(look, found);
-        if keys.contains(&own) || keys.len() > MOST {
-            continue;
-        }
-        keys.push(own)?;
-        if let Some(first) = look.pieces.get(found.first) {
-            places.push(first.at)?;
-        }
-    }
-    Ok(())
-}
-
 /// Adds a line for each further place in a text that is written as in another language, the first
 /// one of each sort. Then adds the names that aren't declared, or aren't classes.
 pub fn put_further(
@@ -356,22 +340,13 @@ pub fn put_further(
     let look = Look { pieces: &pieces };
     let piece = piece_number(&look, at);
     let shapes = all_shapes(alloc, &look)?;
-    let structures = all_structures(alloc, &look)?;
-    let mut keys = Vec::new(alloc);
-    if let Some(found) = covering(&shapes, piece) {
-        keys.push(key(&look, &found))?;
+    let (chosen, count) = all_chosen(alloc, &look, &shapes, piece)?;
+    for (number, found) in chosen.iter().enumerate() {
+        let is_refused = found.first == piece || found.next == piece;
+        if !is_refused && !(number < count && covers(found, piece)) {
+            put_further_place(alloc, words, source, &look, found)?;
+        }
     }
-    put_each(alloc, words, source, &look, &shapes, true, piece, &mut keys)?;
-    put_each(
-        alloc,
-        words,
-        source,
-        &look,
-        &structures,
-        false,
-        piece,
-        &mut keys,
-    )?;
     put_no_classes(alloc, words, &look, classes)?;
     put_undeclared(alloc, words, &look, &shapes, piece)
 }
@@ -382,13 +357,12 @@ pub fn listed_places(alloc: Global, source: &[u8], at: usize) -> Result<Vec<usiz
     let pieces = pieces_of(alloc, source)?;
     let look = Look { pieces: &pieces };
     let shapes = all_shapes(alloc, &look)?;
-    let structures = all_structures(alloc, &look)?;
-    let mut keys = Vec::new(alloc);
     let mut places = Vec::new(alloc);
-    if let Some(found) = covering(&shapes, piece_number(&look, at)) {
-        keys.push(key(&look, &found))?;
+    let (chosen, _) = all_chosen(alloc, &look, &shapes, piece_number(&look, at))?;
+    for found in &chosen {
+        if let Some(first) = look.pieces.get(found.first) {
+            places.push(first.at)?;
+        }
     }
-    put_places(&look, &shapes, &mut keys, &mut places)?;
-    put_places(&look, &structures, &mut keys, &mut places)?;
     Ok(places)
 }

@@ -3,15 +3,16 @@
 ghost use Rattle.std.specs.Prelude.{IfOk, IfSome};
 ghost use Rattle.vsi_hints.specs.Hints.{OffersRead};
 
+use crate::forms::operator_text;
+use crate::look::Look;
 use crate::offers::offer;
+use crate::shapes::{Found, Shape};
 use crate::wording::{Hint, LONGEST, Reason};
 use std::alloc::{AllocError, Global};
-use vsi_foreign::operator_text;
-use vsi_shapes::{Found, Look, Shape};
 
 /// The part of a text that the pieces cover.
-fn part<'s>(source: &'s [u8], look: &Look, first: usize, next: usize) -> &'s [u8] {
-    let (Some(piece), Some(last)) = (look.pieces.get(first), next.checked_sub(1)) else {
+fn part<'s>(source: &'s [u8], look: &Look, found: &Found) -> &'s [u8] {
+    let (Some(piece), Some(last)) = (look.pieces.get(found.first), found.next.checked_sub(1)) else {
         return b"";
     };
     let stop = look.stop(last).min(source.len());
@@ -20,50 +21,34 @@ fn part<'s>(source: &'s [u8], look: &Look, first: usize, next: usize) -> &'s [u8
 
 /// The reason why a text is offered as a replacement for pieces.
 fn reason<'s>(look: &Look<'s, '_>, shape: Shape) -> Reason<'s> {
-    let rule = match shape {
+    match shape {
         Shape::Value(cause) => match look.text(cause) {
-            [b'-'] => ": a number has no sign before it.",
-            [b'<'] | [b'='] => ": a comparison has two sides.",
-            text => return Reason::Lacking(text),
+            [b'-'] => Reason::Rule(": a number has no sign before it."),
+            [b'<'] | [b'='] => Reason::Rule(": a comparison has two sides."),
+            text => Reason::Lacking(text),
         },
-        Shape::Assign(_) => ": `:=` assigns, and `=` compares.",
-        Shape::Compound(_) | Shape::Step(_) => ": a command assigns with `:=` only.",
-        Shape::Swap => ": a command assigns to one variable.",
-        Shape::Divide => ": subtract as often as you can, for a divisor above 0.",
-        Shape::Number => ": a number has only digits.",
-        Shape::Hyphen => ": a name has only letters, digits and `_`.",
-        Shape::Keyword => ": a keyword can't be a name.",
-        Shape::Listed => ": each `var` declares one variable.",
-        Shape::Initial => ": a global gets its value from the store.",
-        _ => ".",
-    };
-    Reason::Rule(rule)
+        Shape::Offer(_, _, rule, _) => Reason::Rule(rule),
+        _ => Reason::Rule("."),
+    }
 }
 
 /// Whether a part of a text can be shown between back quotes in a line.
 fn can_show(part: &[u8]) -> bool {
-    for byte in part {
-        if !matches!(*byte, 32..=126) || *byte == b'`' {
-            return false;
-        }
-    }
-    part.len() <= LONGEST
+    let is_shown = |byte: &u8| matches!(*byte, 32..=126) && *byte != b'`';
+    part.len() <= LONGEST && part.iter().all(is_shown)
 }
 
 /// The hint for a comment.
-fn comment_hint<'s>(text: &[u8]) -> Hint<'s>
+fn comment_hint<'s>(text: &'s [u8]) -> Hint<'s>
     ensures { OffersRead result }
 {
-    let mark: &[u8] = match text {
-        [b'/', b'*', ..] => {
-            return Hint::Plain(
-                "begin each line of a comment with `#`, as in `# count`: it ends with its line, \
-                and there is no `/*`.",
-            );
-        }
-        [b'/', ..] => b"//",
-        _ => b"--",
-    };
+    if text.starts_with(b"/*") {
+        return Hint::Plain(
+            "begin each line of a comment with `#`, as in `# count`: it ends with its line, and \
+            there is no `/*`.",
+        );
+    }
+    let mark = &text[..text.len().min(2)];
     Hint::Put(
         "#",
         mark,
@@ -84,25 +69,18 @@ fn fixed_hint<'s>(look: &Look<'s, '_>, found: &Found, replaced: &'s [u8]) -> Opt
     ensures { IfSome result OffersRead }
 {
     let text = look.text(found.first);
-    Some(match found.shape {
-        Shape::Say(before, after) if before == "remove " => Hint::Piece(before, replaced, after),
-        Shape::Say(before, after) => Hint::Piece(before, text, after),
-        Shape::Tell(sentence) => Hint::Plain(sentence),
-        Shape::Put(new, rest) => Hint::Put(new, text, rest),
-        Shape::Comment => comment_hint(text),
-        Shape::Value(cause) => return operator_hint(look.text(cause)),
-        Shape::Assign(_) => Hint::Plain("write `:=` to assign, as in `x := 1`."),
-        Shape::Compound(_) => Hint::Plain("assign with `:=`, as in `x := x + 1`."),
-        Shape::Swap => Hint::Plain(
-            "assign to one variable at a time, as in `letvar t := x in { x := y; y := t }`.",
-        ),
-        Shape::Divide => Hint::Plain(
-            "divide in a loop, as `while 1 < r do { r := r - 2; q := q + 1 }` does for half of r.",
-        ),
-        Shape::Initial => Hint::Plain("declare a global without a value."),
-        Shape::Listed => Hint::Plain("declare each variable on its own."),
-        _ => return None,
-    })
+    match found.shape {
+        Shape::Say(before, after) if before == "remove " => {
+            Some(Hint::Piece(before, replaced, after))
+        }
+        Shape::Say(before, after) => Some(Hint::Piece(before, text, after)),
+        Shape::Tell(sentence) => Some(Hint::Plain(sentence)),
+        Shape::Put(new, rest) => Some(Hint::Put(new, text, rest)),
+        Shape::Comment => Some(comment_hint(text)),
+        Shape::Value(cause) => operator_hint(look.text(cause)),
+        Shape::Offer(_, _, _, "") => None,
+        Shape::Offer(_, _, _, plain) => Some(Hint::Plain(plain)),
+    }
 }
 
 /// The hint for pieces, if there is one.
@@ -114,7 +92,7 @@ pub(crate) fn hint_of<'s>(
 ) -> Result<Option<Hint<'s>>, AllocError>
     ensures { IfOk result (λ hint. IfSome hint OffersRead) }
 {
-    let replaced = part(source, look, found.first, found.next);
+    let replaced = part(source, look, found);
     if can_show(replaced) {
         if let Some(text) = offer(alloc, look, found)? {
             return Ok(Some(Hint::Offer(text, replaced, reason(look, found.shape))));

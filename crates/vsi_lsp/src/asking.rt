@@ -1,5 +1,6 @@
 //! Answers to requests about a document.
 
+use crate::cursor::Cursor;
 use crate::objects::{place_at, text_at};
 use crate::reading::{Reading, reading_of};
 use crate::relations::put_relations;
@@ -15,7 +16,6 @@ use vsi_compiler::{CompileError, read_source};
 use vsi_errors::{DocumentText, location_object};
 use vsi_lattice::Lattice;
 use vsi_names::{Mention, rename};
-use vsi_syntax::Span;
 use vsi_types::Profile;
 
 /// Whether a request is about a text alone.
@@ -166,16 +166,11 @@ fn definition(alloc: Global, reading: &Reading<'_>, mention: Mention) -> Result<
 }
 
 /// A part of a document, with the name of the document or without.
-fn part(
-    alloc: Global,
-    document: DocumentText<'_>,
-    span: Span,
-    is_named: bool,
-) -> Result<Value, AllocError> {
+fn part(alloc: Global, uri: &[u8], range: Range, is_named: bool) -> Result<Value, AllocError> {
     if is_named {
-        return location_object(alloc, document.uri, document.range(span));
+        return location_object(alloc, uri, range);
     }
-    let range = range_object(alloc, document.range(span))?;
+    let range = range_object(alloc, range)?;
     json!(in alloc; {"range": range})
 }
 
@@ -187,9 +182,11 @@ fn parts(
     is_named: bool,
 ) -> Result<Value, AllocError> {
     let mut list = Vec::new(alloc);
+    let mut cursor = Cursor::of(reading.document);
     for other in &reading.mentions {
         if other.variable == mention.variable {
-            list.push(part(alloc, reading.document, other.span, is_named)?)?;
+            let range = cursor.range(other.span);
+            list.push(part(alloc, reading.document.uri, range, is_named)?)?;
         }
     }
     Ok(Value::Array(list))
@@ -205,6 +202,7 @@ fn hint(alloc: Global, range: Range, label: &[u8]) -> Result<Value, AllocError> 
 /// The classes that aren't declared, after the names of their variables.
 fn hints(alloc: Global, reading: &Reading<'_>) -> Result<Value, AllocError> {
     let mut list = Vec::new(alloc);
+    let mut cursor = Cursor::of(reading.document);
     for mention in &reading.mentions {
         if !mention.is_declaration || !reading.is_inferred(mention.variable) {
             continue;
@@ -212,17 +210,22 @@ fn hints(alloc: Global, reading: &Reading<'_>) -> Result<Value, AllocError> {
         let mut label = Vec::new(alloc);
         put_class(&mut label, reading, mention.variable)?;
         if !label.is_empty() {
-            list.push(hint(alloc, reading.document.range(mention.span), &label)?)?;
+            list.push(hint(alloc, cursor.range(mention.span), &label)?)?;
         }
     }
     Ok(Value::Array(list))
 }
 
 /// The object of a declaration.
-fn symbol(alloc: Global, reading: &Reading<'_>, mention: Mention) -> Result<Value, AllocError> {
+fn symbol(
+    alloc: Global,
+    reading: &Reading<'_>,
+    mention: Mention,
+    range: Range,
+) -> Result<Value, AllocError> {
     let name = text_value(alloc, reading.text_of(mention.span))?;
     let class = text_value(alloc, reading.class_of(mention.variable).unwrap_or(b""))?;
-    let range = range_object(alloc, reading.document.range(mention.span))?;
+    let range = range_object(alloc, range)?;
     let copy = range.clone()?;
     json!(in alloc; {
         "name": name, "detail": class, "kind": 13, "range": range, "selectionRange": copy
@@ -232,9 +235,11 @@ fn symbol(alloc: Global, reading: &Reading<'_>, mention: Mention) -> Result<Valu
 /// The declarations.
 fn symbols(alloc: Global, reading: &Reading<'_>) -> Result<Value, AllocError> {
     let mut list = Vec::new(alloc);
+    let mut cursor = Cursor::of(reading.document);
     for mention in &reading.mentions {
         if mention.is_declaration {
-            list.push(symbol(alloc, reading, *mention)?)?;
+            let range = cursor.range(mention.span);
+            list.push(symbol(alloc, reading, *mention, range)?)?;
         }
     }
     Ok(Value::Array(list))

@@ -9,6 +9,7 @@
 #![tactic(auto)]
 
 mod asking;
+mod cursor;
 mod documents;
 mod frames;
 mod interfaces;

@@ -325,6 +325,13 @@ impl Files for Disk<'_> {
         }
     }
 
+    fn lacks(&self, path: &str) -> bool {
+        match fs::symlink_metadata(self.rt, path) {
+            Ok(_) => false,
+            Err(error) => error.kind() == ErrorKind::NotFound,
+        }
+    }
+
     fn trouble(&mut self, path: &str) -> Option<&'static str> {
         if let Some(objection) = self.objection {
             return Some(objection.sentence());

@@ -3,16 +3,16 @@
 ghost use Rattle.std.specs.Prelude.{◌≤◌, IfOk, length};
 ghost use Rattle.vsi_recovery.specs.Listed.{AreListed};
 
+use crate::context::Open;
 use crate::fault::{Cause, Fault};
-use crate::holes::tokens_of;
+use crate::holes::Pieces;
 use crate::listing::listed;
-use crate::naming::put_names;
-use crate::tokens::{Stretch, Tokens};
-use crate::walk::{Walk, go_on, repair};
+use crate::search::{Choice, repair_of};
+use crate::tokens::{Reading, landmark_from, span};
+use crate::walk::{Stretch, Walk, stop_of};
 use std::alloc::{AllocError, Global};
 use vsi_lattice::Lattice;
-use vsi_repairs::{Choice, Open, Part, Reading, Stock, landmark_from, repair_of};
-use vsi_syntax::{Kind, Span, Token};
+use vsi_syntax::{Kind, Token};
 
 /// The most faults of a text that are reported after its first one.
 pub const MAX_FURTHER: usize = 19;
@@ -21,161 +21,100 @@ pub const MAX_FURTHER: usize = 19;
 const MAX_REPAIRS: usize = 60;
 
 /// The most faults of a text that are looked for.
-const MAX_FAULTS: usize = 20;
-
-/// The byte at which the first of these tokens begins, or at which the last token before them ends.
-fn byte_of(tokens: &Tokens<'_>, rest: &[Token<'_>]) -> usize {
-    match rest.first() {
-        Some(token) => token.span.start,
-        None => tokens.last_stop(),
-    }
-}
-
-/// The byte at which the last of these tokens ends, or this one if there is none.
-fn end_of(list: &[Token<'_>], none: usize) -> usize {
-    match list.last() {
-        Some(last) => last.span.stop,
-        None => none,
-    }
-}
-
-/// Adds the fault at the first of these tokens, unless it may come from a repair.
-fn put_fault(
-    tokens: &Tokens<'_>,
-    rest: &[Token<'_>],
-    faults: &mut Vec<Fault>,
-) -> Result<(), AllocError> {
-    let at = byte_of(tokens, rest);
-    let (span, is_end) = match rest.first() {
-        Some(token) => (token.span, token.kind == Kind::CloseBrace),
-        None => (
-            Span {
-                start: at,
-                stop: at,
-            },
-            true,
-        ),
-    };
-    if tokens.is_near(at) || is_end && tokens.is_unclear {
-        return Ok(());
-    }
-    let cause = Cause::Tree;
-    Ok(faults.push(Fault { cause, span })?)
-}
-
-/// The part of a text with a declaration that is out of place: these tokens begin with it.
-fn stretch_of_declaration(tokens: &Tokens<'_>, rest: &[Token<'_>], choice: Choice) -> Stretch {
-    let from = tokens.last_stop();
-    Stretch {
-        first: byte_of(tokens, rest),
-        from,
-        stop: end_of(rest.get(..choice.stop).unwrap_or(rest), from).saturating_sub(1),
-        is_out: false,
-    }
-}
-
-/// The part of a text with a repair, where the innermost command around the fault begins at this
-/// place.
-fn stretch_of(tokens: &Tokens<'_>, rest: &[Token<'_>], command: usize, choice: Choice) -> Stretch {
-    if choice.is_misplaced {
-        return stretch_of_declaration(tokens, rest, choice);
-    }
-    let from = tokens.last_stop();
-    let place = choice.start.place;
-    let first = match tokens.list.get(command.min(place)) {
-        Some(token) => token.span.start,
-        None => byte_of(tokens, rest),
-    };
-    let stop = match rest.get(landmark_from(rest, choice.stop)..) {
-        Some([token, ..]) => token.span.start,
-        _ => end_of(rest, from),
-    };
-    let is_out = 0 < choice.stop || !choice.is_before && place < tokens.list.len();
-    Stretch {
-        first,
-        from,
-        stop,
-        is_out,
-    }
-}
-
-/// Whether a token is a brace.
-fn is_brace(token: &Token<'_>) -> bool {
-    token.kind == Kind::OpenBrace || token.kind == Kind::CloseBrace
-}
+pub(crate) const MAX_FAULTS: usize = 20;
 
 /// Whether some of these tokens are braces.
 fn has_brace(list: &[Token<'_>]) -> bool {
-    for token in list {
-        if is_brace(token) {
-            return true;
+    let is_brace = |token: &Token<'_>| matches!(token.kind, Kind::OpenBrace | Kind::CloseBrace);
+    list.iter().any(is_brace)
+}
+
+impl Walk<'_, '_> {
+    /// Adds the fault at the next token, unless it may come from a repair.
+    fn put_fault(&mut self) -> Result<(), AllocError> {
+        let at = self.byte_at(self.list.len());
+        let (span, is_end) = match self.rest().first() {
+            Some(token) => (token.span, token.kind == Kind::CloseBrace),
+            None => (span(at, at), true),
+        };
+        if self.is_near(at) || is_end && self.is_unclear {
+            return Ok(());
+        }
+        let cause = Cause::Tree;
+        Ok(self.faults.push(Fault { cause, span })?)
+    }
+
+    /// The part of the text with a repair: from the innermost command around the fault to the next
+    /// landmark, or the declaration that is out of place.
+    fn stretch_of(&self, choice: Choice) -> Stretch {
+        let rest = self.rest();
+        let place = choice.start.place;
+        let from = stop_of(&self.list);
+        let is_out = 0 < choice.stop || !choice.is_before && place < self.list.len();
+        let out = rest.get(..choice.stop).unwrap_or(rest);
+        let (first, stop) = if choice.is_misplaced {
+            (self.list.len(), stop_of(out).saturating_sub(1))
+        } else {
+            let stop = match rest.get(landmark_from(rest, choice.stop)..) {
+                Some([token, ..]) => token.span.start,
+                _ => stop_of(rest).max(from),
+            };
+            (self.open.command().place.min(place), stop)
+        };
+        Stretch {
+            first: self.byte_at(first),
+            from,
+            stop,
+            is_out: is_out && !choice.is_misplaced,
         }
     }
-    false
-}
 
-/// Whether a repair changes which braces match, or may do so: it leaves some out, or puts a `;`
-/// before one.
-fn is_of_braces(tokens: &Tokens<'_>, rest: &[Token<'_>], choice: Choice) -> bool {
-    if choice.is_misplaced {
-        return false;
-    }
-    let is_before = choice.put == [Part::Semicolon].as_slice();
-    let stop = choice.stop.saturating_add(usize::from(is_before));
-    let is_back = !choice.is_before;
-    choice.put == [Part::CloseBrace].as_slice()
-        || is_back && has_brace(tokens.list.get(choice.start.place..).unwrap_or(&[]))
-        || has_brace(rest.get(..stop).unwrap_or(rest))
-}
-
-/// Adds the first fault of the tree, and repairs it. The answer is no if it can't be repaired.
-fn put_tree<'a>(
-    alloc: Global,
-    stock: &Stock<'a>,
-    source: &[Token<'a>],
-    tokens: &mut Tokens<'a>,
-    walk: &mut Walk<'a>,
-    faults: &mut Vec<Fault>,
-) -> Result<bool, AllocError> {
-    let rest = source.get(walk.next..).unwrap_or(&[]);
-    put_fault(tokens, rest, faults)?;
-    let place = tokens.list.len();
-    let found = repair_of(alloc, stock, &walk.open, place, rest, &mut tokens.left)?;
-    let Some(choice) = found else {
-        return Ok(false);
-    };
-    let stretch = stretch_of(tokens, rest, walk.open.command().place, choice);
-    tokens.is_unclear = tokens.is_unclear || is_of_braces(tokens, rest, choice);
-    tokens.stretches.push(stretch)?;
-    repair(alloc, stock, source, tokens, walk, choice)?;
-    Ok(true)
-}
-
-/// Adds the faults of the tree, whose tokens are `source`. The answer is yes if the repaired tokens
-/// are a program.
-fn put_trees<'a>(
-    alloc: Global,
-    stock: &Stock<'a>,
-    source: &[Token<'a>],
-    tokens: &mut Tokens<'a>,
-    faults: &mut Vec<Fault>,
-) -> Result<bool, AllocError> {
-    let mut walk = Walk {
-        open: Open::new(alloc, 0),
-        next: 0,
-    };
-    for _repair in 0..MAX_REPAIRS {
-        match go_on(alloc, stock, source, tokens, &mut walk)? {
-            Reading::Whole => return Ok(true),
-            Reading::Stopped => return Ok(false),
-            Reading::Unexpected(_) => {}
+    /// Whether a repair changes which braces match, or may do so: it leaves some out, or puts a `;`
+    /// before one.
+    fn is_of_braces(&self, choice: Choice) -> bool {
+        if choice.is_misplaced {
+            return false;
         }
-        let is_enough = MAX_FAULTS <= faults.len();
-        if is_enough || !put_tree(alloc, stock, source, tokens, &mut walk, faults)? {
+        let rest = self.rest();
+        let stop = choice
+            .stop
+            .saturating_add(usize::from(matches!(choice.put, [b';'])));
+        matches!(choice.put, [b'}'])
+            || !choice.is_before && has_brace(self.list.get(choice.start.place..).unwrap_or(&[]))
+            || has_brace(rest.get(..stop).unwrap_or(rest))
+    }
+
+    /// Adds the first fault of the tree, and repairs it. The answer is no if it can't be repaired.
+    fn put_tree(&mut self) -> Result<bool, AllocError> {
+        self.put_fault()?;
+        let rest = self.rest();
+        let mut left = self.left;
+        let found = repair_of(self.alloc, &self.open, self.list.len(), rest, &mut left)?;
+        self.left = left;
+        let Some(choice) = found else {
             return Ok(false);
-        }
+        };
+        let stretch = self.stretch_of(choice);
+        self.is_unclear = self.is_unclear || self.is_of_braces(choice);
+        self.stretches.push(stretch)?;
+        self.repair(choice)?;
+        Ok(true)
     }
-    Ok(false)
+
+    /// Adds the faults of the tree. The answer is yes if the repaired tokens are a program.
+    fn put_trees(&mut self) -> Result<bool, AllocError> {
+        for _repair in 0..MAX_REPAIRS {
+            match self.go_on()? {
+                Reading::Whole => return Ok(true),
+                Reading::Stopped => return Ok(false),
+                Reading::Unexpected(_) => {}
+            }
+            if MAX_FAULTS <= self.faults.len() || !self.put_tree()? {
+                return Ok(false);
+            }
+        }
+        Ok(false)
+    }
 }
 
 /// The faults of a text that is refused, in the order of their kinds.
@@ -185,23 +124,33 @@ fn all_faults<'a>(
     text: &'a [u8],
     room: usize,
 ) -> Result<Vec<Fault>, AllocError> {
-    let stock = Stock::new(alloc)?;
-    let mut faults = Vec::new(alloc);
-    let Some(mut tokens) = tokens_of(alloc, &stock, text, MAX_FAULTS, room, &mut faults)? else {
-        return Ok(faults);
+    let mut pieces = Pieces {
+        alloc,
+        text,
+        list: Vec::new(alloc),
+        faults: Vec::new(alloc),
+        from: 0,
     };
-    let source = std::mem::replace(&mut tokens.list, Vec::new(alloc));
-    if put_trees(alloc, &stock, &source, &mut tokens, &mut faults)? {
-        put_names(
-            alloc,
-            &stock,
-            lattice,
-            &source,
-            &mut tokens,
-            MAX_FAULTS,
-            &mut faults,
-        )?;
+    let is_whole = pieces.read(MAX_FAULTS)?;
+    let stretches = pieces.stretches()?;
+    let Pieces { list, faults, .. } = pieces;
+    let mut walk = Walk {
+        alloc,
+        lattice,
+        source: &list,
+        next: 0,
+        list: Vec::new(alloc),
+        open: Open::new(alloc, 0),
+        stretches,
+        faults,
+        is_mended: false,
+        is_unclear: false,
+        left: room,
+    };
+    if is_whole && walk.put_trees()? {
+        walk.put_names()?;
     }
+    let Walk { faults, .. } = walk;
     Ok(faults)
 }
 

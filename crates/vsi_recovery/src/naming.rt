@@ -1,114 +1,62 @@
 //! The names of a program that can't be resolved.
 
 use crate::fault::{Cause, Fault};
-use crate::tokens::{Tokens, is_put};
-use crate::undeclared::undeclared_names;
+use crate::finding::MAX_FAULTS;
+use crate::repairs::NAME;
+use crate::skipping::DECLARATION;
+use crate::tokens::{number_of, put_at, put_numbered, put_text, span, tokens_of};
+use crate::walk::Walk;
+use indexmap::IndexSet;
 use std::alloc::{AllocError, Global};
-use vsi_lattice::{Class, Classes, Lattice};
-use vsi_repairs::{DECLARATION, Part, Stock, number_of, put_at, put_numbered};
+use vsi_lattice::{Class, Classes};
 use vsi_scope::{ScopeError, resolve};
-use vsi_syntax::{Kind, Span, Token, lex, parse};
+use vsi_syntax::{Kind, Span, Token, parse};
 
-/// Adds a class of the lattice with this span.
-fn put_class<'a>(
-    alloc: Global,
-    list: &mut Vec<Token<'a>>,
-    lattice: &'a Lattice,
-    span: Span,
-) -> Result<(), AllocError> {
-    for number in 0..lattice.count() {
-        let name = lattice.name(Class::at(number as u8));
-        if let Ok(tokens) = lex(alloc, name) {
-            for token in &tokens {
-                put_at(list, *token, span)?;
-            }
-            return Ok(());
+/// The most names that are found at once.
+const MAX_NAMES: usize = 20;
+
+/// Whether a name after a token of this kind is that of a declaration.
+fn is_declaring(kind: Kind) -> bool {
+    kind == Kind::Var || kind == Kind::Letvar
+}
+
+/// Whether a repair has put in a token: nothing of the text is in it.
+fn is_put(token: &Token<'_>) -> bool {
+    token.span.start == token.span.stop
+}
+
+/// The names of the declarations of a list.
+fn declared_names<'a>(alloc: Global, list: &[Token<'a>]) -> Result<IndexSet<&'a [u8]>, AllocError> {
+    let mut names = IndexSet::new(alloc);
+    let mut before = Kind::Semicolon;
+    for token in list {
+        if is_declaring(before) {
+            names.insert(token.text)?;
+        }
+        before = token.kind;
+    }
+    Ok(names)
+}
+
+/// The first uses of the names that no declaration of a list has, in their order: those of the
+/// first 20 names. Each of them is out of scope wherever it is used.
+fn undeclared_names<'a>(alloc: Global, list: &[Token<'a>]) -> Result<Vec<Token<'a>>, AllocError> {
+    let mut known = declared_names(alloc, list)?;
+    let mut found = Vec::new(alloc);
+    let mut before = Kind::Semicolon;
+    for token in list {
+        let is_class = before == Kind::Colon;
+        let is_used = token.kind == Kind::Name && !is_class && !is_declaring(before);
+        before = token.kind;
+        if is_used && found.len() < MAX_NAMES && !known.contains(token.text) {
+            known.insert(token.text)?;
+            found.push(*token)?;
         }
     }
-    Ok(())
+    Ok(found)
 }
 
-/// The list with the declarations of names in front.
-fn declared<'a>(
-    alloc: Global,
-    stock: &Stock<'a>,
-    lattice: &'a Lattice,
-    list: &[Token<'a>],
-    names: &[Token<'a>],
-) -> Result<Vec<Token<'a>>, AllocError> {
-    let start = Span { start: 0, stop: 0 };
-    let mut made = Vec::new(alloc);
-    for name in names {
-        stock.put(&mut made, Part::Var, start)?;
-        put_at(&mut made, *name, start)?;
-        stock.put(&mut made, Part::Colon, start)?;
-        put_class(alloc, &mut made, lattice, start)?;
-        stock.put(&mut made, Part::Semicolon, start)?;
-    }
-    made.extend_from_slice(list)?;
-    Ok(made)
-}
-
-/// The list with a class of the lattice in place of a token.
-fn with_class<'a>(
-    alloc: Global,
-    lattice: &'a Lattice,
-    list: &[Token<'a>],
-    place: usize,
-) -> Result<Vec<Token<'a>>, AllocError> {
-    let mut made = Vec::new(alloc);
-    for (number, token) in list.iter().enumerate() {
-        if number == place {
-            put_class(alloc, &mut made, lattice, token.span)?;
-        } else {
-            made.push(*token)?;
-        }
-    }
-    Ok(made)
-}
-
-/// The list without the declaration of the name at a place.
-fn undeclared<'a>(
-    alloc: Global,
-    list: &[Token<'a>],
-    place: usize,
-) -> Result<Vec<Token<'a>>, AllocError> {
-    let start = place.saturating_sub(1);
-    let stop = start.saturating_add(DECLARATION);
-    let mut made = Vec::from_slice(alloc, list.get(..start).unwrap_or(list))?;
-    made.extend_from_slice(list.get(stop..).unwrap_or(&[]))?;
-    Ok(made)
-}
-
-/// The fault of the names of a list that is a program, with the number of its name.
-fn fault_of(
-    alloc: Global,
-    lattice: &Lattice,
-    tokens: &mut Tokens<'_>,
-) -> Result<Option<(usize, ScopeError)>, AllocError> {
-    if tokens.left == 0 {
-        return Ok(None);
-    }
-    tokens.left = tokens.left.saturating_sub(tokens.list.len());
-    let mut numbered = Vec::new(alloc);
-    put_numbered(&mut numbered, &tokens.list)?;
-    let Ok(program) = parse(alloc, &numbered) else {
-        return Ok(None);
-    };
-    match resolve(alloc, &program, lattice) {
-        Err(ScopeError::Memory) => Err(AllocError),
-        Err(ScopeError::Duplicate(span)) => {
-            Ok(Some((number_of(span), ScopeError::Duplicate(span))))
-        }
-        Err(ScopeError::UnknownClass(span)) => {
-            Ok(Some((number_of(span), ScopeError::UnknownClass(span))))
-        }
-        Err(ScopeError::Unbound(span)) => Ok(Some((number_of(span), ScopeError::Unbound(span)))),
-        _ => Ok(None),
-    }
-}
-
-/// A fault of a name at its part of the text.
+/// The fault of a name at its part of the text.
 fn placed(error: ScopeError, span: Span) -> Fault {
     let error = match error {
         ScopeError::Duplicate(_) => ScopeError::Duplicate(span),
@@ -119,144 +67,163 @@ fn placed(error: ScopeError, span: Span) -> Fault {
     Fault { cause, span }
 }
 
-/// Whether a part with a repair has a name, or some declaration has lost a part.
-fn is_in_doubt(stock: &Stock<'_>, source: &[Token<'_>], tokens: &Tokens<'_>, name: &[u8]) -> bool {
-    for token in source {
-        let is_declaring = token.kind == Kind::Var || token.kind == Kind::Letvar;
-        if is_declaring && tokens.is_cut(token.span.start) {
-            return true;
+impl<'a> Walk<'_, 'a> {
+    /// Adds a class of the lattice with this span.
+    fn put_class(&self, list: &mut Vec<Token<'a>>, span: Span) -> Result<(), AllocError> {
+        for number in 0..self.lattice.count() {
+            let name = self.lattice.name(Class::at(number as u8));
+            let tokens = tokens_of(self.alloc, name)?;
+            for token in &tokens {
+                put_at(list, *token, span)?;
+            }
+            if !tokens.is_empty() {
+                return Ok(());
+            }
         }
-        if token.text == name && tokens.is_within(token.span.start) {
-            return true;
-        }
+        Ok(())
     }
-    let mut is_declaring = false;
-    for token in &tokens.list {
-        // Declarations that were put in front end at 0.
-        if is_declaring && token.text == stock.name() && token.span.stop != 0 {
-            return true;
-        }
-        if is_declaring && tokens.is_mended && token.text == name {
-            return true;
-        }
-        is_declaring = token.kind == Kind::Var || token.kind == Kind::Letvar;
-    }
-    false
-}
 
-/// Adds a fault of a name, unless it may come from a repair.
-fn put_fault(
-    stock: &Stock<'_>,
-    source: &[Token<'_>],
-    tokens: &Tokens<'_>,
-    token: Token<'_>,
-    error: ScopeError,
-    faults: &mut Vec<Fault>,
-) -> Result<(), AllocError> {
-    if is_put(&token) || tokens.is_within(token.span.start) {
-        return Ok(());
+    /// Puts tokens in place of those from a place up to another one.
+    fn splice(&mut self, start: usize, stop: usize, put: &[Token<'a>]) -> Result<(), AllocError> {
+        let mut made = Vec::from_slice(self.alloc, self.list.get(..start).unwrap_or(&[]))?;
+        made.extend_from_slice(put)?;
+        made.extend_from_slice(self.list.get(stop..).unwrap_or(&[]))?;
+        self.list = made;
+        Ok(())
     }
-    if let ScopeError::Unbound(_) = error
-        && is_in_doubt(stock, source, tokens, token.text)
-    {
-        return Ok(());
-    }
-    Ok(faults.push(placed(error, token.span))?)
-}
 
-/// Adds the fault of the class of a global whose name is declared above, if it has one.
-fn put_class_fault(
-    lattice: &Lattice,
-    tokens: &Tokens<'_>,
-    place: usize,
-    faults: &mut Vec<Fault>,
-) -> Result<(), AllocError> {
-    let Some(class) = tokens.list.get(place.saturating_add(2)) else {
-        return Ok(());
-    };
-    let is_judged = !is_put(class) && !tokens.is_within(class.span.start);
-    if is_judged && lattice.class_named(class.text).is_none() {
-        let error = ScopeError::UnknownClass(class.span);
-        faults.push(placed(error, class.span))?;
+    /// Puts the declarations of names in front.
+    fn declare(&mut self, names: &[Token<'a>]) -> Result<(), AllocError> {
+        let start = span(0, 0);
+        let mut made = Vec::new(self.alloc);
+        for name in names {
+            put_text(self.alloc, &mut made, b"var", start)?;
+            put_at(&mut made, *name, start)?;
+            put_text(self.alloc, &mut made, b":", start)?;
+            self.put_class(&mut made, start)?;
+            put_text(self.alloc, &mut made, b";", start)?;
+        }
+        self.splice(0, 0, &made)
     }
-    Ok(())
-}
 
-/// Adds the fault of a name that isn't in scope, and then those of the names that no declaration
-/// has, and declares them. So the text is read once for all of these.
-fn put_unbound<'a>(
-    alloc: Global,
-    stock: &Stock<'a>,
-    lattice: &'a Lattice,
-    source: &[Token<'a>],
-    tokens: &mut Tokens<'a>,
-    first: Token<'a>,
-    faults: &mut Vec<Fault>,
-) -> Result<(), AllocError> {
-    let mut names = Vec::new(alloc);
-    names.push(first)?;
-    for token in &undeclared_names(alloc, &tokens.list)? {
-        if token.text != first.text {
-            names.push(*token)?;
+    /// The first fault of the names, with the number of its name.
+    fn name_fault(&mut self) -> Result<Option<(usize, ScopeError)>, AllocError> {
+        if self.left == 0 {
+            return Ok(None);
+        }
+        self.left = self.left.saturating_sub(self.list.len());
+        let mut numbered = Vec::new(self.alloc);
+        put_numbered(&mut numbered, &self.list)?;
+        let Ok(program) = parse(self.alloc, &numbered) else {
+            return Ok(None);
+        };
+        let Err(error) = resolve(self.alloc, &program, self.lattice) else {
+            return Ok(None);
+        };
+        match error {
+            ScopeError::Memory => Err(AllocError),
+            ScopeError::Duplicate(span) => Ok(Some((number_of(span), error))),
+            ScopeError::UnknownClass(span) => Ok(Some((number_of(span), error))),
+            ScopeError::Unbound(span) => Ok(Some((number_of(span), error))),
+            _ => Ok(None),
         }
     }
-    for token in &names {
-        let error = ScopeError::Unbound(token.span);
-        put_fault(stock, source, tokens, *token, error, faults)?;
-    }
-    tokens.list = declared(alloc, stock, lattice, &tokens.list, &names)?;
-    Ok(())
-}
 
-/// Adds the first fault of the names, and repairs it. The answer is no if there is none, or none
-/// that can be repaired.
-fn put_next<'a>(
-    alloc: Global,
-    stock: &Stock<'a>,
-    lattice: &'a Lattice,
-    source: &[Token<'a>],
-    tokens: &mut Tokens<'a>,
-    faults: &mut Vec<Fault>,
-) -> Result<bool, AllocError> {
-    let Some((place, error)) = fault_of(alloc, lattice, tokens)? else {
-        return Ok(false);
-    };
-    let Some(token) = tokens.list.get(place) else {
-        return Ok(false);
-    };
-    let token = *token;
-    if let ScopeError::Unbound(_) = error {
-        put_unbound(alloc, stock, lattice, source, tokens, token, faults)?;
-        return Ok(true);
+    /// Whether a part with a repair has a name, or some declaration has lost a part.
+    fn is_in_doubt(&self, name: &[u8]) -> bool {
+        for token in self.source {
+            let at = token.span.start;
+            if is_declaring(token.kind) && self.is_cut(at) {
+                return true;
+            }
+            if token.text == name && self.is_within(at) {
+                return true;
+            }
+        }
+        let mut before = Kind::Semicolon;
+        for token in &self.list {
+            // Declarations that were put in front end at 0.
+            let is_lost = token.text == NAME && token.span.stop != 0;
+            if is_declaring(before) && (is_lost || self.is_mended && token.text == name) {
+                return true;
+            }
+            before = token.kind;
+        }
+        false
     }
-    put_fault(stock, source, tokens, token, error, faults)?;
-    if let ScopeError::Duplicate(_) = error {
-        put_class_fault(lattice, tokens, place, faults)?;
-    }
-    let list = tokens.list.as_slice();
-    tokens.list = match error {
-        ScopeError::Duplicate(_) => undeclared(alloc, list, place)?,
-        _ => with_class(alloc, lattice, list, place)?,
-    };
-    Ok(true)
-}
 
-/// Adds the faults of the names of a list that is a program, up to this number of faults. `source`
-/// has the tokens of the text.
-pub(crate) fn put_names<'a>(
-    alloc: Global,
-    stock: &Stock<'a>,
-    lattice: &'a Lattice,
-    source: &[Token<'a>],
-    tokens: &mut Tokens<'a>,
-    most: usize,
-    faults: &mut Vec<Fault>,
-) -> Result<(), AllocError> {
-    for _fault in 0..most.saturating_mul(3) {
-        let is_enough = most <= faults.len();
-        if is_enough || !put_next(alloc, stock, lattice, source, tokens, faults)? {
+    /// Adds a fault of a name, unless it may come from a repair.
+    fn put_name_fault(&mut self, token: Token<'a>, error: ScopeError) -> Result<(), AllocError> {
+        if is_put(&token) || self.is_within(token.span.start) {
             return Ok(());
         }
+        if matches!(error, ScopeError::Unbound(_)) && self.is_in_doubt(token.text) {
+            return Ok(());
+        }
+        Ok(self.faults.push(placed(error, token.span))?)
     }
-    Ok(())
+
+    /// Adds the fault of the class of a global whose name is declared above, if it has one.
+    fn put_class_fault(&mut self, place: usize) -> Result<(), AllocError> {
+        let Some(class) = self.list.get(place.saturating_add(2)).copied() else {
+            return Ok(());
+        };
+        if self.lattice.class_named(class.text).is_some() {
+            return Ok(());
+        }
+        self.put_name_fault(class, ScopeError::UnknownClass(class.span))
+    }
+
+    /// Adds the fault of a name that isn't in scope, and then those of the names that no declaration
+    /// has, and declares them. So the text is read once for all of these.
+    fn put_unbound(&mut self, first: Token<'a>) -> Result<(), AllocError> {
+        let mut names = Vec::new(self.alloc);
+        names.push(first)?;
+        for token in &undeclared_names(self.alloc, &self.list)? {
+            if token.text != first.text {
+                names.push(*token)?;
+            }
+        }
+        for token in &names {
+            self.put_name_fault(*token, ScopeError::Unbound(token.span))?;
+        }
+        self.declare(&names)
+    }
+
+    /// Adds the first fault of the names, and repairs it. The answer is no if there is none, or none
+    /// that can be repaired.
+    fn put_name(&mut self) -> Result<bool, AllocError> {
+        let Some((place, error)) = self.name_fault()? else {
+            return Ok(false);
+        };
+        let Some(token) = self.list.get(place).copied() else {
+            return Ok(false);
+        };
+        match error {
+            ScopeError::Unbound(_) => self.put_unbound(token)?,
+            ScopeError::Duplicate(_) => {
+                self.put_name_fault(token, error)?;
+                self.put_class_fault(place)?;
+                let start = place.saturating_sub(1);
+                self.splice(start, start.saturating_add(DECLARATION), &[])?;
+            }
+            _ => {
+                self.put_name_fault(token, error)?;
+                let mut class = Vec::new(self.alloc);
+                self.put_class(&mut class, token.span)?;
+                self.splice(place, place.saturating_add(1), &class)?;
+            }
+        }
+        Ok(true)
+    }
+
+    /// Adds the faults of the names of a list that is a program.
+    pub(crate) fn put_names(&mut self) -> Result<(), AllocError> {
+        for _fault in 0..MAX_FAULTS * 3 {
+            if MAX_FAULTS <= self.faults.len() || !self.put_name()? {
+                return Ok(());
+            }
+        }
+        Ok(())
+    }
 }

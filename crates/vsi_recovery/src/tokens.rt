@@ -1,80 +1,97 @@
-//! Lists of tokens with repairs.
+//! Lists of tokens, as repairs make and read them.
 
-use vsi_syntax::Token;
+use std::alloc::{AllocError, Global};
+use vsi_syntax::{Kind, LexError, ParseError, Span, Token, lex, parse};
 
-/// A part of a text with a repair, by bytes. Names from `first` up to `stop` aren't judged, and no
-/// fault of the tree is reported from `from` to `stop`.
+/// The result of reading a list of tokens.
 #[derive(Clone, Copy)]
-pub(crate) struct Stretch {
-    pub(crate) first: usize,
-    pub(crate) from: usize,
-    pub(crate) stop: usize,
-    /// Whether something is left out.
-    pub(crate) is_out: bool,
+pub(crate) enum Reading {
+    /// The list is a program.
+    Whole,
+    /// The number of the first token with which no program goes on.
+    Unexpected(usize),
+    /// The program is too deep.
+    Stopped,
 }
 
-/// The tokens of a text up to one of them, with repairs.
-#[derive(Drop)]
-pub(crate) struct Tokens<'a> {
-    pub(crate) list: Vec<Token<'a>>,
-    pub(crate) stretches: Vec<Stretch>,
-    /// Whether the tree was repaired.
-    pub(crate) is_mended: bool,
-    /// Whether a repair may have changed which braces match.
-    pub(crate) is_unclear: bool,
-    /// How many more tokens may be read again.
-    pub(crate) left: usize,
+/// Whether reading can go on at a kind of token.
+pub(crate) fn is_landmark(kind: Kind) -> bool {
+    matches!(
+        kind,
+        Kind::Semicolon | Kind::CloseBrace | Kind::Else | Kind::Do | Kind::In | Kind::Var
+    )
 }
 
-/// The byte at which a token begins, or the end of the last one if there is no such token.
-pub(crate) fn byte_at(list: &[Token<'_>], place: usize) -> usize {
-    match list.get(place) {
-        Some(token) => token.span.start,
-        None => match list.last() {
-            Some(last) => last.span.stop,
-            None => 0,
-        },
+/// The number of the first token from this one on at which reading can go on, or the number of
+/// tokens.
+pub(crate) fn landmark_from(list: &[Token<'_>], place: usize) -> usize {
+    let rest = list.get(place..).unwrap_or(&[]);
+    let found = rest.iter().position(|token| is_landmark(token.kind));
+    place.saturating_add(found.unwrap_or(rest.len()))
+}
+
+/// The span between two bytes or numbers.
+pub(crate) fn span(start: usize, stop: usize) -> Span {
+    Span { start, stop }
+}
+
+/// The tokens of a text, or none if it has a fault.
+pub(crate) fn tokens_of<'a>(alloc: Global, text: &'a [u8]) -> Result<Vec<Token<'a>>, AllocError> {
+    match lex(alloc, text) {
+        Ok(tokens) => Ok(tokens),
+        Err(LexError::Memory) => Err(AllocError),
+        Err(_) => Ok(Vec::new(alloc)),
     }
 }
 
-/// Whether a repair has put in a token: nothing of the text is in it.
-pub(crate) fn is_put(token: &Token<'_>) -> bool {
-    token.span.start == token.span.stop
+/// Adds a token with another span.
+pub(crate) fn put_at<'a>(
+    list: &mut Vec<Token<'a>>,
+    token: Token<'a>,
+    span: Span,
+) -> Result<(), AllocError> {
+    let mut moved = token;
+    moved.span = span;
+    Ok(list.push(moved)?)
 }
 
-impl Tokens<'_> {
-    /// The byte at which the last token ends.
-    pub(crate) fn last_stop(&self) -> usize {
-        byte_at(&self.list, self.list.len())
+/// Adds the tokens of a text, all with this span.
+pub(crate) fn put_text<'a>(
+    alloc: Global,
+    list: &mut Vec<Token<'a>>,
+    text: &'a [u8],
+    span: Span,
+) -> Result<(), AllocError> {
+    for token in &tokens_of(alloc, text)? {
+        put_at(list, *token, span)?;
     }
+    Ok(())
+}
 
-    /// Whether a fault of the tree at a byte may come from a repair.
-    pub(crate) fn is_near(&self, at: usize) -> bool {
-        for stretch in &self.stretches {
-            if stretch.from <= at && at <= stretch.stop {
-                return true;
-            }
-        }
-        false
+/// Adds tokens whose spans are their numbers: `number_of` finds a token by its span.
+pub(crate) fn put_numbered<'a>(
+    list: &mut Vec<Token<'a>>,
+    tokens: &[Token<'a>],
+) -> Result<(), AllocError> {
+    for token in tokens {
+        let start = list.len().saturating_mul(2);
+        put_at(list, *token, span(start, start.saturating_add(1)))?;
     }
+    Ok(())
+}
 
-    /// Whether something is left out of the part to which a byte belongs.
-    pub(crate) fn is_cut(&self, at: usize) -> bool {
-        for stretch in &self.stretches {
-            if stretch.is_out && stretch.first <= at && at < stretch.stop {
-                return true;
-            }
-        }
-        false
-    }
+/// The number of the token with a span, in a list whose spans are numbers, or the number of tokens
+/// for the span after the last one.
+pub(crate) fn number_of(span: Span) -> usize {
+    span.start.saturating_add(1) / 2
+}
 
-    /// Whether a name at a byte belongs to a part that was repaired.
-    pub(crate) fn is_within(&self, at: usize) -> bool {
-        for stretch in &self.stretches {
-            if stretch.first <= at && at < stretch.stop {
-                return true;
-            }
-        }
-        false
+/// Reads a list whose spans are numbers.
+pub(crate) fn read<'a>(alloc: Global, list: &[Token<'a>]) -> Result<Reading, AllocError> {
+    match parse(alloc, list) {
+        Ok(_) => Ok(Reading::Whole),
+        Err(ParseError::Memory) => Err(AllocError),
+        Err(ParseError::Unexpected(span)) => Ok(Reading::Unexpected(number_of(span))),
+        Err(ParseError::TooDeep(_)) => Ok(Reading::Stopped),
     }
 }

@@ -1,126 +1,145 @@
 //! A walk over the tokens of a text, from one fault of the tree to the next.
 
-use crate::tokens::Tokens;
+use crate::context::Open;
+use crate::fault::Fault;
+use crate::search::Choice;
+use crate::tokens::{Reading, put_numbered, put_text, read, span};
 use std::alloc::{AllocError, Global};
-use vsi_repairs::{Choice, Open, Reading, Stock, put_numbered, read};
-use vsi_syntax::{Span, Token};
+use vsi_lattice::Lattice;
+use vsi_syntax::Token;
 
 /// The fewest tokens that are read at once.
 const CHUNK: usize = 500;
 
-/// The state of a walk: the constructs that haven't ended, and the number of the next token of the
-/// text.
+/// A part of a text with a repair, by bytes. Names from `first` up to `stop` aren't judged, and no
+/// fault of the tree is reported from `from` to `stop`.
+#[derive(Clone, Copy)]
+pub(crate) struct Stretch {
+    pub(crate) first: usize,
+    pub(crate) from: usize,
+    pub(crate) stop: usize,
+    /// Whether something is left out.
+    pub(crate) is_out: bool,
+}
+
+/// The tokens of a text up to one of them, with repairs, and the faults that were found.
 #[derive(Drop)]
-pub(crate) struct Walk<'a> {
-    pub(crate) open: Open<'a>,
+pub(crate) struct Walk<'s, 'a> {
+    pub(crate) alloc: Global,
+    pub(crate) lattice: &'a Lattice,
+    /// The tokens of the text, and the number of the next one.
+    pub(crate) source: &'s [Token<'a>],
     pub(crate) next: usize,
+    /// The tokens before that one with repairs, and the constructs that haven't ended.
+    pub(crate) list: Vec<Token<'a>>,
+    pub(crate) open: Open<'a>,
+    pub(crate) stretches: Vec<Stretch>,
+    pub(crate) faults: Vec<Fault>,
+    /// Whether the tree was repaired.
+    pub(crate) is_mended: bool,
+    /// Whether a repair may have changed which braces match.
+    pub(crate) is_unclear: bool,
+    /// How many more tokens may be read again.
+    pub(crate) left: usize,
 }
 
-/// Goes on over the next tokens.
-fn go_over<'a>(
-    stock: &Stock<'a>,
-    next: &[Token<'a>],
-    tokens: &mut Tokens<'a>,
-    walk: &mut Walk<'a>,
-) -> Result<(), AllocError> {
-    for token in next {
-        walk.open.note(stock, tokens.list.len(), *token)?;
-        tokens.list.push(*token)?;
-    }
-    walk.next = walk.next.saturating_add(next.len());
-    Ok(())
-}
-
-/// Reads tokens after what was read: how many of them there are before the first fault.
-fn reading_of<'a>(
-    alloc: Global,
-    open: &Open<'a>,
-    next: &[Token<'a>],
-) -> Result<Reading, AllocError> {
-    let mut made = Vec::new(alloc);
-    put_numbered(&mut made, &open.kept)?;
-    let before = made.len();
-    put_numbered(&mut made, next)?;
-    match read(alloc, &made)? {
-        Reading::Unexpected(place) => Ok(Reading::Unexpected(place.saturating_sub(before))),
-        reading => Ok(reading),
+/// The byte at which the last of these tokens ends, or 0 if there is none.
+pub(crate) fn stop_of(list: &[Token<'_>]) -> usize {
+    match list.last() {
+        Some(last) => last.span.stop,
+        None => 0,
     }
 }
 
-/// Goes on over some tokens: none if it goes on after them.
-fn read_chunk<'a>(
-    alloc: Global,
-    stock: &Stock<'a>,
-    source: &[Token<'a>],
-    tokens: &mut Tokens<'a>,
-    walk: &mut Walk<'a>,
-) -> Result<Option<Reading>, AllocError> {
-    let rest = source.get(walk.next..).unwrap_or(&[]);
-    let count = walk.open.kept.len().max(CHUNK).min(rest.len());
-    let chunk = rest.get(..count).unwrap_or(rest);
-    let reading = reading_of(alloc, &walk.open, chunk)?;
-    let passed = match reading {
-        Reading::Unexpected(place) if place < count => place,
-        Reading::Stopped => 0,
-        _ => count,
-    };
-    go_over(stock, chunk.get(..passed).unwrap_or(chunk), tokens, walk)?;
-    if passed < count || count == rest.len() {
-        Ok(Some(reading))
-    } else {
-        Ok(None)
+impl<'s, 'a> Walk<'s, 'a> {
+    /// The tokens of the text that come next.
+    pub(crate) fn rest(&self) -> &'s [Token<'a>] {
+        let source = self.source;
+        &source[self.next.min(source.len())..]
     }
-}
 
-/// Goes on to the next fault of the tree, or to the end of the text.
-pub(crate) fn go_on<'a>(
-    alloc: Global,
-    stock: &Stock<'a>,
-    source: &[Token<'a>],
-    tokens: &mut Tokens<'a>,
-    walk: &mut Walk<'a>,
-) -> Result<Reading, AllocError> {
-    tokens.left = tokens.left.saturating_sub(walk.open.kept.len());
-    for _chunk in 0..source.len().saturating_add(1) {
-        if let Some(reading) = read_chunk(alloc, stock, source, tokens, walk)? {
-            return Ok(reading);
+    /// The byte at which the token at a place begins: one that was read, or else the next one, or
+    /// the end of the last one.
+    pub(crate) fn byte_at(&self, place: usize) -> usize {
+        match self.list.get(place) {
+            Some(token) => token.span.start,
+            None => match self.rest().first() {
+                Some(token) => token.span.start,
+                None => stop_of(&self.list),
+            },
         }
     }
-    Ok(Reading::Stopped)
-}
 
-/// The byte of a repair before these tokens of the text.
-fn byte_of(rest: &[Token<'_>], tokens: &Tokens<'_>, from: usize) -> usize {
-    if let Some(token) = tokens.list.get(from) {
-        return token.span.start;
+    /// Whether a fault of the tree at a byte may come from a repair.
+    pub(crate) fn is_near(&self, at: usize) -> bool {
+        let is_near = |part: &Stretch| part.from <= at && at <= part.stop;
+        self.stretches.iter().any(is_near)
     }
-    match rest.first() {
-        Some(token) => token.span.start,
-        None => tokens.last_stop(),
-    }
-}
 
-/// Makes a repair.
-pub(crate) fn repair<'a>(
-    alloc: Global,
-    stock: &Stock<'a>,
-    source: &[Token<'a>],
-    tokens: &mut Tokens<'a>,
-    walk: &mut Walk<'a>,
-    choice: Choice,
-) -> Result<(), AllocError> {
-    let from = choice.start.place;
-    let start = byte_of(source.get(walk.next..).unwrap_or(&[]), tokens, from);
-    walk.open = walk.open.with(alloc, stock, choice)?;
-    walk.next = walk.next.saturating_add(choice.stop);
-    let mut after = Vec::new(alloc);
-    if choice.is_before {
-        after.extend_from_slice(tokens.list.get(from..).unwrap_or(&[]))?;
+    /// Whether something is left out of the part to which a byte belongs.
+    pub(crate) fn is_cut(&self, at: usize) -> bool {
+        let is_cut = |part: &Stretch| part.is_out && part.first <= at && at < part.stop;
+        self.stretches.iter().any(is_cut)
     }
-    tokens.list.truncate(from);
-    let span = Span { start, stop: start };
-    stock.put_all(&mut tokens.list, choice.put, span)?;
-    tokens.list.extend_from_slice(&after)?;
-    tokens.is_mended = true;
-    Ok(())
+
+    /// Whether a name at a byte belongs to a part that was repaired.
+    pub(crate) fn is_within(&self, at: usize) -> bool {
+        let is_within = |part: &Stretch| part.first <= at && at < part.stop;
+        self.stretches.iter().any(is_within)
+    }
+
+    /// Goes on over some tokens: none if it goes on after them.
+    fn read_chunk(&mut self) -> Result<Option<Reading>, AllocError> {
+        let rest = self.rest();
+        let count = self.open.kept.len().max(CHUNK).min(rest.len());
+        let chunk = rest.get(..count).unwrap_or(rest);
+        let mut made = Vec::new(self.alloc);
+        put_numbered(&mut made, &self.open.kept)?;
+        let before = made.len();
+        put_numbered(&mut made, chunk)?;
+        let reading = read(self.alloc, &made)?;
+        let passed = match reading {
+            Reading::Unexpected(place) => place.saturating_sub(before).min(count),
+            Reading::Stopped => 0,
+            Reading::Whole => count,
+        };
+        for token in chunk.get(..passed).unwrap_or(chunk) {
+            self.open.note(self.list.len(), *token)?;
+            self.list.push(*token)?;
+        }
+        self.next = self.next.saturating_add(passed);
+        if passed < count || count == rest.len() {
+            Ok(Some(reading))
+        } else {
+            Ok(None)
+        }
+    }
+
+    /// Goes on to the next fault of the tree, or to the end of the text.
+    pub(crate) fn go_on(&mut self) -> Result<Reading, AllocError> {
+        self.left = self.left.saturating_sub(self.open.kept.len());
+        for _chunk in 0..self.source.len().saturating_add(1) {
+            if let Some(reading) = self.read_chunk()? {
+                return Ok(reading);
+            }
+        }
+        Ok(Reading::Stopped)
+    }
+
+    /// Makes a repair.
+    pub(crate) fn repair(&mut self, choice: Choice) -> Result<(), AllocError> {
+        let from = choice.start.place;
+        let start = self.byte_at(from);
+        self.open = self.open.with(choice)?;
+        self.next = self.next.saturating_add(choice.stop);
+        let mut after = Vec::new(self.alloc);
+        if choice.is_before {
+            after.extend_from_slice(self.list.get(from..).unwrap_or(&[]))?;
+        }
+        self.list.truncate(from);
+        put_text(self.alloc, &mut self.list, choice.put, span(start, start))?;
+        self.list.extend_from_slice(&after)?;
+        self.is_mended = true;
+        Ok(())
+    }
 }

@@ -15,12 +15,17 @@ use Rattle.vsi_flows.specs.declared.pair.Pair.{Pair}
 use Rattle.vsi_flows.specs.Table.{IsTable}
 use Rattle.vsi_report.specs.Banner.{HasBanner, HasLead, beginning}
 use Rattle.vsi_report.specs.Lead.{HasTrueLead, IsLead, allowed_words, lead_words}
-use Rattle.vsi_report.specs.Size.{AreFlows}
 use Rattle.vsi_report.specs.Verdict.{HasVerdict, IsVerdict, Tells}
 use Rattle.vsi_report.specs.declared.lead.Lead.{Lead}
 use Rattle.vsi_report.specs.declared.verdict.Verdict.{Verdict}
 use Rattle.vsi_report.specs.declared.verdict.Verdict.TheVariants.{Accepted, Refused, NoProgram}
 use Rattle.vsi_report.proofs.EscapeLemmas.{parts_so}
+
+-- The pairs are the table of flows of the text's program.
+pub record AreFlows (l : Lattice) (P : Profile) (text : List ℕ) (pairs : List Pair) : Type 0 where
+  pub resolved : Resolved
+  pub stands : Stands (class_named l) text resolved
+  pub table : IsTable (order l) P (program resolved) pairs
 
 -- Seven parts appended one after another to nothing are the whole.
 pub seven_so : (a b c d e f g t0 t1 t2 t3 t4 t5 t6 t7 : List ℕ) → t0 ≡ [] → t1 ≡ t0 ++ a → t2 ≡ t1 ++ b →

@@ -3,7 +3,6 @@ use Rattle.std.proofs.Common.{◌≡◌, ℕ, List, [], ◌∷◌, ◌++◌, ap,
 use Rattle.std.specs.Prelude.{codes, decimal}
 use Rattle.vsi_report.specs.Escape.{escape, escaped}
 use Rattle.vsi_report.specs.Panel.{line_tag, next_tag, open_tag, close_tag}
-use Rattle.vsi_report.specs.Marked.{name_markup}
 use Rattle.vsi_report.specs.Reading.{Between, Within, seen, Shows}
 
 -- After the markup, a reader who was between tags is in a tag and has seen nothing.
@@ -79,17 +78,6 @@ close_shows rest = refl
 pub more_shows : (a b t : List ℕ) → Shows a t → Shows b [] → Shows (a ++ b) t
 more_shows a b t ha hb rest =
     ap (seen Between) (append_assoc a b rest) ∙ ha (b ++ rest) ∙ ap (λ x. t ++ x) (hb rest)
-
--- An escaped text shows the text.
-pub text_shows : (t : List ℕ) → Shows (escaped t) t
-text_shows [] = λ rest. refl
-text_shows (b ∷ bs) = both_show (escape b) (escaped bs) (b ∷ []) bs (byte_shows b) (text_shows bs)
-
--- A name with its tags shows the name.
-pub name_shows : (kind label step name : List ℕ) → Shows (name_markup kind label step name) name
-name_shows kind label step name =
-    both_show (open_tag kind label step) (escaped name ++ close_tag) [] name (open_shows kind label step)
-    (more_shows (escaped name) close_tag name (text_shows name) close_shows)
 
 -- The end of the last line shows nothing.
 pub end_shows : Shows (codes "</span>") []

@@ -2,8 +2,5 @@ pub mod EscapeLemmas
 pub mod CoveringLemmas
 pub mod NameLemmas
 pub mod FlowsGraphLemmas
-pub mod SizeLemmas
 pub mod BannerLemmas
-pub mod LabelLemmas
-pub mod MarkedLemmas
-pub mod LabelledLemmas
+pub mod ReachedLemmas

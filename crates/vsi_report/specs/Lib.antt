@@ -11,6 +11,4 @@ pub mod Banner
 pub mod Verdict
 pub mod Drawn
 pub mod Lead
-pub mod Labels
-pub mod Marked
-pub mod LabelledPage
+pub mod Reached

@@ -7,12 +7,9 @@ ghost use Rattle.vsi_lattice.specs.LatticeView.{order as order_of_lattice};
 ghost use Rattle.vsi_types.specs.Security.{program as program_of};
 ghost use Rattle.vsi_infer.specs.Inference.{AreClasses};
 ghost use Rattle.vsi_flows.specs.Table.{IsTable};
-ghost use Rattle.vsi_report.specs.Graph.{name_at, texts};
-ghost use Rattle.vsi_report.specs.Labels.{AreLabels};
 
 use crate::by_rule::{Flows, flows_of, has_flow};
-use crate::labels::labels_of;
-use crate::order::Order;
+use crate::order::{Order, name_of};
 use std::alloc::{AllocError, Global};
 use vsi_flows::{FlowsError, Pair, flows_in};
 use vsi_lattice::{Class, Classes, Lattice};
@@ -23,102 +20,88 @@ use vsi_types::{Profile, Rule};
 /// The most variables of a program whose flows are drawn.
 pub(crate) const MOST_DRAWN: usize = 200;
 
-/// A variable: its name, its class if it has one, and whether the text declares the class.
+/// A variable: its name, its class if it has one, whether the text declares the class, and its
+/// label in the panel of the source text.
 #[derive(Drop)]
 pub(crate) struct Variable {
     pub(crate) name: Vec<u8>,
+    pub(crate) label: Vec<u8>,
     pub(crate) class: Option<usize>,
     pub(crate) is_declared: bool,
 }
 
-/// The variables of a program by their numbers, with the ending of loops last; the labels of all
-/// but that; the positions of their names; the flows of one step, unless there are too many
-/// variables; and the table of flows.
+/// The variables of a program by their numbers, with the ending of loops last; the positions of
+/// their names; the flows of one step, unless there are too many variables; and the table of flows.
 #[derive(Drop)]
 pub(crate) struct Facts {
     pub(crate) variables: Vec<Variable>,
-    pub(crate) labels: Vec<Vec<u8>>,
     pub(crate) mentions: Vec<Mention>,
     pub(crate) flows: Option<Flows>,
     pub(crate) pairs: Vec<Pair>,
 }
 
-/// Adds a variable with a name.
-fn put_variable(
+/// The label for a class: its name, with a star after it if the text doesn't declare it.
+fn label_of(
     alloc: Global,
-    variables: &mut Vec<Variable>,
+    order: &Order,
+    class: Option<usize>,
+    is_declared: bool,
+) -> Result<Vec<u8>, AllocError> {
+    let Some(class) = class else {
+        return Ok(Vec::new(alloc));
+    };
+    let mut label = name_of(order, class).to_vec(alloc)?;
+    if !is_declared {
+        label.extend_from_slice(b"*")?;
+    }
+    Ok(label)
+}
+
+/// A variable with a name.
+fn variable_of(
+    alloc: Global,
+    order: &Order,
     name: &[u8],
     class: Option<usize>,
     is_declared: bool,
-) -> Result<(), AllocError> {
-    variables.push(Variable {
+) -> Result<Variable, AllocError> {
+    let label = label_of(alloc, order, class, is_declared)?;
+    Ok(Variable {
         name: name.to_vec(alloc)?,
+        label,
         class,
         is_declared,
-    })?;
-    Ok(())
-}
-
-/// Adds the globals.
-fn put_globals(
-    alloc: Global,
-    program: &Resolved<'_>,
-    variables: &mut Vec<Variable>,
-) -> Result<(), AllocError> {
-    for global in program.globals() {
-        let class = Some(global.class.index());
-        put_variable(alloc, variables, global.name, class, true)?;
-    }
-    Ok(())
+    })
 }
 
 /// The class of a letvar: the declared one, otherwise the inferred one.
 fn class_of(declared: Option<Class>, inferred: &[Class], number: usize) -> Option<usize> {
-    if let Some(class) = declared {
-        return Some(class.index());
-    }
-    match inferred.get(number) {
-        Some(class) => Some(class.index()),
-        None => None,
+    match (declared, inferred.get(number)) {
+        (Some(class), _) => Some(class.index()),
+        (None, Some(class)) => Some(class.index()),
+        (None, None) => None,
     }
 }
 
-/// Adds the letvars.
-fn put_letvars(
-    alloc: Global,
-    program: &Resolved<'_>,
-    inferred: &[Class],
-    variables: &mut Vec<Variable>,
-) -> Result<(), AllocError> {
-    for (number, entry) in program.letvars().iter().enumerate() {
-        let class = class_of(entry.class, inferred, number);
-        put_variable(alloc, variables, entry.name, class, entry.class.is_some())?;
-    }
-    Ok(())
-}
-
-/// Adds the variables of a program, with the ending of loops last.
-fn put_variables(
-    alloc: Global,
-    program: &Resolved<'_>,
-    inferred: &[Class],
-    bottom: usize,
-    variables: &mut Vec<Variable>,
-) -> Result<(), AllocError> {
-    put_globals(alloc, program, variables)?;
-    put_letvars(alloc, program, inferred, variables)?;
-    put_variable(alloc, variables, b"(loop)", Some(bottom), true)
-}
-
-/// The variables of a program.
+/// The variables of a program, with the ending of loops last.
 fn variables_of(
     alloc: Global,
+    order: &Order,
     program: &Resolved<'_>,
     inferred: &[Class],
     bottom: usize,
 ) -> Result<Vec<Variable>, AllocError> {
     let mut variables = Vec::new(alloc);
-    put_variables(alloc, program, inferred, bottom, &mut variables)?;
+    for global in program.globals() {
+        let class = Some(global.class.index());
+        variables.push(variable_of(alloc, order, global.name, class, true)?)?;
+    }
+    for (number, entry) in program.letvars().iter().enumerate() {
+        let class = class_of(entry.class, inferred, number);
+        let is_declared = entry.class.is_some();
+        variables.push(variable_of(alloc, order, entry.name, class, is_declared)?)?;
+    }
+    variables.push(variable_of(alloc, order, b"(loop)", Some(bottom), true)?)?;
     Ok(variables)
 }
 
@@ -163,31 +146,6 @@ fn drawn_flows(
     Ok(Some(flows_of(alloc, profile, program)?))
 }
 
-/// The facts of a program, with the given classes, labels, names and flows.
-fn gathered(
-    alloc: Global,
-    profile: Profile,
-    lattice: &Lattice,
-    program: &Resolved<'_>,
-    chosen: &[Class],
-    labels: Vec<Vec<u8>>,
-    mentions: Vec<Mention>,
-    pairs: Vec<Pair>,
-) -> Result<Facts, AllocError>
-    ensures pairs { IfOk result (λ facts. facts.pairs ≡ pairs) }
-    ensures labels { IfOk result (λ facts. facts.labels ≡ labels) }
-{
-    let variables = variables_of(alloc, program, chosen, lattice.bottom().index())?;
-    let flows = drawn_flows(alloc, profile, program, variables.len())?;
-    Ok(Facts {
-        variables,
-        labels,
-        mentions,
-        flows,
-        pairs,
-    })
-}
-
 /// The facts of a program, with these classes of its letvars, and these names in its text.
 pub(crate) fn facts_of(
     alloc: Global,
@@ -202,17 +160,18 @@ pub(crate) fn facts_of(
         (program_of program.now).globals }
     requires declared { AreClasses (order_of_lattice lattice.now)
         (program_of program.now).declared }
-    ensures table { IfOk result (λ facts. IsTable (order_of_lattice lattice.now) profile
+    ensures { IfOk result (λ facts. IsTable (order_of_lattice lattice.now) profile
         (program_of program.now) facts.pairs.items) }
-    ensures labels { IfOk result (λ facts. AreLabels (texts order.now.names.items)
-        (order_of_lattice lattice.now) (program_of program.now) chosen.now
-        (texts facts.labels.items)) }
 {
     let pairs = pairs_of(alloc, profile, lattice, program)?;
-    let labels = labels_of(alloc, lattice, order, program, chosen)?;
-    gathered(
-        alloc, profile, lattice, program, chosen, labels, mentions, pairs,
-    )
+    let variables = variables_of(alloc, order, program, chosen, lattice.bottom().index())?;
+    let flows = drawn_flows(alloc, profile, program, variables.len())?;
+    Ok(Facts {
+        variables,
+        mentions,
+        flows,
+        pairs,
+    })
 }
 
 /// The number of a variable; the ending of loops has the last number.
@@ -230,11 +189,9 @@ pub(crate) fn variable_name(facts: &Facts, number: usize) -> &[u8] {
 }
 
 /// The label of a variable in the panel of the source text.
-pub(crate) fn label_at(facts: &Facts, number: usize) -> &[u8]
-    ensures { result.now ≡ name_at (texts facts.now.labels.items) number }
-{
-    match facts.labels.get(number) {
-        Some(label) => label.as_slice(),
+pub(crate) fn label_at(facts: &Facts, number: usize) -> &[u8] {
+    match facts.variables.get(number) {
+        Some(variable) => variable.label.as_slice(),
         None => b"",
     }
 }
@@ -266,4 +223,25 @@ pub(crate) fn flows_between(facts: &Facts, source: usize, target: usize, rule: R
 /// Whether the flows of the program are few enough for a picture.
 pub(crate) fn is_drawn(facts: &Facts) -> bool {
     facts.flows.is_some()
+}
+
+/// The names of the colours of classes.
+const COLOURS: [&[u8]; 8] = [b"k0", b"k1", b"k2", b"k3", b"k4", b"k5", b"k6", b"k7"];
+
+/// The name of the colour of a class.
+pub(crate) fn colour(class: Option<usize>) -> &'static [u8] {
+    match class {
+        Some(class) => COLOURS[class % 8],
+        None => b"kn",
+    }
+}
+
+/// The facts of a text that has no program.
+pub(crate) fn no_facts(alloc: Global) -> Facts {
+    Facts {
+        variables: Vec::new(alloc),
+        mentions: Vec::new(alloc),
+        flows: None,
+        pairs: Vec::new(alloc),
+    }
 }

@@ -1,7 +1,7 @@
 //! The files of a page: their names, lengths and checksums.
 
-use crate::page::{Page, Part};
-use crate::sides::Subject;
+use crate::page::{Added, Page, Part};
+use crate::view::View;
 use sha2::{Digest, Sha256};
 use std::alloc::{AllocError, Global};
 use vsi_types::Profile;
@@ -60,47 +60,27 @@ fn checksum(alloc: Global, text: &[u8]) -> Result<Vec<u8>, AllocError> {
     Ok(hex)
 }
 
-/// Adds the kind, the name and the length of a file.
-fn put_named(
-    page: &mut Page,
-    kind: &'static [u8],
-    name: &[u8],
-    length: usize,
-) -> Result<(), AllocError> {
-    page.put_parts(&[
-        Part::Markup(b"<dt>"),
-        Part::Markup(kind),
-        Part::Markup(b"</dt><dd><code>"),
-        Part::Text(name),
-        Part::Markup(b"</code>, "),
-        Part::Number(length),
-        Part::Markup(b" bytes</dd>\n"),
-    ])
-}
+/// The name and the length of a file.
+const FILE: &[u8] = b"<dt>%0</dt><dd><code>%1</code>, %2 bytes</dd>\n";
 
-/// Adds a checksum.
-fn put_sum(page: &mut Page, sum: &[u8]) -> Result<(), AllocError> {
-    page.put_parts(&[
-        Part::Markup(b"<dd>SHA-256 <code class=\"sum\">"),
-        Part::Text(sum),
-        Part::Markup(b"</code></dd>\n"),
-    ])
-}
+/// The checksum of a file.
+const SUM: &[u8] = b"<dd>SHA-256 <code class=\"sum\">%0</code></dd>\n";
 
 /// Adds the row of a file, if it has a name.
 fn put_file(
-    alloc: Global,
     page: &mut Page,
+    view: &View<'_>,
     kind: &'static [u8],
     path: &[u8],
     text: &[u8],
-) -> Result<(), AllocError> {
+) -> Added {
     if path.is_empty() {
         return Ok(());
     }
-    put_named(page, kind, leaf(path), text.len())?;
-    let sum = checksum(alloc, text)?;
-    put_sum(page, &sum)
+    let length = Part::Number(text.len());
+    page.fill(FILE, &[Part::Markup(kind), Part::Text(leaf(path)), length])?;
+    let sum = checksum(view.alloc, text)?;
+    page.fill(SUM, &[Part::Text(&sum)])
 }
 
 /// The name of a profile.
@@ -111,48 +91,32 @@ fn profile_name(profile: Profile) -> &'static [u8] {
     }
 }
 
-/// Adds the program that makes the page with its version, if the page names it.
-fn put_version(page: &mut Page, version: &[u8]) -> Result<(), AllocError> {
-    if version.is_empty() {
+/// Adds a piece of markup with a text, unless the text is empty.
+fn put_if_any(page: &mut Page, markup: &'static [u8], text: &[u8]) -> Added {
+    if text.is_empty() {
         return Ok(());
     }
-    page.put_parts(&[
-        Part::Markup(b"<dt>Made by</dt><dd>vsi "),
-        Part::Text(version),
-        Part::Markup(b"</dd>\n"),
-    ])
+    page.fill(markup, &[Part::Text(text)])
 }
 
-/// Adds the text of the lattice file, if it has one.
-fn put_policy_text(page: &mut Page, policy: &[u8]) -> Result<(), AllocError> {
-    if policy.is_empty() {
-        return Ok(());
-    }
-    page.put_parts(&[
-        Part::Markup(b"<details><summary>The lattice file</summary>\n<pre tabindex=\"0\"><code>"),
-        Part::Text(policy),
-        Part::Markup(b"</code></pre></details>\n"),
-    ])
-}
+/// The beginning of the section.
+const FILES: &[u8] = b"<section class=\"wide\" aria-labelledby=\"files\"><h2 id=\"files\">What was \
+judged</h2>\n<dl>\n";
+
+/// The text of the lattice file, which opens on request.
+const POLICY: &[u8] = b"<details><summary>The lattice file</summary>\n<pre tabindex=\"0\"><code>%0\
+</code></pre></details>\n";
 
 /// Adds the section about the files of a page.
-pub(crate) fn put_filing(
-    alloc: Global,
-    page: &mut Page,
-    subject: &Subject<'_>,
-) -> Result<(), AllocError> {
-    let filing = subject.filing;
-    page.put(b"<section class=\"wide\" aria-labelledby=\"files\"><h2 id=\"files\">")?;
-    page.put(b"What was judged</h2>\n<dl>\n")?;
-    put_file(alloc, page, b"Source text", filing.source, subject.source)?;
-    put_file(alloc, page, b"Lattice", filing.lattice, filing.policy)?;
-    page.put_parts(&[
-        Part::Markup(b"<dt>Profile</dt><dd>"),
-        Part::Markup(profile_name(subject.profile)),
-        Part::Markup(b"</dd>\n"),
-    ])?;
-    put_version(page, filing.version)?;
+pub(crate) fn put_filing(page: &mut Page, view: &View<'_>) -> Added {
+    let filing = view.filing;
+    page.put(FILES)?;
+    put_file(page, view, b"Source text", filing.source, view.source)?;
+    put_file(page, view, b"Lattice", filing.lattice, filing.policy)?;
+    let profile = Part::Markup(profile_name(view.profile));
+    page.fill(b"<dt>Profile</dt><dd>%0</dd>\n", &[profile])?;
+    put_if_any(page, b"<dt>Made by</dt><dd>vsi %0</dd>\n", filing.version)?;
     page.put(b"</dl>\n")?;
-    put_policy_text(page, filing.policy)?;
+    put_if_any(page, POLICY, filing.policy)?;
     page.put(b"</section>\n")
 }

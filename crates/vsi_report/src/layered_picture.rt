@@ -1,17 +1,15 @@
 //! The picture of a program's flows with the variables in the boxes of their classes.
 
-use crate::by_rule::RULES;
-use crate::facts::{Facts, flows_between, is_inferred, number_of, variable_class, variable_name};
-use crate::flows_picture::{
-    TIPS, before_curve, is_against, looks, put_badge, put_step_path, put_told, put_variable_box,
-};
-use crate::lattice_picture::{HALF, colour, put_picture, put_short};
+use crate::facts::{number_of, variable_class, variable_name};
 use crate::layout::{BoxMiddle, box_width};
-use crate::order::{Order, name_of};
-use crate::page::{Page, Part};
+use crate::order::name_of;
+use crate::page::{Added, Page, Part};
+use crate::picture::HALF;
+use crate::scene::{Area, Arrow, Scene, Shown, count_shown, is_against, no_scene};
+use crate::view::View;
 use std::alloc::{AllocError, Global};
-use vsi_layered::{Drawing, Graph, Node, Place, Point, badges_of, drawing_of};
-use vsi_types::{Rule, Step};
+use vsi_layered::{Drawing, Graph, Node, Point, badges_of, drawing_of};
+use vsi_types::Step;
 
 /// The most variables of a layered picture.
 const MOST_NODES: usize = 80;
@@ -22,62 +20,15 @@ const MOST_WIDE: usize = 2_600;
 /// The length of a rounded corner of an arrow.
 const CORNER: usize = 12;
 
-/// A flow of one step between two variables.
-#[derive(Clone, Copy)]
-struct Shown {
-    source: usize,
-    target: usize,
-    rule: Rule,
-}
-
-/// A layered picture: its arrows, and its drawing.
-#[derive(Drop)]
-pub(crate) struct Layered {
-    flows: Vec<Shown>,
-    pub(crate) drawing: Drawing,
-}
-
-/// Adds the flows from a variable to another.
-fn put_flows(
-    flows: &mut Vec<Shown>,
-    facts: &Facts,
-    source: usize,
-    target: usize,
-) -> Result<(), AllocError> {
-    for rule in RULES {
-        if source != target && flows_between(facts, source, target, rule) {
-            flows.push(Shown {
-                source,
-                target,
-                rule,
-            })?;
-        }
-    }
-    Ok(())
-}
-
-/// The flows between the first variables, up to one more than a picture may have.
-fn flows_of(alloc: Global, facts: &Facts, shown: usize) -> Result<Vec<Shown>, AllocError> {
-    let mut flows = Vec::new(alloc);
-    for source in 0..shown {
-        for target in 0..shown {
-            if flows.len() <= MOST_ARROWS {
-                put_flows(&mut flows, facts, source, target)?;
-            }
-        }
-    }
-    Ok(flows)
-}
-
-/// The nodes of the first variables, if each of them has a class.
-fn nodes_of(alloc: Global, facts: &Facts, shown: usize) -> Result<Option<Vec<Node>>, AllocError> {
-    let mut nodes = Vec::new(alloc);
-    for number in 0..shown {
-        let Some(group) = variable_class(facts, number) else {
+/// The nodes of the variables that are shown, if each of them has a class.
+fn nodes_of(view: &View<'_>) -> Result<Option<Vec<Node>>, AllocError> {
+    let mut nodes = Vec::new(view.alloc);
+    for number in 0..count_shown(view) {
+        let Some(group) = variable_class(view.facts, number) else {
             return Ok(None);
         };
         nodes.push(Node {
-            wide: box_width(variable_name(facts, number).len()),
+            wide: box_width(variable_name(view.facts, number).len()),
             high: 2 * HALF,
             group,
         })?;
@@ -86,10 +37,10 @@ fn nodes_of(alloc: Global, facts: &Facts, shown: usize) -> Result<Option<Vec<Nod
 }
 
 /// The widths of the names of the classes.
-fn titles_of(alloc: Global, order: &Order) -> Result<Vec<usize>, AllocError> {
-    let mut titles = Vec::new(alloc);
-    for class in 0..order.names.len() {
-        titles.push(box_width(name_of(order, class).len()))?;
+fn titles_of(view: &View<'_>) -> Result<Vec<usize>, AllocError> {
+    let mut titles = Vec::new(view.alloc);
+    for class in 0..view.order.names.len() {
+        titles.push(box_width(name_of(view.order, class).len()))?;
     }
     Ok(titles)
 }
@@ -103,104 +54,35 @@ fn arrows_of(alloc: Global, flows: &[Shown]) -> Result<Vec<(usize, usize)>, Allo
     Ok(arrows)
 }
 
-/// The layered picture of the first variables, if they and their flows are few enough.
-pub(crate) fn layered_of(
-    alloc: Global,
-    order: &Order,
-    facts: &Facts,
-    shown: usize,
-) -> Result<Option<Layered>, AllocError> {
-    if shown > MOST_NODES {
+/// The layered drawing of the variables and their flows, if they are few enough and it isn't too
+/// wide.
+pub(crate) fn drawing_for(view: &View<'_>, flows: &[Shown]) -> Result<Option<Drawing>, AllocError> {
+    if count_shown(view) > MOST_NODES || flows.len() > MOST_ARROWS {
         return Ok(None);
     }
-    let flows = flows_of(alloc, facts, shown)?;
-    if flows.len() > MOST_ARROWS {
-        return Ok(None);
-    }
-    let Some(nodes) = nodes_of(alloc, facts, shown)? else {
+    let Some(nodes) = nodes_of(view)? else {
         return Ok(None);
     };
-    let titles = titles_of(alloc, order)?;
-    let arrows = arrows_of(alloc, &flows)?;
+    let titles = titles_of(view)?;
+    let arrows = arrows_of(view.alloc, flows)?;
     let graph = Graph {
         nodes: &nodes,
         titles: &titles,
-        above: &order.above,
+        above: &view.order.above,
         arrows: &arrows,
     };
-    match drawing_of(alloc, graph)? {
-        Some(drawing) => Ok(fitting(flows, drawing)),
+    match drawing_of(view.alloc, graph)? {
+        Some(drawing) => Ok(fitting(drawing)),
         None => Ok(None),
     }
 }
 
-/// The layered picture, if it isn't too wide.
-fn fitting(flows: Vec<Shown>, drawing: Drawing) -> Option<Layered> {
+/// The drawing, if it isn't too wide.
+fn fitting(drawing: Drawing) -> Option<Drawing> {
     if drawing.wide > MOST_WIDE {
         return None;
     }
-    Some(Layered { flows, drawing })
-}
-
-/// The box at an index.
-fn place_at(places: &[Place], index: usize) -> Place {
-    match places.get(index) {
-        Some(place) => *place,
-        None => Place {
-            left: 0,
-            top: 0,
-            wide: 0,
-            high: 0,
-        },
-    }
-}
-
-/// Adds the box of a class, if it has variables.
-fn put_class(page: &mut Page, class: usize, place: Place) -> Result<(), AllocError> {
-    if place.wide == 0 {
-        return Ok(());
-    }
-    page.put_parts(&[
-        Part::Markup(b"<g class=\"band "),
-        Part::Markup(colour(Some(class))),
-        Part::Value(b"\"><rect rx=\"10\" x=\"", place.left),
-        Part::Value(b" y=\"", place.top),
-        Part::Value(b" width=\"", place.wide),
-        Part::Value(b" height=\"", place.high),
-        Part::Markup(b"/></g>"),
-    ])
-}
-
-/// Adds the boxes of the classes.
-fn put_classes(page: &mut Page, picture: &Layered) -> Result<(), AllocError> {
-    for (class, place) in picture.drawing.groups.iter().enumerate() {
-        put_class(page, class, *place)?;
-    }
-    Ok(())
-}
-
-/// Adds the name of a class in its box, if it has variables.
-fn put_title(page: &mut Page, order: &Order, class: usize, place: Place) -> Result<(), AllocError> {
-    if place.wide == 0 {
-        return Ok(());
-    }
-    page.put_parts(&[
-        Part::Markup(b"<g class=\"band "),
-        Part::Markup(colour(Some(class))),
-        Part::Value(b"\"><text x=\"", place.left.saturating_add(12)),
-        Part::Value(b" y=\"", place.top.saturating_add(18)),
-        Part::Markup(b">"),
-    ])?;
-    put_short(page, name_of(order, class))?;
-    page.put(b"</text></g>")
-}
-
-/// Adds the names of the classes, over the arrows.
-fn put_titles(page: &mut Page, order: &Order, picture: &Layered) -> Result<(), AllocError> {
-    for (class, place) in picture.drawing.groups.iter().enumerate() {
-        put_title(page, order, class, *place)?;
-    }
-    Ok(())
+    Some(drawing)
 }
 
 /// The number that is `length` from a number towards another one that is `whole` away.
@@ -238,153 +120,120 @@ fn point_at(line: &[Point], index: usize) -> Point {
 }
 
 /// Adds a rounded corner of a line.
-fn put_corner(page: &mut Page, line: &[Point], index: usize) -> Result<(), AllocError> {
+fn put_corner(page: &mut Page, line: &[Point], index: usize) -> Added {
     let corner = point_at(line, index);
     let before = beside(corner, point_at(line, index.saturating_sub(1)));
     let after = beside(corner, point_at(line, index.saturating_add(1)));
-    page.put_parts(&[
-        Part::Markup(b"L"),
-        Part::Point(before.x, before.y),
-        Part::Markup(b"Q"),
-        Part::Point(corner.x, corner.y),
-        Part::Point(after.x, after.y),
-    ])
+    page.fill(
+        b"L%0 %1 Q%2 %3 %4 %5 ",
+        &[
+            Part::Number(before.x),
+            Part::Number(before.y),
+            Part::Number(corner.x),
+            Part::Number(corner.y),
+            Part::Number(after.x),
+            Part::Number(after.y),
+        ],
+    )
 }
 
-/// Adds a line with rounded corners, and the end of the class before it.
-fn put_line(page: &mut Page, line: &[Point]) -> Result<(), AllocError> {
-    let first = point_at(line, 0);
-    page.put_parts(&[Part::Markup(b"\" d=\"M"), Part::Point(first.x, first.y)])?;
-    let last = line.len().saturating_sub(1);
-    for index in 1..last {
-        put_corner(page, line, index)?;
-    }
-    let end = point_at(line, last);
-    page.put_parts(&[Part::Markup(b"L"), Part::Point(end.x, end.y)])
-}
-
-/// The line of an arrow.
-fn line_of(picture: &Layered, index: usize) -> &[Point] {
-    match picture.drawing.ways.get(index) {
+/// The line of an arrow with rounded corners.
+fn line_of(alloc: Global, drawing: &Drawing, index: usize) -> Result<Page, AllocError> {
+    let line: &[Point] = match drawing.ways.get(index) {
         Some(line) => line.as_slice(),
         None => &[],
+    };
+    let last = line.len().saturating_sub(1);
+    let (first, end) = (point_at(line, 0), point_at(line, last));
+    let mut page = Page::new(alloc);
+    page.fill(b"M%0 %1 ", &[Part::Number(first.x), Part::Number(first.y)])?;
+    for index in 1..last {
+        put_corner(&mut page, line, index)?;
     }
+    page.fill(b"L%0 %1 ", &[Part::Number(end.x), Part::Number(end.y)])?;
+    Ok(page)
 }
 
-/// The index of the arrow of a step; past the end if there is none.
-fn arrow_of(picture: &Layered, facts: &Facts, step: &Step) -> usize {
-    let source = number_of(facts, step.source);
-    let target = number_of(facts, step.target);
-    for (index, flow) in picture.flows.iter().enumerate() {
+/// The index of the flow of a step; past the end if there is none.
+fn index_of(view: &View<'_>, flows: &[Shown], step: &Step) -> usize {
+    let source = number_of(view.facts, step.source);
+    let target = number_of(view.facts, step.target);
+    for (index, flow) in flows.iter().enumerate() {
         if flow.source == source && flow.target == target && flow.rule == step.rule {
             return index;
         }
     }
-    picture.flows.len()
+    flows.len()
 }
 
-/// The arrows of the steps of a walk.
-fn walk_arrows(
-    alloc: Global,
-    picture: &Layered,
-    facts: &Facts,
-    walk: &[Step],
-) -> Result<Vec<usize>, AllocError> {
-    let mut arrows = Vec::new(alloc);
-    for step in walk {
-        arrows.push(arrow_of(picture, facts, step))?;
+/// The indexes of the flows of the walk.
+fn walk_arrows(view: &View<'_>, flows: &[Shown]) -> Result<Vec<usize>, AllocError> {
+    let mut arrows = Vec::new(view.alloc);
+    for step in view.walk {
+        arrows.push(index_of(view, flows, step))?;
     }
     Ok(arrows)
 }
 
-/// Whether a list has a number.
-fn has(list: &[usize], number: usize) -> bool {
-    for other in list {
-        if *other == number {
-            return true;
-        }
-    }
-    false
-}
-
-/// Adds the arrows other than those of a walk: first those that keep the order, or those that break
-/// it.
+/// Adds the arrows other than those of the walk: first those that keep the order, or those that
+/// break it.
 fn put_arrows(
-    page: &mut Page,
-    order: &Order,
-    facts: &Facts,
-    picture: &Layered,
+    scene: &mut Scene,
+    view: &View<'_>,
+    flows: &[Shown],
+    drawing: &Drawing,
     walk: &[usize],
     are_against: bool,
-) -> Result<(), AllocError> {
-    for (index, flow) in picture.flows.iter().enumerate() {
-        let breaks = is_against(order, facts, flow.source, flow.target);
-        if breaks == are_against && !has(walk, index) {
-            let (class, end) = looks(breaks);
-            page.put(before_curve(flow.rule))?;
-            page.put(class)?;
-            put_line(page, line_of(picture, index))?;
-            page.put(end)?;
+) -> Added {
+    for (index, flow) in flows.iter().enumerate() {
+        if is_against(view, *flow) == are_against && !walk.contains(&index) {
+            scene.arrows.push(Arrow {
+                rule: flow.rule,
+                is_against: are_against,
+                line: line_of(view.alloc, drawing, index)?,
+            })?;
         }
     }
     Ok(())
 }
 
-/// Adds the arrows of a walk.
-fn put_walk(page: &mut Page, picture: &Layered, walk: &[usize]) -> Result<(), AllocError> {
-    for (place, index) in walk.iter().enumerate() {
-        put_step_path(page, place.saturating_add(1))?;
-        put_line(page, line_of(picture, *index))?;
-        page.put(b"\" marker-end=\"url(#told)\"/>")?;
+/// Adds the areas of the classes and the boxes of the variables.
+fn put_boxes(scene: &mut Scene, drawing: &Drawing) -> Added {
+    for (class, place) in drawing.groups.iter().enumerate() {
+        scene.areas.push(Area {
+            class: Some(class),
+            left: place.left,
+            top: place.top,
+            wide: place.wide,
+            high: place.high,
+        })?;
+    }
+    for place in &drawing.places {
+        scene.spots.push(BoxMiddle {
+            x: place.left.saturating_add(place.wide / 2),
+            y: place.top.saturating_add(place.high / 2),
+            wide: place.wide,
+        })?;
     }
     Ok(())
 }
 
-/// Adds the numbers of the steps of a walk.
-fn put_badges(page: &mut Page, points: &[Point]) -> Result<(), AllocError> {
-    for (number, point) in points.iter().enumerate() {
-        put_badge(page, point.x, point.y, number)?;
+/// The layered picture of the flows.
+pub(crate) fn layered_scene(
+    view: &View<'_>,
+    flows: &[Shown],
+    drawing: &Drawing,
+) -> Result<Scene, AllocError> {
+    let walk = walk_arrows(view, flows)?;
+    let mut scene = no_scene(view, true, true);
+    scene.wide = drawing.wide;
+    scene.high = drawing.high;
+    put_boxes(&mut scene, drawing)?;
+    put_arrows(&mut scene, view, flows, drawing, &walk, false)?;
+    put_arrows(&mut scene, view, flows, drawing, &walk, true)?;
+    for index in &walk {
+        scene.steps.push(line_of(view.alloc, drawing, *index)?)?;
     }
-    Ok(())
-}
-
-/// The middle and the width of a box.
-fn spot_of(place: Place) -> BoxMiddle {
-    BoxMiddle {
-        x: place.left.saturating_add(place.wide / 2),
-        y: place.top.saturating_add(place.high / 2),
-        wide: place.wide,
-    }
-}
-
-/// Adds the boxes of the variables.
-fn put_boxes(page: &mut Page, facts: &Facts, picture: &Layered) -> Result<(), AllocError> {
-    for number in 0..picture.drawing.places.len() {
-        let spot = spot_of(place_at(&picture.drawing.places, number));
-        put_variable_box(page, facts, spot, number)?;
-    }
-    Ok(())
-}
-
-/// Adds the layered picture of a program's flows of one step, with the steps of a bad walk.
-pub(crate) fn put_layered(
-    alloc: Global,
-    page: &mut Page,
-    order: &Order,
-    facts: &Facts,
-    picture: &Layered,
-    walk: &[Step],
-) -> Result<(), AllocError> {
-    let arrows = walk_arrows(alloc, picture, facts, walk)?;
-    put_picture(page, picture.drawing.wide, picture.drawing.high)?;
-    put_told(page, facts, true)?;
-    page.put(TIPS)?;
-    put_classes(page, picture)?;
-    put_arrows(page, order, facts, picture, &arrows, false)?;
-    put_arrows(page, order, facts, picture, &arrows, true)?;
-    put_walk(page, picture, &arrows)?;
-    put_titles(page, order, picture)?;
-    put_boxes(page, facts, picture)?;
-    put_badges(page, &badges_of(alloc, &picture.drawing, &arrows)?)?;
-    page.put(b"</svg>")
+    scene.badges = badges_of(view.alloc, drawing, &walk)?;
+    Ok(scene)
 }

@@ -1,22 +1,13 @@
 //! The parts of a source text between its tokens that a page sets apart: comments, and characters
 //! that aren't visible or change the direction of a line.
 
-/// The kinds of parts of a source text that a page sets apart, other than names.
-#[derive(Clone, Copy)]
-pub(crate) enum Word {
-    Keyword,
-    Comment,
-    /// A character that isn't visible.
-    Hidden,
-}
-
 /// A part of a source text: its first byte, the byte after it, its kind unless it is plain, and its
 /// label.
 #[derive(Clone, Copy)]
 pub(crate) struct Mark {
     pub(crate) start: usize,
     pub(crate) stop: usize,
-    pub(crate) word: Option<Word>,
+    pub(crate) kind: Option<&'static [u8]>,
     pub(crate) label: &'static [u8],
 }
 
@@ -142,7 +133,7 @@ fn hidden_mark(source: &[u8], at: usize, stop: usize) -> Option<Mark> {
     Some(Mark {
         start: at,
         stop: at.saturating_add(length).min(stop),
-        word: Some(Word::Hidden),
+        kind: Some(b"mark"),
         label,
     })
 }
@@ -162,7 +153,7 @@ pub(crate) fn mark_at(source: &[u8], at: usize, stop: usize, is_comment: bool) -
         let mark = Mark {
             start: at,
             stop: end,
-            word: Some(Word::Comment),
+            kind: Some(b"note"),
             label: b"",
         };
         return (mark, true);
@@ -175,7 +166,7 @@ fn plain(start: usize, stop: usize) -> Mark {
     Mark {
         start,
         stop,
-        word: None,
+        kind: None,
         label: b"",
     }
 }

@@ -1,16 +1,23 @@
 //! A source text in a page.
 
-ghost use Rattle.std.specs.Prelude.{◌≡◌, ◌≤◌, ◌<◌, ◌+◌, ◌++◌, ℕ, Bool, true, false, List, []};
-ghost use Rattle.std.specs.Prelude.{◌∷◌, take, drop, length, OnOk, IfOk};
-ghost use Rattle.vsi_scope.specs.Program.{Resolved};
+ghost use Rattle.std.specs.Prelude.{◌≡◌, ◌<◌, ◌++◌, ◌∷◌, ℕ, List, [], length, slice_index};
+ghost use Rattle.std.specs.Prelude.{OnOk, IfOk};
 ghost use Rattle.vsi_report.specs.Reading.{Shows};
-ghost use Rattle.vsi_report.specs.Panel.{line_tag, next_tag, open_tag, close_tag};
-ghost use Rattle.vsi_report.specs.Marked as spec;
-ghost use Rattle.vsi_report.specs.Marked.{IsLabelled, IsMarked, IsTokenAt, Marked};
+ghost use Rattle.vsi_report.specs.Panel.{line_tag, next_tag, open_tag};
 
 use crate::escape::{put_byte, put_escaped, put_number};
-use crate::marks::Word;
 use std::alloc::{AllocError, Global};
+
+/// A part of a source text that its panel sets apart: its first byte, the byte after it, its kind,
+/// its label, and the label of the steps of a walk there.
+#[derive(Drop)]
+pub(crate) struct Tagged<'a> {
+    pub(crate) start: usize,
+    pub(crate) stop: usize,
+    pub(crate) kind: &'static [u8],
+    pub(crate) label: &'a [u8],
+    pub(crate) steps: Vec<u8>,
+}
 
 /// Adds the beginning of a line.
 fn put_line(page: &mut Vec<u8>, number: usize) -> Result<(), AllocError>
@@ -29,7 +36,7 @@ fn put_next(page: &mut Vec<u8>, number: usize) -> Result<(), AllocError>
     put_line(page, number)
 }
 
-/// Adds the beginning of a token.
+/// Adds the beginning of a part.
 fn put_open(page: &mut Vec<u8>, kind: &[u8], class: &[u8], step: &[u8]) -> Result<(), AllocError>
     ensures { OnOk result
         (page.new.items ≡ page.old.items ++ open_tag kind.now class.now step.now) }
@@ -43,20 +50,50 @@ fn put_open(page: &mut Vec<u8>, kind: &[u8], class: &[u8], step: &[u8]) -> Resul
     page.extend_from_slice(b"\">")
 }
 
-/// Adds a name with its tags.
-fn put_name(
+/// Adds the end of the part with a number, if it ends at a position, and answers the number of the
+/// part that begins or ends next.
+fn put_end(
     page: &mut Vec<u8>,
-    kind: &[u8],
-    label: &[u8],
-    step: &[u8],
-    name: &[u8],
-) -> Result<(), AllocError>
-    ensures { OnOk result (page.new.items
-        ≡ page.old.items ++ spec.name_markup kind.now label.now step.now name.now) }
+    parts: &[Tagged<'_>],
+    number: usize,
+    at: usize,
+) -> Result<usize, AllocError>
+    ensures { (t : List ℕ) → Shows page.old.items t → OnOk result (Shows page.new.items t) }
 {
-    put_open(page, kind, label, step)?;
-    put_escaped(page, name)?;
-    page.extend_from_slice(b"</b>")
+    let Some(part) = parts.get(number) else {
+        return Ok(number);
+    };
+    if part.stop != at {
+        return Ok(number);
+    }
+    page.extend_from_slice(b"</b>")?;
+    Ok(number.saturating_add(1))
+}
+
+/// Adds the beginning of a part.
+fn put_tag(page: &mut Vec<u8>, part: &Tagged<'_>) -> Result<(), AllocError>
+    ensures { (t : List ℕ) → Shows page.old.items t → OnOk result (Shows page.new.items t) }
+{
+    put_open(page, part.kind, part.label, &part.steps)?;
+    Ok(())
+}
+
+/// Adds the beginning of the part with a number, if it begins at a position.
+fn put_begin(
+    page: &mut Vec<u8>,
+    parts: &[Tagged<'_>],
+    number: usize,
+    at: usize,
+) -> Result<(), AllocError>
+    ensures { (t : List ℕ) → Shows page.old.items t → OnOk result (Shows page.new.items t) }
+{
+    let Some(part) = parts.get(number) else {
+        return Ok(());
+    };
+    if part.start != at {
+        return Ok(());
+    }
+    put_tag(page, part)
 }
 
 /// Adds a byte of a source text. After the last byte of a line it also adds the beginning of the
@@ -67,10 +104,8 @@ fn put_source_byte(
     is_ending: bool,
     next: usize,
 ) -> Result<(), AllocError>
-    ensures shows { (t : List ℕ) → Shows page.old.items t
+    ensures { (t : List ℕ) → Shows page.old.items t
         → OnOk result (Shows page.new.items (t ++ byte ∷ [])) }
-    ensures written { OnOk result
-        (page.new.items ≡ spec.with_byte page.old.items byte is_ending next) }
 {
     put_byte(page, byte)?;
     if is_ending {
@@ -79,231 +114,63 @@ fn put_source_byte(
     Ok(())
 }
 
-/// A part of a source text as written in a page: the bytes before `at`, and the number of the line
-/// in which the part ends.
-#[derive(Drop)]
-pub(crate) struct Panel<'a> {
-    source: &'a [u8],
-    at: usize,
-    line: usize,
-    page: Vec<u8>,
-    ghost within: { at ≤ length source.now },
-    ghost few: { line ≤ at + 1 },
-    ghost shows: { Shows page.items (take at source.now) },
-}
-
-/// The text of a panel.
-pub(crate) fn source_of<'a>(panel: &Panel<'a>) -> &'a [u8] {
-    panel.source
-}
-
-/// The position up to which a panel has its text.
-pub(crate) fn place_of(panel: &Panel<'_>) -> usize
-    ensures { result ≡ panel.now.at }
-{
-    panel.at
-}
-
 /// Whether a line that isn't the last one ends with the byte at a position.
 fn ends_line(source: &[u8], at: usize) -> bool
     requires { at < length source.now }
-    ensures { result ≡ spec.ends_line source.now at }
 {
     source[at] == b'\n' && at + 1 < source.len()
 }
 
 /// The number of the line after a byte.
-fn line_after(is_ending: bool, line: usize, next: usize) -> usize
-    requires { next ≡ line + 1 }
-    ensures number { result ≡ spec.line_after is_ending line }
-    ensures near { result ≤ line + 1 }
-{
+fn line_after(is_ending: bool, line: usize, next: usize) -> usize {
     if is_ending { next } else { line }
 }
 
-/// A panel with one more byte.
-fn stepped<'a>(panel: Panel<'a>) -> Result<Panel<'a>, AllocError>
-    requires { panel.at < length panel.source.now }
-    ensures source { IfOk result (λ p. p.source ≡ panel.entry.source) }
-    ensures at { IfOk result (λ p. p.at ≡ panel.entry.at + 1) }
-    ensures marked { (r : Resolved) (ls : List (List ℕ)) (o : Bool)
-        → Marked r ls panel.entry.source.now panel.entry.page.items panel.entry.at panel.entry.line
-        o
-        → IfOk result (λ p. Marked r ls p.source.now p.page.items p.at p.line o) }
+/// A place in a panel: the part that begins or ends next, and the number of the line.
+#[derive(Clone, Copy)]
+struct Place {
+    part: usize,
+    line: usize,
+}
+
+/// Adds the byte of a source text at a position, with the tags before it.
+fn put_at(
+    page: &mut Vec<u8>,
+    source: &[u8],
+    parts: &[Tagged<'_>],
+    at: usize,
+    place: Place,
+) -> Result<Place, AllocError>
+    requires { at < length source.now }
+    ensures { (t : List ℕ) → Shows page.old.items t
+        → OnOk result (Shows page.new.items (t ++ slice_index source.now at ∷ [])) }
 {
-    let Panel {
-        source,
-        at,
-        line,
-        mut page,
-    } = panel;
-    let byte = source[at];
-    let next = line + 1;
+    let part = put_end(page, parts, place.part, at)?;
+    put_begin(page, parts, part, at)?;
     let is_ending = ends_line(source, at);
-    put_source_byte(&mut page, byte, is_ending, next)?;
-    Ok(Panel {
-        source,
-        at: at + 1,
-        line: line_after(is_ending, line, next),
-        page,
+    let next = place.line.saturating_add(1);
+    put_source_byte(page, source[at], is_ending, next)?;
+    Ok(Place {
+        part,
+        line: line_after(is_ending, place.line, next),
     })
 }
 
-/// A panel that reaches at least up to a position in its text, or up to its end.
-pub(crate) fn advanced<'a>(panel: Panel<'a>, stop: usize) -> Result<Panel<'a>, AllocError>
-    ensures source { IfOk result (λ p. p.source ≡ panel.entry.source) }
-    ensures marked { (r : Resolved) (ls : List (List ℕ)) (o : Bool)
-        → Marked r ls panel.entry.source.now panel.entry.page.items panel.entry.at panel.entry.line
-        o
-        → IfOk result (λ p. Marked r ls p.source.now p.page.items p.at p.line o) }
-    ensures far { stop ≡ length panel.entry.source.now
-        → IfOk result (λ p. p.at ≡ length p.source.now) }
-{
-    let stop = stop.min(panel.source.len());
-    let mut panel = panel;
-    while panel.at < stop {
-        panel = stepped(panel)?;
-    }
-    Ok(panel)
-}
-
-/// The kind of a part of a text that isn't a name.
-fn word_kind(word: Word) -> &'static [u8]
-    ensures { result.now ≡ spec.word_kind word }
-{
-    match word {
-        Word::Keyword => b"word",
-        Word::Comment => b"note",
-        Word::Hidden => b"mark",
-    }
-}
-
-/// A panel in which a part of the text begins that isn't a name, with its label.
-pub(crate) fn opened<'a>(
-    panel: Panel<'a>,
-    word: Word,
-    label: &[u8],
-) -> Result<Panel<'a>, AllocError>
-    ensures source { IfOk result (λ p. p.source ≡ panel.entry.source) }
-    ensures marked { (r : Resolved) (ls : List (List ℕ))
-        → Marked r ls panel.entry.source.now panel.entry.page.items panel.entry.at panel.entry.line
-        false
-        → IfOk result (λ p. Marked r ls p.source.now p.page.items p.at p.line true) }
-{
-    let Panel {
-        source,
-        at,
-        line,
-        mut page,
-    } = panel;
-    put_open(&mut page, word_kind(word), label, b"")?;
-    Ok(Panel {
-        source,
-        at,
-        line,
-        page,
-    })
-}
-
-/// Whether a text has these bytes from a position on.
-fn is_next(source: &[u8], at: usize, name: &[u8]) -> bool
-    requires { at ≤ length source.now }
-    ensures room { result ≡ true → at + length name.now ≤ length source.now }
-    ensures same { result ≡ true
-        → take (at + length name.now) source.now ≡ take at source.now ++ name.now }
-{
-    source[at..].starts_with(name)
-}
-
-/// A panel with a name of a variable, if it comes next in the text, with the label of the variable
-/// and that of its step.
-pub(crate) fn named<'a>(
-    panel: Panel<'a>,
-    kind: &[u8],
-    label: &[u8],
-    step: &[u8],
-    name: &[u8],
-) -> Result<Panel<'a>, AllocError>
-    ensures source { IfOk result (λ p. p.source ≡ panel.entry.source) }
-    ensures marked { (r : Resolved) (ls : List (List ℕ))
-        → IsTokenAt panel.entry.source.now panel.entry.at name.now
-        → IsLabelled r ls name.now label.now
-        → Marked r ls panel.entry.source.now panel.entry.page.items panel.entry.at panel.entry.line
-        false
-        → IfOk result (λ p. Marked r ls p.source.now p.page.items p.at p.line false) }
-{
-    if !is_next(panel.source, panel.at, name) {
-        return Ok(panel);
-    }
-    let Panel {
-        source,
-        at,
-        line,
-        mut page,
-    } = panel;
-    put_name(&mut page, kind, label, step, name)?;
-    Ok(Panel {
-        source,
-        at: at + name.len(),
-        line,
-        page,
-    })
-}
-
-/// A panel in which a part of the text ends.
-pub(crate) fn closed<'a>(panel: Panel<'a>) -> Result<Panel<'a>, AllocError>
-    ensures source { IfOk result (λ p. p.source ≡ panel.entry.source) }
-    ensures marked { (r : Resolved) (ls : List (List ℕ))
-        → Marked r ls panel.entry.source.now panel.entry.page.items panel.entry.at panel.entry.line
-        true
-        → IfOk result (λ p. Marked r ls p.source.now p.page.items p.at p.line false) }
-{
-    let Panel {
-        source,
-        at,
-        line,
-        mut page,
-    } = panel;
-    page.extend_from_slice(b"</b>")?;
-    Ok(Panel {
-        source,
-        at,
-        line,
-        page,
-    })
-}
-
-/// The panel of a text before its first byte.
-pub(crate) fn begun<'a>(alloc: Global, source: &'a [u8]) -> Result<Panel<'a>, AllocError>
-    ensures source { IfOk result (λ p. p.source ≡ source.entry) }
-    ensures marked { (r : Resolved) (ls : List (List ℕ))
-        → IfOk result (λ p. Marked r ls p.source.now p.page.items p.at p.line false) }
+/// The panel of a text, with these parts set apart, which are in order.
+pub(crate) fn panel_of(
+    alloc: Global,
+    source: &[u8],
+    parts: &[Tagged<'_>],
+) -> Result<Vec<u8>, AllocError>
+    ensures { IfOk result (λ page. Shows page.items source.now) }
 {
     let mut page = Vec::new(alloc);
+    let mut place = Place { part: 0, line: 1 };
     put_line(&mut page, 1)?;
-    Ok(Panel {
-        source,
-        at: 0,
-        line: 1,
-        page,
-    })
-}
-
-/// The markup of a panel with all of its text.
-pub(crate) fn ended<'a>(panel: Panel<'a>) -> Result<Vec<u8>, AllocError>
-    ensures shows { IfOk result (λ page. Shows page.items panel.entry.source.now) }
-    ensures marked { (r : Resolved) (ls : List (List ℕ))
-        → Marked r ls panel.entry.source.now panel.entry.page.items panel.entry.at panel.entry.line
-        false
-        → IfOk result (λ page. IsMarked r ls panel.entry.source.now page.items) }
-{
-    let stop = panel.source.len();
-    let Panel {
-        source: _,
-        at: _,
-        line: _,
-        mut page,
-    } = advanced(panel, stop)?;
+    for at in 0..source.len() {
+        place = put_at(&mut page, source, parts, at, place)?;
+    }
+    put_end(&mut page, parts, place.part, source.len())?;
     page.extend_from_slice(b"</span>")?;
     Ok(page)
 }

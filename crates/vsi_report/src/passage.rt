@@ -1,6 +1,6 @@
 //! The point where an arrow of a picture passes the boxes of a row between its ends.
 
-use crate::layout::{BoxMiddle, Layout};
+use crate::layout::BoxMiddle;
 
 /// The space between an arrow and the box that it passes: half of the space between two boxes.
 const BESIDE: usize = 17;
@@ -19,11 +19,11 @@ fn reach(spot: &BoxMiddle, space: usize) -> usize {
 }
 
 /// The row between two heights that is nearest to their middle, if there is one.
-fn row_between(layout: &Layout, top: usize, foot: usize) -> Option<usize> {
+fn row_between(spots: &[BoxMiddle], top: usize, foot: usize) -> Option<usize> {
     let middle = top.saturating_add(foot) / 2;
     let mut found = None;
     let mut nearest = usize::MAX;
-    for spot in &layout.spots {
+    for spot in spots {
         let is_between = spot.wide > 0 && top < spot.y && spot.y < foot;
         if is_between && apart(spot.y, middle) < nearest {
             nearest = apart(spot.y, middle);
@@ -34,8 +34,8 @@ fn row_between(layout: &Layout, top: usize, foot: usize) -> Option<usize> {
 }
 
 /// Whether no box of a row is near a point in it.
-fn is_free(layout: &Layout, row: usize, x: usize) -> bool {
-    for spot in &layout.spots {
+fn is_free(spots: &[BoxMiddle], row: usize, x: usize) -> bool {
+    for spot in spots {
         if spot.wide > 0 && spot.y == row && apart(spot.x, x) < reach(spot, CLEAR) {
             return false;
         }
@@ -44,19 +44,19 @@ fn is_free(layout: &Layout, row: usize, x: usize) -> bool {
 }
 
 /// The free point in a row nearest to `x`: that point itself, or one next to a box.
-fn free_in(layout: &Layout, row: usize, x: usize) -> usize {
-    if is_free(layout, row, x) {
+fn free_in(spots: &[BoxMiddle], row: usize, x: usize) -> usize {
+    if is_free(spots, row, x) {
         return x;
     }
     let mut found = x;
     let mut nearest = usize::MAX;
-    for spot in &layout.spots {
+    for spot in spots {
         if spot.wide == 0 || spot.y != row {
             continue;
         }
         let half = reach(spot, BESIDE);
         for beside in [spot.x.saturating_sub(half), spot.x.saturating_add(half)] {
-            if apart(beside, x) < nearest && is_free(layout, row, beside) {
+            if apart(beside, x) < nearest && is_free(spots, row, beside) {
                 nearest = apart(beside, x);
                 found = beside;
             }
@@ -67,7 +67,7 @@ fn free_in(layout: &Layout, row: usize, x: usize) -> usize {
 
 /// The point where an arrow between two heights passes the row in its middle, if there is a row;
 /// without boxes it would pass at `x`.
-pub(crate) fn passage(layout: &Layout, top: usize, foot: usize, x: usize) -> Option<usize> {
-    let row = row_between(layout, top, foot)?;
-    Some(free_in(layout, row, x))
+pub(crate) fn passage(spots: &[BoxMiddle], top: usize, foot: usize, x: usize) -> Option<usize> {
+    let row = row_between(spots, top, foot)?;
+    Some(free_in(spots, row, x))
 }

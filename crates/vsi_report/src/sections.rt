@@ -1,16 +1,13 @@
 //! The sections of a page: the lattice, the flows, the image and the promises.
 
-use crate::bands::{Banded, bands_of};
-use crate::facts::{Facts, is_drawn, is_strict};
-use crate::flows_picture::{has_few_arrows, put_flows};
-use crate::lattice_picture::put_lattice;
-use crate::layered_picture::{Layered, layered_of, put_layered};
+use crate::facts::is_drawn;
 use crate::layout::{Layout, lattice_layout};
-use crate::order::Order;
-use crate::page::{Page, Part};
+use crate::page::{Added, Page, Part};
+use crate::picture::{put_lattice, put_scene};
+use crate::scene::{Scene, scene_of};
 use crate::table::put_table;
-use std::alloc::{AllocError, Global};
-use vsi_types::{Profile, Step};
+use crate::view::View;
+use vsi_types::Profile;
 
 /// The width in pixels above which a picture of a lattice has a row of the page to itself.
 const WIDE: usize = 430;
@@ -22,57 +19,48 @@ const HIGH: usize = 2_000;
 const POLICY: &[u8] = b"<figcaption>Information may flow upwards, along the lines; each line joins \
 a class and one directly above it.</figcaption>";
 
-/// The heading of the section of the lattice, after the beginning of its tag.
-const LATTICE: &[u8] = b" aria-labelledby=\"lattice\"><h2 id=\"lattice\">Lattice</h2>\n";
+/// The heading of the section of the lattice, up to its picture.
+const LATTICE: &[u8] = b"<section%0 aria-labelledby=\"lattice\"><h2 id=\"lattice\">Lattice</h2>\n";
+
+/// The beginning of a high picture, which is below its text.
+const HIGH_FIGURE: &[u8] = b"<figure class=\"high\">%0%1%3%2<div class=\"scroll\" tabindex=\"0\">";
 
 /// The beginning of a picture that scrolls within its frame.
-const SCROLL: &[u8] = b"<div class=\"scroll\" tabindex=\"0\">";
+const FIGURE: &[u8] = b"<figure><div class=\"scroll\" tabindex=\"0\">";
 
-/// Adds the section of the lattice. A wide picture has no section beside it, and a high one is
-/// below its text.
-pub(crate) fn put_policy(alloc: Global, page: &mut Page, order: &Order) -> Result<(), AllocError> {
-    let layout = lattice_layout(alloc, order)?;
-    put_lattice_section(page, order, &layout)
+/// Adds the section of the lattice with this layout. A wide picture has no section beside it, and a
+/// high one is below its text.
+fn put_lattice_section(page: &mut Page, view: &View<'_>, layout: &Layout) -> Added {
+    let wide: &'static [u8] = if layout.wide > WIDE {
+        b" class=\"wide\""
+    } else {
+        b""
+    };
+    page.fill(LATTICE, &[Part::Markup(wide)])?;
+    if layout.high > HIGH {
+        page.fill(HIGH_FIGURE, &[Part::Markup(POLICY), Part::Markup(b"\n")])?;
+        put_lattice(page, view.order, layout)?;
+        page.put(b"</div></figure></section>\n")
+    } else {
+        page.put(FIGURE)?;
+        put_lattice(page, view.order, layout)?;
+        page.fill(b"</div>%0</figure></section>\n", &[Part::Markup(POLICY)])
+    }
+}
+
+/// Adds the section of the lattice.
+pub(crate) fn put_policy(page: &mut Page, view: &View<'_>) -> Added {
+    let layout = lattice_layout(view.alloc, view.order)?;
+    put_lattice_section(page, view, &layout)
 }
 
 /// Adds the section of the lattice, if its picture is as wide as asked.
-pub(crate) fn put_lattice_if(
-    alloc: Global,
-    page: &mut Page,
-    order: &Order,
-    is_wide: bool,
-) -> Result<(), AllocError> {
-    let layout = lattice_layout(alloc, order)?;
-    if (layout.wide > WIDE) == is_wide {
-        put_lattice_section(page, order, &layout)?;
+pub(crate) fn put_lattice_if(page: &mut Page, view: &View<'_>, is_wide: bool) -> Added {
+    let layout = lattice_layout(view.alloc, view.order)?;
+    if (layout.wide > WIDE) != is_wide {
+        return Ok(());
     }
-    Ok(())
-}
-
-/// Adds the section of the lattice with this layout.
-fn put_lattice_section(page: &mut Page, order: &Order, layout: &Layout) -> Result<(), AllocError> {
-    if layout.wide > WIDE {
-        put_pieces(page, &[b"<section class=\"wide\"", LATTICE])?;
-    } else {
-        put_pieces(page, &[b"<section", LATTICE])?;
-    }
-    if layout.high > HIGH {
-        put_pieces(page, &[b"<figure class=\"high\">", POLICY, b"\n", SCROLL])?;
-        put_lattice(page, order, layout)?;
-        page.put(b"</div></figure></section>\n")
-    } else {
-        put_pieces(page, &[b"<figure>", SCROLL])?;
-        put_lattice(page, order, layout)?;
-        put_pieces(page, &[b"</div>", POLICY, b"</figure></section>\n"])
-    }
-}
-
-/// Adds pieces of markup, one after another.
-fn put_pieces(page: &mut Page, pieces: &[&'static [u8]]) -> Result<(), AllocError> {
-    for piece in pieces {
-        page.put(piece)?;
-    }
-    Ok(())
+    put_lattice_section(page, view, &layout)
 }
 
 /// The meaning of the styles of arrows.
@@ -112,87 +100,35 @@ arrows aren't drawn. A dashed box is a variable whose class the text doesn't dec
 const THICK: &[u8] = b" The thick arrows with numbers are the chain for which the text is refused; \
 a thin red arrow goes against the order of the classes.";
 
-/// Adds the text about the picture of the flows.
-fn put_caption(page: &mut Page, has_arrows: bool, has_walk: bool) -> Result<(), AllocError> {
-    let arrows = if has_arrows { ARROWS } else { NO_ARROWS };
-    put_words(page, arrows, has_arrows, has_walk)
+/// The text about a picture of the flows, and the meaning of its arrows.
+fn words<'a>(view: &View<'_>, scene: &Scene) -> [Part<'a>; 4] {
+    let arrows = if scene.is_layered {
+        LAYERED
+    } else if scene.has_arrows {
+        ARROWS
+    } else {
+        NO_ARROWS
+    };
+    [
+        Part::Markup(arrows),
+        Part::Markup(if view.walk.is_empty() { b"" } else { THICK }),
+        Part::Markup(if scene.has_arrows { LEGEND } else { b"" }),
+        Part::Markup(b"</figcaption>\n"),
+    ]
 }
 
-/// Adds this text about a picture of the flows, and the meaning of its arrows.
-fn put_words(
-    page: &mut Page,
-    arrows: &'static [u8],
-    has_arrows: bool,
-    has_walk: bool,
-) -> Result<(), AllocError> {
-    let thick = if has_walk { THICK } else { b"" };
-    let legend = if has_arrows { LEGEND } else { b"" };
-    put_pieces(page, &[arrows, thick, b"</figcaption>\n", legend])
-}
-
-/// Adds the picture of the flows.
-fn put_drawn(
-    alloc: Global,
-    page: &mut Page,
-    order: &Order,
-    facts: &Facts,
-    shown: usize,
-    walk: &[Step],
-) -> Result<(), AllocError> {
-    if let Some(picture) = layered_of(alloc, order, facts, shown)? {
-        return put_layered_figure(alloc, page, order, facts, &picture, walk);
-    }
-    let picture = bands_of(alloc, order, facts, shown)?;
-    put_figure(page, order, facts, &picture, shown, walk)
-}
-
-/// Adds a layered picture of the flows; a high one is below its text.
-fn put_layered_figure(
-    alloc: Global,
-    page: &mut Page,
-    order: &Order,
-    facts: &Facts,
-    picture: &Layered,
-    walk: &[Step],
-) -> Result<(), AllocError> {
-    if picture.drawing.high > HIGH {
-        page.put(b"<figure class=\"high\">")?;
-        put_words(page, LAYERED, true, !walk.is_empty())?;
-        page.put(SCROLL)?;
-        put_layered(alloc, page, order, facts, picture, walk)?;
+/// Adds the picture of the flows; a high one is below its text.
+fn put_drawn(page: &mut Page, view: &View<'_>) -> Added {
+    let scene = scene_of(view)?;
+    let words = words(view, &scene);
+    if scene.high > HIGH {
+        page.fill(HIGH_FIGURE, &words)?;
+        put_scene(page, view, &scene)?;
         page.put(b"</div></figure>\n")
     } else {
-        put_pieces(page, &[b"<figure>", SCROLL])?;
-        put_layered(alloc, page, order, facts, picture, walk)?;
-        page.put(b"</div>\n")?;
-        put_words(page, LAYERED, true, !walk.is_empty())?;
-        page.put(b"</figure>\n")
-    }
-}
-
-/// Adds the picture of the flows with these positions of the variables; a high one is below its
-/// text.
-fn put_figure(
-    page: &mut Page,
-    order: &Order,
-    facts: &Facts,
-    picture: &Banded,
-    shown: usize,
-    walk: &[Step],
-) -> Result<(), AllocError> {
-    let has_arrows = has_few_arrows(facts);
-    if picture.layout.high > HIGH {
-        page.put(b"<figure class=\"high\">")?;
-        put_caption(page, has_arrows, !walk.is_empty())?;
-        page.put(SCROLL)?;
-        put_flows(page, order, facts, picture, shown, has_arrows, walk)?;
-        page.put(b"</div></figure>\n")
-    } else {
-        put_pieces(page, &[b"<figure>", SCROLL])?;
-        put_flows(page, order, facts, picture, shown, has_arrows, walk)?;
-        page.put(b"</div>\n")?;
-        put_caption(page, has_arrows, !walk.is_empty())?;
-        page.put(b"</figure>\n")
+        page.put(FIGURE)?;
+        put_scene(page, view, &scene)?;
+        page.fill(b"</div>\n%0%1%3%2</figure>\n", &words)
     }
 }
 
@@ -200,53 +136,30 @@ fn put_figure(
 const NOT_DRAWN: &[u8] = b"<p>There are more than 200 variables: the table has all flows, but no \
 picture is drawn.</p>\n";
 
-/// The number of variables that are shown; the ending of loops is among them under the strict
-/// profile only.
-fn count_shown(profile: Profile, facts: &Facts) -> usize {
-    let all = facts.variables.len();
-    if is_strict(profile) {
-        all
-    } else {
-        all.saturating_sub(1)
-    }
-}
-
 /// The heading of the section of the flows.
 const FLOWS: &[u8] =
     b"<section class=\"wide\" aria-labelledby=\"flows\"><h2 id=\"flows\">Flows</h2>\n";
 
 /// Adds the section of the flows, with the lines of the walks of its table.
-pub(crate) fn put_all_flows(
-    alloc: Global,
-    page: &mut Page,
-    profile: Profile,
-    order: &Order,
-    facts: &Facts,
-    walk: &[Step],
-    lines: &[u8],
-) -> Result<(), AllocError> {
+pub(crate) fn put_all_flows(page: &mut Page, view: &View<'_>, lines: &[u8]) -> Added {
     page.put(FLOWS)?;
-    if is_drawn(facts) {
-        put_drawn(alloc, page, order, facts, count_shown(profile, facts), walk)?;
+    if is_drawn(view.facts) {
+        put_drawn(page, view)?;
     } else {
         page.put(NOT_DRAWN)?;
     }
-    put_table(page, order, facts, lines)?;
+    put_table(page, view, lines)?;
     page.put(b"</section>\n")
 }
 
-/// The markup before the listing of an image.
+/// The listing of an image, which opens on request.
 const IMAGE: &[u8] = b"<section class=\"wide\" aria-labelledby=\"image\">\
 <h2 id=\"image\">Image</h2>\n<details><summary>The listing of the image</summary>\n\
-<pre class=\"listing\" tabindex=\"0\"><code>";
+<pre class=\"listing\" tabindex=\"0\"><code>%0</code></pre></details>\n</section>\n";
 
-/// Adds the listing of an image, which opens on request.
-pub(crate) fn put_listing(page: &mut Page, lines: &[u8]) -> Result<(), AllocError> {
-    page.put_parts(&[
-        Part::Markup(IMAGE),
-        Part::Text(lines),
-        Part::Markup(b"</code></pre></details>\n</section>\n"),
-    ])
+/// Adds the listing of an image.
+pub(crate) fn put_listing(page: &mut Page, lines: &[u8]) -> Added {
+    page.fill(IMAGE, &[Part::Text(lines)])
 }
 
 /// The promises about an accepted text.
@@ -275,10 +188,11 @@ what: the class of a variable says who may read it, and nothing says who may wri
 </section>\n";
 
 /// Adds the promises.
-pub(crate) fn put_promise(page: &mut Page, profile: Profile) -> Result<(), AllocError> {
-    let endings = match profile {
+pub(crate) fn put_promise(page: &mut Page, profile: Profile) -> Added {
+    page.put(PROMISE)?;
+    page.put(match profile {
         Profile::Base => NO_ENDINGS,
         Profile::Strict => ENDINGS,
-    };
-    put_pieces(page, &[PROMISE, endings, PROVED])
+    })?;
+    page.put(PROVED)
 }

@@ -1,333 +1,201 @@
-//! The sentences of a page that explain a refused flow.
+//! The sections of a page that say why a text is refused, and what would fix it.
 
-use crate::facts::{Facts, is_drawn, is_inferred, number_of, variable_class, variable_name};
-use crate::lattice_picture::colour;
-use crate::order::{Order, name_of};
-use crate::page::{Page, Part};
+use crate::facts::{is_drawn, number_of};
+use crate::page::{Added, Page, Part};
+use crate::view::View;
 use std::alloc::AllocError;
+use vsi_caret::ColourMode;
+use vsi_compiler::{CompileError, Source};
+use vsi_diagnostics::refusal_text;
 use vsi_infer::rule_text;
-use vsi_syntax::line_column;
+use vsi_raised::raise_lines_of;
+use vsi_telling::source_explanation;
 use vsi_types::{Rule, Step};
 
-/// Adds the name of a variable.
-pub(crate) fn put_name(page: &mut Page, facts: &Facts, number: usize) -> Result<(), AllocError> {
-    page.put_parts(&[
-        Part::Markup(b"<b class=\""),
-        Part::Markup(colour(variable_class(facts, number))),
-        Part::Markup(b"\">"),
-        Part::Text(variable_name(facts, number)),
-        Part::Markup(b"</b>"),
-    ])
-}
+/// The beginning of a step: its number, its source, its target and its rule.
+const STEP: &[u8] = b"<li id=\"s%7\"><p class=\"step\">%0 %2 flows to %1 %3 by <strong>%6</strong>\
+</p>";
 
-/// Adds the class of a variable, and whether it was inferred.
-pub(crate) fn put_class_of(
-    page: &mut Page,
-    order: &Order,
-    facts: &Facts,
-    number: usize,
-) -> Result<(), AllocError> {
-    let Some(class) = variable_class(facts, number) else {
-        return page.put(b"<span class=\"chip kn\">no class</span>");
-    };
-    let inferred: &'static [u8] = if is_inferred(facts, number) {
-        b" <small>inferred</small>"
-    } else {
-        b""
-    };
-    page.put_parts(&[
-        Part::Markup(b"<span class=\"chip "),
-        Part::Markup(colour(Some(class))),
-        Part::Markup(b"\">"),
-        Part::Text(name_of(order, class)),
-        Part::Markup(b"</span>"),
-        Part::Markup(inferred),
-    ])
-}
+/// The sentences about a step by ASSIGN.
+const ASSIGN: &[u8] = b"<p>The value of %0, at %4, goes into the value that is assigned to %1, at \
+%5. Whoever sees %1 learns something about %0.</p>\n";
 
-/// Adds a position in the source text, as a link to it.
-pub(crate) fn put_place(page: &mut Page, source: &[u8], at: usize) -> Result<(), AllocError> {
-    let (line, column) = line_column(source, at);
-    page.put_parts(&[
-        Part::Value(b"<a href=\"#L", line),
-        Part::Markup(b">line "),
-        Part::Number(line),
-        Part::Markup(b", column "),
-        Part::Number(column),
-        Part::Markup(b"</a>"),
-    ])
-}
+/// The sentences about a step by IF.
+const IF: &[u8] = b"<p>The guard of an <code>if</code> reads %0, at %4. Which branch runs depends \
+on it, and a branch assigns %1, at %5. No value is copied, but whoever sees %1 learns which branch \
+ran, and so something about %0.</p>\n";
 
-/// A part of a sentence.
-#[derive(Clone, Copy)]
-enum Word {
-    /// Text and markup from the code.
-    Plain(&'static [u8]),
-    /// The name of a variable.
-    Name(usize),
-    /// The class of a variable.
-    Class(usize),
-    /// The position of a byte of the source text.
-    Place(usize),
-}
+/// The sentences about a step by WHILE.
+const WHILE: &[u8] = b"<p>The guard of a <code>while</code> reads %0, at %4. How often the body \
+runs depends on it, and the body assigns %1, at %5. No value is copied, but whoever sees %1 learns \
+whether the body ran, and so something about %0.</p>\n";
 
-/// The subject of the sentences about a walk: the lattice, the variables and the source text.
-#[derive(Clone, Copy)]
-struct Told<'a> {
-    order: &'a Order,
-    facts: &'a Facts,
-    source: &'a [u8],
-}
+/// The sentences about a step by LETVAR.
+const LETVAR: &[u8] = b"<p>The value of %0, at %4, goes into the initial value of %1, at %5. \
+Whoever sees %1 learns something about %0.</p>\n";
 
-/// Adds a part of a sentence.
-fn put_word(page: &mut Page, subject: &Told<'_>, word: Word) -> Result<(), AllocError> {
-    match word {
-        Word::Plain(words) => page.put(words),
-        Word::Name(number) => put_name(page, subject.facts, number),
-        Word::Class(number) => put_class_of(page, subject.order, subject.facts, number),
-        Word::Place(at) => put_place(page, subject.source, at),
-    }
-}
+/// The sentences about a step by LOOP, at which nothing is written.
+const LOOP: &[u8] = b"<p>Whether a loop ends depends on %0, at %4. Whether a run ends is visible \
+at every class: %1 ends or goes on, so whoever waits for %1 learns something about %0.</p>\n";
 
-/// Adds a sentence, part by part.
-fn put_words(page: &mut Page, subject: &Told<'_>, words: &[Word]) -> Result<(), AllocError> {
-    for word in words {
-        put_word(page, subject, *word)?;
-    }
-    Ok(())
-}
-
-/// The text before the position where the source of a step is read.
-fn before_read(rule: Rule) -> &'static [u8] {
+/// The sentences about a step by a rule.
+fn sentences(rule: Rule) -> &'static [u8] {
     match rule {
-        Rule::Assign => b"The value of ",
-        Rule::If => b"The guard of an <code>if</code> reads ",
-        Rule::While => b"The guard of a <code>while</code> reads ",
-        Rule::Letvar => b"The value of ",
-        Rule::Loop => b"Whether a loop ends depends on ",
+        Rule::Assign => ASSIGN,
+        Rule::If => IF,
+        Rule::While => WHILE,
+        Rule::Letvar => LETVAR,
+        Rule::Loop => LOOP,
     }
 }
 
-/// The text between the position where the source is read and the name of the target.
-fn before_target(rule: Rule) -> &'static [u8] {
-    match rule {
-        Rule::Assign => b", goes into the value that is assigned to ",
-        Rule::If => b". Which branch runs depends on it, and a branch assigns ",
-        Rule::While => b". How often the body runs depends on it, and the body assigns ",
-        Rule::Letvar => b", goes into the initial value of ",
-        Rule::Loop => b". Whether a run ends is visible at every class: ",
-    }
-}
-
-/// The text after the position where the target is written, before the name of the target.
-fn before_again(rule: Rule) -> &'static [u8] {
-    match rule {
-        Rule::Assign | Rule::Letvar => b". Whoever sees ",
-        Rule::If => b". No value is copied, but whoever sees ",
-        Rule::While => b". No value is copied, but whoever sees ",
-        Rule::Loop => b" ends or goes on, so whoever waits for ",
-    }
-}
-
-/// The text after the name of the target, before the name of the source.
-fn before_source(rule: Rule) -> &'static [u8] {
-    match rule {
-        Rule::Assign | Rule::Letvar => b" learns something about ",
-        Rule::If => b" learns which branch ran, and so something about ",
-        Rule::While => b" learns whether the body ran, and so something about ",
-        Rule::Loop => b" learns something about ",
-    }
-}
-
-/// Adds the heading of a step: its source, its target and its rule.
-fn put_heading(
-    page: &mut Page,
-    subject: &Told<'_>,
-    source: usize,
-    target: usize,
-    rule: Rule,
-) -> Result<(), AllocError> {
-    put_words(
-        page,
-        subject,
-        &[
-            Word::Plain(b"<p class=\"step\">"),
-            Word::Name(source),
-            Word::Plain(b" "),
-            Word::Class(source),
-            Word::Plain(b" flows to "),
-            Word::Name(target),
-            Word::Plain(b" "),
-            Word::Class(target),
-            Word::Plain(b" by <strong>"),
-            Word::Plain(rule_text(rule)),
-            Word::Plain(b"</strong></p>"),
-        ],
-    )
-}
-
-/// Adds the position where a step reads its source, and its target.
-fn put_done(
-    page: &mut Page,
-    subject: &Told<'_>,
-    source: usize,
-    target: usize,
-    step: &Step,
-) -> Result<(), AllocError> {
-    put_words(
-        page,
-        subject,
-        &[
-            Word::Plain(b"<p>"),
-            Word::Plain(before_read(step.rule)),
-            Word::Name(source),
-            Word::Plain(b", at "),
-            Word::Place(step.read.start),
-            Word::Plain(before_target(step.rule)),
-            Word::Name(target),
-        ],
-    )
-}
-
-/// Adds the position where a step writes its target; at the ending of a loop nothing is written.
-fn put_written(page: &mut Page, subject: &Told<'_>, step: &Step) -> Result<(), AllocError> {
-    if step.rule == Rule::Loop {
-        return Ok(());
-    }
-    put_words(
-        page,
-        subject,
-        &[Word::Plain(b", at "), Word::Place(step.written.start)],
-    )
-}
-
-/// Adds why a step by a rule reveals its source.
-fn put_why(
-    page: &mut Page,
-    subject: &Told<'_>,
-    source: usize,
-    target: usize,
-    rule: Rule,
-) -> Result<(), AllocError> {
-    put_words(
-        page,
-        subject,
-        &[
-            Word::Plain(before_again(rule)),
-            Word::Name(target),
-            Word::Plain(before_source(rule)),
-            Word::Name(source),
-            Word::Plain(b".</p>\n"),
-        ],
-    )
+/// Adds a step: its ends and its rule, and why it reveals its source.
+fn put_step(page: &mut Page, view: &View<'_>, step: &Step, number: usize) -> Added {
+    let source = number_of(view.facts, step.source);
+    let target = number_of(view.facts, step.target);
+    let parts = [
+        Part::Name(view.facts, source),
+        Part::Name(view.facts, target),
+        Part::Chip(&*view, source),
+        Part::Chip(&*view, target),
+        Part::Place(view.source, step.read.start),
+        Part::Place(view.source, step.written.start),
+        Part::Markup(rule_text(step.rule)),
+        Part::Number(number),
+    ];
+    page.fill(STEP, &parts)?;
+    page.fill(sentences(step.rule), &parts)
 }
 
 /// Adds the links from a step to the one before it, to the one after it, and to its arrow, if the
 /// flows are drawn.
-fn put_turns(
-    page: &mut Page,
-    number: usize,
-    count: usize,
-    is_drawn: bool,
-) -> Result<(), AllocError> {
+fn put_turns(page: &mut Page, view: &View<'_>, number: usize) -> Added {
+    let parts = [
+        Part::Number(number.saturating_sub(1)),
+        Part::Number(number.saturating_add(1)),
+        Part::Number(number),
+    ];
     page.put(b"<p class=\"turn\">")?;
     if number > 1 {
-        page.put_parts(&[
-            Part::Value(b"<a href=\"#s", number.saturating_sub(1)),
-            Part::Markup(b">previous step</a> "),
-        ])?;
+        page.fill(b"<a href=\"#s%0\">previous step</a> ", &parts)?;
     }
-    if number < count {
-        page.put_parts(&[
-            Part::Value(b"<a href=\"#s", number.saturating_add(1)),
-            Part::Markup(b">next step</a> "),
-        ])?;
+    if number < view.walk.len() {
+        page.fill(b"<a href=\"#s%1\">next step</a> ", &parts)?;
     }
-    if is_drawn {
-        page.put_parts(&[
-            Part::Value(b"<a href=\"#a", number),
-            Part::Markup(b">arrow</a> "),
-        ])?;
+    if is_drawn(view.facts) {
+        page.fill(b"<a href=\"#a%2\">arrow</a> ", &parts)?;
     }
     page.put(b"<a href=\"#why\">all steps</a></p></li>\n")
 }
 
-/// Adds a step: its heading, and why it reveals its source.
-fn put_step(page: &mut Page, subject: &Told<'_>, step: &Step) -> Result<(), AllocError> {
-    let source = number_of(subject.facts, step.source);
-    let target = number_of(subject.facts, step.target);
-    put_heading(page, subject, source, target, step.rule)?;
-    put_done(page, subject, source, target, step)?;
-    put_written(page, subject, step)?;
-    put_why(page, subject, source, target, step.rule)
-}
-
-/// The text after the classes of both ends of a walk.
-const JUDGED: &[u8] = b", and in the lattice the first isn't at or below the second. The text is \
+/// The sentences about both ends of a walk.
+const ENDS: &[u8] = b"<p class=\"end\">So information about %0 reaches %1. But %0 has the class \
+%2, %1 has the class %3, and in the lattice the first isn't at or below the second. The text is \
 judged, not a run: a branch that is never taken counts too.</p>\n";
 
-/// Adds why the walk is bad.
-fn put_verdict(
-    page: &mut Page,
-    subject: &Told<'_>,
-    first: usize,
-    last: usize,
-) -> Result<(), AllocError> {
-    put_words(
-        page,
-        subject,
-        &[
-            Word::Plain(b"<p class=\"end\">So information about "),
-            Word::Name(first),
-            Word::Plain(b" reaches "),
-            Word::Name(last),
-            Word::Plain(b". But "),
-            Word::Name(first),
-            Word::Plain(b" has the class "),
-            Word::Class(first),
-            Word::Plain(b", "),
-            Word::Name(last),
-            Word::Plain(b" has the class "),
-            Word::Class(last),
-            Word::Plain(JUDGED),
-        ],
-    )
-}
-
-/// Adds the steps of a walk.
-fn put_steps(page: &mut Page, subject: &Told<'_>, walk: &[Step]) -> Result<(), AllocError> {
-    for (place, step) in walk.iter().enumerate() {
-        let number = place.saturating_add(1);
-        page.put_parts(&[Part::Value(b"<li id=\"s", number), Part::Markup(b">")])?;
-        put_step(page, subject, step)?;
-        put_turns(page, number, walk.len(), is_drawn(subject.facts))?;
-    }
-    Ok(())
-}
-
-/// The heading of the explanation.
+/// The beginning of the explanation of a walk.
 const WHY: &[u8] = b"<section aria-labelledby=\"why\"><h2 id=\"why\">Why it is refused</h2>\n\
 <ol class=\"walk\">\n";
 
 /// Adds the explanation of a bad walk.
-pub(crate) fn put_walk(
-    page: &mut Page,
-    order: &Order,
-    facts: &Facts,
-    source: &[u8],
-    walk: &[Step],
-) -> Result<(), AllocError> {
-    let subject = Told {
-        order,
-        facts,
-        source,
-    };
+pub(crate) fn put_walk(page: &mut Page, view: &View<'_>) -> Added {
     page.put(WHY)?;
-    put_steps(page, &subject, walk)?;
+    for (place, step) in view.walk.iter().enumerate() {
+        let number = place.saturating_add(1);
+        put_step(page, view, step, number)?;
+        put_turns(page, view, number)?;
+    }
     page.put(b"</ol>\n")?;
-    if let (Some(first), Some(last)) = (walk.first(), walk.last()) {
-        let from = number_of(facts, first.source);
-        put_verdict(page, &subject, from, number_of(facts, last.target))?;
+    if let (Some(first), Some(last)) = (view.walk.first(), view.walk.last()) {
+        let from = number_of(view.facts, first.source);
+        let to = number_of(view.facts, last.target);
+        page.fill(
+            ENDS,
+            &[
+                Part::Name(view.facts, from),
+                Part::Name(view.facts, to),
+                Part::Chip(view, from),
+                Part::Chip(view, to),
+            ],
+        )?;
     }
     page.put(b"</section>\n")
+}
+
+/// The beginning of the section about fixes.
+const FIX: &[u8] =
+    b"<section aria-labelledby=\"fix\"><h2 id=\"fix\">What would fix it</h2>\n<ul>\n";
+
+/// The fix of breaking a walk.
+const BREAK: &[u8] = b"<li>Break a step of the flow: change the text so that %1 no longer depends \
+on %0, which is read at %2.</li>\n";
+
+/// The fix of raising classes.
+const RAISES: &[u8] = b"<li>Or raise the classes, if the policy may change. The least raise with \
+which the text is accepted:\n<pre class=\"raise\" tabindex=\"0\"><code>%0</code></pre></li>\n";
+
+/// The text where no raise helps.
+const NO_RAISE: &[u8] =
+    b"<li>No raise of classes makes the text accepted: whether a loop ends would \
+still depend on a variable above the least class.</li>\n";
+
+/// Adds the fix of raising classes.
+fn put_raise(page: &mut Page, view: &View<'_>, read: &Source<'_>) -> Added {
+    match raise_lines_of(view.alloc, view.profile, read) {
+        Ok(lines) => page.fill(RAISES, &[Part::Text(&lines)]),
+        Err(CompileError::Memory) => Err(AllocError),
+        Err(_) => page.put(NO_RAISE),
+    }
+}
+
+/// Adds the section about fixes. A program with many variables has no raise here.
+pub(crate) fn put_fixes(page: &mut Page, view: &View<'_>, read: &Source<'_>) -> Added {
+    page.put(FIX)?;
+    if let (Some(first), Some(last)) = (view.walk.first(), view.walk.last()) {
+        page.fill(
+            BREAK,
+            &[
+                Part::Name(view.facts, number_of(view.facts, first.source)),
+                Part::Name(view.facts, number_of(view.facts, last.target)),
+                Part::Place(view.source, first.read.start),
+            ],
+        )?;
+    }
+    if is_drawn(view.facts) {
+        put_raise(page, view, read)?;
+    }
+    page.put(b"</ul>\n</section>\n")
+}
+
+/// The section about a fault.
+const FAULT: &[u8] = b"<section aria-labelledby=\"why\"><h2 id=\"why\">Why it is refused</h2>\n\
+<pre class=\"leak\" tabindex=\"0\"><code>%0%1</code></pre>\n</section>\n";
+
+/// The name of the source text in its explanation.
+fn path<'a>(view: &View<'a>) -> &'a [u8] {
+    if view.filing.source.is_empty() {
+        b"SOURCE"
+    } else {
+        view.filing.source
+    }
+}
+
+/// Adds the section about a fault, with the line of the refusal and the explanation.
+fn put_fault_texts<'x>(page: &mut Page, line: &'x [u8], more: &'x [u8]) -> Added {
+    page.fill(FAULT, &[Part::Text(line), Part::Text(more)])
+}
+
+/// Adds the section about the fault of a text that has no program: the line of the refusal, and the
+/// explanation of `--explain`.
+pub(crate) fn put_fault(page: &mut Page, view: &View<'_>, error: &CompileError) -> Added {
+    let line = refusal_text(view.alloc, view.lattice, view.source, error)?;
+    let more = source_explanation(
+        view.alloc,
+        ColourMode::Plain,
+        path(view),
+        view.lattice,
+        view.source,
+        error,
+    )?;
+    put_fault_texts(page, &line, &more)
 }

@@ -3,7 +3,8 @@
 use crate::images::{bytes, image};
 use crate::row::Row;
 use std::alloc::Global;
-use vsi_image::{Image, Instr, decode, encode, listing, verify};
+use vsi_diagnostics::{Fault, fault_text};
+use vsi_image::{Image, Instr, VerifyError, decode, encode, listing, verify};
 
 /// Adds the lines of an image's listing.
 pub(crate) fn put_listing(alloc: Global, row: &mut Row<'_>, image: &Image) {
@@ -11,7 +12,7 @@ pub(crate) fn put_listing(alloc: Global, row: &mut Row<'_>, image: &Image) {
 }
 
 /// The two hexadecimal digits of a byte.
-fn digits(byte: u8) -> [u8; 2] {
+pub(crate) fn digits(byte: u8) -> [u8; 2] {
     const DIGITS: &[u8; 16] = b"0123456789abcdef";
     [
         DIGITS[usize::from(byte / 16)],
@@ -52,29 +53,31 @@ pub(crate) fn encoded(alloc: Global, row: &mut Row<'_>) {
     put_encoded(alloc, row, &image);
 }
 
-/// `verify IMAGE`: whether the image is valid, or its first fault.
+/// Adds the report of the first fault of an image.
+fn put_fault(alloc: Global, row: &mut Row<'_>, error: VerifyError) {
+    row.put_made(fault_text(alloc, &Fault::Verify(error)));
+}
+
+/// `verify IMAGE`: whether the image is valid, or the report of its first fault.
 pub(crate) fn verified(alloc: Global, row: &mut Row<'_>) {
     match verify(image(alloc, row)) {
         Ok(_) => row.put("valid\n"),
-        Err((_, error)) => row.put_line(&error),
+        Err((_, error)) => put_fault(alloc, row, error),
     }
 }
 
-/// Adds the listing of an image, and then its first fault if it isn't valid.
-fn put_image(alloc: Global, row: &mut Row<'_>, image: Image) {
-    put_listing(alloc, row, &image);
-    if let Err((_, error)) = verify(image) {
-        row.put_line(&error);
-    }
-}
-
-/// `decode BYTES`: the listing of the image with these bytes, and then its first fault if it isn't
-/// valid; or the fault of the bytes.
+/// `decode BYTES`: the listing of the image with these bytes, and then the report of its first
+/// fault if it isn't valid; or the report of the fault of the bytes.
 pub(crate) fn decoded(alloc: Global, row: &mut Row<'_>) {
     let bytes = bytes(alloc, row);
     match decode(alloc, &bytes) {
-        Ok(image) => put_image(alloc, row, image),
-        Err(error) => row.put_line(&error),
+        Ok(image) => {
+            put_listing(alloc, row, &image);
+            if let Err((_, error)) = verify(image) {
+                put_fault(alloc, row, error);
+            }
+        }
+        Err(error) => row.put_made(fault_text(alloc, &Fault::Decode(error))),
     }
 }
 

@@ -2,13 +2,11 @@
 
 use crate::code::put_hexadecimal;
 use crate::images::bytes;
-use crate::row::Row;
+use crate::row::{Row, Wrong};
 use crate::texts::put_refusal;
-use crate::wrong::Wrong;
 use std::alloc::Global;
 use vsi_devices::{Counted, EngineError, build, build_in, run_image};
 use vsi_lattice::Lattice;
-use vsi_types::Profile;
 
 /// The room of a writer, which is made before the call: no row writes more.
 const ROOM: usize = 1024;
@@ -21,38 +19,27 @@ fn put_error(row: &mut Row<'_>, error: &EngineError) {
     }
 }
 
-/// Adds the bytes that a build has written, and the refusal where there is one.
-fn put_built(row: &mut Row<'_>, written: &[u8], answer: &Result<(), EngineError>) {
+/// `build LATTICE TEXT` or `build_in PROFILE LATTICE TEXT`: the bytes of the image that are
+/// written, and the refusal where there is one.
+pub(crate) fn built(alloc: Global, row: &mut Row<'_>, lattice: &Lattice, has_profile: bool) {
+    let text = row.text(alloc);
+    let Ok(room) = Vec::with_capacity(alloc, ROOM) else {
+        return row.fail(Wrong::Memory);
+    };
+    let mut reader = Counted::new(text.as_slice());
+    let mut writer = Counted::new(room);
+    let answer = if has_profile {
+        build_in(alloc, row.profile, lattice, &mut reader, &mut writer)
+    } else {
+        build(alloc, lattice, &mut reader, &mut writer)
+    };
+    let written = writer.into_inner();
     if !written.is_empty() {
-        put_hexadecimal(row, written);
+        put_hexadecimal(row, &written);
     }
-    if let Err(error) = answer {
+    if let Err(error) = &answer {
         put_error(row, error);
     }
-}
-
-/// `build LATTICE TEXT`: the bytes of the image that are written, or the refusal.
-pub(crate) fn built(alloc: Global, row: &mut Row<'_>, lattice: &Lattice) {
-    let text = row.text(alloc);
-    let Ok(room) = Vec::with_capacity(alloc, ROOM) else {
-        return row.fail(Wrong::Memory);
-    };
-    let mut reader = Counted::new(text.as_slice());
-    let mut writer = Counted::new(room);
-    let answer = build(alloc, lattice, &mut reader, &mut writer);
-    put_built(row, &writer.into_inner(), &answer);
-}
-
-/// `build_in PROFILE LATTICE TEXT`: the same under a profile.
-pub(crate) fn built_in(alloc: Global, row: &mut Row<'_>, profile: Profile, lattice: &Lattice) {
-    let text = row.text(alloc);
-    let Ok(room) = Vec::with_capacity(alloc, ROOM) else {
-        return row.fail(Wrong::Memory);
-    };
-    let mut reader = Counted::new(text.as_slice());
-    let mut writer = Counted::new(room);
-    let answer = build_in(alloc, profile, lattice, &mut reader, &mut writer);
-    put_built(row, &writer.into_inner(), &answer);
 }
 
 /// `run_image BUDGET SHOWN STORE | BYTES`: the output of the run of the image with these bytes from

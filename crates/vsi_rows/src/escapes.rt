@@ -5,7 +5,7 @@
 //! In a part, `%` is the number in decimal, `~` the number below it, and `@` the number in two
 //! capital letters, `AA` for 0.
 
-use crate::wrong::Wrong;
+use crate::row::Wrong;
 use std::alloc::{AllocError, Global};
 use vsi_syntax::put_number;
 

@@ -3,8 +3,7 @@
 //! the last ends with `;`.
 
 use crate::escapes::byte_of;
-use crate::row::Row;
-use crate::wrong::Wrong;
+use crate::row::{Row, Wrong};
 use std::alloc::{AllocError, Global};
 use std::str::from_utf8;
 use vsi_image::{Image, Instr};
@@ -93,15 +92,11 @@ fn rest(alloc: Global, row: &mut Row<'_>) -> Vec<Instr> {
 
 /// The rest of a row as an image.
 pub(crate) fn image(alloc: Global, row: &mut Row<'_>) -> Image {
-    let globals = globals(alloc, row);
-    let slots = row.small();
-    let stack = row.small();
-    let code = rest(alloc, row);
     Image {
-        globals,
-        slots,
-        stack,
-        code,
+        globals: globals(alloc, row),
+        slots: row.small(),
+        stack: row.small(),
+        code: rest(alloc, row),
     }
 }
 

@@ -11,27 +11,26 @@
 //! language's pages define, worked by hand; `rt run < stdin` should then print `stdout`.
 #![tactic(auto)]
 
-mod bodies;
 mod calls;
 mod code;
 mod compiling;
+mod displays;
+mod drives;
+mod editors;
 mod engines;
 mod escapes;
 mod faults;
 mod flows;
-mod forms;
 mod images;
 mod judging;
 mod lattices;
-mod machines;
+mod names;
 mod requests;
 mod row;
+mod runs;
 mod scopes;
 mod stores;
 mod texts;
-mod trees;
-mod walks;
-mod wrong;
 
 use crate::calls::answered;
 use crate::row::Row;

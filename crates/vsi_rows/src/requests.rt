@@ -1,7 +1,6 @@
 //! Calls about the requests that arguments make.
 
-use crate::row::Row;
-use crate::wrong::Wrong;
+use crate::row::{Row, Wrong};
 use std::alloc::{AllocError, Global};
 use vsi_arguments::{ArgumentsError, Request, manner_of};
 use vsi_asked::{asks_help, request_of};
@@ -19,7 +18,7 @@ fn words_of(alloc: Global, line: &str) -> Result<Vec<String>, AllocError> {
 }
 
 /// Adds a line with a verdict.
-fn put_verdict(row: &mut Row<'_>, is_so: bool) {
+pub(crate) fn put_verdict(row: &mut Row<'_>, is_so: bool) {
     row.put(if is_so { "yes\n" } else { "no\n" });
 }
 

@@ -1,13 +1,33 @@
 //! A row: the input of a call, and its answer.
 
 use crate::escapes::bytes_of;
-use crate::wrong::Wrong;
-use std::alloc::{AllocError, Global};
-use std::fmt::Debug;
+use std::alloc::{AllocError, AllocFailed, Global};
+use std::fmt::{Debug, Display};
 use std::str::from_utf8;
 use vsi_lattice::{Class, Lattice, read_lattice};
 use vsi_syntax::Span;
 use vsi_types::Profile;
+
+/// Why a row has no answer.
+#[derive(Clone, Copy, Debug)]
+pub(crate) enum Wrong {
+    /// There was too little memory.
+    Memory,
+    /// The row doesn't have the form of its call.
+    Row,
+}
+
+impl From<AllocError> for Wrong {
+    fn from(_e: AllocError) -> Wrong {
+        Wrong::Memory
+    }
+}
+
+impl<T: Drop> From<AllocFailed<T>> for Wrong {
+    fn from(_e: AllocFailed<T>) -> Wrong {
+        Wrong::Memory
+    }
+}
 
 /// A row whose first fields are being read and whose answer is being written. If something goes
 /// wrong, the row notes it and goes on with 0, an empty text or the values it has.
@@ -15,6 +35,8 @@ use vsi_types::Profile;
 pub(crate) struct Row<'a> {
     /// The fields that aren't read yet, and the text.
     pub rest: &'a str,
+    /// The profile of a row over a lattice.
+    pub profile: Profile,
     pub answer: String,
     /// The last error.
     pub wrong: Option<Wrong>,
@@ -34,12 +56,35 @@ below = [[\"L\", \"A\"], [\"L\", \"B\"], [\"A\", \"H\"], [\"B\", \"H\"]]
 /// `M` alone.
 const OTHER: &[u8] = b"classes = [\"M\"]\nbelow = []\n";
 
+/// Everyone below the operators, and these below the owner of secrets.
+const HOUSE: &[u8] = b"classes = [\"Public\", \"Operator\", \"Secret\"]
+below = [[\"Public\", \"Operator\"], [\"Operator\", \"Secret\"]]
+";
+
+/// The greatest class first and the least one last.
+const DOWN: &[u8] = b"classes = [\"T\", \"A\", \"B\", \"L\"]
+below = [[\"L\", \"A\"], [\"L\", \"B\"], [\"A\", \"T\"], [\"B\", \"T\"]]
+";
+
+/// The file of the lattice with a name.
+fn file_named(name: &str) -> &'static [u8] {
+    match name {
+        "one" => ONE,
+        "two" => TWO,
+        "four" => FOUR,
+        "house" => HOUSE,
+        "down" => DOWN,
+        _ => OTHER,
+    }
+}
+
 /// Reading.
 impl<'a> Row<'a> {
     /// A row without an answer yet.
     pub(crate) fn new(alloc: Global, line: &'a str) -> Row<'a> {
         Row {
             rest: line,
+            profile: Profile::Base,
             answer: String::new(alloc),
             wrong: None,
         }
@@ -60,33 +105,11 @@ impl<'a> Row<'a> {
         }
     }
 
-    /// The next field as a number.
+    /// The next field as a number; 0 if no field is left.
     pub(crate) fn number(&mut self) -> u64 {
-        match self.field().parse::<u64>() {
-            Ok(number) => number,
-            Err(_) => {
-                self.fail(Wrong::Row);
-                0
-            }
-        }
-    }
-
-    /// The next field as a number below 65,536.
-    pub(crate) fn small(&mut self) -> u16 {
-        match self.field().parse::<u16>() {
-            Ok(number) => number,
-            Err(_) => {
-                self.fail(Wrong::Row);
-                0
-            }
-        }
-    }
-
-    /// The next field as a position in a text or a number in a file; 0 if no field is left.
-    pub(crate) fn place(&mut self) -> usize {
         let field = self.field();
-        match field.parse::<usize>() {
-            Ok(place) => place,
+        match field.parse::<u64>() {
+            Ok(number) => number,
             Err(_) => {
                 if !field.is_empty() {
                     self.fail(Wrong::Row);
@@ -96,37 +119,30 @@ impl<'a> Row<'a> {
         }
     }
 
-    /// The next field as the name of a profile. A row without one, whose next field names a
-    /// lattice, has the base profile.
-    pub(crate) fn profile(&mut self) -> Profile {
-        match self.rest.split_once(' ') {
-            Some(("base", rest)) => {
-                self.rest = rest;
-                Profile::Base
-            }
-            Some(("strict", rest)) => {
-                self.rest = rest;
-                Profile::Strict
-            }
-            _ => Profile::Base,
-        }
+    /// The next field as a number below 65,536; a larger one is 65,535.
+    pub(crate) fn small(&mut self) -> u16 {
+        u16::try_from(self.number()).unwrap_or(u16::MAX)
     }
 
-    /// The next field as the name of a lattice.
+    /// The next field as a position in a text, or as another number in memory.
+    pub(crate) fn place(&mut self) -> usize {
+        self.number() as usize
+    }
+
+    /// The next field as the name of a lattice, after the name of a profile unless that is left out
+    /// for the base profile.
     pub(crate) fn lattice(&mut self, alloc: Global) -> Option<Lattice> {
         let file = match self.field() {
-            "one" => ONE,
-            "two" => TWO,
-            "four" => FOUR,
-            _ => OTHER,
-        };
-        match read_lattice(alloc, file) {
-            Ok(lattice) => Some(lattice),
-            Err(_) => {
-                self.fail(Wrong::Memory);
-                None
+            "base" => file_named(self.field()),
+            "strict" => {
+                self.profile = Profile::Strict;
+                file_named(self.field())
             }
-        }
+            name => file_named(name),
+        };
+        let found = read_lattice(alloc, file).ok();
+        self.note(found.is_none());
+        found
     }
 
     /// The next field as numbers separated by commas, or `-` for none.
@@ -249,6 +265,12 @@ impl<'a> Row<'a> {
     /// Adds a value by its name in the code.
     pub(crate) fn put_value(&mut self, value: &impl Debug) {
         let is_wanting = write!(self.answer, "{value:?}").is_err();
+        self.note(is_wanting);
+    }
+
+    /// Adds a line with the message of an error.
+    pub(crate) fn put_message(&mut self, error: &impl Display) {
+        let is_wanting = writeln!(self.answer, "{error}").is_err();
         self.note(is_wanting);
     }
 

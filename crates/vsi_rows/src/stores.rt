@@ -1,11 +1,10 @@
 //! Calls about stores and views of them.
 
 use crate::images::{globals, image};
-use crate::row::Row;
-use crate::wrong::Wrong;
+use crate::row::{Row, Wrong};
 use std::alloc::Global;
 use vsi_diagnostics::{Fault, fault_text};
-use vsi_image::{Image, Verified, verify};
+use vsi_image::{Image, verify};
 use vsi_lattice::Lattice;
 use vsi_store::{View, read_store, store_text, view};
 
@@ -43,34 +42,21 @@ pub(crate) fn printed(alloc: Global, row: &mut Row<'_>) {
     }
 }
 
-/// Adds a class's view of a run.
-fn put_view(
-    alloc: Global,
-    row: &mut Row<'_>,
-    lattice: &Lattice,
-    class: &str,
-    verified: &Verified,
-    words: &[i64],
-    budget: u64,
-) {
-    let Some(class) = lattice.class_named(class.as_bytes()) else {
-        return row.fail(Wrong::Row);
-    };
-    match view(alloc, lattice, verified, class, words, budget) {
-        Ok(View::Text(lines)) => row.put_bytes(&lines),
-        Ok(View::OutOfBudget) => row.put("out of budget\n"),
-        Err(error) => row.put_made(fault_text(alloc, &Fault::View(error))),
-    }
-}
-
 /// `view LATTICE CLASS STORE BUDGET IMAGE`: the view that the class with this name has of a run, or
 /// the line of the refusal.
 pub(crate) fn viewed(alloc: Global, row: &mut Row<'_>, lattice: &Lattice) {
-    let class = row.field();
+    let Some(class) = lattice.class_named(row.field().as_bytes()) else {
+        return row.fail(Wrong::Row);
+    };
     let words = row.numbers(alloc);
     let budget = row.number();
-    match verify(image(alloc, row)) {
-        Ok(verified) => put_view(alloc, row, lattice, class, &verified, &words, budget),
-        Err((_, error)) => row.put_line(&error),
+    let verified = match verify(image(alloc, row)) {
+        Ok(verified) => verified,
+        Err((_, error)) => return row.put_line(&error),
+    };
+    match view(alloc, lattice, &verified, class, &words, budget) {
+        Ok(View::Text(lines)) => row.put_bytes(&lines),
+        Ok(View::OutOfBudget) => row.put("out of budget\n"),
+        Err(error) => row.put_made(fault_text(alloc, &Fault::View(error))),
     }
 }

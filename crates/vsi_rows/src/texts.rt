@@ -1,8 +1,6 @@
 //! Calls that read a source text.
 
-use crate::row::Row;
-use crate::trees::put_program;
-use crate::wrong::Wrong;
+use crate::row::{Row, Wrong};
 use std::alloc::Global;
 use vsi_compiler::{CompileError, format_text};
 use vsi_syntax::{Op, Program, Token, is_name, lex, line_column, parse, print};
@@ -40,29 +38,13 @@ pub(crate) fn put_refusal(row: &mut Row<'_>, error: &CompileError) {
     }
 }
 
-/// The form to show of a text's tree.
-#[derive(Clone, Copy)]
-pub(crate) enum Form {
-    Accepted,
-    Tree,
-    Canonical,
-}
-
-/// Adds a form of a tree.
-fn put_tree(alloc: Global, row: &mut Row<'_>, form: Form, program: &Program<'_>) {
-    match form {
-        Form::Accepted => row.put("accepted\n"),
-        Form::Tree => put_program(row, program),
-        Form::Canonical => row.put_made(print(alloc, program)),
-    }
-}
-
-/// `parse TEXT`, `tree TEXT` or `print TEXT`: that the text is a program, its tree, or the
-/// canonical text of the tree; or the fault.
-pub(crate) fn parsed(alloc: Global, row: &mut Row<'_>, form: Form) {
+/// `parse TEXT` or `print TEXT`: that the text is a program, or the canonical text of its tree; or
+/// the fault.
+pub(crate) fn parsed(alloc: Global, row: &mut Row<'_>, is_printed: bool) {
     let text = row.text(alloc);
     match tree_of(alloc, &text) {
-        Ok(program) => put_tree(alloc, row, form, &program),
+        Ok(program) if is_printed => row.put_made(print(alloc, &program)),
+        Ok(_) => row.put("accepted\n"),
         Err(error) => put_refusal(row, &error),
     }
 }

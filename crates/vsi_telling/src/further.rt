@@ -1,6 +1,8 @@
 //! The faults of a text after its first one.
 
-use std::alloc::{AllocError, Global};
+use crate::names::Part;
+use crate::telling::Telling;
+use std::alloc::AllocError;
 use vsi_compiler::CompileError;
 use vsi_diagnostics::refusal_diagnostic;
 use vsi_hints::listed_places;
@@ -32,18 +34,13 @@ fn is_of_name(cause: Cause) -> bool {
 fn are_on_line(source: &[u8], first: usize, second: usize) -> bool {
     let start = first.min(second);
     let stop = first.max(second);
-    match source.get(start..stop) {
-        Some(between) => !between.contains(&b'\n'),
-        None => false,
-    }
+    matches!(source.get(start..stop), Some(between) if !between.contains(&b'\n'))
 }
 
 /// Whether a byte is the first one after another that isn't blank.
 fn is_next(source: &[u8], first: usize, second: usize) -> bool {
-    match source.get(first.saturating_add(1)..second) {
-        Some(between) => between.trim_ascii().is_empty(),
-        None => false,
-    }
+    let between = source.get(first.saturating_add(1)..second);
+    matches!(between, Some(between) if between.trim_ascii().is_empty())
 }
 
 /// Whether a line has one of these places, or a byte is the next one after such a place.
@@ -65,37 +62,37 @@ fn refusal_of(fault: Fault) -> CompileError {
     }
 }
 
-/// Adds the line of a further fault: its place, its number and its name.
-fn put_fault(words: &mut Vec<u8>, source: &[u8], fault: Fault) -> Result<(), AllocError> {
-    let error = refusal_of(fault);
-    let Some(diagnostic) = refusal_diagnostic(source, &error) else {
-        return Ok(());
-    };
-    words.extend_from_slice(b"Also at ")?;
-    put_place(words, source, fault.span.start)?;
-    words.extend_from_slice(b": ")?;
-    put_number(words, diagnostic.code)?;
-    words.extend_from_slice(b" ")?;
-    words.extend_from_slice(diagnostic.name)?;
-    words.extend_from_slice(b".\n")
-}
-
-/// Adds the faults of a refused text after its first one, but none on a line for which a hint is
-/// listed, and no names that are listed.
-pub(crate) fn put_faults(
-    alloc: Global,
-    words: &mut Vec<u8>,
-    lattice: &Lattice,
-    source: &[u8],
-    error: &CompileError,
-    at: usize,
-) -> Result<(), AllocError> {
-    let places = listed_places(alloc, source, at)?;
-    for fault in &further_faults(alloc, lattice, source, MAX_READ)? {
-        let is_name = lists_names(error) && is_of_name(fault.cause);
-        if !is_name && !is_listed(source, &places, fault.span.start) {
-            put_fault(words, source, *fault)?;
-        }
+impl Telling<'_> {
+    /// Adds the line of a further fault: its place, its number and its name.
+    fn put_fault(&mut self, fault: Fault) -> Result<(), AllocError> {
+        let source = self.bytes;
+        let error = refusal_of(fault);
+        let Some(diagnostic) = refusal_diagnostic(source, &error) else {
+            return Ok(());
+        };
+        self.add("Also at ")?;
+        put_place(&mut self.words, source, fault.span.start)?;
+        self.add(": ")?;
+        put_number(&mut self.words, diagnostic.code)?;
+        self.say(" %.\n", &[Part::Text(diagnostic.name)])
     }
-    Ok(())
+
+    /// Adds the faults of a refused text after its first one, but none on a line for which a hint
+    /// is listed, and no names that are listed.
+    pub(crate) fn put_faults(
+        &mut self,
+        lattice: &Lattice,
+        error: &CompileError,
+        at: usize,
+    ) -> Result<(), AllocError> {
+        let source = self.bytes;
+        let places = listed_places(self.alloc, source, at)?;
+        for fault in &further_faults(self.alloc, lattice, source, MAX_READ)? {
+            let is_name = lists_names(error) && is_of_name(fault.cause);
+            if !is_name && !is_listed(source, &places, fault.span.start) {
+                self.put_fault(*fault)?;
+            }
+        }
+        Ok(())
+    }
 }

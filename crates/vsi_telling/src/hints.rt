@@ -1,8 +1,7 @@
 //! Hints for the commonest mistakes.
 
 use crate::token_place::TokenPlace;
-use vsi_foreign::{is_false, is_true};
-use vsi_shapes::is_else_if;
+use vsi_hints::{is_else_if, is_false, is_true};
 use vsi_syntax::Kind;
 
 /// Whether a text begins with a word, and then, after blanks, with a symbol.

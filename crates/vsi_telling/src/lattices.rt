@@ -1,18 +1,17 @@
 //! The explanation of a refused lattice file.
 
 use crate::finding::{bare_place, key_place, quoted_place};
-use crate::missing::put_missing;
-use crate::names::{Part, put_parts};
-use crate::orders::{Order, put_ring};
+use crate::names::Part;
+use crate::orders::Order;
 use crate::tables::{array_in, table_in, value_in};
+use crate::telling::Telling;
 use std::alloc::{AllocError, Global};
 use toml::{Table, Value};
 use vsi_lattice::LatticeError;
 use vsi_syntax::Span;
 
 /// An example of a lattice file.
-const SHAPE: &[u8] =
-    b"A lattice file names the classes, and pairs of them, the lower one first:\n  \
+const SHAPE: &str = "A lattice file names the classes, and pairs of them, the lower one first:\n  \
     classes = [\"L\", \"H\"]\n  below = [[\"L\", \"H\"]]\n";
 
 /// The largest number of classes.
@@ -120,232 +119,159 @@ fn order_in<'t>(alloc: Global, table: &'t Table) -> Result<Order<'t>, AllocError
     Ok(Order { names, pairs })
 }
 
-/// Adds the hint for a file that is no TOML, and answers a place where it may be wrong.
-fn put_file_hint(
-    words: &mut Vec<u8>,
-    path: &[u8],
-    bytes: &[u8],
-) -> Result<Option<Span>, AllocError> {
-    let start = bytes.trim_ascii_start();
-    if start.starts_with(b"VSI") {
-        words.extend_from_slice(
-            b"Hint: this is an image. The lattice file has another place on the command line.\n",
-        )?;
-        return Ok(None);
-    }
-    if start.starts_with(b"var") || start.starts_with(b"letvar") {
-        put_parts(
-            words,
-            &[
-                Part::Text(
-                    b"Hint: this looks like a source text. The lattice file comes first, and \
-                    the source text after it: `vsi check LATTICE ",
-                ),
-                Part::Text(path),
-                Part::Text(b"`.\n"),
-            ],
-        )?;
-        return Ok(None);
-    }
-    let Some(span) = bare_place(bytes) else {
-        return Ok(None);
-    };
-    words.extend_from_slice(b"Hint: the names of classes go between quotes.\n")?;
-    Ok(Some(span))
-}
-
-/// Adds the explanation if the file is no TOML, and answers a place where it may be wrong.
-fn put_not_toml(
-    words: &mut Vec<u8>,
-    path: &[u8],
-    bytes: &[u8],
-) -> Result<Option<Span>, AllocError> {
-    words.extend_from_slice(b"The file isn't a TOML document.\n")?;
-    let place = put_file_hint(words, path, bytes)?;
-    words.extend_from_slice(SHAPE)?;
-    Ok(place)
-}
-
 /// The fault of the keys or the values of a table that has no other key.
-fn key_words(table: &Table) -> &'static [u8] {
+fn key_words(table: &Table) -> &'static str {
     if table.get("classes").is_none() {
-        return b"The key `classes` is missing.\n";
+        return "The key `classes` is missing.\n";
     }
     if table.get("below").is_none() {
-        return b"The key `below` is missing. Hint: write `below = []` if no class is below \
+        return "The key `below` is missing. Hint: write `below = []` if no class is below \
             another one.\n";
     }
-    b"The value of `classes` must be an array of names between quotes, and that of `below` an \
+    "The value of `classes` must be an array of names between quotes, and that of `below` an \
     array of pairs of them.\n"
 }
 
-/// Adds which keys or values of a table are wrong, and answers where.
-fn put_bad_keys(
-    words: &mut Vec<u8>,
-    bytes: &[u8],
-    table: &Table,
-) -> Result<Option<Span>, AllocError> {
-    let Some(key) = other_key(table) else {
-        words.extend_from_slice(key_words(table))?;
-        return Ok(None);
-    };
-    put_parts(
-        words,
-        &[
-            Part::Text(b"A lattice file has no key "),
-            Part::Quoted(key),
-            Part::Text(b", only `classes` and `below`.\n"),
-        ],
-    )?;
-    Ok(key_place(bytes, key))
-}
-
-/// Adds the explanation of a name, and returns its place after so many others like it.
-fn put_name(
-    words: &mut Vec<u8>,
-    bytes: &[u8],
-    name: Option<&[u8]>,
-    others: usize,
-    text: &str,
-) -> Result<Option<Span>, AllocError> {
-    let Some(name) = name else {
-        put_parts(words, &[Part::Text(b"A name"), Part::Text(text.as_bytes())])?;
-        return Ok(None);
-    };
-    put_parts(words, &[Part::Quoted(name), Part::Text(text.as_bytes())])?;
-    Ok(quoted_place(bytes, name, others))
-}
-
-/// Adds the explanation of a fault at one name, and returns its place.
-fn put_name_fault(
-    words: &mut Vec<u8>,
-    bytes: &[u8],
-    table: &Table,
-    error: LatticeError,
-) -> Result<Option<Span>, AllocError> {
-    match error {
-        LatticeError::BadName(place) => put_name(
-            words,
-            bytes,
-            class_in(table, place),
-            0,
-            " isn't a valid name. Hint: a name begins with a letter, continues with letters, \
-            digits and `_`, has at most 32 of them, and isn't a keyword.\n",
-        ),
-        LatticeError::DuplicateName(place) => put_name(
-            words,
-            bytes,
-            class_in(table, place),
-            1,
-            " is in `classes` twice. Hint: leave one out.\n",
-        ),
-        LatticeError::UnknownName(place) => put_name(
-            words,
-            bytes,
-            unknown_in(table, place),
-            0,
-            " is in `below` but isn't a class. Hint: add it to `classes`, or fix its \
-            spelling.\n",
-        ),
-        _ => Ok(None),
+impl Telling<'_> {
+    /// Adds the hint for a file that is no TOML, and answers a place where it may be wrong.
+    fn put_file_hint(&mut self) -> Result<Option<Span>, AllocError> {
+        let start = self.bytes.trim_ascii_start();
+        if start.starts_with(b"VSI") {
+            self.add(
+                "Hint: this is an image. The lattice file has another place on the command line.\n",
+            )?;
+            return Ok(None);
+        }
+        if start.starts_with(b"var") || start.starts_with(b"letvar") {
+            self.say(
+                "Hint: this looks like a source text. The lattice file comes first, and the source \
+                text after it: `vsi check LATTICE %`.\n",
+                &[Part::Text(self.path)],
+            )?;
+            return Ok(None);
+        }
+        let place = bare_place(self.bytes);
+        if place.is_some() {
+            self.add("Hint: the names of classes go between quotes.\n")?;
+        }
+        Ok(place)
     }
-}
 
-/// Adds the explanation of two classes in an order, and answers where the fault is, if that is
-/// known.
-fn put_order_fault(
-    alloc: Global,
-    words: &mut Vec<u8>,
-    bytes: &[u8],
-    order: &Order,
-    error: LatticeError,
-) -> Result<Option<Span>, AllocError> {
-    match error {
-        LatticeError::Cycle(a, _) => put_ring(alloc, words, bytes, order, a.index()),
-        LatticeError::NoJoin(a, b) => {
-            put_missing(alloc, words, order, a.index(), b.index(), true)?;
-            Ok(None)
-        }
-        LatticeError::NoMeet(a, b) => {
-            put_missing(alloc, words, order, a.index(), b.index(), false)?;
-            Ok(None)
-        }
-        _ => Ok(None),
+    /// Adds the explanation if the file is no TOML, and answers a place where it may be wrong.
+    fn put_not_toml(&mut self) -> Result<Option<Span>, AllocError> {
+        self.add("The file isn't a TOML document.\n")?;
+        let place = self.put_file_hint()?;
+        self.add(SHAPE)?;
+        Ok(place)
     }
-}
 
-/// Adds the explanation of two classes of a table, and answers where the fault is, if that is
-/// known.
-fn put_pair_fault(
-    alloc: Global,
-    words: &mut Vec<u8>,
-    bytes: &[u8],
-    table: &Table,
-    error: LatticeError,
-) -> Result<Option<Span>, AllocError> {
-    let order = order_in(alloc, table)?;
-    put_order_fault(alloc, words, bytes, &order, error)
-}
-
-/// Adds the explanation of a fault in a table, and answers where it is.
-fn put_fault(
-    alloc: Global,
-    words: &mut Vec<u8>,
-    bytes: &[u8],
-    table: &Table,
-    error: LatticeError,
-) -> Result<Option<Span>, AllocError> {
-    match error {
-        LatticeError::BadShape => put_bad_keys(words, bytes, table),
-        LatticeError::Cycle(_, _) | LatticeError::NoJoin(_, _) | LatticeError::NoMeet(_, _) => {
-            let place = put_pair_fault(alloc, words, bytes, table, error)?;
-            Ok(place.or(key_place(bytes, b"below")))
-        }
-        other => put_name_fault(words, bytes, table, other),
+    /// Adds which keys or values of a table are wrong, and answers where.
+    fn put_bad_keys(&mut self, table: &Table) -> Result<Option<Span>, AllocError> {
+        let Some(key) = other_key(table) else {
+            self.add(key_words(table))?;
+            return Ok(None);
+        };
+        self.say(
+            "A lattice file has no key %, only `classes` and `below`.\n",
+            &[Part::Quoted(key)],
+        )?;
+        Ok(key_place(self.bytes, key))
     }
-}
 
-/// Adds the explanation of a fault in the table that a file is, and answers where it is.
-fn put_table_fault(
-    alloc: Global,
-    words: &mut Vec<u8>,
-    bytes: &[u8],
-    error: LatticeError,
-) -> Result<Option<Span>, AllocError> {
-    match table_in(alloc, bytes)? {
-        Some(table) => put_fault(alloc, words, bytes, &table, error),
-        None => Ok(None),
+    /// Adds the explanation of a name, and returns its place after so many others like it.
+    fn put_name(
+        &mut self,
+        name: Option<&[u8]>,
+        others: usize,
+        sentence: &str,
+    ) -> Result<Option<Span>, AllocError> {
+        let Some(name) = name else {
+            self.say(sentence, &[Part::Text(b"A name")])?;
+            return Ok(None);
+        };
+        self.say(sentence, &[Part::Quoted(name)])?;
+        Ok(quoted_place(self.bytes, name, others))
     }
-}
 
-/// Adds the explanation of a refused lattice file, and answers where it is wrong.
-pub(crate) fn put_lattice(
-    alloc: Global,
-    words: &mut Vec<u8>,
-    path: &[u8],
-    bytes: &[u8],
-    error: LatticeError,
-) -> Result<Option<Span>, AllocError> {
-    match error {
-        LatticeError::Memory => Err(AllocError),
-        LatticeError::NotToml => put_not_toml(words, path, bytes),
-        LatticeError::NoClass => {
-            let parts = [
-                Part::Text(b"The list of classes is empty. Hint: name at least one.\n"),
-                Part::Text(SHAPE),
-            ];
-            put_parts(words, &parts)?;
-            Ok(key_place(bytes, b"classes"))
+    /// Adds the explanation of a fault at one name, and returns its place.
+    fn put_name_fault(
+        &mut self,
+        table: &Table,
+        error: LatticeError,
+    ) -> Result<Option<Span>, AllocError> {
+        match error {
+            LatticeError::BadName(place) => self.put_name(
+                class_in(table, place),
+                0,
+                "% isn't a valid name. Hint: a name begins with a letter, continues with letters, \
+                digits and `_`, has at most 32 of them, and isn't a keyword.\n",
+            ),
+            LatticeError::DuplicateName(place) => self.put_name(
+                class_in(table, place),
+                1,
+                "% is in `classes` twice. Hint: leave one out.\n",
+            ),
+            LatticeError::UnknownName(place) => self.put_name(
+                unknown_in(table, place),
+                0,
+                "% is in `below` but isn't a class. Hint: add it to `classes`, or fix its \
+                spelling.\n",
+            ),
+            _ => Ok(None),
         }
-        LatticeError::TooManyClasses => {
-            words.extend_from_slice(b"There are more than 64 classes. Hint: leave some out.\n")?;
-            Ok(key_place(bytes, b"classes"))
+    }
+
+    /// Adds the explanation of two classes in an order, and answers where the fault is.
+    fn put_order_fault(
+        &mut self,
+        order: &Order,
+        error: LatticeError,
+    ) -> Result<Option<Span>, AllocError> {
+        let mut place = None;
+        match error {
+            LatticeError::Cycle(a, _) => place = self.put_ring(order, a.index())?,
+            LatticeError::NoJoin(a, b) => self.put_missing(order, a.index(), b.index(), true)?,
+            LatticeError::NoMeet(a, b) => self.put_missing(order, a.index(), b.index(), false)?,
+            _ => {}
         }
-        LatticeError::BadShape => {
-            let place = put_table_fault(alloc, words, bytes, error)?;
-            words.extend_from_slice(SHAPE)?;
-            Ok(place)
+        Ok(place.or(key_place(self.bytes, b"below")))
+    }
+
+    /// Adds the explanation of a fault in the table that a file is, and answers where it is.
+    fn put_table_fault(&mut self, error: LatticeError) -> Result<Option<Span>, AllocError> {
+        let Some(table) = table_in(self.alloc, self.bytes)? else {
+            return Ok(None);
+        };
+        match error {
+            LatticeError::BadShape => self.put_bad_keys(&table),
+            LatticeError::Cycle(_, _) | LatticeError::NoJoin(_, _) | LatticeError::NoMeet(_, _) => {
+                let order = order_in(self.alloc, &table)?;
+                self.put_order_fault(&order, error)
+            }
+            other => self.put_name_fault(&table, other),
         }
-        other => put_table_fault(alloc, words, bytes, other),
+    }
+
+    /// Adds the explanation of a refused lattice file, and answers where it is wrong.
+    pub(crate) fn put_lattice(&mut self, error: LatticeError) -> Result<Option<Span>, AllocError> {
+        match error {
+            LatticeError::Memory => Err(AllocError),
+            LatticeError::NotToml => self.put_not_toml(),
+            LatticeError::NoClass => {
+                self.add("The list of classes is empty. Hint: name at least one.\n")?;
+                self.add(SHAPE)?;
+                Ok(key_place(self.bytes, b"classes"))
+            }
+            LatticeError::TooManyClasses => {
+                self.add("There are more than 64 classes. Hint: leave some out.\n")?;
+                Ok(key_place(self.bytes, b"classes"))
+            }
+            LatticeError::BadShape => {
+                let place = self.put_table_fault(error)?;
+                self.add(SHAPE)?;
+                Ok(place)
+            }
+            other => self.put_table_fault(other),
+        }
     }
 }

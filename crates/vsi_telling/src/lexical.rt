@@ -1,10 +1,9 @@
 //! The explanation of bytes and words that are none of the language.
 
 use crate::hints::file_hint;
-use crate::names::{Part, part_of, put_parts};
-use crate::operands::{put_division, put_operator};
-use std::alloc::{AllocError, Global};
-use vsi_hints::{hint_at, put_hint};
+use crate::names::{Part, part_of};
+use crate::telling::Telling;
+use std::alloc::AllocError;
 use vsi_syntax::{LexError, Span};
 
 /// The largest number of bytes of a name.
@@ -63,91 +62,69 @@ fn byte_hint(byte: u8, next: Option<u8>) -> &'static str {
     }
 }
 
-/// Adds the explanation of a byte.
-fn put_byte(
-    alloc: Global,
-    words: &mut Vec<u8>,
-    source: &[u8],
-    at: usize,
-) -> Result<(), AllocError> {
-    let Some(byte) = source.get(at).copied() else {
-        return Ok(());
-    };
-    let next = source.get(at.saturating_add(1)).copied();
-    let parts = [
-        Part::Quoted(&[byte]),
-        Part::Text(b" isn't a symbol of this language.\n"),
-    ];
-    put_parts(words, &parts)?;
-    if let Some(hint) = file_hint(source) {
-        return words.extend_from_slice(hint.as_bytes());
+impl Telling<'_> {
+    /// Adds the explanation of a byte.
+    fn put_byte(&mut self, at: usize) -> Result<(), AllocError> {
+        let source = self.bytes;
+        let Some(byte) = source.get(at).copied() else {
+            return Ok(());
+        };
+        let next = source.get(at.saturating_add(1)).copied();
+        self.say(
+            "% isn't a symbol of this language.\n",
+            &[Part::Quoted(&[byte])],
+        )?;
+        if self.add_any(file_hint(source))? || self.hint_at(at)? {
+            return Ok(());
+        }
+        if self.put_operator(sign_of(byte, next), at)? {
+            return Ok(());
+        }
+        match (byte, next) {
+            (b'/', Some(b'/' | b'*')) => {}
+            (b'/' | b'%', _) => return self.put_division(at, byte == b'%'),
+            _ => {}
+        }
+        self.add(byte_hint(byte, next))
     }
-    if put_hint(words, &hint_at(alloc, source, at)?)? {
-        return Ok(());
-    }
-    if put_operator(words, source, sign_of(byte, next), at)? {
-        return Ok(());
-    }
-    match (byte, next) {
-        (b'/', Some(b'/' | b'*')) => {}
-        (b'/' | b'%', _) => return put_division(words, source, at, byte == b'%'),
-        _ => {}
-    }
-    words.extend_from_slice(byte_hint(byte, next).as_bytes())
-}
 
-/// Adds the explanation of a word that isn't valid.
-fn put_word(
-    alloc: Global,
-    words: &mut Vec<u8>,
-    source: &[u8],
-    span: Span,
-) -> Result<(), AllocError> {
-    let word = part_of(source, span);
-    let parts = [
-        Part::Quoted(word),
-        Part::Text(b" isn't a name, a keyword or a number.\n"),
-    ];
-    put_parts(words, &parts)?;
-    if put_hint(words, &hint_at(alloc, source, span.start)?)? {
-        return Ok(());
+    /// Adds the explanation of a word that isn't valid.
+    fn put_word(&mut self, span: Span) -> Result<(), AllocError> {
+        let word = part_of(self.bytes, span);
+        self.say(
+            "% isn't a name, a keyword or a number.\n",
+            &[Part::Quoted(word)],
+        )?;
+        if self.hint_at(span.start)? {
+            return Ok(());
+        }
+        match word.first() {
+            Some(b'0'..=b'9') => self.add(
+                "Hint: a number has only digits, no `_` and no letters, and a name begins with a \
+                letter.\n",
+            ),
+            Some(b'_') => self.add("Hint: a name begins with a letter.\n"),
+            _ => self.say(
+                "Hint: this name has % letters, digits and `_`. A name has at most % of them: \
+                shorten it.\n",
+                &[Part::Number(word.len()), Part::Number(LONGEST_NAME)],
+            ),
+        }
     }
-    match word.first() {
-        Some(b'0'..=b'9') => words.extend_from_slice(
-            b"Hint: a number has only digits, no `_` and no letters, and a name begins with a \
-            letter.\n",
-        ),
-        Some(b'_') => words.extend_from_slice(b"Hint: a name begins with a letter.\n"),
-        _ => put_parts(
-            words,
-            &[
-                Part::Text(b"Hint: this name has "),
-                Part::Number(word.len()),
-                Part::Text(b" letters, digits and `_`. A name has at most "),
-                Part::Number(LONGEST_NAME),
-                Part::Text(b" of them: shorten it.\n"),
-            ],
-        ),
-    }
-}
 
-/// Adds the explanation of a text without tokens.
-pub(crate) fn put_words(
-    alloc: Global,
-    words: &mut Vec<u8>,
-    source: &[u8],
-    error: LexError,
-) -> Result<(), AllocError> {
-    match error {
-        LexError::Memory => Err(AllocError),
-        LexError::TooLong => words.extend_from_slice(
-            b"The text has more than 1048576 bytes. Hint: check that this is the file that you \
-            meant.\n",
-        ),
-        LexError::BadByte(at) => put_byte(alloc, words, source, at),
-        LexError::BadWord(span) => put_word(alloc, words, source, span),
-        LexError::BadNumber(_) => words.extend_from_slice(
-            b"The largest number is 9223372036854775807. Hint: use a smaller one.\n",
-        ),
+    /// Adds the explanation of a text without tokens.
+    pub(crate) fn put_lexical(&mut self, error: LexError) -> Result<(), AllocError> {
+        match error {
+            LexError::Memory => Err(AllocError),
+            LexError::TooLong => self.add(
+                "The text has more than 1048576 bytes. Hint: check that this is the file that you \
+                meant.\n",
+            ),
+            LexError::BadByte(at) => self.put_byte(at),
+            LexError::BadWord(span) => self.put_word(span),
+            LexError::BadNumber(_) => self.add(
+                "The largest number is 9223372036854775807. Hint: use a smaller one.\n",
+            ),
+        }
     }
 }

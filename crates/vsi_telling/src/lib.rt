@@ -24,11 +24,13 @@ mod scoping;
 pub mod stores;
 mod syntactic;
 pub mod tables;
+mod telling;
 mod token_place;
 mod wrapping;
 
-use names::{class_names, put_names_between};
+use names::{Part, class_names};
 use std::alloc::{AllocError, Global};
+use telling::Telling;
 use vsi_caret::{ColourMode, put_place_in, put_safe, put_text};
 use vsi_compiler::CompileError;
 use vsi_diagnostics::Fault;
@@ -62,13 +64,6 @@ pub enum RefusedFile<'a> {
         bytes: &'a [u8],
         fault: &'a Fault,
     },
-}
-
-/// The explanation of a file: a part of it, if one is known, and words.
-#[derive(Drop)]
-pub(crate) struct FileExplanation {
-    pub(crate) place: Option<Span>,
-    pub(crate) words: Vec<u8>,
 }
 
 /// The place of a file as text.
@@ -168,23 +163,6 @@ fn place_of(error: &CompileError) -> Option<Span>
     }
 }
 
-/// Adds the explanation of a refused source text.
-fn put_source(
-    alloc: Global,
-    words: &mut Vec<u8>,
-    lattice: &Lattice,
-    source: &[u8],
-    error: &CompileError,
-) -> Result<(), AllocError> {
-    match error {
-        CompileError::Lex(inner) => lexical::put_words(alloc, words, source, *inner),
-        CompileError::Parse(inner) => syntactic::put_tree(alloc, words, source, inner),
-        CompileError::Scope(inner) => scoping::put_scopes(alloc, words, lattice, source, *inner),
-        CompileError::Flow(_) => words.extend_from_slice(b"A flow breaks the policy.\n"),
-        CompileError::Memory => Err(AllocError),
-    }
-}
-
 /// The place of a refusal after which a text may have constructs of other languages.
 fn misread_at(error: &CompileError) -> Option<usize> {
     match error {
@@ -194,26 +172,46 @@ fn misread_at(error: &CompileError) -> Option<usize> {
     }
 }
 
-/// The explanation of a refused source text.
-fn of_source(
-    alloc: Global,
-    lattice: &Lattice,
-    source: &[u8],
-    error: &CompileError,
-) -> Result<Vec<u8>, AllocError> {
-    let mut words = Vec::new(alloc);
-    put_source(alloc, &mut words, lattice, source, error)?;
-    if hints::file_hint(source).is_some() {
-        return Ok(words);
+impl Telling<'_> {
+    /// Adds the explanation of why a source text is refused.
+    fn put_cause(&mut self, lattice: &Lattice, error: &CompileError) -> Result<(), AllocError> {
+        match error {
+            CompileError::Lex(inner) => self.put_lexical(*inner),
+            CompileError::Parse(inner) => self.put_tree(inner),
+            CompileError::Scope(inner) => self.put_scopes(lattice, *inner),
+            CompileError::Flow(_) => self.add("A flow breaks the policy.\n"),
+            CompileError::Memory => Err(AllocError),
+        }
     }
-    if let Some(at) = misread_at(error) {
-        let classes = class_names(alloc, lattice)?;
-        put_further(alloc, &mut words, source, at, &classes)?;
+
+    /// Adds the explanation of a refused source text.
+    fn put_source(&mut self, lattice: &Lattice, error: &CompileError) -> Result<(), AllocError> {
+        self.put_cause(lattice, error)?;
+        if hints::file_hint(self.bytes).is_some() {
+            return Ok(());
+        }
+        if let Some(at) = misread_at(error) {
+            let classes = class_names(self.alloc, lattice)?;
+            put_further(self.alloc, &mut self.words, self.bytes, at, &classes)?;
+        }
+        if let Some(span) = place_of(error) {
+            self.put_faults(lattice, error, span.start)?;
+        }
+        Ok(())
     }
-    if let Some(span) = place_of(error) {
-        further::put_faults(alloc, &mut words, lattice, source, error, span.start)?;
+
+    /// Adds the explanation of a refused lattice file, image or other file, and answers where it is
+    /// wrong.
+    fn put_file(&mut self, fault: &Fault) -> Result<Option<Span>, AllocError> {
+        match fault {
+            Fault::Lattice(error) => return self.put_lattice(*error),
+            Fault::Store(error) => return self.put_store(&[], error),
+            Fault::Decode(error) => self.put_bytes(*error)?,
+            Fault::Verify(error) => self.put_image(error)?,
+            Fault::View(error) => self.put_view(error)?,
+        }
+        Ok(None)
     }
-    Ok(words)
 }
 
 /// The explanation of a refused source text, as `explanation` writes it.
@@ -231,50 +229,9 @@ pub fn source_explanation(
     ensures place { IfSome (start_of error.now) (λ start.
         IfOk result (λ text. BeginsAt mode path.now source.now start text.items)) }
 {
-    let words = of_source(alloc, lattice, source, error)?;
-    shown(alloc, mode, path, source, place_of(error), &words)
-}
-
-/// Adds the explanation of a refused lattice file, image or other file, and answers where it is
-/// wrong.
-fn put_file(
-    alloc: Global,
-    words: &mut Vec<u8>,
-    path: &[u8],
-    bytes: &[u8],
-    fault: &Fault,
-) -> Result<Option<Span>, AllocError> {
-    match fault {
-        Fault::Lattice(error) => lattices::put_lattice(alloc, words, path, bytes, *error),
-        Fault::Decode(error) => images::put_bytes(words, path, bytes, *error),
-        Fault::Verify(error) => images::put_image(words, error),
-        Fault::Store(error) => stores::put_store(alloc, words, bytes, &[], error),
-        Fault::View(error) => images::put_view(words, error),
-    }
-}
-
-/// The explanation of a refused lattice file, image or other file.
-fn of_file(
-    alloc: Global,
-    path: &[u8],
-    bytes: &[u8],
-    fault: &Fault,
-) -> Result<FileExplanation, AllocError> {
-    let mut words = Vec::new(alloc);
-    let place = put_file(alloc, &mut words, path, bytes, fault)?;
-    Ok(FileExplanation { place, words })
-}
-
-/// The explanation of a refused store file for an image.
-fn of_store(
-    alloc: Global,
-    bytes: &[u8],
-    image: &Image,
-    error: &StoreError,
-) -> Result<FileExplanation, AllocError> {
-    let mut words = Vec::new(alloc);
-    let place = stores::put_store(alloc, &mut words, bytes, &image.globals, error)?;
-    Ok(FileExplanation { place, words })
+    let mut telling = Telling::new(alloc, path, source);
+    telling.put_source(lattice, error)?;
+    shown(alloc, mode, path, source, place_of(error), &telling.words)
 }
 
 /// The explanation that follows a refusal: the place in the file, its line and carets where a place
@@ -300,48 +257,30 @@ pub fn explanation<'a>(
             image,
             error,
         } => {
-            let told = of_store(alloc, bytes, image, error)?;
-            shown(alloc, mode, path, bytes, told.place, &told.words)
+            let mut telling = Telling::new(alloc, path, bytes);
+            let place = telling.put_store(&image.globals, error)?;
+            shown(alloc, mode, path, bytes, place, &telling.words)
         }
         RefusedFile::File { path, bytes, fault } => {
-            let told = of_file(alloc, path, bytes, fault)?;
-            shown(alloc, mode, path, bytes, told.place, &told.words)
+            let mut telling = Telling::new(alloc, path, bytes);
+            let place = telling.put_file(fault)?;
+            shown(alloc, mode, path, bytes, place, &telling.words)
         }
     }
-}
-
-/// The names of classes in a sentence.
-fn classes_told(alloc: Global, classes: &[&[u8]]) -> Result<Vec<u8>, AllocError> {
-    let mut words = Vec::new(alloc);
-    put_names_between(
-        &mut words,
-        b"The classes of the lattice file: ",
-        classes,
-        b".\n",
-    )?;
-    Ok(words)
-}
-
-/// The names of the classes of a lattice in a sentence.
-fn class_words(alloc: Global, lattice: &Lattice) -> Result<Vec<u8>, AllocError> {
-    let classes = class_names(alloc, lattice)?;
-    classes_told(alloc, &classes)
-}
-
-/// Words in lines, as text.
-fn lines_of(alloc: Global, words: &[u8]) -> Result<Vec<u8>, AllocError>
-    ensures { IfOk result (λ text. all_plain text.items ≡ true) }
-{
-    let sentence = wrapping::wrapped(alloc, words)?;
-    let mut text = Vec::new(alloc);
-    put_text(&mut text, &sentence)?;
-    Ok(text)
 }
 
 /// The classes of a lattice in a sentence, for who named one that it lacks.
 pub fn class_list(alloc: Global, lattice: &Lattice) -> Result<Vec<u8>, AllocError>
     ensures plain { IfOk result (λ text. all_plain text.items ≡ true) }
 {
-    let words = class_words(alloc, lattice)?;
-    lines_of(alloc, &words)
+    let classes = class_names(alloc, lattice)?;
+    let mut telling = Telling::new(alloc, b"", b"");
+    telling.say(
+        "The classes of the lattice file: %.\n",
+        &[Part::Names(&classes)],
+    )?;
+    let sentence = wrapping::wrapped(alloc, &telling.words)?;
+    let mut text = Vec::new(alloc);
+    put_text(&mut text, &sentence)?;
+    Ok(text)
 }

@@ -1,4 +1,4 @@
-//! Names in sentences.
+//! Sentences with names.
 
 use std::alloc::{AllocError, Global};
 use vsi_lattice::{Class, Classes, Lattice};
@@ -15,14 +15,11 @@ pub fn put_quoted(words: &mut Vec<u8>, word: &[u8]) -> Result<(), AllocError> {
     words.extend_from_slice(b"`")?;
     let beginning = &word[..word.len().min(LONGEST)];
     words.extend_from_slice(beginning)?;
-    if word.len() > LONGEST {
-        words.extend_from_slice(b"..")?;
-    }
-    words.extend_from_slice(b"`")
+    words.extend_from_slice(if word.len() > LONGEST { b"..`" } else { b"`" })
 }
 
 /// Adds names between back quotes, the first of them where they are many.
-pub fn put_names(words: &mut Vec<u8>, names: &[&[u8]]) -> Result<(), AllocError> {
+fn put_names(words: &mut Vec<u8>, names: &[&[u8]]) -> Result<(), AllocError> {
     for (place, name) in names.iter().enumerate() {
         if place >= MOST {
             return words.extend_from_slice(b" and others");
@@ -35,69 +32,38 @@ pub fn put_names(words: &mut Vec<u8>, names: &[&[u8]]) -> Result<(), AllocError>
     Ok(())
 }
 
-/// Adds a word between back quotes, with the text before it and after it.
-pub fn put_word_between(
-    words: &mut Vec<u8>,
-    before: &[u8],
-    word: &[u8],
-    behind: &[u8],
-) -> Result<(), AllocError> {
-    words.extend_from_slice(before)?;
-    put_quoted(words, word)?;
-    words.extend_from_slice(behind)
-}
-
-/// Adds names between back quotes, with the text before them and after them.
-pub fn put_names_between(
-    words: &mut Vec<u8>,
-    before: &[u8],
-    names: &[&[u8]],
-    behind: &[u8],
-) -> Result<(), AllocError> {
-    words.extend_from_slice(before)?;
-    put_names(words, names)?;
-    words.extend_from_slice(behind)
-}
-
-/// A part of a sentence.
+/// A part of a sentence that isn't fixed.
 #[derive(Clone, Copy)]
 pub enum Part<'a> {
     Text(&'a [u8]),
     /// A word between back quotes.
     Quoted(&'a [u8]),
+    /// Names between back quotes.
+    Names(&'a [&'a [u8]]),
     /// A number in decimal.
     Number(usize),
     /// The line and the column of a place in a text.
     Place(&'a [u8], usize),
     /// A pair of names as a lattice file writes it, the lower one first.
     Pair(&'a [u8], &'a [u8]),
-    /// A pattern with operands in the places of P and Q.
-    Pattern(&'a str, &'a [u8], &'a [u8]),
+    /// A form with operands in the places of P and Q, and a name in that of N.
+    Form(&'a str, &'a [u8], &'a [u8], &'a [u8]),
 }
 
-/// Adds a pair of names as a lattice file writes it.
-fn put_pair(words: &mut Vec<u8>, low: &[u8], high: &[u8]) -> Result<(), AllocError> {
-    words.extend_from_slice(b"[\"")?;
-    words.extend_from_slice(low)?;
-    words.extend_from_slice(b"\", \"")?;
-    words.extend_from_slice(high)?;
-    words.extend_from_slice(b"\"]")
-}
-
-/// Adds a pattern, with texts in the places of P, Q and N.
-pub(crate) fn put_pattern(
+/// Adds a form, with texts in the places of P, Q and N.
+fn put_form(
     words: &mut Vec<u8>,
-    pattern: &str,
+    form: &str,
     left: &[u8],
     right: &[u8],
     name: &[u8],
 ) -> Result<(), AllocError> {
-    for byte in pattern.as_bytes() {
+    for byte in form.as_bytes() {
         match *byte {
             b'P' => words.extend_from_slice(left)?,
             b'Q' => words.extend_from_slice(right)?,
             b'N' => words.extend_from_slice(name)?,
-            other => words.extend_from_slice(&[other])?,
+            other => words.push(other)?,
         }
     }
     Ok(())
@@ -108,14 +74,29 @@ fn put_part(words: &mut Vec<u8>, part: Part<'_>) -> Result<(), AllocError> {
     match part {
         Part::Text(text) => words.extend_from_slice(text),
         Part::Quoted(word) => put_quoted(words, word),
+        Part::Names(names) => put_names(words, names),
         Part::Number(number) => put_number(words, number),
         Part::Place(source, at) => put_place(words, source, at),
-        Part::Pair(low, high) => put_pair(words, low, high),
-        Part::Pattern(pattern, left, right) => put_pattern(words, pattern, left, right, b"N"),
+        Part::Pair(low, high) => put_form(words, "[\"P\", \"Q\"]", low, high, b""),
+        Part::Form(form, left, right, name) => put_form(words, form, left, right, name),
     }
 }
 
-/// Adds a sentence, part by part.
+/// Adds a sentence, with a part in place of each `%`.
+pub fn say(words: &mut Vec<u8>, sentence: &str, parts: &[Part<'_>]) -> Result<(), AllocError> {
+    let mut rest = parts;
+    for byte in sentence.as_bytes() {
+        if *byte != b'%' {
+            words.push(*byte)?;
+        } else if let [part, others @ ..] = rest {
+            put_part(words, *part)?;
+            rest = others;
+        }
+    }
+    Ok(())
+}
+
+/// Adds parts one after the other.
 pub fn put_parts(words: &mut Vec<u8>, parts: &[Part<'_>]) -> Result<(), AllocError> {
     for part in parts {
         put_part(words, *part)?;
@@ -132,16 +113,12 @@ pub fn part_of(text: &[u8], span: Span) -> &[u8] {
 
 /// The tokens of a text that has some.
 pub(crate) fn tokens_in<'a>(alloc: Global, source: &'a [u8]) -> Result<Vec<Token<'a>>, AllocError> {
-    match lex(alloc, source) {
-        Ok(tokens) => Ok(tokens),
-        Err(_) => Err(AllocError),
-    }
+    lex(alloc, source).or(Err(AllocError))
 }
 
 /// A token that declares a name: the one after a word of the kind.
 fn declared_by<'a>(tokens: &[Token<'a>], at: usize, kind: Kind) -> Option<Token<'a>> {
-    let word = tokens.get(at)?;
-    if word.kind != kind {
+    if tokens.get(at)?.kind != kind {
         return None;
     }
     tokens.get(at.saturating_add(1)).copied()
@@ -165,10 +142,9 @@ pub(crate) fn declared<'a>(
 /// The first token after `var`, or after `letvar`, that is this name.
 pub(crate) fn declaration<'a>(tokens: &[Token<'a>], kind: Kind, name: &[u8]) -> Option<Token<'a>> {
     for at in 0..tokens.len() {
-        if let Some(token) = declared_by(tokens, at, kind) {
-            if token.text == name {
-                return Some(token);
-            }
+        match declared_by(tokens, at, kind) {
+            Some(token) if token.text == name => return Some(token),
+            _ => {}
         }
     }
     None
@@ -176,17 +152,8 @@ pub(crate) fn declaration<'a>(tokens: &[Token<'a>], kind: Kind, name: &[u8]) -> 
 
 /// Whether a name is declared anywhere in a text.
 pub(crate) fn is_declared(tokens: &[Token], name: &[u8]) -> bool {
-    let mut is_behind = false;
-    for token in tokens {
-        if is_behind && token.text == name {
-            return true;
-        }
-        is_behind = match token.kind {
-            Kind::Var | Kind::Letvar => true,
-            _ => false,
-        };
-    }
-    false
+    declaration(tokens, Kind::Var, name).is_some()
+        || declaration(tokens, Kind::Letvar, name).is_some()
 }
 
 /// The names of the classes of a lattice, in their order.

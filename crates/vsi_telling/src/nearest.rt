@@ -1,6 +1,6 @@
 //! The word that may have been meant.
 
-use crate::names::put_word_between;
+use crate::names::{Part, say};
 use std::alloc::{AllocError, Global};
 use std::str::from_utf8;
 use strsim::osa_distance;
@@ -15,12 +15,10 @@ pub(crate) const KEYWORDS: [&[u8]; 8] = [
 
 /// How many letters at most differ where two words of this length are near.
 fn limit(length: usize) -> usize {
-    if length >= 5 {
-        2
-    } else if length >= 2 {
-        1
-    } else {
-        0
+    match length {
+        0..=1 => 0,
+        2..=4 => 1,
+        _ => 2,
     }
 }
 
@@ -33,21 +31,15 @@ fn distance(alloc: Global, written: &[u8], meant: &[u8]) -> Result<Option<usize>
     if written.eq_ignore_ascii_case(meant) {
         return Ok(Some(0));
     }
-    let Ok(written_text) = from_utf8(written) else {
+    let (Ok(written), Ok(meant)) = (from_utf8(written), from_utf8(meant)) else {
         return Ok(None);
     };
-    let Ok(meant_text) = from_utf8(meant) else {
-        return Ok(None);
-    };
-    let far = osa_distance(alloc, written_text, meant_text)?;
-    if far > limit(written.len().min(meant.len())) {
-        return Ok(None);
-    }
-    Ok(Some(far))
+    let far = osa_distance(alloc, written, meant)?;
+    Ok((far <= limit(written.len().min(meant.len()))).then_some(far))
 }
 
 /// The nearest of the words, of those as near the first.
-pub(crate) fn nearest<'w>(
+fn nearest<'w>(
     alloc: Global,
     written: &[u8],
     words: &[&'w [u8]],
@@ -67,7 +59,7 @@ pub(crate) fn nearest<'w>(
 }
 
 /// Adds which of the words was perhaps meant, and returns whether one was.
-pub fn put_nearest(
+pub(crate) fn put_nearest(
     alloc: Global,
     words: &mut Vec<u8>,
     written: &[u8],
@@ -76,8 +68,8 @@ pub fn put_nearest(
     let Some(meant) = nearest(alloc, written, choices)? else {
         return Ok(false);
     };
-    put_word_between(words, b"Hint: perhaps ", meant, b" was meant in place of ")?;
-    put_word_between(words, b"", written, b".\n")?;
+    let parts = [Part::Quoted(meant), Part::Quoted(written)];
+    say(words, "Hint: perhaps % was meant in place of %.\n", &parts)?;
     Ok(true)
 }
 

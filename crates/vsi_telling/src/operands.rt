@@ -1,6 +1,7 @@
 //! Signs and words of other languages between operands, and how they are written here.
 
-use crate::names::{Part, part_of, put_parts, put_pattern, put_word_between};
+use crate::names::{Part, part_of};
+use crate::telling::Telling;
 use std::alloc::AllocError;
 use vsi_syntax::Span;
 
@@ -254,40 +255,6 @@ fn foreign_at<'a>(source: &'a [u8], sign: &[u8], at: usize) -> Option<Foreign<'a
     })
 }
 
-/// Adds how a sign or a word of other languages is written here, and returns whether it is one.
-pub(crate) fn put_operator(
-    words: &mut Vec<u8>,
-    source: &[u8],
-    sign: &[u8],
-    at: usize,
-) -> Result<bool, AllocError> {
-    let Some(foreign) = foreign_at(source, sign, at) else {
-        return Ok(false);
-    };
-    put_foreign_form(words, sign, &foreign)?;
-    Ok(true)
-}
-
-/// Adds how a sign or a word of other languages is written here.
-fn put_foreign_form(
-    words: &mut Vec<u8>,
-    sign: &[u8],
-    foreign: &Foreign<'_>,
-) -> Result<(), AllocError> {
-    put_word_between(words, b"Hint: there is no ", sign, b". `")?;
-    put_parts(
-        words,
-        &[
-            Part::Pattern(foreign.meant, foreign.left, foreign.right),
-            Part::Text(b"` is written `"),
-            Part::Pattern(foreign.written, foreign.left, foreign.right),
-            Part::Text(b"`"),
-            Part::Text(foreign.rest.as_bytes()),
-            Part::Text(b".\n"),
-        ],
-    )
-}
-
 /// Whether an operand is one name or number.
 fn is_word(part: &[u8]) -> bool {
     word_at(part, 0).len() == part.len()
@@ -320,14 +287,29 @@ fn division_parts(source: &[u8], at: usize) -> (&[u8], &[u8], &[u8]) {
     }
 }
 
-/// Adds the loop that divides.
-pub(crate) fn put_division(
-    words: &mut Vec<u8>,
-    source: &[u8],
-    at: usize,
-    is_remainder: bool,
-) -> Result<(), AllocError> {
-    let (left, right, name) = division_parts(source, at);
-    let pattern = if is_remainder { REMAINDER } else { DIVISION };
-    put_pattern(words, pattern, left, right, name)
+impl Telling<'_> {
+    /// Adds how a sign or a word of other languages is written here, and returns whether it is one.
+    pub(crate) fn put_operator(&mut self, sign: &[u8], at: usize) -> Result<bool, AllocError> {
+        let source = self.bytes;
+        let Some(foreign) = foreign_at(source, sign, at) else {
+            return Ok(false);
+        };
+        self.say(
+            "Hint: there is no %. `%` is written `%`%.\n",
+            &[
+                Part::Quoted(sign),
+                Part::Form(foreign.meant, foreign.left, foreign.right, b"N"),
+                Part::Form(foreign.written, foreign.left, foreign.right, b"N"),
+                Part::Text(foreign.rest.as_bytes()),
+            ],
+        )?;
+        Ok(true)
+    }
+
+    /// Adds the loop that divides.
+    pub(crate) fn put_division(&mut self, at: usize, is_remainder: bool) -> Result<(), AllocError> {
+        let (left, right, name) = division_parts(self.bytes, at);
+        let form = if is_remainder { REMAINDER } else { DIVISION };
+        self.say("%", &[Part::Form(form, left, right, name)])
+    }
 }

@@ -1,15 +1,15 @@
 //! The explanation of a refused store file.
 
 use crate::finding::key_place;
-use crate::names::{Part, put_names_between, put_parts, put_word_between};
-use crate::nearest::put_nearest_or;
+use crate::names::{Part, say};
+use crate::telling::Telling;
 use std::alloc::{AllocError, Global};
 use vsi_store::StoreError;
 use vsi_syntax::Span;
 
 /// An example of a store file.
-const SHAPE: &[u8] =
-    b"A store file has a line for each global that doesn't begin as 0:\n  x = 1\n  y = -5\n";
+const SHAPE: &str =
+    "A store file has a line for each global that doesn't begin as 0:\n  x = 1\n  y = -5\n";
 
 /// The names of globals, in their order.
 pub fn names_of<'g>(
@@ -25,99 +25,67 @@ pub fn names_of<'g>(
 
 /// Adds that an image with these globals has no such one.
 pub fn put_no_global(words: &mut Vec<u8>, name: &[u8], names: &[&[u8]]) -> Result<(), AllocError> {
-    put_word_between(words, b"The image has no global ", name, b".")?;
+    say(words, "The image has no global %.", &[Part::Quoted(name)])?;
     if names.is_empty() {
         return words.extend_from_slice(b"\n");
     }
-    put_names_between(words, b" Its globals are ", names, b".\n")
-}
-
-/// Adds the explanation of a key that isn't one of the names.
-fn put_other_key(
-    alloc: Global,
-    words: &mut Vec<u8>,
-    names: &[&[u8]],
-    key: &[u8],
-) -> Result<(), AllocError> {
-    put_no_global(words, key, names)?;
-    put_nearest_or(alloc, words, key, names, b"Hint: remove the line.\n")
-}
-
-/// Adds the explanation of a key that is no global.
-fn put_unknown(
-    alloc: Global,
-    words: &mut Vec<u8>,
-    globals: &[(Vec<u8>, Vec<u8>)],
-    key: &[u8],
-) -> Result<(), AllocError> {
-    let names = names_of(alloc, globals)?;
-    put_other_key(alloc, words, &names, key)
+    say(words, " Its globals are %.\n", &[Part::Names(names)])
 }
 
 /// The hint for another sort of file in the place of a store file.
-fn file_hint(bytes: &[u8]) -> &'static [u8] {
+fn file_hint(bytes: &[u8]) -> &'static str {
     if bytes.starts_with(b"VSI") {
-        b"Hint: this is an image. Give a store file with --store.\n"
+        "Hint: this is an image. Give a store file with --store.\n"
     } else if bytes.trim_ascii_start().starts_with(b"var") {
-        b"Hint: this looks like a source text, not a store file.\n"
+        "Hint: this looks like a source text, not a store file.\n"
     } else {
-        b""
+        ""
     }
 }
 
-/// Adds the explanation if the file is no TOML.
-fn put_not_toml(words: &mut Vec<u8>, bytes: &[u8]) -> Result<(), AllocError> {
-    put_parts(
-        words,
-        &[
-            Part::Text(
-                b"The file isn't a TOML document, a key is in it twice, or a number doesn't fit 64 \
-                bits.\n",
-            ),
-            Part::Text(file_hint(bytes)),
-            Part::Text(SHAPE),
-        ],
-    )
-}
+impl Telling<'_> {
+    /// Adds the explanation of a key that is no global.
+    fn put_unknown(
+        &mut self,
+        globals: &[(Vec<u8>, Vec<u8>)],
+        key: &[u8],
+    ) -> Result<(), AllocError> {
+        let names = names_of(self.alloc, globals)?;
+        put_no_global(&mut self.words, key, &names)?;
+        self.nearest_or(key, &names, "Hint: remove the line.\n")
+    }
 
-/// Adds the explanation of a value that is no number.
-fn put_no_number(words: &mut Vec<u8>, key: &[u8]) -> Result<(), AllocError> {
-    put_parts(
-        words,
-        &[
-            Part::Text(b"The value of "),
-            Part::Quoted(key),
-            Part::Text(
-                b" isn't a whole number. Hint: write it without quotes and without a decimal \
-                point, as in 4 or -4.\n",
-            ),
-            Part::Text(SHAPE),
-        ],
-    )
-}
-
-/// Adds the explanation of a refused store file for an image with these globals, and answers where
-/// it is wrong.
-pub(crate) fn put_store(
-    alloc: Global,
-    words: &mut Vec<u8>,
-    bytes: &[u8],
-    globals: &[(Vec<u8>, Vec<u8>)],
-    error: &StoreError,
-) -> Result<Option<Span>, AllocError> {
-    match error {
-        StoreError::Memory => Err(AllocError),
-        StoreError::NotToml => {
-            put_not_toml(words, bytes)?;
-            Ok(None)
-        }
-        StoreError::NotANumber(key) => {
-            put_no_number(words, key)?;
-            Ok(key_place(bytes, key))
-        }
-        StoreError::UnknownGlobal(key) => {
-            put_unknown(alloc, words, globals, key)?;
-            Ok(key_place(bytes, key))
+    /// Adds the explanation of a refused store file for an image with these globals, and answers
+    /// where it is wrong.
+    pub(crate) fn put_store(
+        &mut self,
+        globals: &[(Vec<u8>, Vec<u8>)],
+        error: &StoreError,
+    ) -> Result<Option<Span>, AllocError> {
+        match error {
+            StoreError::Memory => Err(AllocError),
+            StoreError::NotToml => {
+                self.add(
+                    "The file isn't a TOML document, a key is in it twice, or a number doesn't fit \
+                    64 bits.\n",
+                )?;
+                self.add(file_hint(self.bytes))?;
+                self.add(SHAPE)?;
+                Ok(None)
+            }
+            StoreError::NotANumber(key) => {
+                self.say(
+                    "The value of % isn't a whole number. Hint: write it without quotes and \
+                    without a decimal point, as in 4 or -4.\n",
+                    &[Part::Quoted(key)],
+                )?;
+                self.add(SHAPE)?;
+                Ok(key_place(self.bytes, key))
+            }
+            StoreError::UnknownGlobal(key) => {
+                self.put_unknown(globals, key)?;
+                Ok(key_place(self.bytes, key))
+            }
         }
     }
 }

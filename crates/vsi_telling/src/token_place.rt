@@ -36,6 +36,11 @@ impl<'a, 't> TokenPlace<'a, 't> {
         }
     }
 
+    /// The tokens in front of the place.
+    pub(crate) fn tokens_before(&self) -> &'t [Token<'a>] {
+        &self.tokens[..self.at.min(self.tokens.len())]
+    }
+
     /// The token so many in front of it.
     pub(crate) fn before(&self, count: usize) -> Option<Token<'a>> {
         let at = self.at.checked_sub(count)?;
@@ -60,10 +65,10 @@ impl<'a, 't> TokenPlace<'a, 't> {
 
     /// Whether an operand, or a command, may end with the token in front.
     pub(crate) fn is_behind_operand(&self) -> bool {
-        match self.kind_before(1) {
-            Some(Kind::Name | Kind::Number(_) | Kind::Close | Kind::CloseBrace) => true,
-            _ => false,
-        }
+        matches!(
+            self.kind_before(1),
+            Some(Kind::Name | Kind::Number(_) | Kind::Close | Kind::CloseBrace)
+        )
     }
 
     /// Whether a command begins with the token in front, which is a name.
@@ -113,11 +118,7 @@ impl<'a, 't> TokenPlace<'a, 't> {
     pub(crate) fn name_behind(&self, token: Token<'a>) -> Option<&'a [u8]> {
         for other in self.tokens {
             if other.span.start > token.span.start {
-                return if other.kind == Kind::Name {
-                    Some(other.text)
-                } else {
-                    None
-                };
+                return (other.kind == Kind::Name).then_some(other.text);
             }
         }
         None

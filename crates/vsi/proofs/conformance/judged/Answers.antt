@@ -2,12 +2,14 @@ use Rattle.std.proofs.Common.{◌≡◌, ◌++◌, inl, inr, sym, subst}
 use Rattle.vsi.specs.Filed.{Follows}
 use Rattle.vsi.specs.Holding.{IsReadAt}
 use Rattle.vsi.specs.Performed.{IsConformity, TellsBytes, judged_files}
+use Rattle.vsi.specs.Reached.{IsReachedAs}
 use Rattle.vsi.specs.Supplied.{begins_image}
 use Rattle.vsi.specs.Refusals.{NoOther, FailsBy}
 use Rattle.vsi.specs.Reasons.{RefusesBytes, RefusesConform}
 use Rattle.vsi.specs.Undriven.{IsUnusable, RefusesAsked}
 use Rattle.vsi.proofs.Conforming.{policy_at, policy_bytes_at}
 use Rattle.vsi.proofs.Reasons.{FailsBy-weaker, handed, late_fails, fails_by}
+use Rattle.vsi.proofs.Unrun.{unusable_fails}
 use Rattle.vsi.proofs.conformance.judged.Goals as goal
 
 pub returns-clause-told : goal.returns-clause-told
@@ -33,11 +35,24 @@ returns-clause-told g c =
         read = subst (λ h. IsReadAt h request.source.now source) c.in_ok-read.ensures.kept c.in_ok-bytes.ensures.read;
       };
       within = c.in_ok-read.ensures.within;
-      answer = c.in_ok-conforms.answer.items;
+      fits = c.in_ok-fits.fits;
+      points = c.in_ok-fits.points.items;
       tells = subst
-          (λ b. TellsBytes (begins_image b) request.form request.source.now c.in_ok-conforms.conforms known.lattice b
-          known.found.interface c.in_ok-conforms.answer.items)
-          c.deref.ensures.value c.in_ok-conforms.ensures.told;
+          (λ b. TellsBytes (begins_image b) request.form request.source.now c.in_ok-fits.fits known.lattice b
+          known.found.interface c.in_ok-fits.points.items)
+          c.deref.ensures.value c.in_ok-fits.ensures.told;
+      holds = c.in_ok-holds.holds;
+      answer = c.in_ok-holds.answer.items;
+      reached = subst
+          (λ b. IsReachedAs request.form (begins_image b) known.lattice b known.found c.in_ok-fits.fits
+          c.in_ok-fits.points.items c.in_ok-holds.holds c.in_ok-holds.answer.items)
+          c.deref-2.ensures.value
+          (subst
+          (λ p. IsReachedAs request.form (begins_image c.deref-2.result.now) known.lattice c.deref-2.result.now known.found
+          c.in_ok-fits.fits p c.in_ok-holds.holds c.in_ok-holds.answer.items)
+          c.deref-3.ensures.value c.in_ok-holds.ensures);
+      told = c.in_ok-conforms.told.items;
+      tried = c.in_ok-conforms.ensures.tried;
       followed = record {
         evidence = c.in_ok-lines.lines.items;
         follows = subst
@@ -50,17 +65,24 @@ returns-clause-told g c =
             (λ b. Follows request.has_evidence c.in_ok-conforms.conforms
             (IsConformity known.found known.lattice b
             (judged_files request known.found known.bytes.items known.policy.items b)) c.in_ok-lines.lines.items)
-            c.deref-2.ensures.value c.in_ok-lines.ensures);
-        is = subst (λ b. text ≡ c.in_ok-conforms.answer.items ++ b) c.deref-3.ensures.value c.in_ok-text.ensures;
+            c.deref-5.ensures.value c.in_ok-lines.ensures);
+        is = subst (λ b. text ≡ c.in_ok-conforms.told.items ++ b) c.deref-6.ensures.value c.in_ok-text.ensures;
       };
     }
 
 pub returns-in_err-conforms-clause-failed : goal.returns-in_err-conforms-clause-failed
 returns-in_err-conforms-clause-failed g c =
-    let holds = g.F.Files.holds c.args.files.now in
-    let why = RefusesConform holds c.args.asked in
+    let why = RefusesConform (g.F.Files.holds c.args.files.now) c.args.asked in
     handed (FailsBy why IsUnusable) c.in_err-conforms.field-0.0 c.from_residual-in_err-conforms.result
     c.from_residual-in_err-conforms.ensures.1
+    (unusable_fails why IsUnusable (λ failure is. is) c.in_err-conforms.field-0.0 c.in_err-conforms.ensures.failed)
+
+pub returns-in_err-fits-clause-failed : goal.returns-in_err-fits-clause-failed
+returns-in_err-fits-clause-failed g c =
+    let holds = g.F.Files.holds c.args.files.now in
+    let why = RefusesConform holds c.args.asked in
+    handed (FailsBy why IsUnusable) c.in_err-fits.field-0.0 c.from_residual-in_err-fits.result
+    c.from_residual-in_err-fits.ensures.1
     (fails_by (RefusesBytes c.deref.result.now) why IsUnusable
     (λ reason is. inr (record {
       bytes = c.deref.result.now;
@@ -69,7 +91,7 @@ returns-in_err-conforms-clause-failed g c =
           (sym c.deref.ensures.value) c.in_ok-bytes.ensures.read);
       is = is;
     }))
-    c.in_err-conforms.field-0.0 c.in_err-conforms.ensures.failed)
+    c.in_err-fits.field-0.0 c.in_err-fits.ensures.failed)
 
 pub returns-in_err-read-clause-failed : goal.returns-in_err-read-clause-failed
 returns-in_err-read-clause-failed g c =

@@ -8,13 +8,12 @@ use Rattle.vsi.specs.Driven.{DrivesInput}
 use Rattle.vsi.specs.Holding.{Delivers}
 use Rattle.vsi.specs.State.{Touches, state_text}
 use Rattle.vsi.specs.Partly.{AnswersDrive, DrivenText, Partly}
-use Rattle.vsi.specs.Files.{IsFullAt, IsStoredAt}
 use Rattle.vsi.specs.Saved.{CutsInput}
 use Rattle.vsi.specs.Boundaries.{boundary_for}
 use Rattle.vsi.specs.Undriven.{LacksDrive, WhyDrive}
 use Rattle.vsi.proofs.Driven.{written_back}
 use Rattle.vsi.proofs.Cut.{Touches-trans, cut_on, cut_partly}
-use Rattle.vsi.proofs.Kept.{delivered_after, driven_state, early_state, first_state}
+use Rattle.vsi.proofs.Kept.{delivered_after, driven_state, early_state, first_state, words_begun}
 use Rattle.vsi.proofs.Leaving.{driven_answers}
 use Rattle.vsi.proofs.Partly.{any_failure, kept_leaves, late_handed, late_leaves, on_ok_of}
 use Rattle.vsi.proofs.Reasons.{handed, late_failed}
@@ -31,7 +30,6 @@ returns-clause-performed g c =
     let given = g.R.Read.remaining (device_of c.args.input.now) in
     let old = g.W.Write.contents (device_of c.args.output.now) in
     let new = g.W.Write.contents (device_of c.drive_input.new.output) in
-    let asked = c.args.driving.execution in
     on_ok_weaker c.save-2.result
     (λ saved. record {
       lattice = c.in_ok-steering.steering.lattice;
@@ -41,8 +39,8 @@ returns-clause-performed g c =
       steered = c.in_ok-steering.ensures.steered;
       held = c.in_ok-steering.ensures.held;
       first = c.in_ok-words.words.items;
-      stored = subst (λ h. IsStoredAt h asked.store image c.in_ok-words.words.items)
-          c.in_ok-steering.ensures.kept c.in_ok-words.ensures.stored;
+      begun = words_begun _ _ c.args.driving image c.in_ok-words.words.items _ c.first_path-path.ensures
+          c.in_ok-steering.ensures.kept c.in_ok-words.ensures.stored c.in_ok-words.ensures.full;
       words = c.deref.result.now;
       budget = c.in_ok-budget.budget;
       within = c.in_ok-budget.ensures.budget;
@@ -59,8 +57,6 @@ returns-clause-performed g c =
             c.drive_input.auto.store,
             c.deref_mut.ensures.len,
           )))) c.in_ok-drive_input.ensures.driven));
-      full = subst (λ h. IsFullAt h asked.store image c.args.driving.is_full)
-          c.in_ok-steering.ensures.kept c.in_ok-words.ensures.full;
       saved = delivered_after c.args.driving.save (state_text image c.deref.result.now)
           (g.F.Files.holds c.args.files.now) (g.F.Files.holds c.drive_input.new.files) left
           (Touches-trans c.args.driving.save (g.F.Files.holds c.args.files.now) (g.F.Files.holds c.save.new.files)
@@ -79,11 +75,12 @@ returns-in_err-steering-clause-failed g c =
 pub returns-in_err-words-clause-failed : goal.returns-in_err-words-clause-failed
 returns-in_err-words-clause-failed g c =
     let holds = g.F.Files.holds c.args.files.now in
-    first_failed holds _ c.args.driving.execution.image.now c.args.driving.execution.store c.args.driving.is_full
+    first_failed holds _ c.args.driving.execution.image.now c.first_path-path.result c.args.driving.is_full
     (WhyDrive holds c.args.driving) (LacksDrive holds c.args.driving)
     c.in_ok-steering.steering.verified c.from_residual-in_err-words.result
     c.in_err-words.field-0.0 c.in_ok-steering.ensures.held c.in_ok-steering.ensures.kept
-    (λ reason is. inr (inr (inl is))) c.from_residual-in_err-words.ensures.1 c.in_err-words.ensures.failed
+    (λ reason is. inr (inr (inl (c.first_path-path.result, c.first_path-path.ensures, is))))
+    c.from_residual-in_err-words.ensures.1 c.in_err-words.ensures.failed
 
 pub returns-in_err-budget-clause-failed : goal.returns-in_err-budget-clause-failed
 returns-in_err-budget-clause-failed g c =
@@ -157,7 +154,6 @@ returns-in_err-drive_input-clause-left g c =
     let old = g.W.Write.contents (device_of c.args.output.now) in
     let new = g.W.Write.contents (device_of c.drive_input.new.output) in
     let drives = control c.in_ok-controller.controller in
-    let asked = c.args.driving.execution in
     let words = c.in_ok-words.words.items in
     let image = c.in_ok-steering.steering.verified in
     late_handed (AnswersDrive holds c.args.driving given) old new c.from_residual-in_err-drive_input.result
@@ -167,11 +163,10 @@ returns-in_err-drive_input-clause-left g c =
     c.in_ok-steering.steering.driver image (boundary_for c.args.driving.policy c.in_ok-steering.steering.cycle) words
     c.in_ok-budget.budget drives c.in_ok-budget.ensures.budget c.in_ok-steering.ensures.steered
     c.in_ok-steering.ensures.held
-    (subst (λ h. IsStoredAt h asked.store image words) c.in_ok-steering.ensures.kept c.in_ok-words.ensures.stored)
+    (words_begun _ _ c.args.driving image words _ c.first_path-path.ensures c.in_ok-steering.ensures.kept
+    c.in_ok-words.ensures.stored c.in_ok-words.ensures.full)
     c.in_ok-controller.ensures.control
     c.in_ok-admit.ensures.admitted c.in_ok-controller.ensures.sound
-    (subst (λ h. IsFullAt h c.args.driving.execution.store image c.args.driving.is_full)
-    c.in_ok-steering.ensures.kept c.in_ok-words.ensures.full)
     (subst (λ m. Partly (DrivenText drives m given) old new) c.deref_mut.ensures.value
     (cut_partly _ _ drives _ _ given old new _ _ c.in_err-drive_input.ensures.cut)))
 
@@ -182,7 +177,6 @@ returns-clause-left g c =
     let old = g.W.Write.contents (device_of c.args.output.now) in
     let new = g.W.Write.contents (device_of c.drive_input.new.output) in
     let drives = control c.in_ok-controller.controller in
-    let asked = c.args.driving.execution in
     let words = c.in_ok-words.words.items in
     let image = c.in_ok-steering.steering.verified in
     late_leaves (AnswersDrive holds c.args.driving given) old new c.save-2.result c.save-2.ensures.failure
@@ -190,11 +184,10 @@ returns-clause-left g c =
     c.in_ok-steering.steering.driver image (boundary_for c.args.driving.policy c.in_ok-steering.steering.cycle) words
     c.in_ok-budget.budget drives c.in_ok-budget.ensures.budget c.in_ok-steering.ensures.steered
     c.in_ok-steering.ensures.held
-    (subst (λ h. IsStoredAt h asked.store image words) c.in_ok-steering.ensures.kept c.in_ok-words.ensures.stored)
+    (words_begun _ _ c.args.driving image words _ c.first_path-path.ensures c.in_ok-steering.ensures.kept
+    c.in_ok-words.ensures.stored c.in_ok-words.ensures.full)
     c.in_ok-controller.ensures.control
     c.in_ok-admit.ensures.admitted c.in_ok-controller.ensures.sound
-    (subst (λ h. IsFullAt h c.args.driving.execution.store image c.args.driving.is_full)
-    c.in_ok-steering.ensures.kept c.in_ok-words.ensures.full)
     (subst (λ m. Partly (DrivenText drives m given) old new) c.deref_mut.ensures.value
     (cut_partly _ _ drives _ _ given old new _ _ c.in_ok-drive_input.ensures.cut)))
 
@@ -254,12 +247,10 @@ returns-in_err-drive_input-clause-state g c =
     (boundary_for c.args.driving.policy c.in_ok-steering.steering.cycle) words c.in_ok-budget.budget
     c.saturating_sub.result drives
     c.in_ok-budget.ensures.budget c.in_ok-steering.ensures.steered c.in_ok-steering.ensures.held
-    (subst (λ h. IsStoredAt h c.args.driving.execution.store image words) c.in_ok-steering.ensures.kept
-    c.in_ok-words.ensures.stored)
+    (words_begun _ _ c.args.driving image words _ c.first_path-path.ensures c.in_ok-steering.ensures.kept
+    c.in_ok-words.ensures.stored c.in_ok-words.ensures.full)
     c.in_ok-controller.ensures.control
     c.in_ok-admit.ensures.admitted c.in_ok-controller.ensures.sound
-    (subst (λ h. IsFullAt h c.args.driving.execution.store image c.args.driving.is_full)
-    c.in_ok-steering.ensures.kept c.in_ok-words.ensures.full)
     (c.in_ok-words.ensures.kept ∙ c.in_ok-steering.ensures.kept)
     c.in_ok-save.ensures.touched
     (subst (λ m. Delivers c.args.driving.save (state_text image m) (holds c.first_store.new.files)
@@ -285,12 +276,10 @@ returns-clause-state g c =
     (boundary_for c.args.driving.policy c.in_ok-steering.steering.cycle) words c.in_ok-budget.budget
     c.saturating_sub.result drives
     c.in_ok-budget.ensures.budget c.in_ok-steering.ensures.steered c.in_ok-steering.ensures.held
-    (subst (λ h. IsStoredAt h c.args.driving.execution.store image words) c.in_ok-steering.ensures.kept
-    c.in_ok-words.ensures.stored)
+    (words_begun _ _ c.args.driving image words _ c.first_path-path.ensures c.in_ok-steering.ensures.kept
+    c.in_ok-words.ensures.stored c.in_ok-words.ensures.full)
     c.in_ok-controller.ensures.control
     c.in_ok-admit.ensures.admitted c.in_ok-controller.ensures.sound
-    (subst (λ h. IsFullAt h c.args.driving.execution.store image c.args.driving.is_full)
-    c.in_ok-steering.ensures.kept c.in_ok-words.ensures.full)
     (c.in_ok-words.ensures.kept ∙ c.in_ok-steering.ensures.kept)
     c.in_ok-save.ensures.touched
     (subst (λ m. Delivers c.args.driving.save (state_text image m) (holds c.first_store.new.files)

@@ -21,6 +21,7 @@ returns-clause-governed g c = record {
   named = c.in_ok-driver.ensures.named;
   is = c.in_ok-driver.ensures.within;
   conforms = c.in_ok-know_image.ensures.conforms;
+  allows = c.in_ok-know_image.ensures.allows;
   bounded = c.in_ok-cycle.ensures.bounded;
   insists = c.in_ok-insist.ensures.insists;
 }
@@ -102,7 +103,7 @@ returns-in_err-know_image-clause-failed g c =
     handed (FailsBy why lacks) c.in_err-know_image.field-0.0 c.from_residual-in_err-know_image.result
     c.from_residual-in_err-know_image.ensures.1
     (FailsBy-weaker (λ reason. ⊥) why
-    (SaysDiffering c.in_ok-asked.lattice c.in_ok-verified.verified c.in_ok-asked.asked.interface) lacks
+    (SaysDiffering c.in_ok-asked.lattice c.in_ok-verified.verified c.in_ok-asked.asked) lacks
     (λ reason none. absurd none)
     (λ failure is. inr (inr (inl (record {
       asked = c.in_ok-asked.asked;

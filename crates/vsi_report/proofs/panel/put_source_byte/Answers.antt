@@ -5,8 +5,8 @@ use Rattle.vsi_report.specs.Panel.{next_tag}
 use Rattle.vsi_report.proofs.EscapeLemmas.{byte_shows, next_shows, both_show, more_shows}
 use Rattle.vsi_report.proofs.panel.put_source_byte.Goals as goal
 
-pub returns-in_ok-put_next-clause-shows : goal.returns-in_ok-put_next-clause-shows
-returns-in_ok-put_next-clause-shows c t h =
+pub returns-in_ok-put_next : goal.returns-in_ok-put_next
+returns-in_ok-put_next c t h =
     let p = c.args.page.now.items in
     let b = c.args.byte in
     let n = c.args.next in

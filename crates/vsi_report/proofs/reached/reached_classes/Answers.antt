@@ -2,7 +2,7 @@ use Rattle.std.proofs.Common.{◌≡◌, ◌<◌, ◌≤◌, arith}
 use Rattle.vsi_lattice.specs.LatticeView.{order}
 use Rattle.vsi_types.specs.Security.{program}
 use Rattle.vsi_infer.specs.Flowing.{size_of}
-use Rattle.vsi_report.proofs.LabelLemmas.{reached_start, reached_more, reached_all}
+use Rattle.vsi_report.proofs.ReachedLemmas.{reached_start, reached_more, reached_all}
 use Rattle.vsi_report.proofs.reached.reached_classes.Goals as goal
 
 pub loop-variable-init : goal.loop-variable-init

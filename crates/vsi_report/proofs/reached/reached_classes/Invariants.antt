@@ -1,6 +1,6 @@
 use Rattle.vsi_lattice.specs.LatticeView.{order}
 use Rattle.vsi_types.specs.Security.{program}
-use Rattle.vsi_report.proofs.LabelLemmas.{AreReachedBefore}
+use Rattle.vsi_report.proofs.ReachedLemmas.{AreReachedBefore}
 use Rattle.vsi_report.proofs.reached.reached_classes.Given as goal
 
 -- The list has the classes of the letvars so far.

@@ -1,20 +1,13 @@
-use Rattle.std.proofs.Common.{[], subst, sym}
+use Rattle.std.proofs.Common.{subst, sym}
 use Rattle.std.specs.Prelude.{IfOk}
 use Rattle.vsi_lattice.specs.LatticeView.{class_named, order}
 use Rattle.vsi_compiler.specs.Refusal.{HasShortestBadWalk}
 use Rattle.vsi_compiler.specs.SourceView.{IsSource, source_of}
 use Rattle.vsi_compiler.proofs.Held.{of_parts, globals_at, declared_at}
 use Rattle.vsi_types.specs.Security.{program}
-use Rattle.vsi_report.specs.declared.verdict.Verdict.TheVariants.{Refused}
-use Rattle.vsi_report.specs.Graph.{texts}
-use Rattle.vsi_report.specs.LabelledPage.{HasTrueLabels}
-use Rattle.vsi_report.specs.Labels.{AreLabels}
 use Rattle.vsi_report.specs.Page.{HasPanel}
-use Rattle.vsi_report.specs.Size.{IsShort}
 use Rattle.vsi_report.specs.Verdict.{HasVerdict}
 use Rattle.vsi_report.proofs.BannerLemmas.{refused_shown}
-use Rattle.vsi_report.proofs.LabelledLemmas.{labels_shown}
-use Rattle.vsi_report.proofs.SizeLemmas.{short_with}
 use Rattle.vsi_report.proofs.report.refused_page.Goals as goal
 
 pub reached_classes-requires-clause-globals : goal.reached_classes-requires-clause-globals
@@ -56,48 +49,5 @@ returns-clause-verdict c = λ given.
     given) in
     subst (λ x. IfOk res (λ page. HasVerdict x P s.text page.items)) c.lattice-lattice.ensures
     (subst (λ x. IfOk res (λ page. HasVerdict l P x page.items)) c.text-source.ensures
-    (refused_shown l P t p w c.in_ok-facts.facts.pairs.items res is.stands c.in_ok-facts.ensures.table walk
+    (refused_shown l P t p w c.in_ok-facts.facts.pairs.items res is.stands c.in_ok-facts.ensures walk
     c.page_with_walk.ensures.led))
-
-pub returns-clause-bounded : goal.returns-clause-bounded
-returns-clause-bounded c =
-    let s = c.args.read.now in
-    let P = c.args.profile in
-    let l = c.lattice-lattice.result.now in
-    let t = c.text-source.result.now in
-    let p = c.resolved-program.result.now in
-    let res = c.page_with_walk.result in
-    let is : IsSource (source_of l t p) =
-    of_parts s c.resolved-program.ensures.kept l t p c.lattice-lattice.ensures c.text-source.ensures
-    c.resolved-program.ensures.value in
-    subst (λ x. IfOk res (λ page. IsShort x P s.text [] page.items)) c.lattice-lattice.ensures
-    (subst (λ x. IfOk res (λ page. IsShort l P x [] page.items)) c.text-source.ensures
-    (short_with l P t c.in_ok-facts.facts.pairs.items [] res
-    (record { resolved = p; stands = is.stands; table = c.in_ok-facts.ensures.table })
-    c.page_with_walk.ensures.short))
-
-pub returns-clause-labels : goal.returns-clause-labels
-returns-clause-labels c = λ given.
-    let s = c.args.read.now in
-    let P = c.args.profile in
-    let w = c.args.walk.now in
-    let l = c.lattice-lattice.result.now in
-    let t = c.text-source.result.now in
-    let p = c.resolved-program.result.now in
-    let res = c.page_with_walk.result in
-    let ns = texts c.in_ok-order.order.names.items in
-    let labels = texts c.in_ok-facts.facts.labels.items in
-    let is : IsSource (source_of l t p) =
-    of_parts s c.resolved-program.ensures.kept l t p c.lattice-lattice.ensures c.text-source.ensures
-    c.resolved-program.ensures.value in
-    let walk : HasShortestBadWalk (class_named l) (order l) P t w =
-    subst (λ x. HasShortestBadWalk (class_named x) (order x) P t w) (sym c.lattice-lattice.ensures)
-    (subst (λ x. HasShortestBadWalk (class_named s.lattice) (order s.lattice) P x w) (sym c.text-source.ensures)
-    given) in
-    let are : AreLabels ns (order l) (program p) c.in_ok-chosen.chosen.items labels =
-    subst (λ x. AreLabels ns (order l) (program p) x labels) c.deref.ensures.value c.in_ok-facts.ensures.labels in
-    subst (λ x. IfOk res (λ page. HasTrueLabels x P s.text page.items)) c.lattice-lattice.ensures
-    (subst (λ x. IfOk res (λ page. HasTrueLabels l P x page.items)) c.text-source.ensures
-    (labels_shown l P t Refused p c.in_ok-chosen.chosen.items ns labels res (record { steps = w; walk = walk })
-    is.stands c.in_ok-chosen.ensures c.in_ok-order.ensures.names are (λ page told. told)
-    c.page_with_walk.ensures.labels))

@@ -32,21 +32,3 @@ returns-clause-led c = λ v lead led.
     c.extend_from_slice-5.new.self.items (search rules) c.in_ok-extend_from_slice-2.ensures.items (search rules)
     c.in_ok-extend_from_slice-4.ensures.items (search rules))
     led
-
-pub returns-clause-labels : goal.returns-clause-labels
-returns-clause-labels c = λ r ls source shows marked.
-    let begun = c.args.self.text.items ++ c.args.before.now.text.items in
-    let panel : HasPanel c.extend_from_slice-5.new.self.items source =
-    record {
-      before = begun;
-      panel = c.args.panel.now.items;
-      after = c.args.after.now.text.items;
-      parts =
-          parts_so begun panel_begin c.args.panel.now.items panel_end c.args.after.now.text.items
-          c.extend_from_slice-2.new.self.items c.extend_from_slice-3.new.self.items
-          c.extend_from_slice-4.new.self.items c.extend_from_slice-5.new.self.items
-          (c.in_ok-extend_from_slice-2.ensures.items ∙ ap (λ x. x ++ panel_begin) (search rules)) (search rules)
-          c.in_ok-extend_from_slice-4.ensures.items (search rules);
-      shows = shows;
-    } in
-    record { panel = panel; marked = marked }

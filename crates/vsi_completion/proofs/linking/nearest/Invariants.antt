@@ -1,6 +1,0 @@
-use Rattle.std.specs.Prelude.{All}
-use Rattle.vsi_completion.specs.Completed.{IsAboveBoth}
-use Rattle.vsi_completion.proofs.linking.nearest.Given as goal
-
-abbrev pub invariant-loop-class : goal.invariant-loop-class
-invariant-loop-class l = All (IsAboveBoth l.pairs l.a l.b) l.found.items

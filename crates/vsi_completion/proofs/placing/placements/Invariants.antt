@@ -1,6 +1,0 @@
-use Rattle.std.specs.Prelude.{All}
-use Rattle.vsi_completion.specs.Completed.{IsLatticeWith}
-use Rattle.vsi_completion.proofs.placing.placements.Given as goal
-
-abbrev pub invariant-loop-rank : goal.invariant-loop-rank
-invariant-loop-rank l = All (λ placed. IsLatticeWith l.count l.pairs 0 placed.pairs.items) l.found.items

@@ -1,0 +1,373 @@
+//! An image beside a reference: both run from the same random stores with the same random inputs,
+//! and the words of their released outputs are compared. This is a test: it finds some differences,
+//! and proves nothing about the words that it doesn't draw.
+
+ghost use Rattle.std.specs.Prelude.{◌≡◌, IfOk, IfSome};
+ghost use Rattle.vsi_conform_image.specs.Reference as spec;
+
+use crate::drawing::{below, drawn, put_constants};
+use crate::side::Side;
+use rand_core::SeedableRng;
+use rand_xoshiro::SplitMix64;
+use std::alloc::{AllocError, Global};
+use vsi_conform::{Cycle, Interface};
+use vsi_image::Verified;
+use vsi_lattice::Lattice;
+use vsi_store::sees;
+
+/// The runs of a boundary.
+const RUNS: usize = 64;
+
+/// The cycles of a run.
+const CYCLES: usize = 32;
+
+/// The most instructions of a cycle.
+const MOST_INSTRUCTIONS: u64 = 100_000;
+
+/// The seed of all trials.
+const SEED: u64 = 1;
+
+/// How an image differs from the reference in a cycle.
+#[derive(Clone, Copy, PartialEq, Eq, Debug)]
+pub enum Contrast {
+    /// A released output, by its number in the interface, has another word.
+    Word {
+        global: usize,
+        word: i64,
+        expected: i64,
+    },
+    /// Only the reference halts within this number of instructions.
+    Endless(u64),
+    /// Only the image halts within this number of instructions.
+    Halts(u64),
+}
+
+/// The first difference from the reference.
+#[derive(Clone, Copy, PartialEq, Eq, Debug)]
+pub struct Difference {
+    /// The number of the boundary, from 0.
+    pub boundary: usize,
+    /// The number of the run, from 0.
+    pub run: usize,
+    /// The number of the cycle, from 0.
+    pub cycle: usize,
+    pub contrast: Contrast,
+}
+
+/// The result of a trial of an image beside a reference.
+#[derive(Clone, Copy, PartialEq, Eq, Debug)]
+pub enum Comparison {
+    /// No difference in so many runs and cycles.
+    Alike { runs: usize, cycles: usize },
+    /// The first difference.
+    Apart(Difference),
+    /// The reference has no global with the name and the class of this one of the interface.
+    Lacking(usize),
+    /// The reference has this global, by its place, and the interface doesn't.
+    Extra(usize),
+    /// There is no program to compare, or its globals aren't those of the interface.
+    Untried,
+}
+
+impl Comparison {
+    /// Whether no difference was found.
+    pub fn agrees(&self) -> bool
+        ensures agrees { result ≡ spec.is_alike self.now }
+    {
+        matches!(self, Comparison::Alike { .. })
+    }
+}
+
+/// An interface with its boundaries, and the image of its reference.
+#[derive(Clone, Copy)]
+pub struct Reference<'a> {
+    pub interface: &'a Interface,
+    pub cycles: &'a [Cycle],
+    pub verified: &'a Verified,
+}
+
+/// The inputs and the released outputs of a boundary, as numbers of globals of the interface.
+#[derive(Drop)]
+struct Boundary {
+    inputs: Vec<usize>,
+    outputs: Vec<usize>,
+}
+
+/// Both images, with their generator and the words to draw around.
+#[derive(Drop)]
+struct Trial<'a> {
+    alloc: Global,
+    image: Side<'a>,
+    reference: Side<'a>,
+    constants: Vec<i64>,
+    random: SplitMix64,
+    budget: u64,
+}
+
+/// How a cycle of both images ends.
+enum End {
+    Alike,
+    Apart(Contrast),
+    /// Neither halts within the budget.
+    Spent,
+}
+
+/// Whether a name is one of these.
+fn is_among(names: &[Vec<u8>], name: &[u8]) -> bool {
+    for known in names {
+        if known.as_slice() == name {
+            return true;
+        }
+    }
+    false
+}
+
+/// Whether a line of a boundary's class may set a global.
+fn is_input(lattice: &Lattice, cycle: &Cycle, global: &(Vec<u8>, Vec<u8>)) -> bool {
+    if let Some(names) = &cycle.inputs {
+        return is_among(names, &global.0);
+    }
+    match lattice.class_named(&cycle.class) {
+        Some(class) => sees(lattice, class, &global.1),
+        None => false,
+    }
+}
+
+/// The boundary of a class by numbers.
+fn boundary_of(
+    alloc: Global,
+    lattice: &Lattice,
+    interface: &Interface,
+    cycle: &Cycle,
+) -> Result<Boundary, AllocError> {
+    let mut inputs = Vec::new(alloc);
+    let mut outputs = Vec::new(alloc);
+    for (number, global) in interface.globals.iter().enumerate() {
+        if is_input(lattice, cycle, global) {
+            inputs.push(number)?;
+        }
+        if is_among(&cycle.released, &global.0) {
+            outputs.push(number)?;
+        }
+    }
+    Ok(Boundary { inputs, outputs })
+}
+
+/// The first of these outputs in which two stores differ.
+fn contrast_of(image: &Side, reference: &Side, outputs: &[usize]) -> Option<Contrast>
+    ensures { IfSome result spec.IsContrast }
+{
+    for global in outputs {
+        let word = image.word(*global);
+        let expected = reference.word(*global);
+        if word != expected {
+            return Some(Contrast::Word {
+                global: *global,
+                word,
+                expected,
+            });
+        }
+    }
+    None
+}
+
+impl<'a> Trial<'a> {
+    /// Draws a word for a global of the interface, in both stores.
+    fn draw(&mut self, number: usize) {
+        let word = drawn(&mut self.random, &self.constants, &self.reference.store);
+        self.image.set(number, word);
+        self.reference.set(number, word);
+    }
+
+    /// Draws both stores, which are equal then.
+    fn begin(&mut self, count: usize) {
+        for number in 0..count {
+            self.draw(number);
+        }
+    }
+
+    /// Draws most of the inputs, and leaves the others as they are.
+    fn feed(&mut self, inputs: &[usize]) {
+        for number in inputs {
+            if below(&mut self.random, 4) != 0 {
+                self.draw(*number);
+            }
+        }
+    }
+
+    /// A cycle of both images.
+    fn cycle(&mut self, boundary: &Boundary) -> Result<End, AllocError>
+        ensures { IfOk result spec.IsEnd }
+    {
+        self.feed(&boundary.inputs);
+        let is_halted = self.image.run(self.alloc, self.budget)?;
+        let is_expected = self.reference.run(self.alloc, self.budget)?;
+        if is_halted != is_expected {
+            let contrast = if is_halted {
+                Contrast::Halts(self.budget)
+            } else {
+                Contrast::Endless(self.budget)
+            };
+            return Ok(End::Apart(contrast));
+        }
+        if !is_halted {
+            return Ok(End::Spent);
+        }
+        match contrast_of(&self.image, &self.reference, &boundary.outputs) {
+            Some(contrast) => Ok(End::Apart(contrast)),
+            None => Ok(End::Alike),
+        }
+    }
+
+    /// A run of both images: how many cycles are alike, and how the next one differs.
+    fn run(&mut self, boundary: &Boundary) -> Result<(usize, Option<Contrast>), AllocError>
+        ensures { IfOk result (λ pair. IfSome pair.1 spec.IsContrast) }
+    {
+        let count = self.reference.places.len();
+        self.begin(count);
+        for cycle in 0..CYCLES {
+            match self.cycle(boundary)? {
+                End::Alike => {}
+                End::Apart(contrast) => return Ok((cycle, Some(contrast))),
+                End::Spent => return Ok((cycle, None)),
+            }
+        }
+        Ok((CYCLES, None))
+    }
+
+    /// All runs of a boundary, which has this number.
+    fn runs(&mut self, number: usize, boundary: &Boundary) -> Result<Comparison, AllocError>
+        ensures { IfOk result spec.IsFound }
+    {
+        let mut cycles: usize = 0;
+        for run in 0..RUNS {
+            let (alike, contrast) = self.run(boundary)?;
+            if let Some(contrast) = contrast {
+                return Ok(Comparison::Apart(Difference {
+                    boundary: number,
+                    run,
+                    cycle: alike,
+                    contrast,
+                }));
+            }
+            cycles = cycles.saturating_add(alike);
+        }
+        Ok(Comparison::Alike { runs: RUNS, cycles })
+    }
+}
+
+/// Two trials one after the other, of which the first shows no difference in these runs and cycles.
+fn and_then(runs: usize, cycles: usize, next: Comparison) -> Comparison
+    ensures { spec.IsFound next → spec.IsFound result }
+{
+    match next {
+        Comparison::Alike {
+            runs: more_runs,
+            cycles: more_cycles,
+        } => Comparison::Alike {
+            runs: runs.saturating_add(more_runs),
+            cycles: cycles.saturating_add(more_cycles),
+        },
+        other => other,
+    }
+}
+
+/// The trials of all boundaries that release outputs.
+fn tried(
+    trial: &mut Trial,
+    lattice: &Lattice,
+    reference: Reference<'_>,
+) -> Result<Comparison, AllocError>
+    ensures { IfOk result spec.IsFound }
+{
+    let mut runs_done: usize = 0;
+    let mut cycles_done: usize = 0;
+    for (number, cycle) in reference.cycles.iter().enumerate() {
+        let boundary = boundary_of(trial.alloc, lattice, reference.interface, cycle)?;
+        if boundary.outputs.is_empty() {
+            continue;
+        }
+        match and_then(runs_done, cycles_done, trial.runs(number, &boundary)?) {
+            Comparison::Alike { runs, cycles } => {
+                runs_done = runs;
+                cycles_done = cycles;
+            }
+            other => return Ok(other),
+        }
+    }
+    Ok(Comparison::Alike {
+        runs: runs_done,
+        cycles: cycles_done,
+    })
+}
+
+/// The numbers in the code of two images, each with its neighbours.
+fn constants_of(
+    alloc: Global,
+    verified: &Verified,
+    reference: &Verified,
+) -> Result<Vec<i64>, AllocError> {
+    let mut constants = Vec::new(alloc);
+    put_constants(&mut constants, reference.image())?;
+    put_constants(&mut constants, verified.image())?;
+    Ok(constants)
+}
+
+/// The first global of an image that an interface doesn't have.
+fn extra_of(verified: &Verified, interface: &Interface) -> Option<usize> {
+    for (place, global) in verified.image().globals.iter().enumerate() {
+        if !is_asked(&interface.globals, global) {
+            return Some(place);
+        }
+    }
+    None
+}
+
+/// Whether a global is one of these, by its name and its class.
+fn is_asked(globals: &[(Vec<u8>, Vec<u8>)], global: &(Vec<u8>, Vec<u8>)) -> bool {
+    for asked in globals {
+        if asked.0.as_slice() == global.0.as_slice() && asked.1.as_slice() == global.1.as_slice() {
+            return true;
+        }
+    }
+    false
+}
+
+/// Runs an image beside a reference, for each boundary that releases outputs: 64 runs of 32 cycles
+/// from random stores with random inputs, each cycle within the budget and 100,000 instructions.
+/// Equal arguments give equal answers. Without an image only the globals of the reference are
+/// compared with those of the interface.
+pub fn compare_reference(
+    alloc: Global,
+    lattice: &Lattice,
+    verified: Option<&Verified>,
+    reference: Reference<'_>,
+    budget: u64,
+) -> Result<Comparison, AllocError>
+    ensures found { IfOk result spec.IsFound }
+{
+    let interface = reference.interface;
+    let expected = Side::of(alloc, reference.verified, &interface.globals)?;
+    if expected.places.len() < interface.globals.len() {
+        return Ok(Comparison::Lacking(expected.places.len()));
+    }
+    if let Some(place) = extra_of(reference.verified, interface) {
+        return Ok(Comparison::Extra(place));
+    }
+    let Some(verified) = verified else {
+        return Ok(Comparison::Untried);
+    };
+    let image = Side::of(alloc, verified, &interface.globals)?;
+    if image.places.len() < interface.globals.len() || extra_of(verified, interface).is_some() {
+        return Ok(Comparison::Untried);
+    }
+    let mut trial = Trial {
+        alloc,
+        image,
+        reference: expected,
+        constants: constants_of(alloc, verified, reference.verified)?,
+        random: SplitMix64::seed_from_u64(SEED),
+        budget: budget.min(MOST_INSTRUCTIONS),
+    };
+    tried(&mut trial, lattice, reference)
+}

@@ -1,7 +1,0 @@
-pub mod Lists
-pub mod Joining
-pub mod Languages
-pub mod Sound
-pub mod Complete
-pub mod Exact
-pub mod Standing

@@ -1,6 +1,0 @@
-use Rattle.std.proofs.Common.{◌≡◌, drop}
-use Rattle.vsi_expected.specs.Told.{told}
-use Rattle.vsi_expected.proofs.expected.Expected.has.Given as goal
-
-abbrev pub invariant-loop-told : goal.invariant-loop-told
-invariant-loop-told l = told l.self.sorts.items l.sort ≡ told (drop l.told-index l.self.sorts.items) l.sort

@@ -1,5 +1,0 @@
-use Rattle.vsi_hints.specs.Hints as spec
-use Rattle.vsi_hints.proofs.offers.commands.Goals as goal
-
-pub returns-in-Some : goal.returns-in-Some
-returns-in-Some c = spec.commands c.in-Some.text.items (rw c.in-Some.is at c.in_ok-text.ensures.read)

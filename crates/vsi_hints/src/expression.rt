@@ -1,0 +1,297 @@
+//! An expression of another language, written in this one while it is read from the left.
+
+use crate::forms::{BOTH, Form, Pattern, form_before, form_between, pattern_of};
+use crate::numbers::number_of;
+use crate::pieces::{Piece, Sort};
+use crate::wording::LONGEST;
+use crate::words::is_one_of;
+use std::alloc::{AllocError, Global};
+use vsi_syntax::put_number;
+
+/// The keywords that are no operands.
+const NO_OPERANDS: &[u8] =
+    b"var letvar in if then else while do and or not mod div AND OR NOT MOD DIV is xor";
+
+/// Whether a name can't be an operand.
+pub(crate) fn is_no_operand(word: &[u8]) -> bool {
+    is_one_of(NO_OPERANDS, word)
+}
+
+/// Whether a name means 1.
+pub fn is_true(word: &[u8]) -> bool {
+    is_one_of(b"true True TRUE", word)
+}
+
+/// Whether a name means 0.
+pub fn is_false(word: &[u8]) -> bool {
+    is_one_of(b"false False FALSE", word)
+}
+
+/// A text and its level, as in a `Pattern`.
+#[derive(Drop)]
+struct Part {
+    text: Vec<u8>,
+    level: u8,
+}
+
+/// An operand that was read.
+#[derive(Drop)]
+struct Operand {
+    part: Part,
+    /// Whether it is always 0 or 1.
+    is_truth: bool,
+    /// Its value, if it is a number.
+    value: Option<u64>,
+    /// Its last operand, if it is a comparison without brackets around it.
+    compared: Option<Part>,
+}
+
+/// Adds a part in brackets if its level is below this one.
+fn put_part(words: &mut Vec<u8>, part: &Part, level: u8) -> Result<(), AllocError> {
+    let is_bracketed = part.level < level;
+    if is_bracketed {
+        words.push(b'(')?;
+    }
+    words.extend_from_slice(&part.text)?;
+    if is_bracketed {
+        words.push(b')')?;
+    }
+    Ok(())
+}
+
+/// An operator between two parts.
+fn joined(alloc: Global, pattern: Pattern, left: &Part, right: &Part) -> Result<Part, AllocError> {
+    let (form, level, left_level, right_level) = pattern;
+    let mut text = Vec::new(alloc);
+    for byte in form {
+        match *byte {
+            b'P' => put_part(&mut text, left, left_level)?,
+            b'Q' => put_part(&mut text, right, right_level)?,
+            other => text.push(other)?,
+        }
+    }
+    Ok(Part { text, level })
+}
+
+/// Two comparisons, of the last operand of one with a further one, and that one.
+fn chained(
+    alloc: Global,
+    pattern: Pattern,
+    first: &Part,
+    middle: &Part,
+    last: &Part,
+) -> Result<Part, AllocError> {
+    let second = joined(alloc, pattern, middle, last)?;
+    joined(alloc, BOTH, first, &second)
+}
+
+/// The operand that an operator makes.
+fn made(part: Part, form: Form, compared: Option<Part>) -> Option<Operand> {
+    Some(Operand {
+        part,
+        is_truth: form.is_truth(),
+        value: None,
+        compared,
+    })
+}
+
+/// An operator between two operands, if it can be written. A comparison is chained to its left
+/// operand if that is one: `a < b < c` compares twice.
+fn between(
+    alloc: Global,
+    form: Form,
+    left: Operand,
+    right: Operand,
+) -> Result<Option<Operand>, AllocError> {
+    let Some(pattern) = pattern_of(form, left.is_truth, right.is_truth, right.value) else {
+        return Ok(None);
+    };
+    let Operand {
+        part: first,
+        compared,
+        ..
+    } = left;
+    let Operand { part: last, .. } = right;
+    if !form.compares() {
+        return Ok(made(joined(alloc, pattern, &first, &last)?, form, None));
+    }
+    if let Some(middle) = compared {
+        let part = chained(alloc, pattern, &first, &middle, &last)?;
+        return Ok(made(part, form, None));
+    }
+    let part = joined(alloc, pattern, &first, &last)?;
+    Ok(made(part, form, Some(last)))
+}
+
+/// An operator before an operand.
+fn before(alloc: Global, form: Form, operand: &Operand) -> Result<Option<Operand>, AllocError> {
+    let Some(pattern) = pattern_of(form, operand.is_truth, operand.is_truth, None) else {
+        return Ok(None);
+    };
+    let part = joined(alloc, pattern, &operand.part, &operand.part)?;
+    Ok(made(part, form, None))
+}
+
+/// The value of a piece, if it is a number or a name for one.
+fn value_of(piece: Piece) -> Option<u64> {
+    if piece.sort == Sort::Number {
+        number_of(piece.text)
+    } else if is_true(piece.text) {
+        Some(1)
+    } else if is_false(piece.text) {
+        Some(0)
+    } else {
+        None
+    }
+}
+
+/// The operand of a piece, if it is one.
+fn operand_of(alloc: Global, piece: Piece) -> Result<Option<Operand>, AllocError> {
+    let value = value_of(piece);
+    let mut text = Vec::new(alloc);
+    if let Some(number) = value {
+        put_number(&mut text, number as usize)?;
+    } else if piece.sort == Sort::Word && !is_no_operand(piece.text) {
+        text.extend_from_slice(piece.text)?;
+    } else {
+        return Ok(None);
+    }
+    Ok(Some(Operand {
+        part: Part { text, level: 3 },
+        is_truth: matches!(value, Some(0 | 1)),
+        value,
+        compared: None,
+    }))
+}
+
+/// What was read of an expression.
+#[derive(Drop)]
+struct Reading {
+    alloc: Global,
+    /// The finished operands.
+    operands: Vec<Operand>,
+    /// The operators that need their last operand.
+    waiting: Vec<Form>,
+    wants_operand: bool,
+}
+
+impl Reading {
+    /// Adds an operand, and returns whether it is one and short.
+    fn put(&mut self, operand: Option<Operand>) -> Result<bool, AllocError> {
+        let Some(operand) = operand else {
+            return Ok(false);
+        };
+        let is_short = operand.part.text.len() <= LONGEST;
+        self.operands.push(operand)?;
+        Ok(is_short)
+    }
+
+    /// Joins the last operands by the last operator, and returns whether that can be written.
+    fn join(&mut self, form: Form) -> Result<bool, AllocError> {
+        let Some(right) = self.operands.pop() else {
+            return Ok(false);
+        };
+        if form.is_before() {
+            let made = before(self.alloc, form, &right)?;
+            return self.put(made);
+        }
+        let Some(left) = self.operands.pop() else {
+            return Ok(false);
+        };
+        let made = between(self.alloc, form, left, right)?;
+        self.put(made)
+    }
+
+    /// Joins by each waiting operator that binds at least as strongly.
+    fn join_stronger(&mut self, strength: u8) -> Result<bool, AllocError> {
+        for _ in 0..self.waiting.len() {
+            let Some(form) = self.waiting.last().copied() else {
+                return Ok(true);
+            };
+            if form == Form::Open || form.strength() < strength {
+                return Ok(true);
+            }
+            self.waiting.truncate(self.waiting.len().saturating_sub(1));
+            if !self.join(form)? {
+                return Ok(false);
+            }
+        }
+        Ok(true)
+    }
+
+    /// Reads a piece where an operand may begin.
+    fn read_operand(&mut self, piece: Piece) -> Result<bool, AllocError> {
+        let form = match piece.text {
+            [b'('] => Some(Form::Open),
+            sign => form_before(sign),
+        };
+        if let Some(form) = form {
+            self.waiting.push(form)?;
+            return Ok(true);
+        }
+        self.wants_operand = false;
+        let operand = operand_of(self.alloc, piece)?;
+        self.put(operand)
+    }
+
+    /// Reads a closing bracket.
+    fn close(&mut self) -> Result<bool, AllocError> {
+        if !self.join_stronger(0)? {
+            return Ok(false);
+        }
+        let (Some(Form::Open), Some(operand)) = (self.waiting.pop(), self.operands.pop()) else {
+            return Ok(false);
+        };
+        let mut operand = operand;
+        operand.compared = None;
+        self.put(Some(operand))
+    }
+
+    /// Reads a piece, and returns whether an expression may go on with it.
+    fn read(&mut self, piece: Piece) -> Result<bool, AllocError> {
+        if self.wants_operand {
+            return self.read_operand(piece);
+        }
+        if matches!(piece.text, [b')']) {
+            return self.close();
+        }
+        let Some(form) = form_between(piece.text) else {
+            return Ok(false);
+        };
+        if !self.join_stronger(form.strength())? {
+            return Ok(false);
+        }
+        self.waiting.push(form)?;
+        self.wants_operand = true;
+        Ok(true)
+    }
+}
+
+/// The expression of these pieces, written in this language at least at a level, if possible and
+/// short.
+pub(crate) fn rewritten(
+    alloc: Global,
+    pieces: &[Piece],
+    level: u8,
+) -> Result<Option<Vec<u8>>, AllocError> {
+    let mut reading = Reading {
+        alloc,
+        operands: Vec::new(alloc),
+        waiting: Vec::new(alloc),
+        wants_operand: true,
+    };
+    for piece in pieces {
+        if !reading.read(*piece)? {
+            return Ok(None);
+        }
+    }
+    if reading.wants_operand || !reading.join_stronger(0)? || !reading.waiting.is_empty() {
+        return Ok(None);
+    }
+    let [operand] = reading.operands.as_slice() else {
+        return Ok(None);
+    };
+    let mut text = Vec::new(alloc);
+    put_part(&mut text, &operand.part, level)?;
+    Ok(Some(text))
+}

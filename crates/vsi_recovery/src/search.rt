@@ -1,0 +1,288 @@
+//! The search for a repair of a fault of the tree.
+
+use crate::context::{Open, Start};
+use crate::repairs::{COMMAND, ENDINGS, FILLINGS, SMALL};
+use crate::skipping::{DECLARATION, OUTSIDE, lone_close, lone_else, misplaced};
+use crate::tokens::{Reading, landmark_from, put_numbered, read, tokens_of};
+use std::alloc::{AllocError, Global};
+use vsi_syntax::{Kind, Token};
+
+/// The most tokens that are skipped.
+const MAX_SKIPPED: usize = 400;
+
+/// The most tokens that are read after a repair: one with which reading goes over them is enough.
+const MAX_AHEAD: usize = 200;
+
+/// The cost of trying a repair, in tokens, beside the tokens that are read for it.
+const TRIAL: usize = 20;
+
+/// A repair at a fault. A text is put in at a beginning before the fault; the tokens from there up
+/// to the fault come after it or are left out, and so many tokens after the fault are left out too.
+/// Then the first fault is so many tokens after this one at the earliest.
+#[derive(Clone, Copy)]
+pub(crate) struct Choice {
+    pub(crate) start: Start,
+    pub(crate) put: &'static [u8],
+    pub(crate) is_before: bool,
+    pub(crate) stop: usize,
+    /// Whether a declaration that is out of place is left out.
+    pub(crate) is_misplaced: bool,
+    reached: usize,
+}
+
+/// The repair that puts in a text in place of the tokens from a beginning up to one after the
+/// fault.
+fn replacing(start: Start, stop: usize, put: &'static [u8]) -> Choice {
+    Choice {
+        start,
+        put,
+        is_before: false,
+        stop,
+        is_misplaced: false,
+        reached: 0,
+    }
+}
+
+/// The repair that puts in a text at a beginning.
+fn preceding(start: Start, put: &'static [u8]) -> Choice {
+    let mut choice = replacing(start, 0, put);
+    choice.is_before = true;
+    choice
+}
+
+/// Whether some of these tokens begin a construct that ends with another one.
+fn has_opening(tokens: &[Token<'_>]) -> bool {
+    let is_opening = |token: &Token<'_>| {
+        matches!(
+            token.kind,
+            Kind::If | Kind::While | Kind::Letvar | Kind::Var | Kind::OpenBrace | Kind::Open
+        )
+    };
+    tokens.iter().any(is_opening)
+}
+
+/// A search: it ends with the first repair with which reading goes on up to a landmark and over it.
+/// `open` has what was read up to the fault, and `rest` the tokens from it on.
+#[derive(Drop)]
+struct Search<'s, 'a> {
+    alloc: Global,
+    rest: &'s [Token<'a>],
+    open: &'s Open<'a>,
+    left: usize,
+    best: Option<Choice>,
+    is_found: bool,
+    /// How many landmarks are read after a repair.
+    landmarks: usize,
+}
+
+impl Search<'_, '_> {
+    /// The end of what is read after a repair: after the next landmarks, and after a `var` that
+    /// follows them where declarations may come.
+    fn window_end(&self, stop: usize) -> usize {
+        let last = self.rest.len().min(stop.saturating_add(MAX_AHEAD));
+        let near = self.rest.get(..last).unwrap_or(self.rest);
+        let mut end = stop;
+        for _landmark in 0..self.landmarks {
+            end = landmark_from(near, end).saturating_add(1);
+        }
+        match near.get(end) {
+            Some(token) if token.kind == Kind::Var && self.open.is_at_head() => {
+                end.saturating_add(1)
+            }
+            _ => end.min(last),
+        }
+    }
+
+    /// How many tokens after the fault the first fault is with a repair, if the tokens up to this
+    /// number come after what is kept; none if it is before them.
+    fn reached(&mut self, choice: Choice, end: usize) -> Result<Option<usize>, AllocError> {
+        let kept = self.open.kept.as_slice();
+        let mut made = Vec::new(self.alloc);
+        put_numbered(&mut made, kept.get(..choice.start.kept).unwrap_or(&[]))?;
+        put_numbered(&mut made, &tokens_of(self.alloc, choice.put)?)?;
+        if choice.is_before {
+            put_numbered(&mut made, kept.get(choice.start.kept..).unwrap_or(&[]))?;
+        }
+        let before = made.len();
+        put_numbered(&mut made, self.rest.get(choice.stop..end).unwrap_or(&[]))?;
+        self.left = self.left.saturating_sub(made.len().saturating_add(TRIAL));
+        match read(self.alloc, &made)? {
+            Reading::Whole => Ok(Some(end)),
+            Reading::Unexpected(place) if before <= place => {
+                Ok(Some(place.saturating_sub(before).saturating_add(choice.stop)))
+            }
+            _ => Ok(None),
+        }
+    }
+
+    /// Tries a repair. It is kept if it is enough, or the first one that reaches so far.
+    fn attempt(&mut self, choice: Choice) -> Result<(), AllocError> {
+        if self.is_found || self.left == 0 || self.rest.len() < choice.stop {
+            return Ok(());
+        }
+        let end = self.window_end(choice.stop);
+        if let Some(reached) = self.reached(choice, end)? {
+            let is_better = match self.best {
+                Some(best) => best.reached < reached,
+                None => true,
+            };
+            self.is_found = end <= reached;
+            if is_better || self.is_found {
+                self.best = Some(Choice { reached, ..choice });
+            }
+        }
+        Ok(())
+    }
+
+    /// Tries a repair of one token. A token that begins a construct is left out only if reading goes
+    /// on over two landmarks.
+    fn try_one(&mut self, here: Start, out: usize, put: &'static [u8]) -> Result<(), AllocError> {
+        if self.landmarks < 2 && has_opening(self.rest.get(..out).unwrap_or(&[])) {
+            return Ok(());
+        }
+        self.attempt(replacing(here, out, put))
+    }
+
+    /// Tries repairs of one token.
+    fn try_small(&mut self, here: Start) -> Result<(), AllocError> {
+        for (out, put) in SMALL.as_slice() {
+            self.try_one(here, *out, *put)?;
+        }
+        Ok(())
+    }
+
+    /// Tries to leave out the token before, and to put in the beginning of a construct.
+    fn try_before(&mut self, here: Start) -> Result<(), AllocError> {
+        if 0 < here.kept {
+            let before = Start {
+                place: here.place.saturating_sub(1),
+                kept: here.kept.saturating_sub(1),
+            };
+            self.attempt(replacing(before, 0, b""))?;
+        }
+        let start = self.open.command();
+        self.attempt(preceding(start, b"if"))?;
+        self.attempt(preceding(start, b"while"))
+    }
+
+    /// Tries repairs with which reading goes on over two landmarks.
+    fn try_sure(&mut self, here: Start) -> Result<(), AllocError> {
+        self.landmarks = 2;
+        if let Some(number) = lone_close(self.rest) {
+            self.attempt(replacing(here, number, b""))?;
+            self.attempt(replacing(here, number, b"0"))?;
+        }
+        self.try_small(here)?;
+        self.try_before(here)?;
+        self.landmarks = 1;
+        Ok(())
+    }
+
+    /// Tries to go on at a landmark.
+    fn try_landmark(&mut self, here: Start, number: usize, kind: Kind) -> Result<(), AllocError> {
+        for put in FILLINGS.as_slice() {
+            self.attempt(replacing(here, number, *put))?;
+        }
+        let item = self.open.item();
+        self.attempt(replacing(self.open.command(), number, COMMAND))?;
+        self.attempt(replacing(item, number, COMMAND))?;
+        if kind == Kind::Semicolon {
+            self.attempt(replacing(item, number.saturating_add(1), b""))?;
+        }
+        Ok(())
+    }
+
+    /// Tries to go on at each landmark in turn.
+    fn try_landmarks(&mut self, here: Start) -> Result<(), AllocError> {
+        let mut nest = OUTSIDE;
+        let rest = self.rest;
+        for (number, token) in rest.iter().enumerate().take(MAX_SKIPPED) {
+            if self.is_found {
+                return Ok(());
+            }
+            if nest.serves(token.kind) {
+                self.try_landmark(here, number, token.kind)?;
+            }
+            nest = nest.noted(token.kind);
+        }
+        if rest.len() <= MAX_SKIPPED {
+            self.try_landmark(here, rest.len(), Kind::Name)?;
+        }
+        Ok(())
+    }
+
+    /// Tries to end a text that ends too early.
+    fn try_endings(&mut self, here: Start) -> Result<(), AllocError> {
+        for put in ENDINGS.as_slice() {
+            if self.best.is_none() {
+                self.attempt(replacing(here, 0, *put))?;
+            }
+        }
+        Ok(())
+    }
+
+    /// Leaves out a declaration that begins where only a command, or a `;` and a command, may come.
+    fn leave_declaration(&mut self, here: Start) -> Result<(), AllocError> {
+        let Some(is_followed) = misplaced(self.rest) else {
+            return Ok(());
+        };
+        let mut choice = replacing(here, DECLARATION, b";");
+        choice.is_misplaced = true;
+        let is_begun = self.open.item().place == here.place;
+        let is_ended = !is_begun && self.reached(choice, DECLARATION)?.is_some();
+        choice.put = match (is_begun, is_followed) {
+            (true, false) => COMMAND,
+            (false, true) => b";",
+            _ => b"",
+        };
+        if is_begun || is_ended && !self.open.is_declaration() {
+            self.best = Some(choice);
+            self.is_found = true;
+        }
+        Ok(())
+    }
+
+    /// Tries all repairs of the fault.
+    fn run(&mut self, here: Start) -> Result<(), AllocError> {
+        let Some(token) = self.rest.first() else {
+            return self.try_endings(here);
+        };
+        self.leave_declaration(here)?;
+        let item = self.open.item();
+        let is_named = item.place.saturating_add(1) == here.place && self.open.is_outermost();
+        if token.kind == Kind::Colon && is_named {
+            self.attempt(preceding(item, b"var"))?;
+        }
+        if let Some(number) = lone_else(self.rest) {
+            self.attempt(replacing(here, number, b""))?;
+        }
+        self.try_sure(here)?;
+        self.try_small(here)?;
+        self.try_landmarks(here)
+    }
+}
+
+/// The repair of the fault at the first of these tokens, if one is found. `open` has what was read
+/// before them, `place` counts the tokens before them, and at most `left` tokens are read, from
+/// which those that were read are taken away.
+pub(crate) fn repair_of<'a>(
+    alloc: Global,
+    open: &Open<'a>,
+    place: usize,
+    rest: &[Token<'a>],
+    left: &mut usize,
+) -> Result<Option<Choice>, AllocError> {
+    let mut search = Search {
+        alloc,
+        rest,
+        open,
+        left: *left,
+        best: None,
+        is_found: false,
+        landmarks: 1,
+    };
+    let kept = open.kept.len();
+    search.run(Start { place, kept })?;
+    *left = search.left;
+    Ok(search.best)
+}
