@@ -28,8 +28,9 @@ pub record IsInForce (holds : Holding) (interface : List ℕ) (asked : Interface
   pub within : total_of asked.interface ≤ RUNS_BUDGET
 
 -- By the interface of a file, a class drives or views an image within a boundary: the image conforms to the interface
--- under the lattice of the interface, and no released output is reached by a global that isn't allowed; the lattice has the
--- class, and the boundary is the one that the interface has for it. An interface that requires a bound insists on it: `--unbounded` isn't given.
+-- under the lattice of the interface, and no released output is reached by a global that isn't allowed; the lattice has
+-- the class, and the boundary is the one that the interface has for it. An interface that requires a bound insists on
+-- it: `--unbounded` isn't given.
 pub record IsGoverned (holds : Holding) (interface class : List ℕ) (is_unbounded : Bool) (l : Lattice) (driver : ℕ)
     (im : Image) (b : Boundary) : Type 0 where
   pub asked : InterfaceFile

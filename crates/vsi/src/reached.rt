@@ -81,8 +81,8 @@ fn with_reached(
     }
 }
 
-/// The answer with the released outputs, and whether the bytes of a file conform: if the points don't
-/// differ, and the interface allows each global that reaches a released output.
+/// The answer with the released outputs, and whether the bytes of a file conform: if no point
+/// differs, and the interface allows each global that reaches a released output.
 pub(crate) fn reached_answer(
     alloc: Global,
     form: AnswerForm,

@@ -35,8 +35,8 @@ pub(crate) struct Drive<'a, 'c> {
     pub(crate) most: u64,
 }
 
-/// The path of the store with which a drive begins: that of its start store, if it has one and there
-/// is no file at the path of its store.
+/// The path of the store with which a drive begins: that of its start store, if it has one and no
+/// file is at the path of its store.
 pub(crate) fn first_path<'a, F: Files>(driving: Driving<'a>, files: &F) -> Option<&'a str>
     ensures { IsBegunFrom (F.holds files.now) driving.entry result }
 {
