@@ -230,7 +230,8 @@ class Reader:
             raise BadRequest(400, "the body is no form") from None
         if set(pairs) != {"text", "lattice", "profile"} or any(len(values) != 1 for values in pairs.values()):
             raise BadRequest(400, "the form hasn't the fields of a report")
-        return {name: self.field(name, values[0]) for name, values in pairs.items()}
+        # A browser sends each line end of a field as CR LF, whatever the text has.
+        return {name: self.field(name, values[0].replace("\r\n", "\n")) for name, values in pairs.items()}
 
 
 FIELDS = {*FILES, *OPTIONAL, "subject", "exercise", "budget"}

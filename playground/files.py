@@ -12,6 +12,10 @@ from answering import Exercise
 HERE = os.path.dirname(os.path.realpath(__file__))
 KINDS = {".html": "text/html; charset=utf-8", ".css": "text/css; charset=utf-8", ".svg": "image/svg+xml",
          ".js": "text/javascript; charset=utf-8", ".json": "application/json"}
+# The kinds of files in the folder of the documentation.
+OF_DOCS = {**KINDS, ".png": "image/png", ".txt": "text/plain; charset=utf-8"}
+# Where the archive has the documentation, and where Debian's package has it.
+DOCS = [os.path.join(HERE, "..", "docs", "html"), os.path.join(HERE, "..", "..", "doc", "vsi", "docs", "html")]
 
 
 def text_of(path: str) -> str:
@@ -63,6 +67,21 @@ def read_exercises(folder: str) -> "dict[str, Exercise]":
     return {name: exercise for name, exercise in read.items() if exercise}
 
 
+def read_docs() -> "dict[str, tuple[str, bytes]]":
+    """Each path of the documentation, if it has been made; `tools/release` makes it."""
+    files = {}
+    for top in [folder for folder in DOCS if os.path.isdir(folder)][:1]:
+        for at, _, names in os.walk(top):
+            for name in names:
+                kind = OF_DOCS.get(os.path.splitext(name)[1])
+                path = os.path.join(at, name)
+                if kind:
+                    with open(path, "rb") as file:
+                        files["/docs/" + os.path.relpath(path, top).replace(os.sep, "/")] = (kind, file.read())
+        files["/docs/"] = files["/docs/index.html"]
+    return files
+
+
 def read_page(exercises: "dict[str, Exercise]", is_lesson: bool) -> "dict[str, tuple[str, bytes]]":
     """Each path that the server has, with its type and its bytes; no other file is ever opened for a request."""
     files = {}
@@ -71,7 +90,12 @@ def read_page(exercises: "dict[str, Exercise]", is_lesson: bool) -> "dict[str, t
         if kind:
             with open(os.path.join(HERE, name), "rb") as file:
                 files["/" + name] = (kind, file.read())
+    docs = read_docs()
+    if docs:
+        kind, page = files["/index.html"]
+        files["/index.html"] = (kind, page.replace(b'id="docs" hidden', b'id="docs"'))
     files["/"] = files["/index.html"]
+    files.update(docs)
     made = {"/exercises.json": [exercise.shown for exercise in exercises.values()],
             "/examples.json": read_examples(os.path.join(HERE, "..", "examples")), "/lesson.json": is_lesson}
     for path, value in made.items():

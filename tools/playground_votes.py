@@ -25,8 +25,15 @@ import playground_browser as browser  # noqa: E402
 TWO = 'classes = ["L", "H"]\nbelow = [["L", "H"]]\n'
 LAMP = "var alarm : H;\nvar lamp : L;\nif alarm then lamp := 1\nelse lamp := 0\n"
 LEAK = "var secret : H;\nvar shown : L;\n\nshown := secret + 1\n"
-# Seconds of its processor's time that a tab may need for a key in a text of 960 kB.
-MOST_BUSY, LINES = 2, 80_000
+# Seconds of its processor's time that a tab may need for a key in a text of 960 kB, and how many turns of a loop
+# that fills a string take a tenth of them on the machine for which they are meant.
+MOST_BUSY, LINES, TURNS = 2, 80_000, 1_000_000
+# Fills a string, cuts it into lines, and joins them again, so that a slow machine can be known.
+MEASURE = """
+let made = "";
+for (let turn = 0; turn < arguments[0]; turn++) made += turn % 16 ? "x" : "\\n";
+return made.split("\\n").join("").length;
+"""
 # Puts a text into the editor, and types a letter in its middle.
 PUT = """
 const area = document.getElementById("text");
@@ -181,8 +188,15 @@ class Voter(browser.Student):
         self.go(self.address)
         self.expect("the first tab's text", self.value(), "var one : L; one := 1")
 
+    def slowness(self) -> float:
+        """How many times the usual seconds this machine needs, at least one."""
+        before = busy_seconds(self.driver.service.process.pid)
+        self.js(MEASURE, TURNS)
+        return max(1.0, (busy_seconds(self.driver.service.process.pid) - before) / (MOST_BUSY / 10))
+
     def large(self) -> None:
-        """A text of 960 kB, and a key in it, take at most MOST_BUSY seconds of the tab's processor."""
+        """A text of 960 kB, and a key in it, take at most MOST_BUSY seconds of the tab's processor, more on a slow one."""
+        slowness = self.slowness()
         text = "var x : L;\n" + "x := x + 1;\n" * LINES + "x := 0\n"
         for what, code in (("a large text", PUT), ("a key in it", TYPE)):
             before = busy_seconds(self.driver.service.process.pid)
@@ -190,8 +204,8 @@ class Voter(browser.Student):
             time.sleep(1)
             self.js("return document.body.offsetHeight")
             taken = busy_seconds(self.driver.service.process.pid) - before
-            if taken > MOST_BUSY:
-                browser.complain(f"{what} keeps the tab busy for {taken:.1f} seconds")
+            if taken > MOST_BUSY * slowness:
+                browser.complain(f"{what} keeps the tab busy for {taken:.1f} seconds, {slowness:.1f} times a usual machine's")
         self.expect("the letters of the large text", len(self.value()), len(text) + 1)
         self.press("lesson")
         self.write("var x : L; x := 1")

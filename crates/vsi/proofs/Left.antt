@@ -23,7 +23,7 @@ use Rattle.vsi_answers.specs.Judged.{AreImage, Declares}
 use Rattle.vsi_answers.specs.Requests.{BuildsTo, ViewsTo}
 use Rattle.vsi_answers.proofs.Agreement as answers
 use Rattle.vsi_answers.proofs.Views.{same_fields, view_moved}
-use Rattle.vsi_state.specs.Seal.{is_whole}
+use Rattle.vsi_store.specs.Seal.{is_whole}
 use Rattle.vsi_arguments.specs.declared.request.Compilation.{Compilation}
 use Rattle.vsi_arguments.specs.declared.request.Execution.{Execution}
 use Rattle.vsi_arguments.specs.declared.request.InitialStore.{InitialStore}

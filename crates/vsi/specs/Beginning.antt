@@ -16,8 +16,8 @@ pub record IsFirstStart (holds : Holding) (d : Driving) (path : Option (Bor (Lis
 abbrev pub IsBegunFrom : Holding → Driving → Option (Bor (List ℕ)) → Type 0
 IsBegunFrom holds d path = (path ≡ d.execution.store) ⊎ IsFirstStart holds d path
 
--- A drive of an image begins with these words: the ones in its store file, or in its start store. The file has a key
--- for each global, if this is required.
+-- A drive of an image begins with the numbers of its store file, or at a first start with those of its start store. The
+-- file has a key for each global, if this is required.
 pub record IsBegun (holds : Holding) (d : Driving) (im : Image) (words : List ℤ) : Type 0 where
   pub path : Option (Bor (List ℕ))
   pub from : IsBegunFrom holds d path

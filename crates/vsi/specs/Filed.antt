@@ -12,9 +12,9 @@ use Rattle.vsi_conform.specs.declared.interface.Judgement.{Judgement}
 use Rattle.vsi_conform.specs.declared.interface.Judgement.TheVariants.{Base, Strict, Steady}
 use Rattle.vsi_conform.specs.declared.reader.Policy.{Policy}
 use Rattle.vsi_conform.specs.declared.reader.Policy.TheVariants.{File, Tables}
-use Rattle.vsi_evidence.specs.Evidence.{Filed}
-use Rattle.vsi_evidence.specs.declared.AuditProfile.{AuditProfile}
-use Rattle.vsi_evidence.specs.declared.AuditProfile.TheVariants as by
+use Rattle.vsi_store.specs.Evidence.{Filed}
+use Rattle.vsi_store.specs.declared.filed.AuditProfile.{AuditProfile}
+use Rattle.vsi_store.specs.declared.filed.AuditProfile.TheVariants as by
 use Rattle.vsi.specs.Holding.{Holding}
 use Rattle.vsi.specs.Interfaces.{IsPolicyAt, named_path}
 

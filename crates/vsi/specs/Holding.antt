@@ -5,7 +5,7 @@ use Rattle.vsi_lattice.specs.declared.lattice.Lattice.{Lattice}
 use Rattle.vsi_image.specs.declared.instr.Image.{Image}
 use Rattle.vsi_devices.specs.Engine.{IsReadFrom}
 use Rattle.vsi_answers.specs.Judged.{AreImage, Declares}
-use Rattle.vsi_state.specs.Seal.{is_whole}
+use Rattle.vsi_store.specs.Seal.{is_whole}
 
 -- The bytes of the file at each path, if they are known.
 abbrev pub Holding : Type 0

@@ -1,7 +1,7 @@
 -- The name that every name in the emitted C begins with.
 use Rattle.std.specs.Prelude.{ℕ, suc, ◌==◌, List, [], ◌∷◌, Option, Some, None, codes, take, if◌then◌else◌}
 use Rattle.std.specs.Borrow.{Bor}
-use Rattle.vsi_c_names.specs.Names.{is_function_name}
+use Rattle.vsi_emit.specs.Names.{is_function_name}
 
 -- The part of a path after its last slash, or the part found before if there is none.
 abbrev pub after_slash : List ℕ → List ℕ → List ℕ

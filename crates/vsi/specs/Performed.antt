@@ -29,9 +29,9 @@ use Rattle.vsi_leak.specs.declared.whole.Wanted.{Wanted}
 use Rattle.vsi_leak.specs.Leaks.{most_pairs}
 use Rattle.vsi_audit.specs.Standing.{HasKnownClasses}
 use Rattle.vsi_audit.specs.Text.{IsSourceText}
-use Rattle.vsi_evidence.specs.Evidence.{Filed, conformity_text, evidence_text}
-use Rattle.vsi_evidence.specs.declared.AuditProfile.{AuditProfile}
-use Rattle.vsi_evidence.specs.declared.AuditProfile.TheVariants as by
+use Rattle.vsi_store.specs.Evidence.{Filed, conformity_text, evidence_text}
+use Rattle.vsi_store.specs.declared.filed.AuditProfile.{AuditProfile}
+use Rattle.vsi_store.specs.declared.filed.AuditProfile.TheVariants as by
 use Rattle.vsi_report.specs.FlowsGraph.{IsFlowsGraph, IsPolicyGraph}
 use Rattle.vsi_report.specs.Graph.{IsLatticeGraph}
 use Rattle.vsi_report.specs.Page.{HasPanel}

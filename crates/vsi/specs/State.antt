@@ -3,7 +3,7 @@ use Rattle.std.specs.Prelude.{◌≡◌, ◌≢◌, ◌++◌, ℕ, ℤ, List, Op
 use Rattle.std.specs.Borrow.{Bor}
 use Rattle.vsi_image.specs.Fields.{globals}
 use Rattle.vsi_image.specs.declared.instr.Image.{Image}
-use Rattle.vsi_state.specs.Seal.{sealed}
+use Rattle.vsi_store.specs.Seal.{sealed}
 use Rattle.vsi_store.specs.Text.{store_text_of}
 use Rattle.vsi.specs.Holding.{Holding, HoldsAt}
 

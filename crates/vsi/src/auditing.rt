@@ -7,7 +7,7 @@ ghost use Rattle.vsi.specs.Holding.{IsReadAt};
 ghost use Rattle.vsi.specs.Performed as spec;
 ghost use Rattle.vsi.specs.Performed.{AuditsTo, Passes, SourceOfFile, program_version};
 ghost use Rattle.vsi_answers.specs.Judged.{AreImage, Declares};
-ghost use Rattle.vsi_evidence.specs.Evidence.{evidence_text};
+ghost use Rattle.vsi_store.specs.Evidence.{evidence_text};
 ghost use Rattle.vsi.specs.Refusals.{NoOther, RefusesImage, RefusesLattice, FailsBy};
 ghost use Rattle.vsi.specs.Reasons.{HasNoText, IsRefusedImage, RefusesAudit};
 ghost use Rattle.vsi.specs.declared.failure.Failure.TheVariants as fails;
@@ -22,10 +22,10 @@ use std::alloc::{AllocError, Global};
 use vsi_answers::judged_image;
 use vsi_arguments::Audit;
 use vsi_audit::{AuditError, audit_in, audit_text, source_text};
-use vsi_evidence::{AuditProfile, Filed, evidence};
 use vsi_image::{Image, Verified};
 use vsi_lattice::Lattice;
 use vsi_steady::{SteadyError, steady_in, steady_text};
+use vsi_store::{AuditProfile, Filed, evidence};
 
 /// The failure for a refused image.
 fn refused_image<'a>(

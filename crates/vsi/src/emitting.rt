@@ -20,8 +20,7 @@ use crate::subcommands::built;
 use std::alloc::Global;
 use vsi_answers::{enough_budget, judged_image};
 use vsi_arguments::{Bounding, Compilation, Emission};
-use vsi_c_names::is_function_name;
-use vsi_emit::{Build, Origin, emit_c, emit_header};
+use vsi_emit::{Build, Origin, emit_c, emit_header, is_function_name};
 use vsi_image::Verified;
 
 /// The name in C if neither the given name nor that of the file is allowed.

@@ -12,7 +12,7 @@ ghost use Rattle.vsi_answers.specs.Judged.{Declares};
 ghost use Rattle.vsi_conform.specs.Beside.{IsInside};
 ghost use Rattle.vsi_conform.specs.Reading.{IsReadAs};
 ghost use Rattle.vsi_conform.specs.Totals.{total_of};
-ghost use Rattle.vsi_evidence.specs.Evidence.{conformity_text};
+ghost use Rattle.vsi_store.specs.Evidence.{conformity_text};
 
 use crate::auditing::version;
 use crate::cache::{InputCache, InputKind};
@@ -27,9 +27,9 @@ use vsi_answers::{enough_budget, judged_image};
 use vsi_arguments::Conformance;
 use vsi_compiler::unjudged_image;
 use vsi_conform::{Bounded, InterfaceFile, Judgement, Policy, path_beside};
-use vsi_evidence::{AuditProfile, Filed, conformity};
 use vsi_image::Verified;
 use vsi_lattice::Lattice;
+use vsi_store::{AuditProfile, Filed, conformity};
 
 /// An interface and its lattice, with the bytes that declare them.
 #[derive(Drop)]

@@ -5,7 +5,7 @@ ghost use Rattle.std.specs.Prelude.{◌≤◌, length};
 use std::alloc::{AllocError, Global};
 use vsi_caret::put_text;
 use vsi_compiler::{CompileError, Source};
-use vsi_raised::raise_lines_of;
+use vsi_flows::raise_lines_of;
 use vsi_types::Profile;
 
 /// The largest number of raises that are listed.

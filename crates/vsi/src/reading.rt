@@ -24,8 +24,7 @@ use vsi_devices::{Counted, EngineError, READ_LIMIT, read_all};
 use vsi_diagnostics::Fault;
 use vsi_image::{DecodeError, Verified};
 use vsi_lattice::{Class, Lattice, LatticeError};
-use vsi_state::is_whole;
-use vsi_store::{StoreError, ViewError};
+use vsi_store::{StoreError, ViewError, is_whole};
 
 /// The lattice of a run without arguments.
 pub(crate) const TWO_CLASSES: &[u8] = b"classes = [\"L\", \"H\"]\nbelow = [[\"L\", \"H\"]]\n";

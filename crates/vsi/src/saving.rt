@@ -20,8 +20,7 @@ use vsi_answers::start_words;
 use vsi_arguments::Driving;
 use vsi_drive::Controller;
 use vsi_image::Verified;
-use vsi_state::sealed;
-use vsi_store::store_text;
+use vsi_store::{sealed, store_text};
 
 /// A controller that is driven, and the file that receives its store.
 #[derive(Drop)]

@@ -12,10 +12,10 @@ use Rattle.vsi_image.specs.Meaning.{State, after, going}
 use Rattle.vsi_image.specs.Reading.{image_of}
 use Rattle.vsi_image.proofs.Images.{spelled-is_read}
 use Rattle.vsi_machine.specs.Runs.{run_of}
-use Rattle.vsi_bound.specs.Bound.{AlwaysHalts, Answers}
-use Rattle.vsi_bound.specs.declared.bound.Bound.{Bound}
-use Rattle.vsi_bound.specs.declared.bound.Bound.TheVariants.{Halts, Endless, Unstructured, TooLarge}
-use Rattle.vsi_bound.proofs.Ending as bounds
+use Rattle.vsi_machine.specs.Bound.{AlwaysHalts, Answers}
+use Rattle.vsi_machine.specs.declared.bound.Bound.{Bound}
+use Rattle.vsi_machine.specs.declared.bound.Bound.TheVariants.{Halts, Endless, Unstructured, TooLarge}
+use Rattle.vsi_machine.proofs.Ending as bounds
 use Rattle.vsi_compiler.specs.Observation.{AgreeAt, Ends, IsNoninterfering}
 use Rattle.vsi_answers.specs.declared.places.Place.{Place}
 use Rattle.vsi_answers.specs.Bounds.{bound_line, halts_line, is_bounded}

@@ -5,11 +5,11 @@ use Rattle.vsi_machine.specs.Counting.{Halts as HaltsRun}
 use Rattle.vsi_machine.specs.Runs.{run_of}
 use Rattle.vsi_compiler.specs.Observation.{IsStoreOf}
 use Rattle.vsi_scope.specs.Meaning.{Store}
-use Rattle.vsi_bound.specs.Bound.{AlwaysHalts, Answers}
-use Rattle.vsi_bound.specs.declared.bound.Bound.{Bound}
-use Rattle.vsi_bound.specs.declared.bound.Bound.TheVariants.{Halts, Endless, Unstructured, TooLarge}
-use Rattle.vsi_bound.specs.declared.error.Reason.{Reason}
-use Rattle.vsi_bound.specs.declared.error.Reason.TheVariants.{Guard, Start, Step, Wraps}
+use Rattle.vsi_machine.specs.Bound.{AlwaysHalts, Answers}
+use Rattle.vsi_machine.specs.declared.bound.Bound.{Bound}
+use Rattle.vsi_machine.specs.declared.bound.Bound.TheVariants.{Halts, Endless, Unstructured, TooLarge}
+use Rattle.vsi_machine.specs.declared.reasons.Reason.{Reason}
+use Rattle.vsi_machine.specs.declared.reasons.Reason.TheVariants.{Guard, Start, Step, Wraps}
 use Rattle.vsi_answers.specs.declared.bounds.BoundAnswer.{BoundAnswer}
 use Rattle.vsi_answers.specs.declared.places.Place.{Place}
 

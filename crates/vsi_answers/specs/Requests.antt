@@ -24,7 +24,7 @@ use Rattle.vsi_steady.specs.Steady.{IsSteady}
 use Rattle.vsi_drive.specs.Starts.{Begins}
 use Rattle.vsi_devices.specs.Building.{IsBuilt}
 use Rattle.vsi_flows.specs.Text.{IsTableText, IsWalksText}
-use Rattle.vsi_raised.specs.Answers.{IsRaiseText, IsRaisedText, RefusesRaise, RefusesRaised}
+use Rattle.vsi_flows.specs.Answers.{IsRaiseText, IsRaisedText, RefusesRaise, RefusesRaised}
 use Rattle.vsi_answers.specs.declared.unanswered.Unanswered.{Unanswered}
 use Rattle.vsi_answers.specs.Answers.{Judges, Nothing, Runs, Telling}
 use Rattle.vsi_answers.specs.Judged.{AreImage, Declares, IsCompileFault, IsImageFault, IsLatticeFault, IsProgramFault, IsTreeFault, IsViewFault, TellsFault, TellsRaised, TellsSource, TellsStart, TellsSteady}

@@ -5,9 +5,9 @@ ghost use Rattle.vsi_answers.specs.Bounds as spec;
 
 use crate::places::{Place, loop_place};
 use std::alloc::{AllocError, Global};
-use vsi_bound::{Bound, Reason, bound_of};
 use vsi_image::Verified;
 use vsi_lattice::Lattice;
+use vsi_machine::{Bound, Reason, bound_of};
 use vsi_syntax::{put_line_column, put_number};
 
 /// The answer about the bound of an image: its line, and whether there is a bound.

@@ -4,7 +4,7 @@ ghost use Rattle.std.specs.Prelude.{◌≡◌, IfOk};
 ghost use Rattle.vsi_answers.specs.Answers.{Because};
 ghost use Rattle.vsi_answers.specs.Judged.{IsRaisedRefusal, TellsRaised};
 ghost use Rattle.vsi_answers.specs.Requests.{AppliesTo, MendsTo, TellsUnraised};
-ghost use Rattle.vsi_raised.specs.Answers.{RefusesRaisedText};
+ghost use Rattle.vsi_flows.specs.Answers.{RefusesRaisedText};
 ghost use Rattle.vsi_types.specs.declared.rules.Profile.{Profile};
 
 use crate::refusing::refused_source;
@@ -12,8 +12,8 @@ use crate::unanswered::{Cause, Unanswered};
 use std::alloc::{AllocError, Global};
 use vsi_compiler::CompileError;
 use vsi_diagnostics::refusal_text;
+use vsi_flows::{RaisedError, raise_lines_in, raised_text_in};
 use vsi_lattice::Lattice;
-use vsi_raised::{RaisedError, raise_lines_in, raised_text_in};
 use vsi_types::Profile;
 
 /// The line that follows the refusal of a text with raised classes.

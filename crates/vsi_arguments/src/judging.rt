@@ -3,7 +3,7 @@
 use crate::numbers::{number_in, wrong_number};
 use clap::ArgMatches;
 use clap::parser::ValueSource;
-use vsi_c_names::is_function_name;
+use vsi_emit::is_function_name;
 use vsi_explain::{page, subject_page};
 
 /// A subcommand, or `*` for each that has the arguments; an argument, and others of which it needs

@@ -10,9 +10,9 @@ use Rattle.vsi_types.specs.declared.rules.Profile.{Profile}
 use Rattle.vsi_types.specs.Security.{program}
 use Rattle.vsi_infer.specs.Explanation.{name_of}
 use Rattle.vsi_compiler.specs.Stands.{Stands}
-use Rattle.vsi_raise.specs.declared.raise.Raise.{Raise}
-use Rattle.vsi_raise.specs.Raising.{AreLeastRaises}
-use Rattle.vsi_raised.specs.Lines.{class_name}
+use Rattle.vsi_flows.specs.declared.raise.Raise.{Raise}
+use Rattle.vsi_flows.specs.Raising.{AreLeastRaises}
+use Rattle.vsi_flows.specs.Lines.{class_name}
 
 -- The old classes of the raises are of the lattice.
 abbrev pub HasOldClassesIn : orders.Lattice → List Raise → Type 0

@@ -11,8 +11,8 @@ use serde_json::{Value, json};
 use std::alloc::{AllocError, Global};
 use vsi_client::Encoding;
 use vsi_compiler::{CompileError, Source, read_source};
+use vsi_flows::{RaisedError, raised_text_in, raised_text_of};
 use vsi_lattice::Lattice;
-use vsi_raised::{RaisedError, raised_text_in, raised_text_of};
 use vsi_types::Profile;
 
 /// The number of a refused flow.

@@ -3,14 +3,14 @@
 ghost use Rattle.std.specs.Prelude.{◌≡◌, ◌++◌, IfOk, IfSome, OnOk};
 ghost use Rattle.vsi_lattice.specs.LatticeView.{order};
 ghost use Rattle.vsi_lattice.specs.Order.{IsClass};
-ghost use Rattle.vsi_raised.specs.Answers.{HasClassesIn};
+ghost use Rattle.vsi_flows.specs.Answers.{HasClassesIn};
 ghost use Rattle.vsi_choices.specs.Titles as spec;
 
 use std::alloc::{AllocError, Global};
 use vsi_compiler::Source;
+use vsi_flows::{Raise, Raising, raises_of};
 use vsi_infer::variable_name;
 use vsi_lattice::Lattice;
-use vsi_raise::{Raise, Raising, raises_of};
 use vsi_scope::Resolved;
 use vsi_types::Profile;
 

@@ -5,9 +5,9 @@ use Rattle.vsi_lattice.specs.declared.lattice.Lattice.{Lattice}
 use Rattle.vsi_lattice.specs.LatticeView.{class_named}
 use Rattle.vsi_image.specs.declared.instr.Image.{Image}
 use Rattle.vsi_compiler.specs.Headline.{IsImageOf}
-use Rattle.vsi_bound.specs.Bound.{Answers}
-use Rattle.vsi_bound.specs.declared.bound.Bound.{Bound}
-use Rattle.vsi_bound.specs.declared.bound.Bound.TheVariants.{Halts, Endless, Unstructured, TooLarge}
+use Rattle.vsi_machine.specs.Bound.{Answers}
+use Rattle.vsi_machine.specs.declared.bound.Bound.{Bound}
+use Rattle.vsi_machine.specs.declared.bound.Bound.TheVariants.{Halts, Endless, Unstructured, TooLarge}
 use Rattle.vsi_answers.specs.Bounds.{IsBound, TellsBound, is_bounded}
 use Rattle.vsi_answers.specs.Bounds as answers
 use Rattle.vsi_answers.specs.declared.bounds.BoundAnswer.{BoundAnswer}

@@ -2,8 +2,8 @@
 use Rattle.std.specs.Prelude.{◌≡◌, ℕ, ◌<◌, ◌≤◌, ◌⊎◌, ◌++◌, Bool, true, false, List, codes, decimal, Option, Some, None}
 use Rattle.std.specs.Global.{Vec}
 use Rattle.vsi_image.specs.declared.instr.Image.{Image}
-use Rattle.vsi_bound.specs.Bound.{Answers}
-use Rattle.vsi_bound.specs.declared.bound.Bound.{Bound}
+use Rattle.vsi_machine.specs.Bound.{Answers}
+use Rattle.vsi_machine.specs.declared.bound.Bound.{Bound}
 use Rattle.vsi_answers.specs.Bounds.{IsBound, bound_line, is_bounded}
 use Rattle.vsi_answers.specs.declared.places.Place.{Place}
 use Rattle.vsi_conform.specs.declared.interface.Bounded.{Bounded}

@@ -13,8 +13,8 @@ use Rattle.vsi_types.specs.Security.{program}
 use Rattle.vsi_types.specs.Walks.{declared_class}
 use Rattle.vsi_infer.specs.Explanation.{class_text, name_of}
 use Rattle.vsi_flows.specs.declared.pair.Pair.{Pair}
-use Rattle.vsi_bound.specs.declared.bound.Bound.{Bound}
-use Rattle.vsi_bound.specs.declared.bound.Bound.TheVariants.{Halts, Endless, Unstructured, TooLarge}
+use Rattle.vsi_machine.specs.declared.bound.Bound.{Bound}
+use Rattle.vsi_machine.specs.declared.bound.Bound.TheVariants.{Halts, Endless, Unstructured, TooLarge}
 use Rattle.vsi_answers.specs.Bounds.{is_bounded}
 use Rattle.vsi_diagnostics.specs.Members.{without_end, with_text, with_natural}
 use Rattle.vsi_diagnostics.specs.Source.{line_of, column_of}

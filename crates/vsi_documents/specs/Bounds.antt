@@ -2,9 +2,9 @@
 use Rattle.std.specs.Prelude.{◌≡◌, ℕ, Bool, List, Option, codes}
 use Rattle.serde_json.specs.Data.{boolean, Members, no_members, put}
 use Rattle.vsi_image.specs.declared.instr.Image.{Image}
-use Rattle.vsi_bound.specs.Bound.{Answers}
-use Rattle.vsi_bound.specs.declared.bound.Bound.{Bound}
-use Rattle.vsi_bound.specs.declared.bound.Bound.TheVariants.{Halts, Endless, Unstructured, TooLarge}
+use Rattle.vsi_machine.specs.Bound.{Answers}
+use Rattle.vsi_machine.specs.declared.bound.Bound.{Bound}
+use Rattle.vsi_machine.specs.declared.bound.Bound.TheVariants.{Halts, Endless, Unstructured, TooLarge}
 use Rattle.vsi_answers.specs.Bounds.{bound_line, is_bounded}
 use Rattle.vsi_answers.specs.declared.places.Place.{Place}
 use Rattle.vsi_diagnostics.specs.Members.{without_end, with_text, with_natural, object_line}

@@ -3,7 +3,7 @@
 ghost use Rattle.std.specs.Prelude.{◌≡◌, IfOk, OnOk};
 ghost use Rattle.serde_json.specs.View.{members_view};
 ghost use Rattle.vsi_answers.specs.Bounds.{IsBoundLine, is_bounded as is_bounded_of};
-ghost use Rattle.vsi_bound.specs.Bound.{Answers};
+ghost use Rattle.vsi_machine.specs.Bound.{Answers};
 ghost use Rattle.vsi_documents.specs.Bounds as spec;
 ghost use Rattle.vsi_diagnostics.specs.Members as lines;
 
@@ -11,10 +11,10 @@ use crate::answer::Documented;
 use serde_json::{Map, Value, put};
 use std::alloc::{AllocError, Global};
 use vsi_answers::{bound_text, bound_text_in};
-use vsi_bound::{Bound, bound_of};
 use vsi_diagnostics::members::{object_line, put_natural, put_text, without_end};
 use vsi_image::Verified;
 use vsi_lattice::Lattice;
+use vsi_machine::{Bound, bound_of};
 
 /// Whether an answer has a number of instructions.
 fn is_bounded(found: Bound) -> bool

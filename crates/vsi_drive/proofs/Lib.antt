@@ -6,3 +6,5 @@ pub mod Alike
 pub mod Viewed
 pub mod Steady
 pub mod Behind
+pub mod Settling
+pub mod Driving

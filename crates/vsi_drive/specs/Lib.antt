@@ -8,3 +8,5 @@ pub mod Starts
 pub mod Cycles
 pub mod Views
 pub mod Laws
+pub mod Settled
+pub mod Drives

@@ -1,10 +1,15 @@
-//! The laws of drives and of views. Each function's contract is a law, and its body does nothing.
+//! The laws of drives, of views, and of pairs of runs and drives within a bound. Each
+//! function's contract is a law.
 
 ghost use Rattle.vsi_drive.specs.Laws.{SameCompiledDrives, SameCompiledViews, SameDrives, SameReleasedCompiledDrives, SameReleasedCompiledViews, SameReleasedDrives, SameReleasedSteadyDrives, SameReleasedViews, SameSteadyDrives, ViewsPlainly};
+ghost use Rattle.vsi_drive.specs.Drives.{BoundedDrivesHalt, SameBoundedDrives, SameReleasedBoundedDrives};
+ghost use Rattle.vsi_drive.specs.Settled.{SettledCount, SettledNoninterference};
 
-/// For a noninterfering image and a controller that releases nothing, two drives over lines that set the same write the same output and
-/// lead to stores that agree, if the first stores agree at and below the class and no cycle is out
-/// of budget.
+use vsi_steady::laws::steady_runs_alike;
+
+/// For a noninterfering image and a controller that releases nothing, two drives over lines that
+/// set the same write the same output and lead to stores that agree, if the first stores agree at
+/// and below the class and no cycle is out of budget.
 pub fn same_drives()
     ensures { SameDrives }
 {}
@@ -57,4 +62,37 @@ pub fn same_compiled_views()
 /// Without a boundary, a view is that of `view` of `vsi_store`.
 pub fn plain_view()
     ensures { ViewsPlainly }
+{}
+
+/// If a noninterfering image always halts, as a compiled image with a bound does, two runs with
+/// budgets of at least the bound both halt, and end in agreement at and below each class at and
+/// below which their stores agree.
+pub fn settled_noninterference()
+    ensures { SettledNoninterference }
+{}
+
+/// Two runs of a steady image that always halts, from stores that agree at the bottom class, have
+/// the same number of instructions, which is at most the bound.
+pub fn settled_count()
+    ensures { SettledCount }
+{
+    // Called for its contract alone.
+    steady_runs_alike();
+}
+
+/// If the budget of each cycle is at least the bound of the image, no cycle is out of budget.
+pub fn bounded_drives_halt()
+    ensures { BoundedDrivesHalt }
+{}
+
+/// For a noninterfering image and a controller that releases nothing, two drives over lines that
+/// set the same write the same output and lead to stores that agree, if the first stores agree at
+/// and below the class and the budget of each cycle is at least the bound of the image.
+pub fn same_bounded_drives()
+    ensures { SameBoundedDrives }
+{}
+
+/// The same holds for any boundary, if both drives release the same numbers in each cycle.
+pub fn same_released_bounded_drives()
+    ensures { SameReleasedBoundedDrives }
 {}

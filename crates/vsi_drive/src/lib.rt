@@ -5,13 +5,15 @@
 //! written as a line of the same form. The clauses cite `specs/Settings` for the settings of a
 //! line, and `specs/Cycles` for the output of a cycle and the store after it. `view` runs the image
 //! once and returns these globals a line each: see `specs/Views`. `laws` shows that the output
-//! reveals nothing from above the class, but for what is released.
+//! reveals nothing from above the class, but for what is released, and that no premise that runs
+//! halt is needed of an image with a bound, if budgets are no smaller than it.
 //!
 //! `first_words` returns the words with which a run begins, from a store file and from globals that
 //! are set after it: see `specs/Starts`.
 //!
-//! To be believed: `specs/Control`, `specs/Cycles`, `specs/Fields`, `specs/Laws`, `specs/Settings`,
-//! `specs/Starts`, `specs/Views`. The other files of `specs/` only support proofs.
+//! To be believed: `specs/Control`, `specs/Cycles`, `specs/Drives`, `specs/Fields`, `specs/Laws`,
+//! `specs/Settings`, `specs/Settled`, `specs/Starts`, `specs/Views`. The other files of `specs/`
+//! only support proofs.
 #![tactic(auto)]
 
 mod boundary;

@@ -15,3 +15,4 @@ pub mod Begun
 pub mod Depths
 pub mod Translation
 pub mod Prepaid
+pub mod Names

@@ -10,12 +10,12 @@
 //! a guard takes at once: it is the test of the branch. So the only jumps of the text are those of
 //! the code and those of the budget. Whenever two runs of the image are at the same positions, the
 //! calls take the same jumps (`specs/Jumps`). `laws` states the consequences for compiled images
-//! and for steady ones.
+//! and for steady ones. `is_function_name` says which names the function may have.
 //!
 //! To be believed: `specs/Apart`, `specs/Bounded`, `specs/BoundedWriting`, `specs/Closed`,
-//! `specs/Emitted`, `specs/Emulation`, `specs/Jumps`, `specs/Laws`, `specs/Origins`, `specs/SmallC`,
-//! `specs/Translation`, `specs/Whole` and `specs/Writing`, and `specs/Names` of `vsi_c_names`. The
-//! other files of `specs/` only support proofs.
+//! `specs/Emitted`, `specs/Emulation`, `specs/Jumps`, `specs/Laws`, `specs/Names`, `specs/Origins`,
+//! `specs/SmallC`, `specs/Translation`, `specs/Whole` and `specs/Writing`, and the list of keywords
+//! in `src/names.rt`. The other files of `specs/` only support proofs.
 #![tactic(auto)]
 
 mod blocks;
@@ -25,6 +25,7 @@ mod error;
 mod frame;
 pub mod laws;
 mod marks;
+mod names;
 mod operands;
 mod origin;
 mod paid;
@@ -34,5 +35,5 @@ mod statements;
 
 pub use emit::{emit_bounded, emit_bounded_header, emit_c, emit_header};
 pub use error::EmitError;
+pub use names::is_function_name;
 pub use origin::{Build, Origin};
-pub use vsi_c_names::is_function_name;

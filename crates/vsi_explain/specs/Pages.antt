@@ -1,10 +1,8 @@
 -- The page of each refusal.
 use Rattle.std.specs.Prelude.{ℕ, ◌==◌, List, [], ◌∷◌, Option}
 use Rattle.std.specs.Map.{lookup}
-use Rattle.vsi_explain.specs.declared.boundary.TheConstants as boundary
 use Rattle.vsi_explain.specs.declared.image.TheConstants as image
 use Rattle.vsi_explain.specs.declared.lattice.TheConstants as lattice
-use Rattle.vsi_explain.specs.declared.scope.TheConstants as scope
 use Rattle.vsi_explain.specs.declared.store.TheConstants as store
 use Rattle.vsi_explain.specs.declared.text.TheConstants as text
 
@@ -27,13 +25,13 @@ PAGES =
     ∷ (14, text.BAD_NUMBER.now)
     ∷ (15, text.UNEXPECTED.now)
     ∷ (16, text.TOO_DEEP.now)
-    ∷ (17, scope.DUPLICATE.now)
-    ∷ (18, scope.UNKNOWN_CLASS.now)
-    ∷ (19, scope.UNBOUND.now)
-    ∷ (20, scope.TOO_MANY_GLOBALS.now)
-    ∷ (21, scope.TOO_MANY_DECLARATIONS.now)
-    ∷ (22, scope.TOO_LARGE.now)
-    ∷ (25, scope.REFUSED.now)
+    ∷ (17, text.DUPLICATE.now)
+    ∷ (18, text.UNKNOWN_CLASS.now)
+    ∷ (19, text.UNBOUND.now)
+    ∷ (20, text.TOO_MANY_GLOBALS.now)
+    ∷ (21, text.TOO_MANY_DECLARATIONS.now)
+    ∷ (22, text.TOO_LARGE.now)
+    ∷ (25, text.REFUSED.now)
     ∷ (26, image.UNENCODABLE.now)
     ∷ (27, image.BAD_MAGIC.now)
     ∷ (28, image.BAD_VERSION.now)
@@ -61,12 +59,12 @@ PAGES =
     ∷ (50, image.WRONG_FIELDS.now)
     ∷ (51, image.NO_TEXT.now)
     ∷ (56, store.GLOBAL_NOT_NAMED.now)
-    ∷ (60, boundary.NOT_AN_INPUT.now)
-    ∷ (61, boundary.UNKNOWN_INPUT.now)
-    ∷ (62, boundary.INPUT_ABOVE_CLASS.now)
-    ∷ (63, boundary.UNKNOWN_OUTPUT.now)
-    ∷ (64, boundary.OUTPUT_ABOVE_CLASS.now)
-    ∷ (65, boundary.NOT_AN_OUTPUT.now)
+    ∷ (60, store.NOT_AN_INPUT.now)
+    ∷ (61, store.UNKNOWN_INPUT.now)
+    ∷ (62, store.INPUT_ABOVE_CLASS.now)
+    ∷ (63, store.UNKNOWN_OUTPUT.now)
+    ∷ (64, store.OUTPUT_ABOVE_CLASS.now)
+    ∷ (65, store.NOT_AN_OUTPUT.now)
     ∷ []
 
 -- The page of the refusal of this number.

@@ -11,18 +11,14 @@ ghost use Rattle.std.specs.Prelude.{◌≡◌, ◌↔◌, IsSome, option_map, tr
 ghost use Rattle.vsi_explain.specs.Numbers as spec;
 ghost use Rattle.vsi_explain.specs.Pages.{page_of};
 
-mod boundary;
 mod image;
 mod lattice;
-mod scope;
 mod store;
 mod subjects;
 mod text;
 
-use boundary::boundary_page;
 use image::image_page;
 use lattice::lattice_page;
-use scope::scope_page;
 use store::store_page;
 pub use subjects::subject_page;
 use text::text_page;
@@ -36,10 +32,8 @@ pub fn page(number: u64) -> Option<&'static str>
 {
     match number {
         1..=10 => lattice_page(number),
-        11..=16 => text_page(number),
-        17..=25 => scope_page(number),
+        11..=25 => text_page(number),
         26..=38 | 49..=51 => image_page(number),
-        39..=48 | 56 => store_page(number),
-        _ => boundary_page(number),
+        _ => store_page(number),
     }
 }

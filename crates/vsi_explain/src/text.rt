@@ -1,4 +1,5 @@
-//! The pages of the refusals of a text for its tokens and its tree.
+//! The pages of the refusals of a text for its tokens and its tree, and of a program for its names,
+//! its size and its flows.
 
 ghost use Rattle.std.specs.Prelude.{◌≡◌, ◌↔◌, IfSome, IsSome, Some, true};
 ghost use Rattle.vsi_explain.specs.Numbers as spec;
@@ -16,6 +17,13 @@ pub(crate) fn text_page(number: u64) -> Option<&'static str>
         14 => Some(BAD_NUMBER),
         15 => Some(UNEXPECTED),
         16 => Some(TOO_DEEP),
+        17 => Some(DUPLICATE),
+        18 => Some(UNKNOWN_CLASS),
+        19 => Some(UNBOUND),
+        20 => Some(TOO_MANY_GLOBALS),
+        21 => Some(TOO_MANY_DECLARATIONS),
+        22 => Some(TOO_LARGE),
+        25 => Some(REFUSED),
         _ => None,
     }
 }
@@ -122,5 +130,123 @@ than 200 parts needs two assignments.
 
   $ printf 'var x : L; x := %s' $(printf '%0201d' 0 | tr 0 '(') | vsi
   refused: 16 TooDeep 1:217
+  [1]
+";
+
+/// The page of Duplicate.
+const DUPLICATE: &str = "\
+17 Duplicate LINE:COLUMN
+
+The global at LINE:COLUMN has the name of an earlier global.
+
+What to do: leave one out, or give it another name. A `letvar` may repeat the
+name of a global, which isn't visible inside the `letvar`.
+
+  $ printf 'var x : L; var x : H; x := 1' | vsi
+  refused: 17 Duplicate 1:16
+  [1]
+";
+
+/// The page of UnknownClass.
+const UNKNOWN_CLASS: &str = "\
+18 UnknownClass LINE:COLUMN
+
+The class at LINE:COLUMN isn't in the lattice.
+
+What to do: use a class of the lattice file, or add this one there. Without a
+lattice file, as in `vsi < text`, the classes are L and H. Upper and lower case
+differ.
+
+  $ printf 'var x : Low; x := 1' | vsi
+  refused: 18 UnknownClass 1:9
+  [1]
+";
+
+/// The page of Unbound.
+const UNBOUND: &str = "\
+19 Unbound LINE:COLUMN
+
+The name at LINE:COLUMN isn't declared there.
+
+What to do: declare it at the head, `var NAME : CLASS;`, or by a `letvar` around
+the place; or fix its spelling. A `letvar x := e in c` declares `x` in `c` only:
+not in `e`, and not after a `;` that follows. If `c` is several commands, write
+{ } around them.
+
+  $ printf 'var x : L; letvar y := 1 in x := y; x := y' | vsi
+  refused: 19 Unbound 1:42
+  [1]
+";
+
+/// The page of TooManyGlobals.
+const TOO_MANY_GLOBALS: &str = "\
+20 TooManyGlobals LINE:COLUMN
+
+The global at LINE:COLUMN is the 257th.
+
+What to do: use `letvar` for values that aren't needed at the end of the run.
+
+  $ (seq -f 'var x%g : L;' 257; printf 'x1 := 1') | vsi
+  refused: 20 TooManyGlobals 257:5
+  [1]
+";
+
+/// The page of TooManyDeclarations.
+const TOO_MANY_DECLARATIONS: &str = "\
+21 TooManyDeclarations LINE:COLUMN
+
+The declaration at LINE:COLUMN is the 1025th, globals and `letvar`s together.
+
+What to do: reuse a local variable whose earlier value isn't needed any more.
+
+  $ seq -f 'letvar v%g := 0 in x := 1;' 1024 > lines
+  $ (printf 'var x : L;\\n'; cat lines; printf 'x := 1') | vsi
+  refused: 21 TooManyDeclarations 1025:8
+  [1]
+";
+
+/// The page of TooLarge.
+const TOO_LARGE: &str = "\
+22 TooLarge
+
+The size of the program is above 65534. A number, a name that is read, an
+operator, an assignment and a `letvar` count 1 each, an `if` or a `while` 2.
+
+What to do: put repeated commands into a loop, or split the program in two.
+
+  $ (printf 'var x : L;\\n'; seq -f 'x := %g;' 32767; printf 'x := 1') | vsi
+  refused: 22 TooLarge
+  [1]
+";
+
+/// The page of Refused.
+const REFUSED: &str = "\
+25 Refused
+
+Information could flow from a variable to one whose class isn't at or above
+its own. The lines below the first show how, step by step: where a name is
+read, where its information goes, by which rule, and where that is written. The
+last line names both ends. The rules:
+
+- ASSIGN: the name is in the value that is assigned.
+- LETVAR: the name is in the initial value of a local variable.
+- IF: the name is in a guard, and the assignment in one of its branches, so the
+  branch that runs reveals something about the guard.
+- WHILE: the same for the guard and the body of a loop.
+- LOOP, under --strict: the name is in the guard of a loop, or in a guard around
+  a loop, so whether the run ends reveals something about it.
+
+What to do: break one of the steps. Move the assignment out of the branch, or
+compute its value from variables that may flow there; replace a local variable
+in the middle of the chain by two, one for each use; or raise the class of the
+variable at the end, if the policy allows that. Don't lower the class of the
+first one: it says what must stay secret. The text is judged, not a run: a flow
+in a branch that never runs counts too, and so does one that a later assignment
+overwrites.
+
+  $ printf 'var h : H; var l : L; if h then l := 1 else l := 0' | vsi
+  refused: 25 Refused
+  1:26 h flows to l by IF at 1:33
+  h : H may not flow to l : L
   [1]
 ";

@@ -9,3 +9,13 @@ pub mod ImageLemmas
 pub mod WalkLemmas
 pub mod WalkedLemmas
 pub mod TextLemmas
+pub mod UnderLemmas
+pub mod PolicyLemmas
+pub mod RaiseRowLemmas
+pub mod ChangeLemmas
+pub mod RaiseLemmas
+pub mod NameLemmas
+pub mod AnswerLemmas
+pub mod RelatedLists
+pub mod RelatedReach
+pub mod FurtherLemmas

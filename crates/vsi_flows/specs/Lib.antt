@@ -6,3 +6,13 @@ pub mod Text
 pub mod Refused
 pub mod Walks
 pub mod Walking
+pub mod Policy
+pub mod Raising
+pub mod Reaching
+pub mod Lines
+pub mod Places
+pub mod RaisedErrors
+pub mod Answers
+pub mod Related
+pub mod Further
+pub mod Messages

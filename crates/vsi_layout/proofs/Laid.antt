@@ -16,7 +16,7 @@ use Rattle.vsi_syntax.specs.Spelling.{bare, word_at}
 use Rattle.vsi_syntax.proofs.Relabel.{program_relabel}
 use Rattle.vsi_syntax.proofs.Spans.{good_again}
 use Rattle.vsi_syntax.proofs.Unique.{one_cut}
-use Rattle.vsi_layout.specs.declared.error.LayoutError.TheVariants.{Memory}
+use Rattle.vsi_layout.specs.declared.layouts.LayoutError.TheVariants.{Memory}
 use Rattle.vsi_layout.specs.Errors.{lexical, syntactic}
 use Rattle.vsi_layout.specs.Same.{is_same}
 use Rattle.vsi_layout.specs.Writing.{laid, lacks_memory}

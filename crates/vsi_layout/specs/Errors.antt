@@ -3,8 +3,8 @@ use Rattle.vsi_syntax.specs.declared.lexer.LexError.{LexError}
 use Rattle.vsi_syntax.specs.declared.lexer.LexError.TheVariants as lexer
 use Rattle.vsi_syntax.specs.declared.parser.ParseError.{ParseError}
 use Rattle.vsi_syntax.specs.declared.parser.ParseError.TheVariants as parser
-use Rattle.vsi_layout.specs.declared.error.LayoutError.{LayoutError}
-use Rattle.vsi_layout.specs.declared.error.LayoutError.TheVariants.{Lex, Parse, Memory}
+use Rattle.vsi_layout.specs.declared.layouts.LayoutError.{LayoutError}
+use Rattle.vsi_layout.specs.declared.layouts.LayoutError.TheVariants.{Lex, Parse, Memory}
 
 -- An error of the lexer.
 abbrev pub lexical : LexError → LayoutError

@@ -1,10 +1,10 @@
 -- The layout of the blanks and comments between two tokens.
 use Rattle.std.specs.Prelude.{ℕ, suc, ◌==◌, Bool, true, false, ◌&&◌, List, [], ◌∷◌, ◌++◌, codes, nat_le, if◌then◌else◌}
 use Rattle.vsi_syntax.specs.Canon.{spaces}
-use Rattle.vsi_layout.specs.declared.joint.Joint.{Joint}
-use Rattle.vsi_layout.specs.declared.joint.Joint.TheVariants as j
-use Rattle.vsi_layout.specs.declared.joint.Place.{Place}
-use Rattle.vsi_layout.specs.declared.gap.Cursor.{Cursor}
+use Rattle.vsi_layout.specs.declared.writing.Joint.{Joint}
+use Rattle.vsi_layout.specs.declared.writing.Joint.TheVariants as j
+use Rattle.vsi_layout.specs.declared.writing.Place.{Place}
+use Rattle.vsi_layout.specs.declared.writing.Cursor.{Cursor}
 
 -- At the beginning of a gap.
 abbrev pub fresh : Cursor

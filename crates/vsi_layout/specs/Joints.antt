@@ -2,9 +2,9 @@
 use Rattle.std.specs.Prelude.{ℕ, suc, ◌-◌, Bool, true, false, nat_le, Option, Some, None, if◌then◌else◌, ◌||◌}
 use Rattle.vsi_syntax.specs.declared.token.Kind.{Kind}
 use Rattle.vsi_syntax.specs.declared.token.Kind.TheVariants as k
-use Rattle.vsi_layout.specs.declared.joint.Joint.{Joint}
-use Rattle.vsi_layout.specs.declared.joint.Place.{Place}
-use Rattle.vsi_layout.specs.declared.joint.Joint.TheVariants as j
+use Rattle.vsi_layout.specs.declared.writing.Joint.{Joint}
+use Rattle.vsi_layout.specs.declared.writing.Place.{Place}
+use Rattle.vsi_layout.specs.declared.writing.Joint.TheVariants as j
 
 -- The line ends after this token.
 abbrev pub ends_line : Kind → Bool

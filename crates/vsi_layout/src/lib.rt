@@ -11,15 +11,10 @@
 //! say how a text is laid out, and no promise depends on that.
 #![tactic(auto)]
 
-mod comparing;
-mod error;
-mod gap;
-mod joint;
 pub mod laws;
-mod laying;
+mod layouts;
 mod places;
 mod writing;
 
-pub use error::LayoutError;
-pub use laying::layout;
+pub use layouts::{LayoutError, layout};
 pub use places::places_text;

@@ -5,9 +5,9 @@ ghost use Rattle.vsi_syntax.specs.Cut.{piece, pieces};
 ghost use Rattle.vsi_syntax.specs.Lines.{breaks, last_line};
 ghost use Rattle.vsi_layout.specs.Layout.{HasTokens};
 ghost use Rattle.vsi_layout.specs.Places as spec;
-ghost use Rattle.vsi_layout.specs.declared.error.LayoutError.TheVariants.{Memory};
+ghost use Rattle.vsi_layout.specs.declared.layouts.LayoutError.TheVariants.{Memory};
 
-use crate::error::LayoutError;
+use crate::layouts::LayoutError;
 use crate::writing::{part, rest_of};
 use std::alloc::{AllocError, Global};
 use vsi_syntax::{Token, lex, put_line_column};

@@ -3,8 +3,8 @@
 use crate::reading::Reading;
 use std::alloc::{AllocError, Global};
 use vsi_compiler::Source;
+use vsi_flows::related;
 use vsi_infer::put_variable;
-use vsi_related::related;
 use vsi_scope::Var;
 
 /// The most variables of a line.

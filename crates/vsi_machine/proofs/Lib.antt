@@ -3,3 +3,13 @@ pub mod Budgets
 pub mod Progress
 pub mod TraceLines
 pub mod Counts
+pub mod Slots
+pub mod Running
+pub mod Turning
+pub mod Operands
+pub mod Transferring
+pub mod CountingUp
+pub mod Ending
+pub mod Updating
+pub mod Commands
+pub mod Searching

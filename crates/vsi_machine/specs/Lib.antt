@@ -6,3 +6,16 @@ pub mod Cells
 pub mod Laws
 pub mod Counting
 pub mod CountTexts
+pub mod Known
+pub mod Stretch
+pub mod Values
+pub mod Transfer
+pub mod Counters
+pub mod Loops
+pub mod Looping
+pub mod Reasons
+pub mod Stopping
+pub mod Facts
+pub mod Search
+pub mod Bound
+pub mod BoundLaws

@@ -1,6 +1,7 @@
-//! Laws of runs.
+//! Laws of runs, and of bounds on their instructions.
 
 ghost use Rattle.vsi_machine.specs.Laws.{BudgetsAdd, CountDecides, HaltingLasts, NeverStuck, OneCount, OneEnding};
+ghost use Rattle.vsi_machine.specs.BoundLaws.{EnoughBudget, ExactCount};
 
 /// A run and a further run are one run with the sum of both budgets.
 pub fn budgets_add()
@@ -32,4 +33,15 @@ pub fn one_count()
 /// An image halts within a budget exactly if the budget is no smaller than its count.
 pub fn count_decides()
     ensures { CountDecides }
+{}
+
+/// If the budget is no smaller than an image's bound, its run from every store halts.
+pub fn enough_budget()
+    ensures { EnoughBudget }
+{}
+
+/// If the least and the greatest number of instructions are equal, every run takes exactly that
+/// many.
+pub fn exact_count()
+    ensures { ExactCount }
 {}

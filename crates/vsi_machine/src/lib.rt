@@ -1,6 +1,8 @@
-//! The stack machine. A `Machine` runs a verified image from one word for each global, either one
-//! instruction at a time or up to a budget of instructions. It provides the words of its globals
-//! and the trace line of its next instruction. `counted` runs an image and counts its instructions.
+//! The stack machine, and a bound on the instructions that an image can run.
+//!
+//! A `Machine` runs a verified image from one word for each global, either one instruction at a
+//! time or up to a budget of instructions. It gives the number of each global, and the trace line
+//! of its next instruction. `counted` runs an image and counts its instructions.
 //!
 //! The clauses of `run` and `step` say that the machine's state is the one given by the meaning of
 //! the instructions. They include that there is such a state: the meaning gives none if an operand,
@@ -11,21 +13,43 @@
 //! instructions, and within no smaller one. `word_cell` and `halted_cell` write the cells of texts
 //! that show two runs side by side.
 //!
+//! `bound_of` reads commands and loops back from a verified image's code, and adds up the
+//! instructions of every path through it. Code without loops takes its shortest and its longest
+//! path. A loop that counts in equal steps from a known number to a known limit takes its turns,
+//! each as long as its body. The clause says that the image halts from every store, after no fewer
+//! and no more instructions than returned, or that the result names a loop that the search doesn't
+//! get past, for the reason that is named. `laws` states the consequences for budgets.
+//!
 //! To be believed: `specs/Cells`, `specs/Counting`, `specs/CountTexts`, `specs/Laws`, `specs/Runs`,
-//! `specs/Sound`, `specs/Trace`; `specs/Held` is a stepping stone of proofs.
+//! `specs/Sound`, `specs/Trace`, `specs/Bound` and `specs/BoundLaws`; for a loop without a bound
+//! also `specs/Search` and the files that it uses. `specs/Held`, `specs/Values` and
+//! `specs/Stopping` only support proofs.
 #![tactic(auto)]
 
 mod action;
+mod bound;
 mod cells;
+mod cost;
 mod count_lines;
+mod counters;
 mod counting;
+mod facts;
+mod finishing;
 mod interpreter;
+mod joining;
+mod known;
 pub mod laws;
+mod loops;
+mod reasons;
+mod stretches;
 mod tracing;
 mod turns;
+mod values;
 
 pub use action::{CAPACITY, INSTRUCTIONS, Position, Words, act};
+pub use bound::{Bound, bound_of};
 pub use cells::{halted_cell, word_cell};
 pub use count_lines::{count_text, stop_text};
 pub use counting::{Count, counted};
 pub use interpreter::{Machine, Outcome, StartError};
+pub use reasons::Reason;

@@ -20,10 +20,10 @@ use Rattle.vsi_compiler.specs.Refusal.{RefusesProgram}
 use Rattle.vsi_compiler.specs.Source.{Reads}
 use Rattle.vsi_compiler.specs.SourceView.{Source, IsSource}
 use Rattle.vsi_steady.specs.declared.unsteady.UnsteadyError.TheVariants as unsteady
-use Rattle.vsi_raise.specs.declared.raise.Raise.{Raise}
-use Rattle.vsi_raise.specs.Raising.{AreLeastRaises}
-use Rattle.vsi_raised.specs.Lines.{class_name, name_start}
-use Rattle.vsi_raised.proofs.AnswerLemmas.{OnlyMemory, read_refused}
+use Rattle.vsi_flows.specs.declared.raise.Raise.{Raise}
+use Rattle.vsi_flows.specs.Raising.{AreLeastRaises}
+use Rattle.vsi_flows.specs.Lines.{class_name, name_start}
+use Rattle.vsi_flows.proofs.AnswerLemmas.{OnlyMemory, read_refused}
 use Rattle.vsi_diagnostics.specs.Members.{with_text, with_natural}
 use Rattle.vsi_diagnostics.specs.Source.{line_of, column_of}
 use Rattle.vsi_diagnostics.proofs.Plain.{both, text_plain, natural_plain}

@@ -4,7 +4,7 @@ use Rattle.vsi_lattice.specs.declared.lattice.Lattice.{Lattice}
 use Rattle.vsi_types.specs.declared.rules.Profile.{Profile}
 use Rattle.vsi_compiler.specs.declared.error.CompileError.{CompileError}
 use Rattle.vsi_compiler.specs.declared.error.CompileError.TheVariants.{Memory}
-use Rattle.vsi_raised.specs.Answers.{RefusesRaise}
+use Rattle.vsi_flows.specs.Answers.{RefusesRaise}
 use Rattle.vsi_conform.specs.Checking.{judgement_by, TellsAnswer, TellsRefused}
 use Rattle.vsi_raises_json.specs.Json.{IsRaisesJson}
 

@@ -12,9 +12,9 @@ use Rattle.vsi_types.specs.Security.{program}
 use Rattle.vsi_types.specs.Walks.{declared_class}
 use Rattle.vsi_infer.specs.Explanation.{class_text, name_of}
 use Rattle.vsi_compiler.specs.Stands.{Stands}
-use Rattle.vsi_raise.specs.declared.raise.Raise.{Raise}
-use Rattle.vsi_raise.specs.Raising.{AreLeastRaises}
-use Rattle.vsi_raised.specs.Lines.{class_name, name_start}
+use Rattle.vsi_flows.specs.declared.raise.Raise.{Raise}
+use Rattle.vsi_flows.specs.Raising.{AreLeastRaises}
+use Rattle.vsi_flows.specs.Lines.{class_name, name_start}
 use Rattle.vsi_diagnostics.specs.Members.{with_text, with_natural}
 use Rattle.vsi_diagnostics.specs.Source.{line_of, column_of}
 

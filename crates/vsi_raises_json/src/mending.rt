@@ -4,8 +4,8 @@ ghost use Rattle.std.specs.Prelude.{◌≡◌, false, IfOk, MatchOption};
 ghost use Rattle.vsi_lattice.specs.LatticeView.{order};
 ghost use Rattle.vsi_types.specs.Security.{program as program_of};
 ghost use Rattle.vsi_types.specs.declared.rules.Profile.{Profile};
-ghost use Rattle.vsi_raise.specs.Raising.{AreLeastRaises};
-ghost use Rattle.vsi_raised.specs.Answers.{HasClassesIn};
+ghost use Rattle.vsi_flows.specs.Raising.{AreLeastRaises};
+ghost use Rattle.vsi_flows.specs.Answers.{HasClassesIn};
 ghost use Rattle.vsi_conform.specs.Checking.{judgement_by};
 ghost use Rattle.vsi_raises_json.specs.Json.{IsRaisesJson};
 ghost use Rattle.vsi_raises_json.specs.Answers as spec;
@@ -14,8 +14,8 @@ use crate::objects::{raise_objects, raises_line};
 use std::alloc::{AllocError, Global};
 use vsi_compiler::{CompileError, Source, read_source};
 use vsi_conform::{Checked, Judgement, check_json_of, unread_json};
+use vsi_flows::{Raise, Raising, raises_of};
 use vsi_lattice::Lattice;
-use vsi_raise::{Raise, Raising, raises_of};
 use vsi_types::Profile;
 
 /// The answer about the raises of a text: whether raises serve, and the line of JSON.

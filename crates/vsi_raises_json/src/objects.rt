@@ -9,16 +9,15 @@ ghost use Rattle.vsi_lattice.specs.LatticeView.{order};
 ghost use Rattle.vsi_syntax.specs.CommandView.{declared};
 ghost use Rattle.vsi_types.specs.Security.{program as program_of};
 ghost use Rattle.vsi_infer.specs.Inference.{AreClasses};
-ghost use Rattle.vsi_raised.specs.Answers.{HasClassesIn};
+ghost use Rattle.vsi_flows.specs.Answers.{HasClassesIn};
 ghost use Rattle.vsi_raises_json.specs.Json as spec;
 
 use serde_json::{Map, Value, put};
 use std::alloc::{AllocError, Global};
 use vsi_diagnostics::members::{put_natural, put_text};
+use vsi_flows::{Raise, name_start};
 use vsi_infer::{class_name, declared_class, variable_name};
 use vsi_lattice::Lattice;
-use vsi_raise::Raise;
-use vsi_raised::name_start;
 use vsi_scope::Resolved;
 use vsi_syntax::{Declaration, line_column};
 

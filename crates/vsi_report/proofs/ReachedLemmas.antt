@@ -6,7 +6,7 @@ use Rattle.vsi_lattice.specs.Order.{Lattice}
 use Rattle.vsi_types.specs.declared.rules.Profile.{Profile}
 use Rattle.vsi_types.specs.Security.{Program}
 use Rattle.vsi_infer.specs.Flowing.{size_of}
-use Rattle.vsi_raise.specs.Reaching.{IsReached}
+use Rattle.vsi_flows.specs.Reaching.{IsReached}
 use Rattle.vsi_report.specs.Reached.{AreReached}
 
 -- The classes of the letvars before the variable n.

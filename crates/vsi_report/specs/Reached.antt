@@ -4,7 +4,7 @@ use Rattle.vsi_lattice.specs.Order.{Lattice}
 use Rattle.vsi_types.specs.declared.rules.Profile.{Profile}
 use Rattle.vsi_types.specs.Security.{Program}
 use Rattle.vsi_infer.specs.Flowing.{size_of}
-use Rattle.vsi_raise.specs.Reaching.{IsReached}
+use Rattle.vsi_flows.specs.Reaching.{IsReached}
 
 -- There is a class for each letvar: the least one at or above the declared classes of all variables that reach it.
 pub record AreReached (L : Lattice) (P : Profile) (p : Program) (classes : List ℕ) : Type 0 where

@@ -7,8 +7,8 @@ use std::alloc::AllocError;
 use vsi_caret::ColourMode;
 use vsi_compiler::{CompileError, Source};
 use vsi_diagnostics::refusal_text;
+use vsi_flows::raise_lines_of;
 use vsi_infer::rule_text;
-use vsi_raised::raise_lines_of;
 use vsi_telling::source_explanation;
 use vsi_types::{Rule, Step};
 

@@ -7,9 +7,9 @@ use crate::texts::put_refusal;
 use std::alloc::{AllocError, Global};
 use vsi_client::{Change, Encoding, Place, changed_by, offset_of, place_of};
 use vsi_compiler::{Source, read_source};
+use vsi_flows::related;
 use vsi_lattice::{Class, Lattice};
 use vsi_names::{mentions_of, rename};
-use vsi_related::related;
 use vsi_scope::Var;
 
 /// The next field as the name of an encoding.

@@ -4,12 +4,11 @@ use crate::images::image;
 use crate::row::{Row, Wrong};
 use crate::texts::put_refusal;
 use std::alloc::Global;
-use vsi_bound::bound_of;
 use vsi_compiler::unjudged_image;
 use vsi_image::verify;
 use vsi_lattice::Lattice;
 use vsi_leak::{Sign, check_leak};
-use vsi_machine::Machine;
+use vsi_machine::{Machine, bound_of};
 use vsi_steady::{steady_in, steady_text};
 
 /// Does a machine's next step and adds its trace line, or adds that there was none.

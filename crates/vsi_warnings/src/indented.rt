@@ -22,41 +22,21 @@ struct Opened {
     start: usize,
 }
 
-/// The number of bytes before a byte that are on its line.
-fn column(text: &[u8], at: usize) -> usize {
-    let mut rest = text.get(..at).unwrap_or(b"");
-    let mut count = 0usize;
-    while let [before @ .., byte] = rest {
+/// The bytes of the line of a byte that are before it.
+fn line_before(text: &[u8], at: usize) -> &[u8] {
+    let mut start = at;
+    for byte in text.get(..at).unwrap_or(b"").iter().rev() {
         if *byte == b'\n' {
             break;
         }
-        count = count.saturating_add(1);
-        rest = before;
+        start = start.saturating_sub(1);
     }
-    count
+    text.get(start..at).unwrap_or(b"")
 }
 
-/// The blanks in front of a byte, if only blanks are before it on its line.
-fn blanks_before(text: &[u8], at: usize) -> Option<&[u8]> {
-    let mut rest = text.get(..at).unwrap_or(b"");
-    let mut count = 0usize;
-    while let [before @ .., byte] = rest {
-        match *byte {
-            b' ' | b'\t' => count = count.saturating_add(1),
-            b'\n' => break,
-            _ => return None,
-        }
-        rest = before;
-    }
-    text.get(at.saturating_sub(count)..at)
-}
-
-/// The blanks at the beginning of the line of a byte.
-fn indent(text: &[u8], at: usize) -> &[u8] {
-    let line = text
-        .get(at.saturating_sub(column(text, at))..)
-        .unwrap_or(b"");
-    let mut count = 0usize;
+/// The blanks at the beginning of a line.
+fn indent(line: &[u8]) -> &[u8] {
+    let mut count: usize = 0;
     for byte in line {
         if *byte != b' ' && *byte != b'\t' {
             break;
@@ -64,12 +44,6 @@ fn indent(text: &[u8], at: usize) -> &[u8] {
         count = count.saturating_add(1);
     }
     line.get(..count).unwrap_or(b"")
-}
-
-/// Whether these blanks are more than those at the beginning of an earlier line.
-fn are_deeper(own: &[u8], text: &[u8], above: usize) -> bool {
-    let outer = indent(text, above);
-    outer.len() < own.len() && own.starts_with(outer)
 }
 
 /// The number of things up to and including the last one of a frame.
@@ -83,57 +57,50 @@ fn count_to(open: &[Opened], frame: Frame) -> usize {
     count
 }
 
-/// Finishes what an `else` finishes: all within the `if` to which it belongs.
-fn pass_else(open: &mut Vec<Opened>) {
-    open.truncate(count_to(open, Frame::Choice));
-    if let Some(last) = open.last_mut() {
-        last.frame = Frame::Otherwise;
+/// The warning about a command that begins its line at a token right of a loop or an `if` that ends
+/// there: the line is indented as if the innermost of these had the command.
+fn warning_at(text: &[u8], span: Span, open: &[Opened]) -> Option<Warning> {
+    let own = line_before(text, span.start);
+    if indent(own).len() < own.len() {
+        return None;
     }
-}
-
-/// Finishes what a brace finishes: all within the braces, and the braces.
-fn pass_brace(open: &mut Vec<Opened>) {
-    open.truncate(count_to(open, Frame::Brace).saturating_sub(1));
-}
-
-/// The innermost loop or `if` that ends before a token whose line is indented as if it were within.
-fn embracing(text: &[u8], token: usize, open: &[Opened]) -> Option<Frame> {
-    let own = blanks_before(text, token)?;
     let mut found = None;
     for opened in open {
-        if opened.frame == Frame::Brace {
-            found = None;
-        } else if are_deeper(own, text, opened.start) {
-            found = Some(opened.frame);
+        let outer = indent(line_before(text, opened.start));
+        match opened.frame {
+            Frame::Brace => found = None,
+            Frame::Loop if outer.len() < own.len() && own.starts_with(outer) => {
+                found = Some(Concern::AfterLoop);
+            }
+            _ if outer.len() < own.len() && own.starts_with(outer) => {
+                found = Some(Concern::AfterChoice);
+            }
+            _ => {}
         }
     }
-    found
-}
-
-/// The warning about a command at a token that comes after what ends there.
-fn warning_at(text: &[u8], token: Span, open: &[Opened]) -> Option<Warning> {
-    let concern = match embracing(text, token.start, open)? {
-        Frame::Loop => Concern::AfterLoop,
-        _ => Concern::AfterChoice,
-    };
     Some(Warning {
-        concern,
-        span: token,
+        concern: found?,
+        span,
     })
 }
 
-/// Begins what a token begins, and finishes what it finishes.
+/// Begins what a token begins, and finishes what it finishes: an `else` all within the `if` to which
+/// it belongs, a brace the braces and all within, and a semicolon all within its braces.
 fn pass(token: &Token<'_>, open: &mut Vec<Opened>) -> Result<(), AllocError> {
+    let start = token.span.start;
     let frame = match token.kind {
         Kind::OpenBrace => Frame::Brace,
         Kind::While => Frame::Loop,
         Kind::If => Frame::Choice,
         Kind::Else => {
-            pass_else(open);
+            open.truncate(count_to(open, Frame::Choice));
+            if let Some(last) = open.last_mut() {
+                last.frame = Frame::Otherwise;
+            }
             return Ok(());
         }
         Kind::CloseBrace => {
-            pass_brace(open);
+            open.truncate(count_to(open, Frame::Brace).saturating_sub(1));
             return Ok(());
         }
         Kind::Semicolon => {
@@ -142,7 +109,6 @@ fn pass(token: &Token<'_>, open: &mut Vec<Opened>) -> Result<(), AllocError> {
         }
         _ => return Ok(()),
     };
-    let start = token.span.start;
     Ok(open.push(Opened { frame, start })?)
 }
 

@@ -8,18 +8,12 @@
 //! To be believed: `specs/Warned`. The other file of `specs/` only supports proofs.
 #![tactic(auto)]
 
-mod chained;
-mod gathering;
-mod hiding;
 mod indented;
 mod loops;
-mod removed;
-mod stamps;
-mod unread;
 mod uses;
+mod walk;
 mod warning;
 
-pub use gathering::{warning_lines, warnings_of};
 pub use loops::unchanged_guards;
-pub use unread::{is_unused_global, unread_letvars};
-pub use warning::{Concern, Warning, put_message};
+pub use uses::{is_unused_global, unread_letvars};
+pub use warning::{Concern, Warning, put_message, warning_lines, warnings_of};

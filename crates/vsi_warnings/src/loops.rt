@@ -5,13 +5,46 @@
 //! a stamp above the number of loops that began before it.
 
 ghost use Rattle.std.specs.Prelude.{◌≡◌, IfOk, OnOk};
-ghost use Rattle.vsi_scope.specs.View.{command, sequence};
-ghost use Rattle.vsi_warnings.specs.Stamps.{IsWalked};
+ghost use Rattle.vsi_scope.specs.View.{command, expression, sequence};
+ghost use Rattle.vsi_warnings.specs.Stamps.{IsWalked, reads_above, stamp, stamped};
 ghost use Rattle.vsi_warnings.specs.Warned.{unchanged};
 
-use crate::stamps::{put_stamp, reads_above};
 use std::alloc::{AllocError, Global};
-use vsi_scope::{Cmd, Resolved};
+use vsi_scope::{Cmd, Ex, Resolved};
+
+/// The stamp of a location, or 0 if it has none.
+fn stamp(stamps: &[usize], location: u16) -> usize
+    ensures { result ≡ stamp stamps.now location }
+{
+    match stamps.get(location as usize) {
+        Some(stamp) => *stamp,
+        None => 0,
+    }
+}
+
+/// Stamps a location.
+fn put_stamp(stamps: &mut Vec<usize>, location: u16, stamp: usize) -> Result<(), AllocError>
+    ensures { OnOk result (stamps.new.items ≡ stamped stamps.old.items location stamp) }
+{
+    let place = location as usize;
+    if place < stamps.len() {
+        stamps[place] = stamp;
+        return Ok(());
+    }
+    stamps.resize(place, 0)?;
+    Ok(stamps.push(stamp)?)
+}
+
+/// Whether an expression reads a location with a stamp above this one.
+fn reads_above(e: &Ex, stamps: &[usize], begun: usize) -> bool
+    ensures { result ≡ reads_above stamps.now begun (expression e.now) }
+{
+    match e {
+        Ex::Num(_) => false,
+        Ex::Loc(read, _) => begun < stamp(stamps, *read),
+        Ex::Op(_, a, b) => reads_above(a, stamps, begun) || reads_above(b, stamps, begun),
+    }
+}
 
 /// Adds an answer for each loop of these commands.
 #[cycle(loops)]

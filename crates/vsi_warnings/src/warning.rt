@@ -1,7 +1,13 @@
-//! A warning, and its line.
+//! All warnings about a text, and their lines.
 
-use std::alloc::AllocError;
-use vsi_syntax::Span;
+use crate::indented::put_indented;
+use crate::loops::unchanged_guards;
+use crate::uses::{is_unused_global, unread_letvars};
+use crate::walk::walk;
+use std::alloc::{AllocError, Global};
+use vsi_compiler::Source;
+use vsi_opt::optimise;
+use vsi_syntax::{Kind, LexError, Span, Token, lex, put_line_column};
 
 /// The subject of a warning.
 #[derive(Clone, Copy, Debug, PartialEq, Eq)]
@@ -69,4 +75,151 @@ pub fn put_message(text: &mut Vec<u8>, source: &[u8], warning: Warning) -> Resul
         text.extend_from_slice(name)?;
     }
     text.extend_from_slice(sentence(warning.concern))
+}
+
+/// Adds a warning at each part whose answer is yes.
+fn put(
+    found: &mut Vec<Warning>,
+    concern: Concern,
+    parts: &[Span],
+    answers: &[bool],
+) -> Result<(), AllocError> {
+    for (part, answer) in parts.iter().zip(answers.iter()) {
+        if *answer {
+            let span = *part;
+            found.push(Warning { concern, span })?;
+        }
+    }
+    Ok(())
+}
+
+/// The parts of the tokens of these kinds.
+fn parts_of(alloc: Global, tokens: &[Token<'_>], kinds: &[Kind]) -> Result<Vec<Span>, AllocError> {
+    let mut parts = Vec::new(alloc);
+    for token in tokens {
+        if kinds.contains(&token.kind) {
+            parts.push(token.span)?;
+        }
+    }
+    Ok(parts)
+}
+
+/// For each assignment, whether it isn't among those that are kept, in their order.
+fn removed(alloc: Global, all: &[Span], kept: &[Span]) -> Result<Vec<bool>, AllocError> {
+    let mut answers = Vec::new(alloc);
+    let mut rest = kept;
+    for span in all {
+        let mut is_removed = true;
+        if let [first, more @ ..] = rest
+            && *first == *span
+        {
+            is_removed = false;
+            rest = more;
+        }
+        answers.push(is_removed)?;
+    }
+    Ok(answers)
+}
+
+/// Adds the warnings about the globals of a program.
+fn put_globals(
+    alloc: Global,
+    source: &Source<'_>,
+    found: &mut Vec<Warning>,
+) -> Result<(), AllocError> {
+    let mut parts = Vec::new(alloc);
+    let mut unused = Vec::new(alloc);
+    for (number, declaration) in source.globals().iter().enumerate() {
+        if let Ok(global) = u16::try_from(number) {
+            parts.push(declaration.name.span)?;
+            unused.push(is_unused_global(source.resolved(), global))?;
+        }
+    }
+    put(found, Concern::UnusedGlobal, &parts, &unused)
+}
+
+/// Adds the warnings about the commands and the letvars of a program.
+fn put_program(
+    alloc: Global,
+    source: &Source<'_>,
+    tokens: &[Token<'_>],
+    found: &mut Vec<Warning>,
+) -> Result<(), AllocError> {
+    let program = source.resolved();
+    let walked = walk(alloc, program)?;
+    let whiles = parts_of(alloc, tokens, &[Kind::While])?;
+    let loops = unchanged_guards(alloc, program)?;
+    put(found, Concern::UnchangedGuard, &whiles, &loops)?;
+    let comparisons = parts_of(alloc, tokens, &[Kind::Equal, Kind::Less])?;
+    put(
+        found,
+        Concern::ChainedComparison,
+        &comparisons,
+        &walked.chained,
+    )?;
+    let mut letvars = Vec::new(alloc);
+    for entry in program.letvars() {
+        letvars.push(entry.span)?;
+    }
+    let unread = unread_letvars(alloc, program)?;
+    put(found, Concern::UnreadLetvar, &letvars, &unread)?;
+    put(found, Concern::HidingLetvar, &letvars, &walked.hiding)?;
+    let optimised = optimise(alloc, program)?;
+    let kept = walk(alloc, &optimised)?;
+    let removed = removed(alloc, &walked.assigned, &kept.assigned)?;
+    put(
+        found,
+        Concern::RemovedAssignment,
+        &walked.assigned,
+        &removed,
+    )
+}
+
+/// The warnings about a text, in the order of the parts to which they point.
+///
+/// # Errors
+///
+/// Only if memory runs out.
+pub fn warnings_of(alloc: Global, source: &Source<'_>) -> Result<Vec<Warning>, AllocError> {
+    let text = source.text();
+    let mut found = Vec::new(alloc);
+    match lex(alloc, text) {
+        Ok(tokens) => {
+            put_indented(alloc, text, &tokens, &mut found)?;
+            put_globals(alloc, source, &mut found)?;
+            put_program(alloc, source, &tokens, &mut found)?;
+        }
+        Err(LexError::Memory) => return Err(AllocError),
+        // The text of a source has tokens.
+        Err(_) => {}
+    }
+    found.sort_by_key(|warning: &Warning| warning.span.start)?;
+    Ok(found)
+}
+
+/// The warnings about a text, a line `LINE:COLUMN warning: ` and its sentence for each, in the order of
+/// `warnings_of`.
+///
+/// # Errors
+///
+/// Only if memory runs out.
+pub fn warning_lines(alloc: Global, source: &Source<'_>) -> Result<Vec<u8>, AllocError> {
+    let text = source.text();
+    let mut lines = Vec::new(alloc);
+    let (mut at, mut line, mut start) = (0usize, 1usize, 0usize);
+    for warning in &warnings_of(alloc, source)? {
+        for byte in text.get(at..warning.span.start).unwrap_or(b"") {
+            at = at.saturating_add(1);
+            if *byte == b'\n' {
+                line = line.saturating_add(1);
+                start = at;
+            }
+        }
+        let column = warning.span.start.saturating_sub(start).saturating_add(1);
+        put_line_column(&mut lines, line, column)?;
+        lines.extend_from_slice(b" warning: ")?;
+        put_message(&mut lines, text, *warning)?;
+        lines.extend_from_slice(b"\n")?;
+    }
+    Ok(lines)
 }

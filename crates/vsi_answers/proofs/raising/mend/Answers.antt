@@ -1,4 +1,4 @@
-use Rattle.vsi_raised.specs.Answers.{RefusesRaise}
+use Rattle.vsi_flows.specs.Answers.{RefusesRaise}
 use Rattle.vsi_answers.proofs.Told.{source_told}
 use Rattle.vsi_answers.proofs.raising.mend.Goals as goal
 

@@ -1,5 +1,5 @@
 use Rattle.std.proofs.Common.{sym, subst}
-use Rattle.vsi_raised.specs.Answers.{RefusesRaise, RefusesRaised, RefusesRaisedText}
+use Rattle.vsi_flows.specs.Answers.{RefusesRaise, RefusesRaised, RefusesRaisedText}
 use Rattle.vsi_answers.specs.Judged.{TellsRaised, TellsSource}
 use Rattle.vsi_answers.proofs.Told.{raised_told, source_told, told_first, told_second}
 use Rattle.vsi_answers.proofs.raising.unraised.Goals as goal

@@ -1,9 +1,9 @@
 use Rattle.std.proofs.Common.{sym, subst}
 use Rattle.vsi_lattice.specs.LatticeView.{order}
 use Rattle.vsi_types.specs.Security.{program}
-use Rattle.vsi_raise.specs.Raising.{Answers}
-use Rattle.vsi_raised.specs.Answers.{HasClassesIn}
-use Rattle.vsi_raised.proofs.RaiseLemmas.{classes_in}
+use Rattle.vsi_flows.specs.Raising.{Answers}
+use Rattle.vsi_flows.specs.Answers.{HasClassesIn}
+use Rattle.vsi_flows.proofs.RaiseLemmas.{classes_in}
 use Rattle.vsi_choices.specs.Titles.{HasOldClassesIn}
 use Rattle.vsi_choices.proofs.TitleLemmas.{old_classes_in}
 use Rattle.vsi_choices.proofs.titles.raising_title.Goals as goal

@@ -2,7 +2,7 @@ use Rattle.std.proofs.Common.{map, sym, subst}
 use Rattle.serde_json.specs.View.{view}
 use Rattle.vsi_lattice.specs.LatticeView.{order}
 use Rattle.vsi_compiler.proofs.Held.{globals_at, declared_at}
-use Rattle.vsi_raised.specs.Answers.{HasClassesIn}
+use Rattle.vsi_flows.specs.Answers.{HasClassesIn}
 use Rattle.vsi_raises_json.proofs.Lines.{line_made}
 use Rattle.vsi_raises_json.proofs.mending.line_of.Goals as goal
 

@@ -2,10 +2,10 @@ use Rattle.std.proofs.Common.{sym, subst}
 use Rattle.vsi_lattice.specs.LatticeView.{order}
 use Rattle.vsi_types.specs.Security.{program}
 use Rattle.vsi_compiler.specs.declared.error.CompileError.TheVariants.{Flow}
-use Rattle.vsi_raise.specs.Raising.{AreLeastRaises, Answers}
-use Rattle.vsi_raised.specs.Answers.{HasClassesIn}
-use Rattle.vsi_raised.proofs.AnswerLemmas.{final_walk}
-use Rattle.vsi_raised.proofs.RaiseLemmas.{classes_in}
+use Rattle.vsi_flows.specs.Raising.{AreLeastRaises, Answers}
+use Rattle.vsi_flows.specs.Answers.{HasClassesIn}
+use Rattle.vsi_flows.proofs.AnswerLemmas.{final_walk}
+use Rattle.vsi_flows.proofs.RaiseLemmas.{classes_in}
 use Rattle.vsi_raises_json.proofs.Lines.{walk_apart}
 use Rattle.vsi_raises_json.proofs.mending.raised_line.Goals as goal
 

@@ -3,7 +3,7 @@ use Rattle.vsi_lattice.specs.LatticeView.{order}
 use Rattle.vsi_types.specs.Security.{program}
 use Rattle.vsi_infer.specs.Flowing.{size_of}
 use Rattle.vsi_compiler.proofs.Compiled.{lawful}
-use Rattle.vsi_raise.proofs.RowLemmas.{floors_start, floors_more}
+use Rattle.vsi_flows.proofs.RaiseRowLemmas.{floors_start, floors_more}
 use Rattle.vsi_report.proofs.reached.floors_of.Goals as goal
 
 pub loop-v-init : goal.loop-v-init

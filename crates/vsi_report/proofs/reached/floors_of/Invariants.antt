@@ -1,6 +1,6 @@
 use Rattle.vsi_lattice.specs.LatticeView.{order}
 use Rattle.vsi_types.specs.Security.{program}
-use Rattle.vsi_raise.proofs.RowLemmas.{AreFirstFloors}
+use Rattle.vsi_flows.proofs.RaiseRowLemmas.{AreFirstFloors}
 use Rattle.vsi_report.proofs.reached.floors_of.Given as goal
 
 -- The list has the floors of the first declarations.

@@ -1,4 +1,4 @@
-use Rattle.vsi_raise.specs.Reaching.{IsJoined}
+use Rattle.vsi_flows.specs.Reaching.{IsJoined}
 use Rattle.vsi_report.proofs.reached.joined.Given as goal
 
 -- The class is the least one above the floors so far.

@@ -8,8 +8,8 @@ use Rattle.vsi_infer.specs.FlowRows.{flow_has}
 use Rattle.vsi_infer.proofs.Bridge.{at_place}
 use Rattle.vsi_flows.proofs.RowLemmas.{within_last}
 use Rattle.vsi_compiler.proofs.Compiled.{lawful}
-use Rattle.vsi_raise.specs.Reaching.{IsJoined, IsReached}
-use Rattle.vsi_raise.proofs.RowLemmas.{joined_reached}
+use Rattle.vsi_flows.specs.Reaching.{IsJoined, IsReached}
+use Rattle.vsi_flows.proofs.RaiseRowLemmas.{joined_reached}
 use Rattle.vsi_report.proofs.reached.reached_class.Goals as goal
 
 pub fewest_flows-requires-clause-within : goal.fewest_flows-requires-clause-within

@@ -1,5 +1,0 @@
-use Rattle.vsi_bound.specs.Facts.{AreSame}
-use Rattle.vsi_bound.proofs.bound.fresh.Given as goal
-
-abbrev pub invariant-loop-slot : goal.invariant-loop-slot
-invariant-loop-slot l = AreSame l.slot l.facts.items

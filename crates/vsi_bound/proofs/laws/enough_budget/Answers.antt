@@ -1,5 +1,0 @@
-use Rattle.vsi_bound.proofs.Ending as law
-use Rattle.vsi_bound.proofs.laws.enough_budget.Goals as goal
-
-pub returns : goal.returns
-returns c = law.enough_budget

@@ -1,5 +1,0 @@
-use Rattle.vsi_bound.proofs.Ending as law
-use Rattle.vsi_bound.proofs.laws.exact_count.Goals as goal
-
-pub returns : goal.returns
-returns c = law.exact_count

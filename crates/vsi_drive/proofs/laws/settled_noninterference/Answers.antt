@@ -1,0 +1,5 @@
+use Rattle.vsi_drive.proofs.Settling as law
+use Rattle.vsi_drive.proofs.laws.settled_noninterference.Goals as goal
+
+pub returns : goal.returns
+returns c = law.settled_noninterference

@@ -1,4 +1,0 @@
-pub mod UnderLemmas
-pub mod PolicyLemmas
-pub mod RowLemmas
-pub mod ChangeLemmas

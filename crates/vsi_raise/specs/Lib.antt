@@ -1,3 +1,0 @@
-pub mod Policy
-pub mod Raising
-pub mod Reaching

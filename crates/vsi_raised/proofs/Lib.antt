@@ -1,3 +1,0 @@
-pub mod RaiseLemmas
-pub mod NameLemmas
-pub mod AnswerLemmas

@@ -1,4 +1,0 @@
-pub mod Lines
-pub mod Places
-pub mod Errors
-pub mod Answers

@@ -1,5 +1,0 @@
-use Rattle.vsi_settled.proofs.Driving as law
-use Rattle.vsi_settled.proofs.laws.same_bounded_drives.Goals as goal
-
-pub returns : goal.returns
-returns c = law.same_bounded_drives

@@ -1,5 +1,0 @@
-use Rattle.vsi_settled.proofs.Settling as law
-use Rattle.vsi_settled.proofs.laws.settled_count.Goals as goal
-
-pub returns : goal.returns
-returns c = law.settled_count c.steady_runs_alike.ensures

@@ -1,5 +1,0 @@
-use Rattle.vsi_settled.proofs.Settling as law
-use Rattle.vsi_settled.proofs.laws.settled_noninterference.Goals as goal
-
-pub returns : goal.returns
-returns c = law.settled_noninterference
