@@ -11,10 +11,12 @@ from running import Room, make_image
 from votes import VOTER, VOTES
 
 MOST_BUDGET, MOST_TRIES, MOST_SEED = 1_000_000, 10_000, (1 << 64) - 1
+MOST_WARNINGS = 200
 # These requests take some milliseconds, whatever the text does when it runs. All others wait for them.
 SHORT = {"check", "classes", "explain", "fmt", "lattice"}
 NAME = re.compile(r"[A-Za-z][A-Za-z0-9_]{0,31}", re.ASCII)
 PROFILES = {"base": [], "strict": ["--strict"], "steady": ["--steady"]}
+WARNING = re.compile(r"\d+:\d+ warning: ", re.ASCII)
 SUBJECT = re.compile(r"language|lattice|store|interface|classes|profiles|[1-9]\d?", re.ASCII)
 
 
@@ -49,11 +51,13 @@ def chosen(body: Body, *names: str) -> "list[str]":
 
 
 def check(room: Room, body: Body) -> Body:
-    """The verdict as JSON and, where it is a refusal, with its explanation."""
+    """The verdict as JSON and, where it is a refusal, with its explanation; and the warnings."""
     profile = PROFILES[body["profile"]]
-    ran = room.run("check", "lattice.toml", "text.vsi", "--json", *profile)
+    ran = room.run("check", "lattice.toml", "text.vsi", "--json", "--warnings", *profile)
     explained = room.run("check", "lattice.toml", "text.vsi", "--explain", *profile) if ran.status == 1 else None
-    return ran.answer(explained=explained.errors.decode("utf-8", "replace") if explained else "")
+    lines = ran.errors.decode("utf-8", "replace").split("\n")
+    return ran.answer(explained=explained.errors.decode("utf-8", "replace") if explained else "",
+                      warnings=[line for line in lines if WARNING.match(line)][:MOST_WARNINGS])
 
 
 def classes_of(room: Room, body: Body) -> Body:

@@ -6,20 +6,21 @@ import { at } from "./dom.js";
 const TIMES = 6, PAUSE = 1500, SHORT = new Set(["check", "classes", "explain", "fmt", "lattice"]);
 let waiting = 0;
 
-async function send(request, body) {
+async function send(request, body, signal) {
   const response = await fetch(`api/${request}`, {
     method: "POST",
     headers: { "Content-Type": "application/json" },
     body: JSON.stringify(body),
+    signal,
   });
   const answer = await response.json();
   return { ...answer, isBusy: response.status === 503 || (answer.stopped === "time" && SHORT.has(request)) };
 }
 
-async function once(request, body) {
+async function once(request, body, signal) {
   try {
     // A connection that was idle may just have been closed; a request changes nothing, so it can be sent again.
-    return await send(request, body).catch(() => send(request, body));
+    return await send(request, body, signal).catch(() => send(request, body, signal));
   } catch {
     return { status: -1, refused: "the server doesn't answer" };
   }
@@ -33,16 +34,16 @@ function wait(change) {
 
 /**
  * Sends a request, and again while the server is busy and the answer is wanted; answers the run of the program, or a
- * run with `refused` if the server has none.
+ * run with `refused` if the server has none. A signal cancels the request, on the server as well.
  */
-export async function ask(request, body, isWanted = () => true) {
-  let answer = await once(request, body);
+export async function ask(request, body, isWanted = () => true, signal = undefined) {
+  let answer = await once(request, body, signal);
   if (!answer.isBusy) return answer;
   wait(1);
   for (let times = 1; answer.isBusy && times < TIMES && isWanted(); times += 1) {
     // Pages that were refused together come back at different times.
     await new Promise((resolve) => setTimeout(resolve, PAUSE * (0.5 + Math.random())));
-    if (isWanted()) answer = await once(request, body);
+    if (isWanted()) answer = await once(request, body, signal);
   }
   wait(-1);
   return answer;

@@ -67,10 +67,10 @@ def read_exercises(folder: str) -> "dict[str, Exercise]":
     return {name: exercise for name, exercise in read.items() if exercise}
 
 
-def read_docs() -> "dict[str, tuple[str, bytes]]":
-    """Each path of the documentation, if it has been made; `tools/release` makes it."""
+def read_docs(docs: Optional[str]) -> "dict[str, tuple[str, bytes]]":
+    """Each path of the documentation, from a folder that is given or where it has been made; `tools/site` makes it."""
     files = {}
-    for top in [folder for folder in DOCS if os.path.isdir(folder)][:1]:
+    for top in [folder for folder in ([docs] if docs else DOCS) if os.path.isdir(folder)][:1]:
         for at, _, names in os.walk(top):
             for name in names:
                 kind = OF_DOCS.get(os.path.splitext(name)[1])
@@ -82,7 +82,8 @@ def read_docs() -> "dict[str, tuple[str, bytes]]":
     return files
 
 
-def read_page(exercises: "dict[str, Exercise]", is_lesson: bool) -> "dict[str, tuple[str, bytes]]":
+def read_page(exercises: "dict[str, Exercise]", is_lesson: bool,
+              docs_folder: Optional[str] = None) -> "dict[str, tuple[str, bytes]]":
     """Each path that the server has, with its type and its bytes; no other file is ever opened for a request."""
     files = {}
     for name in sorted(os.listdir(HERE)):
@@ -90,7 +91,7 @@ def read_page(exercises: "dict[str, Exercise]", is_lesson: bool) -> "dict[str, t
         if kind:
             with open(os.path.join(HERE, name), "rb") as file:
                 files["/" + name] = (kind, file.read())
-    docs = read_docs()
+    docs = read_docs(docs_folder)
     if docs:
         kind, page = files["/index.html"]
         files["/index.html"] = (kind, page.replace(b'id="docs" hidden', b'id="docs"'))

@@ -5,6 +5,7 @@ import { Editor } from "./editor.js";
 import { keepHere, keptHere, packed, unpacked } from "./keeping.js";
 import { Policy, READY } from "./lattice.js";
 import { Lesson, uncommented } from "./lesson.js";
+import { Live } from "./live.js";
 import { Machine } from "./machine.js";
 import { Panes } from "./panes.js";
 import { globals, isLattice } from "./reading.js";
@@ -13,9 +14,10 @@ import { Verdict } from "./verdict.js";
 
 const FIRST = "# Which variable leaks into which? Change the text until it is accepted.\n"
   + "var salary : H;\nvar report : L;\n\nreport := salary + 100\n";
-const TABS = ["run", "flows", "leak", "pair", "machine", "cycles", "report"];
-// The panes that show the verdict or a leak, and those that show a leak.
-const TELLING = ["flows", "leak", "machine", "report"], SEARCHING = ["leak", "report"];
+// The panes: those with a tab, and those of the menu beside them.
+const TABS = ["run", "leak", "flows", "machine"], MENU = ["cycles", "report"];
+// The panes that show the verdict or a leak, and those that show a leak. The search of the pane Leak is apart.
+const TELLING = ["flows", "machine", "report"], SEARCHING = ["report"];
 const SUBJECTS = ["language", "lattice", "store", "classes", "profiles"];
 // How many texts can be brought back after something has replaced them.
 const MOST_UNDONE = 50;
@@ -23,6 +25,7 @@ const MOST_UNDONE = 50;
 class App {
   constructor({ exercises, levels, examples, isLesson }) {
     this.policy = new Policy(() => this.recolour());
+    this.live = new Live(this);
     this.verdict = new Verdict(this);
     this.program = new Editor(at("program-editor"), { id: "text", label: "Program", isProgram: true,
       change: () => this.typed() });
@@ -71,6 +74,7 @@ class App {
   }
 
   wireTabs() {
+    at("more").addEventListener("change", (event) => this.open(event.target.value || TABS[0]));
     for (const name of TABS) {
       const tab = at(`tab-${name}`);
       tab.addEventListener("click", () => this.open(name));
@@ -88,30 +92,50 @@ class App {
     }
   }
 
+  /** Whether the search for a leak is closed: before Show, or before a try of one's own. */
+  get isSearchClosed() {
+    return this.lesson.isHidden || this.tasks.isUntried;
+  }
+
+  /** What opens a pane: its tab, or its line of the menu. */
+  opener(name) {
+    return TABS.includes(name) ? at(`tab-${name}`) : at("more").querySelector(`[value=${name}]`);
+  }
+
   /** Closes the panes that would show a verdict before Show, or a leak before a try of one's own; opens the others. */
   showTabs() {
     const closed = new Set([...(this.lesson.isHidden ? TELLING : []), ...(this.tasks.isUntried ? SEARCHING : [])]);
-    for (const name of TABS) at(`tab-${name}`).disabled = closed.has(name);
+    for (const name of [...TABS, ...MENU]) this.opener(name).disabled = closed.has(name);
+    at("search").hidden = this.isSearchClosed;
+    at("leak").classList.toggle("of-stores", !this.tasks.takesStores);
     if (closed.has(this.pane)) this.open("run");
   }
 
-  /** Shows a pane, unless it is closed, and presses its button if one is named. */
+  /** Shows a pane, unless it is closed, and presses its button if one is named. Two runs are a part of Leak. */
   open(name, pressed = "") {
-    if (at(`tab-${name}`).disabled) return;
-    this.pane = name;
+    const pane = name === "pair" ? "leak" : name;
+    if (this.opener(pane).disabled) return;
+    this.pane = pane;
+    for (const other of [...TABS, ...MENU]) at(other).hidden = other !== pane;
     for (const other of TABS) {
-      at(other).hidden = other !== name;
-      at(`tab-${other}`).setAttribute("aria-selected", String(other === name));
-      at(`tab-${other}`).tabIndex = other === name ? 0 : -1;
+      at(`tab-${other}`).setAttribute("aria-selected", String(other === pane));
+      at(`tab-${other}`).tabIndex = other === pane || (other === TABS[0] && MENU.includes(pane)) ? 0 : -1;
     }
-    at("store-part").hidden = name !== "run" && name !== "machine" && name !== "cycles";
-    at("budget-row").hidden = name === "flows" || name === "report";
+    at("more").value = MENU.includes(pane) ? pane : "";
+    at("store-part").hidden = !["run", "machine", "cycles"].includes(pane);
+    at("budget-row").hidden = pane === "flows" || pane === "report";
+    this.machine.light(0);
+    if (name === "pair") at("pair").scrollIntoView({ block: "nearest" });
     if (pressed) at(pressed).click();
+    this.live.now();
   }
 
   typed() {
+    this.verdict.forget();
+    this.machine.forget();
     this.panes.refresh();
     this.showTabs();
+    this.live.show();
     this.tasks.keepDraft();
     if (!this.item) keepHere("draft", { text: this.text, lattice: this.lattice, profile: this.profile });
     this.verdict.later();
@@ -159,6 +183,7 @@ class App {
     this.program.number(numbers);
     this.latticeEditor.number(numbers);
     this.panes.refresh();
+    this.live.later();
   }
 
   setProfile(profile) {
@@ -179,10 +204,10 @@ class App {
     at("profile").value = ["base", "strict", "steady"].includes(profile) ? profile : "base";
     at("budget").value = budget;
     this.showReady();
-    this.panes.store.clear();
-    this.panes.pair.clear();
+    this.verdict.forget();
+    this.panes.clear();
     (stores ?? []).forEach((store, index) => this.panes.pair.take(index, store));
-    for (const name of ["run", "flows", "leak", "pair", "machine", "cycles"]) fill(at(`${name}-result`));
+    this.machine.forget();
     at("steps").hidden = true;
     this.panes.offer(files, base);
     this.policy.look(observer);

@@ -7,7 +7,7 @@ const TOKEN = /(#[^\n]*)|([A-Za-z0-9_]+)|(:=|[:;+\-*=<(){}])|([ \t\r\n]+)|([^])/
 /** How many bytes of UTF-8 a text has, as the columns of the program count them. */
 export const bytes = (text) => new TextEncoder().encode(text).length;
 
-/** The tokens of a text: kind, text, and the line and column of the first byte. */
+/** The tokens of a text: kind, text, the line and column of the first byte, and where the first letter is. */
 export function tokens(text) {
   const found = [];
   let line = 1, column = 1;
@@ -16,7 +16,7 @@ export function tokens(text) {
     const kind = comment !== undefined ? "comment"
       : name !== undefined ? (KEYWORDS.has(name) ? "keyword" : /^\d+$/.test(name) ? "number" : "name")
         : symbol !== undefined ? "symbol" : blank !== undefined ? "blank" : "fault";
-    found.push({ kind, text: word, line, column });
+    found.push({ kind, text: word, line, column, start: match.index });
     const parts = word.split("\n");
     line += parts.length - 1;
     column = (parts.length > 1 ? 1 : column) + (kind === "name" ? word.length : bytes(parts[parts.length - 1]));
@@ -54,6 +54,10 @@ export function steps(text) {
     .filter(Boolean).map((found) => ({ from: found[3], to: found[4], rule: found[5],
       read: { line: +found[1], column: +found[2] }, written: { line: +found[6], column: +found[7] } }));
 }
+
+/** The lines of warnings: position and sentence. */
+export const warnings = (lines) => lines.map((line) => /^(\d+):(\d+) warning: (.*)$/.exec(line)).filter(Boolean)
+  .map((found) => ({ line: +found[1], column: +found[2], text: found[3] }));
 
 /** The lines of `classes`: position, name and class. */
 export function classLines(output) {

@@ -9,9 +9,11 @@ import signal
 import subprocess
 import tempfile
 import time
-from typing import Any, NamedTuple, Optional
+from typing import Any, Callable, NamedTuple, Optional
 
 MOST_OUTPUT = 2_097_152
+# How often a run looks whether its client is still there.
+SECONDS_TO_LOOK = 0.5
 # The shell sets the limits in the child, since a server with threads may not run Python between fork and exec.
 LIMITED = 'ulimit -c 0; ulimit -t "$1"; ulimit -f 4096; [ "$2" -eq 0 ] || ulimit -v "$2"; shift 2; exec "$@"'
 
@@ -39,10 +41,10 @@ class Ran(NamedTuple):
 
 
 class Room:
-    """The folder of one request, with its time: all its runs together have as long as one."""
+    """The folder of one request, with its time: all its runs together have as long as one, while somebody waits."""
 
-    def __init__(self, folder: str, limits: Limits, niceness: int) -> None:
-        self.folder, self.limits, self.niceness = folder, limits, niceness
+    def __init__(self, folder: str, limits: Limits, niceness: int, is_gone: "Callable[[], bool]") -> None:
+        self.folder, self.limits, self.niceness, self.is_gone = folder, limits, niceness, is_gone
         self.deadline = time.monotonic() + limits.seconds
 
     def put(self, name: str, data: "str | bytes") -> None:
@@ -83,15 +85,19 @@ class Room:
         except OSError:  # It may have ended.
             pass
 
-    @staticmethod
-    def wait(child: "subprocess.Popen[bytes]", seconds: float) -> Optional[str]:
+    def wait(self, child: "subprocess.Popen[bytes]", seconds: float) -> Optional[str]:
         """Waits for the end of a run, or ends it; answers which limit has ended it."""
-        try:
-            status = child.wait(seconds)
-        except subprocess.TimeoutExpired:
-            os.killpg(child.pid, signal.SIGKILL)
-            child.wait()
-            return "time"
+        end = time.monotonic() + seconds
+        while True:
+            try:
+                status = child.wait(max(0, min(SECONDS_TO_LOOK, end - time.monotonic())))
+                break
+            except subprocess.TimeoutExpired:
+                if time.monotonic() < end and not self.is_gone():
+                    continue
+                os.killpg(child.pid, signal.SIGKILL)
+                child.wait()
+                return "time"
         if status == -signal.SIGXFSZ:
             return "output"
         if status in (-signal.SIGXCPU, -signal.SIGKILL):

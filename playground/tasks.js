@@ -15,7 +15,7 @@ const GOALS = {
 const HERE = {
   text: "Your answer is the program on this page.",
   policy: "Your answer is the lattice on this page.",
-  leak: "Your answer is the two stores of the pane Two runs.",
+  leak: "Your answer is the two stores of Two runs, in the pane Leak.",
 };
 
 const LOCKED = "The search opens once you have compared two different stores of your own.";
@@ -84,7 +84,7 @@ export class Tasks {
     else this.app.open("leak", "leak-button");
   }
 
-  /** Both stores of the pane Two runs. */
+  /** Both stores of Two runs. */
   get stores() {
     return this.app.panes.pair.text(0) + this.app.panes.pair.text(1);
   }
@@ -103,6 +103,7 @@ export class Tasks {
     const level = this.levels.find((one) => one.name === name);
     this.open = exercise ?? level ?? null;
     at("task").hidden = !this.open;
+    at("task").parentElement.classList.toggle("with-task", Boolean(this.open));
     fill(at("task-result"));
     at("task-result").className = "";
     if (exercise) this.startExercise(exercise);
@@ -123,7 +124,7 @@ export class Tasks {
       observer: kind === "leak" ? "L" : "", isFixed: kind === "leak", isLatticeFixed: kind !== "policy",
       stores: kind === "leak" ? stores : null,
       budget: (files["budget.txt"] ?? draft?.budget ?? files["start_budget.txt"] ?? "10000").trim(),
-      tab: kind === "leak" ? "pair" : "run" });
+      tab: kind === "leak" ? "leak" : "run" });
     fill(at("task-body"), h("p", { class: "note" }, `${HERE[kind]} Type no command: the verdict is below the text, `
       + `and the panes do the rest.${kind === "leak" ? ` ${LOCKED}` : ""}`),
     markdown(exercise.task, { level: 1, command: (line) => command(this.app, line) }));
@@ -134,7 +135,7 @@ export class Tasks {
 
   startLevel(level) {
     this.app.show({ text: level.text, lattice: level.lattice, files: {}, profile: level.profile, isFixed: true,
-      isLatticeFixed: true, stores: ["", ""], observer: level.observer, budget: String(level.budget), tab: "pair" });
+      isLatticeFixed: true, stores: ["", ""], observer: level.observer, budget: String(level.budget), tab: "leak" });
     const number = this.levels.indexOf(level) + 1;
     fill(at("task-body"), h("h2", {}, `Show me ${number}: ${level.title}`), level.task.map((text) => h("p", {}, text)),
       h("p", { class: "goal" }, GOALS[level.goal]),
@@ -160,6 +161,7 @@ export class Tasks {
   keepDraft(hasStores = false) {
     if (!this.open || !this.open.kind || (this.open.kind === "leak" && !hasStores)) return;
     const { text, lattice, panes } = this.app;
+    if (this.open.kind === "leak" && !panes.isReady(panes.pair)) return;
     const answer = { text, policy: lattice,
       leak: { one: panes.pair.text(0), other: panes.pair.text(1), budget: String(panes.budget) } }[this.open.kind];
     keepHere(`draft.${this.open.name}`, answer);
@@ -175,6 +177,10 @@ export class Tasks {
     const exercise = this.open;
     this.keepDraft(true);
     const { text, lattice, panes } = this.app;
+    if (exercise.kind === "leak" && !panes.isReady(panes.pair)) {
+      this.result(false, "A field holds no number: see below it.");
+      return;
+    }
     const answer = await ask("conform", { exercise: exercise.name, ...({ text: { text }, policy: { lattice },
       leak: { store: panes.pair.text(0), other: panes.pair.text(1), budget: panes.budget } })[exercise.kind] });
     if (this.open !== exercise) return;
@@ -185,7 +191,8 @@ export class Tasks {
   }
 
   markText(answer) {
-    if (answer.status === 0 && answer.output === "conforms\n") this.result(true, "It conforms.");
+    // Lines about released outputs may follow.
+    if (answer.status === 0 && answer.output.startsWith("conforms\n")) this.result(true, "It conforms.");
     else this.result(false, h("pre", { class: "prose", tabindex: "0" }, (answer.output || answer.errors).trimEnd()));
   }
 

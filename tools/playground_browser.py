@@ -4,12 +4,13 @@
 usage: tools/playground_browser.py PROGRAM [--short] [--width N] [--scheme NAME] [--unproved] [--pictures FOLDER]
        tools/playground_browser.py PROGRAM --readme FOLDER
 
-PROGRAM is the built program; `playground/serve` serves it on a free port. Chromium types a text, sees the refusal,
-takes the quick fix, runs it, finds a leak, solves exercise 02 and level 3, shares a link and opens it again: at widths
-of 360, 800 and 1,600, light and dark. No page may be wider than its window, each control has a name, text has a
-contrast of at least 4.5 to 1, and the console shows no error. A request may take 20 seconds, a button is pressed again
-where the server was busy, and what the page shows is waited for three minutes: a busy machine is no fault. --short goes
-through one width; --width and --scheme name the one to go through; --unproved takes the limit of memory from the
+PROGRAM is the built program; `playground/serve` serves it on a free port. Chromium types a text, sees the refusal in
+words and what an observer sees of the leak, takes the quick fix, sees the run, lights lines and instructions, fills
+fields with what is no number, solves exercise 02 and level 3, shares a link and opens it again: at widths of 360, 800
+and 1,600, light and dark, and one exercise at 1,280. No page may be wider than its window, each control has a name,
+text has a contrast of at least 4.5 to 1, and the console shows no error. A request may take 20 seconds, a request that
+a busy server has refused is sent again, and what the page shows is waited for three minutes: a busy machine is no
+fault. --short goes through one width; --width and --scheme name the one to go through; --unproved takes the limit of memory from the
 server, for a program that `tools/build` has made; --pictures writes the pages as pictures. --readme writes the two
 pictures of README instead, as playground-light.png and playground-dark.png.
 Silent where all is well. It needs chromium, chromium-driver and python3-selenium of Debian; where one of them is
@@ -24,12 +25,28 @@ import os
 import shutil
 import subprocess
 import sys
+import tempfile
 import time
 from typing import Any, Callable, Optional
 
 ROOT = os.path.dirname(os.path.dirname(os.path.abspath(__file__)))
 SIZES = ((360, 780), (800, 1100), (1600, 1100))
+WIDE_TASK = (1280, 800)
 LEAK = "var secret : H;\nvar shown : L;\n\nshown := secret + 1\n"
+REFUSED = "Refused: secret reaches shown"
+DIAMOND = 'classes = ["L", "A", "B", "H"]\nbelow = [["L", "A"], ["L", "B"], ["A", "H"], ["B", "H"]]\n'
+# The instructions, worked by hand: 0 LOAD 0, 1 JZ 5, 2 PUSH 1, 3 STORE 1, 4 JMP 7, 5 PUSH 0, 6 STORE 1, 7 HALT.
+LAMP = "var alarm : H;\nvar lamp : L;\n\nif alarm then\n  lamp := 1\nelse\n  lamp := 0\n"
+LAMP_LINES = ["4", "4", "5", "5", "6", "7", "7", None]
+# A program, words that its verdict must have, and the word of the program that is marked.
+FAULTS = (
+    ("var x : L;\nx := y + 1\n", "Refused: y isn't declared here", "y"),
+    ("var x : L\nx := 1\n", "Refused: x can't be here", "x"),
+    ("var x : Hi;\nx := 1\n", "Refused: the lattice has no class Hi", "Hi"),
+    ("var x : L; x := 1 / 2\n", "Refused: / isn't a symbol of this language", "/"),
+)
+# Words of a shell, which the page shows nowhere.
+SHELL = ("`", "vsi ", "--", "with the same files", "text.vsi")
 ANSWER = ("var salary : H;\nvar staff : L;\nvar raised : H;\nvar report : L;\n\n"
           "raised := salary + 100;\nreport := staff + 1\n")
 # The contrast of each piece of text with what is below it, at least 4.5, or 3 where the text is large.
@@ -91,6 +108,16 @@ def complain(*parts: object) -> None:
     print(*parts, file=sys.stderr, flush=True)
 
 
+def make_docs(folder: str) -> str:
+    """A folder of documentation with one refusal, as `tools/site` would make it."""
+    os.makedirs(os.path.join(folder, "refusals"))
+    for name in ("index.html", "refusals/25.html"):
+        with open(os.path.join(folder, name), "w", encoding="utf-8") as file:
+            file.write("<!DOCTYPE html><html lang='en'><link rel='icon' href='/icon.svg'>"
+                       f"<title>{name}</title><p>{name}</p></html>")
+    return folder
+
+
 def serve(program: str, is_unproved: bool, *words: str) -> "tuple[subprocess.Popen[str], str]":
     """Starts the server on a free port, with time for each request on a busy machine; answers it with its address."""
     more = [*words, "--seconds", str(REQUEST), *(["--memory", "0"] if is_unproved else [])]
@@ -112,6 +139,7 @@ class Student:
         options.set_capability("goog:loggingPrefs", {"browser": "ALL"})
         options.binary_location = shutil.which("chromium") or ""
         self.driver = webdriver.Chrome(service=Service(shutil.which("chromedriver")), options=options)
+        self.driver.set_script_timeout(PATIENCE)
         self.address, self.size, self.scheme, self.pictures = address, size, scheme, pictures
         self.device("Emulation.setDeviceMetricsOverride", width=size[0], height=size[1], deviceScaleFactor=1,
                     mobile=False)
@@ -163,6 +191,33 @@ class Student:
         complain(f"{self.size[0]} {self.scheme}: not in {PATIENCE} seconds: {what}; the page shows {shown}")
         return False
 
+    def shows(self, result: str, what: str, happens: Callable[[], Any]) -> bool:
+        """Waits for what follows the typing; has the page ask again where the server was busy."""
+        def has_happened() -> bool:
+            self.js("document.querySelector(arguments[0])?.click()", f"#{result} .again:not([aria-busy])")
+            return happens()
+        return self.wait(what, has_happened)
+
+    def expect(self, what: str, seen: object, wanted: object) -> None:
+        if seen != wanted:
+            complain(f"{self.size[0]} {self.scheme}: {what} is {seen!r}, not {wanted!r}")
+
+    def choose(self, name: str, value: str) -> None:
+        """Chooses a line of a list, as its reader would."""
+        self.js("""const list = document.getElementById(arguments[0]);
+            list.value = arguments[1];
+            list.dispatchEvent(new Event("change", { bubbles: true }));""", name, value)
+
+    def hover(self, selector: str) -> None:
+        """Moves the pointer to the middle of the first element of a selector."""
+        self.js("document.querySelector(arguments[0]).scrollIntoView({block: 'center'})", selector)
+        x, y = self.js("const box = document.querySelector(arguments[0]).getBoundingClientRect();"
+                       "return [box.left + box.width / 2, box.top + Math.min(box.height / 2, 10)]", selector)
+        self.device("Input.dispatchMouseEvent", type="mouseMoved", x=x, y=y)
+
+    def texts(self, selector: str) -> "list[str]":
+        return self.js("return [...document.querySelectorAll(arguments[0])].map((one) => one.textContent)", selector)
+
     def ask(self, identifier: str, result: str, what: str, happens: Callable[[], Any]) -> bool:
         """Presses a button and waits for its answer; presses again where the result says that the server was busy."""
         self.press(identifier)
@@ -184,9 +239,9 @@ class Student:
         area.send_keys(Keys.CONTROL, "a")
         area.send_keys(text)
 
-    def put(self, name: str, word: str) -> None:
+    def put(self, name: str, word: str, stores: str = "pair-stores") -> None:
         """Types a word into a field of a store."""
-        field = self.driver.find_element("css selector", f"#pair-stores input[name='{name}']")
+        field = self.driver.find_element("css selector", f"#{stores} input[name='{name}']")
         self.js("arguments[0].scrollIntoView({block: 'center'})", field)
         field.clear()
         field.send_keys(word)
@@ -214,41 +269,151 @@ class Student:
         self.wait(f"the verdict {begins}", is_shown)
 
     def fix(self) -> None:
-        """Types a text that leaks, finds the leak, and takes the quick fix."""
+        """Types a text that leaks, sees the leak beside the verdict, and takes the quick fix."""
         self.go(self.address)
         self.write(LEAK)
-        self.verdict("Refused: number 25")
-        self.wait("the verdict about this text", lambda: "to shown" in self.text("verdict-body"))
+        self.verdict(REFUSED)
+        self.shows("verdict-leak", "the leak beside the verdict", lambda: self.text("verdict-leak")
+                   == "An observer at L sees shown = 1 or 2, depending on secret = 0 or 1.")
+        self.wait("the steps of the flow", lambda: "Here secret is read" in self.text("verdict-body"))
         self.look("refused")
         self.press("tab-leak")
-        self.ask("leak-button", "leak-result", "a leak", lambda: "A leak at L" in self.text("leak-result"))
+        self.shows("leak-result", "a leak", lambda: "A leak at L" in self.text("leak-result"))
         self.look("leak")
         self.click(".fixes button")
         self.verdict("Accepted")
         if "var shown : H;" not in self.js("return document.getElementById('text').value"):
             complain("the quick fix didn't change the class")
+        self.shows("leak-result", "no leak", lambda: "no leak in 0 pairs of runs" in self.text("leak-result"))
+        self.expect("what is said of a leak of an accepted program", self.text("verdict-leak"), "")
         self.press("tab-run")
-        self.ask("run-button", "run-result", "a run",
-                 lambda: "halted after 5 instructions" in self.text("run-result"))
+        self.shows("run-result", "a run", lambda: "halted after 5 instructions" in self.text("run-result"))
+        self.shows("view-result", "a view", lambda: "An observer of class L sees" in self.text("view-result"))
         self.look("run")
+
+    def ends(self) -> "list[str]":
+        """The column of the store after the run."""
+        return self.texts("#run-store td.word")
+
+    def fields(self) -> None:
+        """A field is filled: the run follows, and what is no number is said to be a fault of its field."""
+        self.go(self.address)
+        self.write("var a : L; var b : L; b := a * 3 + 1")
+        self.shows("run-result", "the run from zeros", lambda: self.ends() == ["0", "1"])
+        self.put("a-0", "14", "run-store")
+        self.shows("run-result", "the run from 14", lambda: self.ends() == ["14", "43"])
+        self.put("a-0", "abc", "run-store")
+        self.wait("a faulty field", lambda: self.texts("#run-store [role=alert]")
+                  == ["The field of a needs a whole number of 64 bits; “abc” is none."])
+        self.wait("no run from it", lambda: self.ends() == ["", ""] and not self.text("run-result"))
+        self.look("fields")
+        self.put("a-0", "9223372036854775808", "run-store")
+        self.wait("a field that is too large", lambda: "9223372036854775808” is none" in self.text("run-store"))
+        self.put("a-0", "2", "run-store")
+        self.shows("run-result", "the run from 2", lambda: self.ends() == ["2", "7"])
+        # LOAD, PUSH, MUL, PUSH, ADD, STORE, HALT: six instructions aren't enough.
+        for text, said, shown in (("2000000", "The budget must be a whole number from 0 to 1,000,000.", ""),
+                                  ("6", "", "Out of budget: the run hasn't halted after 6 instructions."),
+                                  ("7", "", "The run halted after 7 instructions.")):
+            self.js("document.getElementById('budget').select()")
+            self.at("budget").send_keys(text)
+            self.wait(f"what is said of the budget {text}", lambda: self.text("budget-note") == said)
+            self.shows("run-result", f"the run with the budget {text}", lambda: bool(shown)
+                       == bool(self.text("run-result")) and self.text("run-result").startswith(shown))
+
+    def faults(self) -> None:
+        """Faults are marked in the text, with a bubble, and explained in the words of the page; warnings are shown."""
+        self.go(self.address)
+        for text, title, word in FAULTS:
+            self.write(text)
+            self.verdict(title)
+            self.wait(f"the mark of {word}", lambda: self.texts("#program-editor .faulty .wrong") == [word])
+            self.hover("#program-editor .wrong")
+            self.wait("a bubble", lambda: self.at("text-bubble").is_displayed())
+            shown = self.text("verdict-body") + self.text("text-bubble")
+            for found in (words for words in SHELL if words in shown):
+                complain(f"{self.size[0]} {self.scheme}: {found} in the explanation of {text!r}: {shown!r}")
+        self.look("fault")
+        self.write("var x : L; while x < 3 do\n  x := x + 1;\n  x := 0\n")
+        self.verdict("Accepted")
+        self.wait("a warning", lambda: "line 3, column 3: this comes after the loop" in self.text("verdict-body"))
+        self.expect("the marked warning", self.texts("#program-editor .warned"), ["x"])
+        self.look("warning")
+        self.write("var x : L;\nx := + 1;\nx := 2 2;\nx := 3\n")
+        self.verdict("Refused: + can't be here")
+        self.wait("a further fault", lambda: "also at line 3, column 8: refusal 15" in self.text("verdict-body"))
+        self.expect("the marked faults", self.texts("#program-editor .wrong"), ["+", "2"])
+        self.choose("profile", "steady")
+        self.write("var s : H; var l : L;\nletvar a : H := s in s := a + 1;\nletvar b : L := l in l := b + 1")
+        self.verdict("Refused: s reaches l")
+        self.wait("the place of a slot", lambda: "At line 3, column 8." in self.text("verdict-body"))
+        self.choose("profile", "base")
+        many = "".join(f"var h{n} : H; var l{n} : L;\n" for n in range(4))
+        self.write(many + "; ".join(f"l{n} := h{n}" for n in range(4)))
+        self.verdict("Refused: h0 reaches l0")
+        self.wait("further flows", lambda: "3 further refused flows" in self.text("verdict-body"))
+        self.expect("marks of the refused flow", self.texts("#program-editor .read, #program-editor .written"),
+                    ["l0", "h0"])
+
+    def wraps(self) -> None:
+        """A long line wraps in the text and in its coloured copy alike, so nothing is cut."""
+        self.go(self.address)
+        self.write("var total_of_all : L; " + "total_of_all := total_of_all + 1000000; " * 9 + "total_of_all := 0")
+        self.verdict("Accepted")
+        heights = self.js("""const area = document.getElementById("text"), copy = area.previousSibling;
+            return [area.scrollHeight - area.clientHeight, area.scrollWidth - area.clientWidth,
+              copy.scrollWidth - copy.clientWidth, copy.offsetHeight - area.offsetHeight];""")
+        self.expect("what the wrapped text lacks", heights, [0, 0, 0, 0])
+        self.look("wrapped")
+        self.go(self.address + "#label-creep/repaired.vsi")
+        self.wait("the inferred classes", lambda: self.texts("#program-editor .ghost")
+                  == ["count : L", "small : H", "doubled : H"])
+        self.expect("the inferred classes that are on the text, or cut", self.js("""
+            const editor = document.querySelector("#program-editor .editor").getBoundingClientRect();
+            return [...document.querySelectorAll("#program-editor .ghost")].filter((ghost) => {
+              const own = ghost.getBoundingClientRect();
+              const parts = [...ghost.parentElement.querySelectorAll("span:not(.ghost)")];
+              return own.right > editor.right || parts.some((part) => [...part.getClientRects()].some((box) =>
+                box.right > own.left && box.top < own.bottom - 3 && box.bottom > own.top + 3)); })
+              .map((ghost) => ghost.textContent);"""), [])
 
     def panes(self) -> None:
         """Goes through the other panes."""
+        self.go(self.address)
+        self.write(LAMP)
+        self.verdict("Refused: alarm reaches lamp")
         self.press("tab-flows")
-        self.ask("flows-button", "flows-result", "the flows", lambda: "allowed" in self.text("flows-result"))
+        self.shows("flows-result", "the flows", lambda: "refused" in self.text("flows-result"))
         self.look("flows")
         self.press("tab-machine")
-        if self.ask("machine-button", "machine-result", "the steps",
-                    lambda: "Step 1 of 5" in self.text("step-now") and self.at("next-step").is_displayed()):
-            self.press("next-step")
-            self.press("next-step")
-            self.wait("the stack", lambda: self.text("stack") == "10")
+        if self.shows("machine-result", "the steps", lambda: "Step 1 of 5: LOAD 0, of line 4" in self.text("step-now")
+                      and self.at("next-step").is_displayed()):
+            # From zeros: LOAD 0, JZ 5, PUSH 0, STORE 1, HALT.
+            for _ in range(3):
+                self.press("next-step")
+            self.wait("the fourth step", lambda: self.text("step-now") == "Step 4 of 5: STORE 1, of line 7")
+            self.expect("the stack", self.text("stack"), "0")
+            self.lights()
             self.look("machine")
-        self.press("tab-report")
+        self.choose("more", "report")
         self.press("report-button")
         self.wait("the report", lambda: self.js("return document.getElementById('report-frame').hidden === false"))
         time.sleep(1)
         self.look("report")
+
+    def lights(self) -> None:
+        """A line and its instructions light each other, by the pointer and by the keyboard."""
+        from selenium.webdriver.common.keys import Keys
+        lines = self.js("return [...document.querySelectorAll('#listing li')].map((one) => one.dataset.line ?? null)")
+        self.expect("the lines of the instructions", lines, LAMP_LINES)
+        self.hover("#listing li:nth-child(3)")
+        self.wait("the line of PUSH 1", lambda: self.texts("#program-editor .lit") == ["  lamp := 1\n"])
+        self.expect("its instructions", self.texts("#listing .lit > span"), ["PUSH 1", "STORE 1"])
+        self.hover("#program-editor .line:nth-child(4)")
+        self.wait("the instructions of the guard", lambda: self.texts("#listing .lit > span") == ["LOAD 0", "JZ 5"])
+        self.js("document.querySelector('#listing li').focus()")
+        self.driver.switch_to.active_element.send_keys(Keys.END, Keys.ARROW_UP)
+        self.wait("the line of STORE 1", lambda: self.texts("#program-editor .lit") == ["  lamp := 0\n"])
 
     def busy(self) -> None:
         """Has the server refuse checks as busy: the page asks again, and at last has a button for that."""
@@ -257,7 +422,7 @@ class Student:
         self.write(LEAK)
         self.wait("the sign of a busy server", lambda: self.at("busy").is_displayed())
         self.look("busy")
-        self.wait("a verdict at last", lambda: self.text("verdict-title").startswith("Refused: number 25"))
+        self.wait("a verdict at last", lambda: self.text("verdict-title") == REFUSED)
         self.js(REFUSE, 6)
         self.write("var l : L; l := 1")
         self.wait("no verdict", lambda: self.text("verdict-title") == "No verdict")
@@ -273,15 +438,68 @@ class Student:
         self.js("document.getElementById('tab-run').focus()")
         self.driver.switch_to.active_element.send_keys(Keys.ARROW_RIGHT, Keys.ARROW_RIGHT)
         self.driver.switch_to.active_element.send_keys(Keys.HOME, Keys.ARROW_LEFT)
-        if self.js("return document.activeElement.id") != "tab-report" or not self.at("report").is_displayed():
+        if self.js("return document.activeElement.id") != "tab-machine" or not self.at("machine").is_displayed():
             complain("the arrows don't move between the panes")
-        self.js("document.getElementById('observer').focus()")
-        self.driver.switch_to.active_element.send_keys(Keys.ARROW_RIGHT)
+        self.js("document.querySelector('#lattice-picture [aria-checked=true]').focus()")
+        self.driver.switch_to.active_element.send_keys(Keys.ARROW_UP)
         self.wait("a higher observer", lambda: self.text("observed") == "H sees L H")
+        self.expect("what has the focus", self.js("return document.activeElement.dataset.class"), "H")
         self.press("explain")
         self.wait("a page of the language", lambda: "letvar" in self.text("dialog-text"))
         self.driver.switch_to.active_element.send_keys(Keys.ESCAPE)
         self.wait("a closed page", lambda: not self.js("return document.getElementById('dialog').open"))
+
+    def observers(self) -> None:
+        """A class is chosen in the picture; nothing is said of a class that the lattice lacks."""
+        self.go(self.address)
+        self.choose("ready", "1")
+        self.write("var a : A; var b : B; var l : L; var x : Secret; l := 1")
+        self.verdict("Refused: the lattice has no class Secret")
+        self.wait("the diamond", lambda: len(self.texts("#lattice-picture [role=radio]")) == 4)
+        self.click("#lattice-picture [data-class=B]")
+        self.wait("the observer B", lambda: self.text("observed") == "B sees L B")
+        self.expect("what B sees", self.texts("#run-store td:last-child"), ["no", "yes", "yes", "no such class"])
+        self.click("#lattice-picture [data-class=H]")
+        self.wait("the observer H", lambda: self.text("observed") == "H sees L A B H")
+        self.look("observers")
+        self.js("""const area = document.getElementById("lattice-text");
+            area.value = "classes = [";
+            area.dispatchEvent(new Event("input", { bubbles: true }));""")
+        self.wait("no observer", lambda: self.text("observed") == "none: the lattice is refused")
+        self.expect("what nobody sees", self.texts("#run-store td:last-child"), [""] * 4)
+        self.js("""const area = document.getElementById("lattice-text");
+            area.value = 'classes = ["L", "H"]\\nbelow = [["L", "H"],\\n  ["H", "L"]]';
+            area.dispatchEvent(new Event("input", { bubbles: true }));""")
+        self.verdict("Refused: L is below H, H below L: that is a cycle")
+        self.wait("the place in the lattice", lambda: "At line 3, column 3 of the" in self.text("verdict-body"))
+        self.expect("the marked line of the lattice", self.texts("#lattice-editor .faulty"), ['  ["H", "L"]]\n'])
+        self.choose("ready", "0")
+
+    def pages(self) -> None:
+        """The number of a refusal leads to its page in the documentation."""
+        self.go(self.address)
+        self.write(LEAK)
+        self.verdict(REFUSED)
+        self.click(".refusal-page a")
+        self.wait("the page of refusal 25", lambda: self.js("return document.title") == "refusals/25.html")
+
+    def mapped(self) -> None:
+        """For every example the page's instructions with their lines are those that the program lists."""
+        self.go(self.address)
+        missing = self.driver.execute_async_script("""const done = arguments[0];
+            (async () => {
+            const { lines } = await import("./coding.js"), { lattice, listing, globals } = await import("./reading.js");
+            const { ask, load } = await import("./api.js"), found = [];
+            for (const { name, files } of await load("examples.json")) {
+              const one = Object.values(files).find((text) => /^classes/m.test(text) && /^below/m.test(text));
+              for (const [file, text] of Object.entries(files).filter(([file]) => file.endsWith(".vsi"))) {
+                const answer = await ask("list", { text, lattice: one });
+                const listed = listing(answer.output ?? "").instructions;
+                if (answer.status === 0 && !lines(text, listed).length) found.push(`${name}/${file}`);
+              }
+            }
+            done(found); })();""")
+        self.expect("the examples whose instructions have no lines", missing, [])
 
     def share(self) -> None:
         """Shares the text and opens the link."""
@@ -293,10 +511,25 @@ class Student:
             complain("the link has another text")
         self.verdict("Accepted")
 
+    def beside(self) -> None:
+        """At a width of 1,280 the task is beside the text, and the verdict is in sight."""
+        self.device("Emulation.setDeviceMetricsOverride", width=WIDE_TASK[0], height=WIDE_TASK[1], deviceScaleFactor=1,
+                    mobile=False)
+        self.go(self.address + "#05-branch")
+        self.verdict("Refused: ")
+        task, text, verdict = self.js("""return ["task", "text", "verdict-title"].map((one) => {
+            const { left, right, top, bottom } = document.getElementById(one).getBoundingClientRect();
+            return { left, right, top, bottom }; });""")
+        if not (task["right"] <= text["left"] and verdict["bottom"] < WIDE_TASK[1] and task["bottom"] <= WIDE_TASK[1]):
+            complain(f"the task isn't beside the text, or the verdict isn't in sight: {task}, {text}, {verdict}")
+        self.look("beside")
+        self.device("Emulation.setDeviceMetricsOverride", width=self.size[0], height=self.size[1], deviceScaleFactor=1,
+                    mobile=False)
+
     def exercise(self) -> None:
         """Solves exercise 02."""
         self.go(self.address + "#02-direct-flow")
-        self.verdict("Refused: number 25")
+        self.verdict("Refused: raised reaches report")
         self.ask("mark-button", "task-result", "a mark", lambda: "Not right yet" in self.text("task-result")
                  and not any(words in self.text("task-result") for words in BUSY))
         self.look("exercise")
@@ -319,16 +552,15 @@ class Student:
     def portrait(self, folder: str) -> None:
         """Takes the picture of README: a leak of Bob's bid, as Alice sees it, 1,000 wide at twice the resolution."""
         self.go(self.address + "#two-parties/told.vsi")
-        self.verdict("Refused: number 25")
+        self.verdict("Refused: bob reaches alice_leads")
         self.press("tab-leak")
-        self.ask("leak-button", "leak-result", "a leak", lambda: "A leak at A" in self.text("leak-result"))
-        self.js("""const observer = document.getElementById("observer");
-            observer.value = "1";
-            observer.dispatchEvent(new Event("input"));
-            document.querySelector("#verdict details").open = false;
+        self.shows("leak-result", "a leak", lambda: "A leak at A" in self.text("leak-result"))
+        self.shows("verdict-leak", "the leak beside it", lambda: "An observer at A" in self.text("verdict-leak"))
+        self.click("#lattice-picture [data-class=A]")
+        self.js("""for (const fold of document.querySelectorAll("#verdict details")) fold.open = false;
             document.activeElement.blur();
             scrollTo(0, 0);""")
-        height = self.js("return document.querySelector('#lattice-picture').getBoundingClientRect().bottom")
+        height = self.js("return document.querySelector('#leak-result').getBoundingClientRect().bottom")
         self.device("Emulation.setDeviceMetricsOverride", width=1000, height=int(height) + 4, deviceScaleFactor=2,
                     mobile=False)
         self.driver.save_screenshot(os.path.join(folder, f"playground-{self.scheme}.png"))
@@ -392,8 +624,10 @@ def go_through(options: argparse.Namespace, address: str) -> None:
             if options.readme:
                 student.portrait(options.readme)
             else:
-                for part in (student.fix, student.panes, student.share, student.busy, student.keys,
-                             student.exercise, student.level):
+                wide = [student.beside, student.mapped] if size == SIZES[-1] or options.short else []
+                for part in (student.fix, student.share, student.fields, student.faults, student.wraps, student.panes,
+                             student.busy, student.keys, student.observers, student.pages, student.exercise,
+                             student.level, *wide):
                     part()
         finally:
             student.end()
@@ -409,7 +643,8 @@ def main() -> None:
     parser.add_argument("--pictures")
     parser.add_argument("--readme")
     options = parser.parse_args()
-    held(__doc__, lambda address: go_through(options, address))
+    with tempfile.TemporaryDirectory() as folder:
+        held(__doc__, lambda address: go_through(options, address), "--docs", make_docs(os.path.join(folder, "docs")))
 
 
 if __name__ == "__main__":

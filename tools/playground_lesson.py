@@ -20,6 +20,10 @@ import playground_browser as browser  # noqa: E402
 
 LOW_HIGH = "var h : H;\nvar l : L;\n\n"
 GLOWS = "temperature = 17 target = 20 heater = 1|refused: 47 AboveClass 0"
+BESIDE = "An observer at L sees report = 100 or 101, depending on salary = 0 or 1."
+ENDS = "Refused: secret decides whether a loop ends|(loop)"
+DOWN = "var h : H;\n\nwhile 0 < h do h := h - 1\n"
+ZERO = "var salary : H;\nvar report : L;\n\nreport := salary * 0\n"
 HIGHER = "class H sees|salary = 9100|report = 13"
 
 
@@ -33,22 +37,23 @@ class Step(NamedTuple):
     text: Optional[str] = None
     lattice: Optional[str] = None
     profile: str = "base"
-    observer: Optional[int] = None
+    observer: str = ""
     store: str = ""
 
 
 STEPS = (
-    Step(1, "direct-flow/leak.vsi", "verdict", "Refused: number 25"),
+    Step(1, "direct-flow/leak.vsi", "verdict", "Refused: salary reaches report"),
     Step(2, "direct-flow/leak.vsi", "leak", "report | 100 | 101 | ✱ differs"),
-    Step(2, "", "verdict", "Refused: number 25", "var salary : H;\nvar report : L;\n\nreport := salary * 0\n"),
-    Step(2, "", "leak", "no leak in 1000 pairs of runs", "var salary : H;\nvar report : L;\n\nreport := salary * 0\n"),
-    Step(2, "direct-flow/overwritten.vsi", "verdict", "Refused: number 25"),
+    Step(2, "direct-flow/leak.vsi", "beside", BESIDE),
+    Step(2, "", "verdict", "Refused: salary reaches report", ZERO),
+    Step(2, "", "leak", "no leak in 1000 pairs of runs", ZERO),
+    Step(2, "direct-flow/overwritten.vsi", "verdict", "Refused: salary reaches report"),
     Step(2, "direct-flow/overwritten.vsi", "leak", "no leak in 1000 pairs of runs"),
     Step(2, "direct-flow/repaired.vsi", "verdict", "Accepted"),
     Step(2, "direct-flow/repaired.vsi", "run", "class L sees|report = 13|staff = 12", store="march.toml"),
     Step(2, "direct-flow/repaired.vsi", "run", "class L sees|report = 13|staff = 12", store="april.toml"),
-    Step(2, "direct-flow/repaired.vsi", "run", HIGHER, observer=1, store="april.toml"),
-    Step(3, "implicit-flow/lamp.vsi", "verdict", "Refused: number 25"),
+    Step(2, "direct-flow/repaired.vsi", "run", HIGHER, observer="H", store="april.toml"),
+    Step(3, "implicit-flow/lamp.vsi", "verdict", "Refused: alarm reaches lamp"),
     Step(3, "implicit-flow/lamp.vsi", "leak", "lamp | 0 | 1 | ✱ differs"),
     Step(3, "", "verdict", "line 4, column 4", LOW_HIGH + "if h then l := 1\nelse h := h\n"),
     Step(3, "", "leak", "l | 0 | 1 | ✱ differs", LOW_HIGH + "if h then l := 1\nelse h := h\n"),
@@ -62,22 +67,23 @@ STEPS = (
     Step(5, "label-creep/creep.vsi", "leak", "no leak in 1000 pairs of runs"),
     Step(6, "two-parties/told.vsi", "verdict", "bob : B may not flow to alice_leads : A"),
     Step(6, "two-parties/told.vsi", "leak", "A leak at A"),
-    Step(6, "two-parties/told.vsi", "verdict", "9 NoJoin", lattice='classes = ["A", "B"]\nbelow = []\n'),
+    Step(6, "two-parties/told.vsi", "verdict", "Refused: B isn't in any pair of below|Refusal 9, NoJoin",
+         lattice='classes = ["A", "B"]\nbelow = []\n'),
     Step(6, "two-parties/auction.vsi", "flows", "bob B | alice_leads H | allowed"),
     Step(6, "two-parties/auction.vsi", "leak", "no leak in 3000 pairs of runs"),
-    Step(7, "password/told.vsi", "verdict", "Refused: number 25"),
+    Step(7, "password/told.vsi", "verdict", "Refused: first reaches told"),
     Step(7, "password/told.vsi", "leak", "A leak at L"),
     Step(7, "password/door.vsi", "verdict", "Accepted"),
     Step(7, "password/door.vsi", "leak", "no leak in 1000 pairs of runs"),
     Step(8, "loop-ending/waits.vsi", "verdict", "Accepted"),
     Step(8, "loop-ending/waits.vsi", "leak 100 endings", "after 7 instructions | out of budget"),
-    Step(8, "strict-profile/waits.vsi", "verdict", "(loop)", profile="strict"),
-    Step(8, "strict-profile/branch.vsi", "verdict", "(loop)", profile="strict"),
+    Step(8, "strict-profile/waits.vsi", "verdict", ENDS, profile="strict"),
+    Step(8, "strict-profile/branch.vsi", "verdict", ENDS, profile="strict"),
     Step(8, "strict-profile/branch.vsi", "leak 100 endings", "after 5 instructions | out of budget"),
     Step(8, "strict-profile/repaired.vsi", "verdict", "Accepted", profile="strict"),
     Step(8, "strict-profile/repaired.vsi", "leak 100 endings", "no leak in 200 pairs of runs"),
-    Step(8, "", "verdict", "(loop)", "var h : H;\n\nwhile 0 < h do h := h - 1\n", profile="strict"),
-    Step(8, "", "leak 100 endings", "out of budget", "var h : H;\n\nwhile 0 < h do h := h - 1\n"),
+    Step(8, "", "verdict", "Refused: h decides whether a loop ends", DOWN, profile="strict"),
+    Step(8, "", "leak 100 endings", "out of budget", DOWN),
     Step(10, "password/door.vsi", "verdict", "Accepted", profile="strict"),
     Step(10, "password/door.vsi", "leak 100 steps", "after 17 instructions | after 11 instructions"),
     Step(10, "password/steady.vsi", "leak 100 steps", "no leak in 200 pairs of runs"),
@@ -85,7 +91,7 @@ STEPS = (
     Step(10, "selection/branch.vsi", "leak 100 steps", "after 9 instructions | after 8 instructions"),
     Step(10, "selection/arithmetic.vsi", "leak 100 steps", "no leak in 200 pairs of runs"),
     Step(10, "selection/arithmetic.vsi", "machine", "Step 1 of 11"),
-    Step(11, "controller/service.vsi", "verdict", "Refused: number 25"),
+    Step(11, "controller/service.vsi", "verdict", "Refused: key reaches heater"),
     Step(11, "controller/service.vsi", "leak", "A leak at"),
     Step(11, "controller/service.vsi", "flows", "key Secret | heater Public | refused"),
     Step(11, "controller/heater.vsi", "flows", "key Secret | seal Secret | allowed"),
@@ -96,6 +102,7 @@ STEPS = (
     Step(12, "integrity/endorsed.vsi", "verdict", "network : Tainted may not flow to limit : Trusted"),
     Step(12, "integrity/endorsed.vsi", "leak", "A leak at Trusted"),
     Step(12, "integrity/repaired.vsi", "verdict", "Accepted"),
+    Step(13, "controller/lock.vsi", "verdict", "Accepted"),
 )
 # The text of an element with ` | ` between the cells of a table.
 SHOWN = """
@@ -140,23 +147,28 @@ class Teacher(browser.Student):
             self.shown.add(program)
         self.wait("a shown verdict", lambda: self.text("verdict-title") != "Accepted or refused?")
         self.wait("a verdict", lambda: self.text("verdict-title") != "Reading")
-        if step.observer is not None:
-            self.set("observer", str(step.observer), "input")
+        if step.observer:
+            self.wait("the classes", lambda: self.texts(f"#lattice-picture [data-class='{step.observer}']"))
+            self.click(f"#lattice-picture [data-class='{step.observer}']")
         place = self.work(step)
         for shows in step.shows.split("|") if " | " not in step.shows else [step.shows]:
-            if not self.wait(f"part {step.part}, {step.item}: {shows}", lambda: shows in self.js(SHOWN, place)):
+            what = f"part {step.part}, {step.item}: {shows}"
+            if not self.shows(place, what, lambda: shows in self.js(SHOWN, place)):
                 print(self.js(SHOWN, place)[:600], file=sys.stderr)
 
     def set(self, identifier: str, value: str, event: str) -> None:
         self.js(SET, identifier, value, event)
 
     def work(self, step: Step) -> str:
-        """Presses what the step needs; answers the element that shows the answer."""
+        """Opens the pane that the step needs, presses a button where there is one; names what shows the answer."""
         does, *options = step.does.split(" ")
-        if does in ("verdict", "classes"):
-            return "verdict" if does == "verdict" else "program-editor"
+        if does in ("verdict", "classes", "beside"):
+            return {"verdict": "verdict", "classes": "program-editor", "beside": "verdict-leak"}[does]
         pane = {"audit": "machine", "source": "machine", "drive": "cycles"}.get(does, does)
-        self.press(f"tab-{pane}")
+        if pane == "cycles":
+            self.choose("more", pane)
+        else:
+            self.press(f"tab-{pane}")
         if step.store:
             self.set("files", step.store, "change")
         if does == "leak":
@@ -164,14 +176,16 @@ class Teacher(browser.Student):
             for name in ("endings", "steps"):
                 if self.at(f"leak-{name}").is_selected() != (name in options):
                     self.press(f"leak-{name}")
+            self.press("leak-button")
         if does == "drive":
             self.set("cycles-lines", "temperature = 17\ntemperature = 12\nkey = 6\n", "input")
+            self.press("cycles-button")
         if does in ("audit", "source"):
+            self.wait("the trace, which comes first", lambda: self.text("step-now"))
             label = {"audit": "Audit the image", "source": "Program of the image"}[does]
             self.driver.find_element("xpath", f"//button[text()='{label}']").click()
-        else:
-            self.press(f"{pane}-button")
-        return {"machine": "step-now" if does == "machine" else "machine-result"}.get(pane, f"{pane}-result")
+        return {"machine": "step-now", "run": "view-result", "drive": "cycles-result"}.get(
+            does, "machine-result" if pane == "machine" else f"{pane}-result")
 
 
 def hold(address: str) -> None:

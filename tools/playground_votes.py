@@ -18,16 +18,18 @@ import os
 import sys
 import time
 import urllib.request
+from typing import Callable
 
 sys.dont_write_bytecode = True
 import playground_browser as browser  # noqa: E402
 
 TWO = 'classes = ["L", "H"]\nbelow = [["L", "H"]]\n'
 LAMP = "var alarm : H;\nvar lamp : L;\nif alarm then lamp := 1\nelse lamp := 0\n"
+REFUSED = "Refused: alarm reaches lamp"
 LEAK = "var secret : H;\nvar shown : L;\n\nshown := secret + 1\n"
 # Seconds of its processor's time that a tab may need for a key in a text of 960 kB, and how many turns of a loop
 # that fills a string take a tenth of them on the machine for which they are meant.
-MOST_BUSY, LINES, TURNS = 2, 80_000, 1_000_000
+MOST_BUSY, LINES, TURNS = 2, 80_000, 2_300_000
 # Fills a string, cuts it into lines, and joins them again, so that a slow machine can be known.
 MEASURE = """
 let made = "";
@@ -46,7 +48,10 @@ area.focus();
 area.setSelectionRange(area.value.length / 2, area.value.length / 2);
 document.execCommand("insertText", false, " ");
 """
-TELLING = ("flows", "leak", "machine", "report")
+# The panes that a lesson closes before Show, and those that are closed before a try of one's own.
+TELLING, UNTRIED = ["flows", "machine", "report", "search"], ["report", "search"]
+# The requests that the page may send while it hides a verdict.
+HARMLESS = {"/api/lattice", "/api/votes"}
 
 
 def descendants(process: int) -> "list[int]":
@@ -74,18 +79,16 @@ def busy_seconds(driver: int) -> float:
 class Voter(browser.Student):
     """A visit to a lesson."""
 
-    def expect(self, what: str, seen: object, wanted: object) -> None:
-        if seen != wanted:
-            browser.complain(f"{what} is {seen!r}, not {wanted!r}")
-
     def opened(self, item: str) -> None:
         """Opens an item by its address, as the list does."""
         self.js("location.hash = arguments[0]", item or "own")
         self.wait(f"the item {item}", lambda: self.js("return document.getElementById('open').value") == item)
 
     def closed(self) -> "list[str]":
-        """The panes that are closed."""
-        return self.js("return [...document.querySelectorAll('[role=tab]:disabled')].map((tab) => tab.id.slice(4))")
+        """The panes that are closed, and the search if it is."""
+        return self.js("""return [...document.querySelectorAll("[role=tab]:disabled, #more option:disabled")]
+            .map((one) => one.value || one.id.slice(4))
+            .concat(document.getElementById("search").hidden ? ["search"] : [])""")
 
     def value(self) -> str:
         return self.js("return document.getElementById('text').value")
@@ -101,9 +104,11 @@ class Voter(browser.Student):
     def vote(self) -> None:
         """Votes with a room about the lamp, and shows the verdict."""
         self.go(self.address)
+        self.js("performance.clearResourceTimings()")
         self.opened("implicit-flow-3")
         self.wait("a hidden verdict", lambda: self.text("verdict-title") == "Accepted or refused?")
-        self.expect("what shows the verdict", (self.text("verdict-body"), self.closed()), ("", list(TELLING)))
+        self.expect("what shows the verdict", (self.text("verdict-body"), self.text("verdict-leak"), self.closed()),
+                    ("", "", TELLING))
         self.expect("the comment of the lamp", "#" in self.value(), False)
         if ".vsi" in self.text("open"):
             browser.complain("the list of a lesson has the names of files")
@@ -115,8 +120,14 @@ class Voter(browser.Student):
             "return [...document.querySelectorAll('[aria-pressed=true]')].map((one) => one.textContent)") == ["Refused"])
         self.wait("30 votes", lambda: self.text("votes") == "30 votes so far.")
         self.look("vote")
+        asked = set(self.js("return performance.getEntriesByType('resource').map((one) => new URL(one.name).pathname)"))
+        self.expect("what was asked for before Show", asked - HARMLESS, set())
+        self.press("run-button")
+        self.wait("a run by hand", lambda: "halted" in self.text("run-result"))
         self.press("show-verdict")
-        self.verdict("Refused: number 25")
+        self.verdict(REFUSED)
+        self.shows("verdict-leak", "the leak after Show", lambda: self.text("verdict-leak")
+                   == "An observer at L sees lamp = 0 or 1, depending on alarm = 0 or 1.")
         self.wait("the votes", lambda: self.text("votes") == "The room: accepted 19, refused 10, don't know 1.")
         self.expect("the panes that are closed after Show", self.closed(), [])
         self.look("shown")
@@ -131,7 +142,7 @@ class Voter(browser.Student):
         self.fix_it()
         self.wait("a question again", lambda: self.text("verdict-title") == "Accepted or refused?")
         self.press("undo")
-        self.verdict("Refused: number 25")
+        self.verdict(REFUSED)
         self.opened("implicit-flow-4")
         self.wait("a question", lambda: self.text("verdict-title") == "Accepted or refused?")
         self.press("lesson")
@@ -142,19 +153,18 @@ class Voter(browser.Student):
         """The search is closed until two stores that differ were compared, and fills in none."""
         for item in ("level-3", "14-a-leak"):
             self.opened(item)
-            self.wait(f"a closed search in {item}", lambda: self.closed() == ["leak", "report"])
+            self.wait(f"a closed search in {item}", lambda: self.closed() == UNTRIED)
             button = "show-button" if item == "level-3" else "pair-button"
             name = self.js("return document.querySelector('#pair-stores input').name").split("-")[0]
             self.ask(button, "pair-result", "two runs", lambda: "after the runs" in self.text("pair-result"))
-            self.expect(f"{item}, closed after the stores of its start", self.closed(), ["leak", "report"])
+            self.expect(f"{item}, closed after the stores of its start", self.closed(), UNTRIED)
             self.put(f"{name}-0", "1")
             self.put(f"{name}-1", "2")
             self.press(button)
             self.wait(f"an open search in {item}", lambda: not self.closed())
-            self.press("tab-leak")
             self.ask("leak-button", "leak-result", "a leak", lambda: "A leak at" in self.text("leak-result"))
-            self.expect(f"{item}: buttons of the search", self.js(
-                "return document.querySelectorAll('#leak-result button').length"), 0)
+            self.expect(f"{item}: buttons of the search, and what is beside the verdict",
+                        (self.texts("#leak-result button"), self.text("verdict-leak")), ([], ""))
 
     def undo(self) -> None:
         """A quick fix, a ready lattice and another text can be undone, by the button and by the key."""
@@ -165,7 +175,7 @@ class Voter(browser.Student):
         self.fix_it()
         self.verdict("Accepted")
         self.at("text").send_keys(Keys.CONTROL, "z")
-        self.verdict("Refused: number 25")
+        self.verdict("Refused: salary reaches report")
         self.expect("the text after Ctrl-Z", self.value(), before)
         self.at("text").send_keys("x")
         self.expect("a typed letter", len(self.value()), len(before) + 1)
@@ -188,25 +198,38 @@ class Voter(browser.Student):
         self.go(self.address)
         self.expect("the first tab's text", self.value(), "var one : L; one := 1")
 
+    def taken(self, work: "Callable[[], object]") -> float:
+        """The seconds of its processor's time that a tab needs for some work."""
+        before = busy_seconds(self.driver.service.process.pid)
+        work()
+        return busy_seconds(self.driver.service.process.pid) - before
+
     def slowness(self) -> float:
         """How many times the usual seconds this machine needs, at least one."""
-        before = busy_seconds(self.driver.service.process.pid)
-        self.js(MEASURE, TURNS)
-        return max(1.0, (busy_seconds(self.driver.service.process.pid) - before) / (MOST_BUSY / 10))
+        return max(1.0, self.taken(lambda: self.js(MEASURE, TURNS)) / (MOST_BUSY / 10))
 
-    def large(self) -> None:
-        """A text of 960 kB, and a key in it, take at most MOST_BUSY seconds of the tab's processor, more on a slow one."""
-        slowness = self.slowness()
-        text = "var x : L;\n" + "x := x + 1;\n" * LINES + "x := 0\n"
-        for what, code in (("a large text", PUT), ("a key in it", TYPE)):
-            before = busy_seconds(self.driver.service.process.pid)
+    def least(self, code: str, text: str, most: float) -> "tuple[float, int]":
+        """The least seconds of at most three tries of a change, and how many tries it took to stay within the most."""
+        def change() -> None:
             self.js(code, text)
             time.sleep(1)
             self.js("return document.body.offsetHeight")
-            taken = busy_seconds(self.driver.service.process.pid) - before
+        found: "list[float]" = []
+        while len(found) < 3 and (not found or min(found) > most):
+            found.append(self.taken(change))
+        return min(found), len(found)
+
+    def large(self) -> None:
+        """A text of 960 kB, and a key in it, take at most MOST_BUSY seconds of the tab, more on a slow machine."""
+        slowness = self.slowness()
+        text = "var x : L;\n" + "x := x + 1;\n" * LINES + "x := 0\n"
+        for what, code in (("a large text", PUT), ("a key in it", TYPE)):
+            taken, tries = self.least(code, text, MOST_BUSY * slowness)
             if taken > MOST_BUSY * slowness:
-                browser.complain(f"{what} keeps the tab busy for {taken:.1f} seconds, {slowness:.1f} times a usual machine's")
-        self.expect("the letters of the large text", len(self.value()), len(text) + 1)
+                browser.complain(f"{what} keeps the tab busy for {taken:.1f} seconds, "
+                                 f"{slowness:.1f} times a usual machine's")
+        self.expect("the letters of the large text", len(self.value()), len(text) + tries)
+        self.expect("the buttons where nothing follows", self.at("run-button").is_displayed(), True)
         self.press("lesson")
         self.write("var x : L; x := 1")
         self.verdict("Accepted")

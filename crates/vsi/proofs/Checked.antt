@@ -5,8 +5,8 @@ use Rattle.vsi_types.specs.declared.rules.Profile.TheVariants.{Base}
 use Rattle.vsi_answers.specs.Requests.{ChecksTo}
 use Rattle.vsi_arguments.specs.declared.request.Judging.{Judging}
 use Rattle.vsi_arguments.specs.declared.request.Request.{Request}
-use Rattle.vsi_asked.specs.Laws.{IsPlainCheck}
-use Rattle.vsi_asked.proofs.Plain.{check_is_asked}
+use Rattle.vsi_arguments.specs.Laws.{IsPlainCheck}
+use Rattle.vsi_arguments.proofs.Plain.{check_is_asked}
 use Rattle.vsi.specs.Holding.{Holding, IsReadAt}
 use Rattle.vsi.specs.Laws.{CheckedIsAccepted, IsAcceptedAt}
 use Rattle.vsi.specs.Files.{OfFiles, Writes}

@@ -7,7 +7,7 @@ use Rattle.vsi_arguments.specs.declared.request.Document.{Document}
 use Rattle.vsi_arguments.specs.declared.request.Document.TheVariants as document
 use Rattle.vsi_arguments.specs.declared.request.Request.{Request}
 use Rattle.vsi_arguments.specs.declared.request.Request.TheVariants as request
-use Rattle.vsi_asked.specs.Asked.{AsksFor}
+use Rattle.vsi_arguments.specs.Asked.{AsksFor}
 use Rattle.vsi.specs.declared.failure.Failure.{Failure}
 use Rattle.vsi.specs.declared.failure.Failure.TheVariants.{Refused, Interface, Audit, Unsteady, Differs, Usage, NoClass, OutOfBudget, FileFault, LostFile, Memory}
 use Rattle.vsi.specs.FaultyFiles.{TellsRefusal, answers_json, has_line}

@@ -12,8 +12,8 @@ use Rattle.vsi_drive.specs.BoundaryFaults.{boundary_fault}
 use Rattle.vsi_drive.specs.Control.{Control, controlled}
 use Rattle.vsi_devices.specs.Engine.{IsOfWriting}
 use Rattle.vsi_devices.specs.Running.{RunsApart, WrittenSteps, trace_of, trace_text}
-use Rattle.vsi_devices.specs.declared.error.EngineError.{EngineError}
-use Rattle.vsi_devices.specs.declared.error.EngineError.TheVariants as engine
+use Rattle.vsi_devices.specs.declared.engine.EngineError.{EngineError}
+use Rattle.vsi_devices.specs.declared.engine.EngineError.TheVariants as engine
 use Rattle.vsi_devices.proofs.Outputs.{longer_text, text_then}
 use Rattle.vsi_devices.proofs.Traces.{trace_rest}
 use Rattle.vsi_arguments.specs.declared.request.Document.{Document}

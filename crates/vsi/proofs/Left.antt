@@ -29,8 +29,8 @@ use Rattle.vsi_arguments.specs.declared.request.Execution.{Execution}
 use Rattle.vsi_arguments.specs.declared.request.InitialStore.{InitialStore}
 use Rattle.vsi_arguments.specs.declared.request.Request.{Request}
 use Rattle.vsi_arguments.specs.declared.request.Request.TheVariants.{Build, View}
-use Rattle.vsi_asked.specs.Asked.{AsksFor, given}
-use Rattle.vsi_asked.specs.Help.{AsksHelp}
+use Rattle.vsi_arguments.specs.Asked.{AsksFor, given}
+use Rattle.vsi_arguments.specs.Help.{AsksHelp}
 use Rattle.vsi.specs.Done.{Done}
 use Rattle.vsi.specs.Holding.{Delivers, Holding, HoldsAt, IsImageAt, IsLatticeAt, IsReadAt, IsStoreAt, KeepsOthers}
 use Rattle.vsi.specs.Laws.{BeginAlike, LeftIsSeenAlike, Shows}

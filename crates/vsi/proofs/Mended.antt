@@ -4,7 +4,7 @@ use Rattle.std.specs.Global.{Vec}
 use Rattle.vsi_lattice.specs.declared.lattice.Lattice.{Lattice}
 use Rattle.vsi_types.specs.declared.rules.Profile.{Profile}
 use Rattle.vsi_arguments.specs.declared.request.Mending.{Mending}
-use Rattle.vsi_raises_json.specs.Answers.{TellsMended}
+use Rattle.vsi_documents.specs.Answers.{TellsMended}
 use Rattle.vsi.specs.Holding.{Holding}
 use Rattle.vsi.specs.Partly.{AnswersMend}
 use Rattle.vsi.specs.Files.{OfFiles}

@@ -12,8 +12,8 @@ use Rattle.vsi_arguments.specs.declared.request.Request.{Request}
 use Rattle.vsi_arguments.specs.declared.request.Viewing.{Viewing}
 use Rattle.vsi_arguments.specs.declared.request.Document.TheVariants as document
 use Rattle.vsi_arguments.specs.declared.request.Request.TheVariants.{Build, Document, Drive, Explain, Layout, Mend, View, ViewWithin}
-use Rattle.vsi_asked.specs.Asked.{AsksFor, Spells, given, interface_of, is_bounding, lists_of, name_of}
-use Rattle.vsi_asked.specs.Words.{has_flag, operands_in, shown, texts, values_in}
+use Rattle.vsi_arguments.specs.Asked.{AsksFor, Spells, given, interface_of, is_bounding, lists_of, name_of}
+use Rattle.vsi_arguments.specs.Words.{has_flag, operands_in, shown, texts, values_in}
 
 -- The arguments after the same first one are the same.
 behind : (words : List (List ℕ)) (name : List ℕ) (xs ys : List (List ℕ)) → words ≡ name ∷ xs → words ≡ name ∷ ys →

@@ -10,7 +10,7 @@ use Rattle.vsi_store.specs.File.{Tells}
 use Rattle.vsi_store.specs.View.{first_unknown}
 use Rattle.vsi_store.specs.declared.views.ViewError.{ViewError}
 use Rattle.vsi_store.specs.declared.views.ViewError.TheVariants as views
-use Rattle.vsi_diagnostics.specs.declared.fault.Fault.TheVariants as fault
+use Rattle.vsi_diagnostics.specs.declared.diagnostic.Fault.TheVariants as fault
 use Rattle.vsi_drive.specs.Boundary.{Boundary}
 use Rattle.vsi_drive.specs.BoundaryFaults.{boundary_fault}
 use Rattle.vsi_drive.specs.Control.{controlled}

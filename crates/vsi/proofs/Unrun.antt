@@ -9,21 +9,21 @@ use Rattle.vsi_lattice.specs.declared.lattice.Lattice.{Lattice}
 use Rattle.vsi_image.specs.declared.instr.Image.{Image}
 use Rattle.vsi_image.specs.Fields.{globals}
 use Rattle.vsi_store.specs.File.{IsRefusal}
-use Rattle.vsi_store.specs.declared.error.StoreError.{StoreError}
+use Rattle.vsi_store.specs.declared.reader.StoreError.{StoreError}
 use Rattle.vsi_drive.specs.Starts.{Begins}
 use Rattle.vsi_audit.specs.Telling.{IsAuditText}
-use Rattle.vsi_audit.specs.declared.error.AuditError.{AuditError}
+use Rattle.vsi_audit.specs.declared.flow.AuditError.{AuditError}
 use Rattle.vsi_answers.specs.Answers.{Because}
 use Rattle.vsi_answers.specs.Judged.{Declares, IsStoreFault, TellsFault}
 use Rattle.vsi_answers.specs.Requests.{BeginsWith}
 use Rattle.vsi_answers.specs.declared.unanswered.Cause.TheVariants as cause
 use Rattle.vsi_answers.specs.declared.unanswered.Unanswered.{Unanswered}
 use Rattle.vsi_answers.specs.declared.unanswered.Unanswered.TheVariants as unanswered
-use Rattle.vsi_diagnostics.specs.declared.fault.Fault.{Fault}
-use Rattle.vsi_diagnostics.specs.declared.fault.Fault.TheVariants as fault
+use Rattle.vsi_diagnostics.specs.declared.diagnostic.Fault.{Fault}
+use Rattle.vsi_diagnostics.specs.declared.diagnostic.Fault.TheVariants as fault
 use Rattle.vsi_devices.specs.Engine.{IsOfWriting}
-use Rattle.vsi_devices.specs.declared.error.EngineError.{EngineError}
-use Rattle.vsi_devices.specs.declared.error.EngineError.TheVariants as engine
+use Rattle.vsi_devices.specs.declared.engine.EngineError.{EngineError}
+use Rattle.vsi_devices.specs.declared.engine.EngineError.TheVariants as engine
 use Rattle.vsi_arguments.specs.declared.request.Budget.{Budget}
 use Rattle.vsi_arguments.specs.declared.request.Execution.{Execution}
 use Rattle.vsi_arguments.specs.declared.request.InitialStore.{InitialStore}

@@ -10,8 +10,8 @@ use Rattle.vsi_devices.proofs.Outputs.{longer_text, text_then}
 use Rattle.vsi_lattice.specs.declared.lattice.Lattice.{Lattice}
 use Rattle.vsi_types.specs.declared.rules.Profile.{Profile}
 use Rattle.vsi_types.specs.Security.{program, steps_of}
-use Rattle.vsi_flows.specs.declared.pair.Pair.{Pair}
-use Rattle.vsi_flows.specs.declared.walking.Walks.{Walks}
+use Rattle.vsi_flows.specs.declared.table.Pair.{Pair}
+use Rattle.vsi_flows.specs.declared.walks.Walks.{Walks}
 use Rattle.vsi_flows.specs.Text.{AddsLines, IsWalksText}
 use Rattle.vsi_flows.specs.Walking.{AreWalks}
 use Rattle.vsi_flows.specs.Walks.{AreWalkLines}

@@ -3,8 +3,8 @@ use Rattle.std.specs.Prelude.{◌≡◌, ◌<◌, ℕ, ◌⊎◌, true, false, L
 use Rattle.std.specs.Io.KnownBytes.{Keeps}
 use Rattle.std.specs.declared.alloc.Global.{Global}
 use Rattle.vsi_arguments.specs.declared.request.Request.{Request}
-use Rattle.vsi_asked.specs.Asked.{AsksFor}
-use Rattle.vsi_asked.specs.Help.{AsksHelp}
+use Rattle.vsi_arguments.specs.Asked.{AsksFor}
+use Rattle.vsi_arguments.specs.Help.{AsksHelp}
 use Rattle.vsi.specs.FaultyFiles.{WritesRefusal, answers_json, has_line}
 use Rattle.vsi.specs.Holding.{Holding}
 use Rattle.vsi.specs.Partly.{Answers, Leaves, cut_from}

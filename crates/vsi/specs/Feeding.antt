@@ -7,8 +7,8 @@ use Rattle.vsi_image.specs.declared.instr.Image.{Image}
 use Rattle.vsi_drive.specs.Boundary.{Boundary}
 use Rattle.vsi_drive.specs.Control.{Control, controlled}
 use Rattle.vsi_drive.specs.Settings.{Setting, settings_of}
-use Rattle.vsi_drive.specs.declared.fault.LineFault.{LineFault}
-use Rattle.vsi_drive.specs.declared.fault.LineFault.TheVariants.{TooLong, BadSetting, UnknownGlobal, AboveClass, NotAnInput, NotANumber}
+use Rattle.vsi_drive.specs.declared.settings.LineFault.{LineFault}
+use Rattle.vsi_drive.specs.declared.settings.LineFault.TheVariants.{TooLong, BadSetting, UnknownGlobal, AboveClass, NotAnInput, NotANumber}
 use Rattle.vsi_drive.specs.declared.starts.StartFault.{StartFault}
 use Rattle.vsi_drive.specs.declared.starts.StartFault.TheVariants as start
 use Rattle.vsi_answers.specs.Answers.{Because}

@@ -13,8 +13,8 @@ use Rattle.vsi_conform.specs.declared.interface.Judgement.TheVariants.{Base, Str
 use Rattle.vsi_conform.specs.declared.reader.Policy.{Policy}
 use Rattle.vsi_conform.specs.declared.reader.Policy.TheVariants.{File, Tables}
 use Rattle.vsi_store.specs.Evidence.{Filed}
-use Rattle.vsi_store.specs.declared.filed.AuditProfile.{AuditProfile}
-use Rattle.vsi_store.specs.declared.filed.AuditProfile.TheVariants as by
+use Rattle.vsi_store.specs.declared.reader.AuditProfile.{AuditProfile}
+use Rattle.vsi_store.specs.declared.reader.AuditProfile.TheVariants as by
 use Rattle.vsi.specs.Holding.{Holding}
 use Rattle.vsi.specs.Interfaces.{IsPolicyAt, named_path}
 

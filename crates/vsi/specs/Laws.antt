@@ -16,9 +16,9 @@ use Rattle.vsi_arguments.specs.declared.request.Execution.{Execution}
 use Rattle.vsi_arguments.specs.declared.request.InitialStore.{InitialStore}
 use Rattle.vsi_arguments.specs.declared.request.Request.{Request}
 use Rattle.vsi_arguments.specs.declared.request.Request.TheVariants.{Build, View}
-use Rattle.vsi_asked.specs.Asked.{AsksFor}
-use Rattle.vsi_asked.specs.Help.{AsksHelp}
-use Rattle.vsi_asked.specs.Laws.{ArePlainCheck}
+use Rattle.vsi_arguments.specs.Asked.{AsksFor}
+use Rattle.vsi_arguments.specs.Help.{AsksHelp}
+use Rattle.vsi_arguments.specs.Laws.{ArePlainCheck}
 use Rattle.vsi.specs.Done.{Done}
 use Rattle.vsi.specs.Holding.{Delivers, Holding, IsReadAt}
 use Rattle.vsi.specs.Files.{BeginsAt, LooksAt, OfFiles, shown}

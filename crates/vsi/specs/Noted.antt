@@ -15,8 +15,8 @@ use Rattle.vsi_arguments.specs.declared.request.InitialStore.{InitialStore}
 use Rattle.vsi_arguments.specs.declared.request.Request.{Request}
 use Rattle.vsi_arguments.specs.declared.request.Request.TheVariants as request
 use Rattle.vsi_arguments.specs.declared.request.Viewing.{Viewing}
-use Rattle.vsi_asked.specs.Asked.{AsksFor}
-use Rattle.vsi_asked.specs.Help.{AsksHelp}
+use Rattle.vsi_arguments.specs.Asked.{AsksFor}
+use Rattle.vsi_arguments.specs.Help.{AsksHelp}
 use Rattle.vsi_devices.specs.declared.counted.Counted.{Counted}
 use Rattle.vsi.specs.Admitted.{IsEnough, IsShort}
 use Rattle.vsi.specs.Files.{BeginsAt, IsBudgetOf}

@@ -7,7 +7,7 @@ use Rattle.vsi_image.specs.declared.instr.Image.{Image}
 use Rattle.vsi_image.specs.Meaning.{start}
 use Rattle.vsi_lsp.specs.Frames.{AreFrames}
 use Rattle.vsi_flows.specs.Text.{IsWalksText}
-use Rattle.vsi_store.specs.declared.comparison.Comparison as found
+use Rattle.vsi_store.specs.declared.comparing.Comparison as found
 use Rattle.vsi_drive.specs.Boundary.{Boundary}
 use Rattle.vsi_drive.specs.BoundaryFaults.{boundary_fault}
 use Rattle.vsi_drive.specs.Control.{Control, controlled}

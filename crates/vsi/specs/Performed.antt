@@ -9,14 +9,14 @@ use Rattle.vsi_types.specs.declared.rules.Profile.{Profile}
 use Rattle.vsi_types.specs.declared.rules.Profile.TheVariants.{Base, Strict}
 use Rattle.vsi_image.specs.declared.instr.Image.{Image}
 use Rattle.vsi_image.specs.Fields.{globals}
-use Rattle.vsi_emit.specs.declared.origin.Build.{Build}
-use Rattle.vsi_emit.specs.declared.origin.Build.TheVariants.{Proved}
-use Rattle.vsi_emit.specs.declared.origin.Origin.{Origin}
+use Rattle.vsi_emit.specs.declared.emit.Build.{Build}
+use Rattle.vsi_emit.specs.declared.emit.Build.TheVariants.{Proved}
+use Rattle.vsi_emit.specs.declared.emit.Origin.{Origin}
 use Rattle.vsi_emit.specs.Bounded.{IsEmittedBounded}
 use Rattle.vsi_emit.specs.BoundedWriting.{bounded_header_text}
 use Rattle.vsi_emit.specs.Emitted.{IsEmitted}
 use Rattle.vsi_emit.specs.Writing.{header_text}
-use Rattle.vsi_store.specs.declared.comparison.Comparison as found
+use Rattle.vsi_store.specs.declared.comparing.Comparison as found
 use Rattle.vsi_compiler.specs.Observation.{EndsAlike, IsNoninterfering}
 use Rattle.vsi_compiler.specs.Readable.{HasProgram}
 use Rattle.vsi_steady.specs.Steady.{IsSteady}
@@ -30,8 +30,8 @@ use Rattle.vsi_leak.specs.Leaks.{most_pairs}
 use Rattle.vsi_audit.specs.Standing.{HasKnownClasses}
 use Rattle.vsi_audit.specs.Text.{IsSourceText}
 use Rattle.vsi_store.specs.Evidence.{Filed, conformity_text, evidence_text}
-use Rattle.vsi_store.specs.declared.filed.AuditProfile.{AuditProfile}
-use Rattle.vsi_store.specs.declared.filed.AuditProfile.TheVariants as by
+use Rattle.vsi_store.specs.declared.reader.AuditProfile.{AuditProfile}
+use Rattle.vsi_store.specs.declared.reader.AuditProfile.TheVariants as by
 use Rattle.vsi_report.specs.FlowsGraph.{IsFlowsGraph, IsPolicyGraph}
 use Rattle.vsi_report.specs.Graph.{IsLatticeGraph}
 use Rattle.vsi_report.specs.Page.{HasPanel}
@@ -42,7 +42,7 @@ use Rattle.vsi_conform.specs.Lines.{IsConformText}
 use Rattle.vsi_sarif.specs.Conforming.{IsConformSarif}
 use Rattle.vsi_conform.specs.Points.{is_conforming}
 use Rattle.vsi_conform.specs.Totals.{total_of}
-use Rattle.vsi_conform.specs.declared.point.Answer.{Answer}
+use Rattle.vsi_conform.specs.declared.interface.Answer.{Answer}
 use Rattle.vsi_conform.specs.declared.reader.InterfaceFile.{InterfaceFile}
 use Rattle.vsi_conform.specs.declared.interface.Interface.{Interface}
 use Rattle.vsi_conform.specs.declared.interface.Judgement.{Judgement}

@@ -4,7 +4,7 @@ use Rattle.std.specs.Global.{Vec}
 use Rattle.vsi_lattice.specs.declared.lattice.Lattice.{Lattice}
 use Rattle.vsi_types.specs.declared.rules.Profile.{Profile}
 use Rattle.vsi_answers.specs.Requests.{AppliesTo, MendsTo}
-use Rattle.vsi_raises_json.specs.Answers.{TellsRaises, TellsUnserved}
+use Rattle.vsi_documents.specs.Answers.{TellsRaises, TellsUnserved}
 
 -- The lines of the least raises of a text; with `--json` their line of JSON, and with `--apply` the accepted text with
 -- these raises.

@@ -8,7 +8,7 @@ use Rattle.vsi_lattice.specs.declared.lattice.Lattice.{Lattice}
 use Rattle.vsi_lattice.specs.declared.fault.LatticeError.TheVariants as lattice
 use Rattle.vsi_image.specs.declared.instr.Image.{Image}
 use Rattle.vsi_image.specs.Fields.{globals}
-use Rattle.vsi_store.specs.declared.comparison.Comparison as found
+use Rattle.vsi_store.specs.declared.comparing.Comparison as found
 use Rattle.vsi_compiler.specs.Headline.{IsImageOf}
 use Rattle.vsi_compiler.specs.Readable.{HasProgram}
 use Rattle.vsi_drive.specs.Boundary.{Boundary}
@@ -16,7 +16,7 @@ use Rattle.vsi_drive.specs.Control.{controlled}
 use Rattle.vsi_drive.specs.Views.{view_of}
 use Rattle.vsi_audit.specs.Refusal as audited
 use Rattle.vsi_audit.specs.Telling.{IsAuditText}
-use Rattle.vsi_audit.specs.declared.error.AuditError.{AuditError}
+use Rattle.vsi_audit.specs.declared.flow.AuditError.{AuditError}
 use Rattle.vsi_steady.specs.Refusal as steady
 use Rattle.vsi_steady.specs.Telling.{IsUnsteadyText}
 use Rattle.vsi_leak.specs.Leaks.{IsLeak, IsWanted}

@@ -7,10 +7,10 @@ use Rattle.vsi_lattice.specs.declared.lattice.Lattice.{Lattice}
 use Rattle.vsi_lattice.specs.declared.fault.LatticeError.TheVariants as lattice
 use Rattle.vsi_image.specs.declared.decoder.DecodeError.TheVariants as decoder
 use Rattle.vsi_image.specs.declared.instr.Image.{Image}
-use Rattle.vsi_store.specs.declared.error.StoreError.TheVariants as store
+use Rattle.vsi_store.specs.declared.reader.StoreError.TheVariants as store
 use Rattle.vsi_store.specs.declared.views.ViewError.TheVariants as views
-use Rattle.vsi_diagnostics.specs.declared.fault.Fault.{Fault}
-use Rattle.vsi_diagnostics.specs.declared.fault.Fault.TheVariants as fault
+use Rattle.vsi_diagnostics.specs.declared.diagnostic.Fault.{Fault}
+use Rattle.vsi_diagnostics.specs.declared.diagnostic.Fault.TheVariants as fault
 use Rattle.vsi_answers.specs.Answers.{Because}
 use Rattle.vsi_answers.specs.Bounds as bounds
 use Rattle.vsi_answers.specs.Judged.{Declares, IsProgramFault, IsStoreFault, TellsFault, TellsSource}

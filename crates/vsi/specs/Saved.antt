@@ -13,7 +13,7 @@ use Rattle.vsi_drive.specs.Cycles.{store_behind, text_of}
 use Rattle.vsi_arguments.specs.declared.request.Driving.{Driving}
 use Rattle.vsi_arguments.specs.declared.request.Request.{Request}
 use Rattle.vsi_arguments.specs.declared.request.Request.TheVariants.{Build, Drive, Layout, Run, View, ViewWithin}
-use Rattle.vsi_asked.specs.Asked.{AsksFor}
+use Rattle.vsi_arguments.specs.Asked.{AsksFor}
 use Rattle.vsi.specs.Admitted.{IsAdmitted}
 use Rattle.vsi.specs.Driven.{lines_of}
 use Rattle.vsi.specs.Beginning.{IsBegun}

@@ -1,27 +1,34 @@
-//! The answers of the subcommands that judge an image without its source.
+//! Judgements of images and their bounds.
 
-ghost use Rattle.std.specs.Prelude.{◌≡◌, ◌⊎◌, ◌++◌, ◌∷◌, ℕ, [], IfErr, IfOk, OnOk, codes};
+ghost use Rattle.std.specs.Prelude.{◌≡◌, ◌⊎◌, ◌++◌, ◌∷◌, ℕ, [], IfErr, IfOk, OnOk, codes, ◌<◌, false};
 ghost use Rattle.vsi_audit.specs.Telling.{IsAuditText};
 ghost use Rattle.vsi_steady.specs.Telling.{IsUnsteadyText};
-ghost use Rattle.vsi.specs.Holding.{IsReadAt};
-ghost use Rattle.vsi.specs.Performed as spec;
-ghost use Rattle.vsi.specs.Performed.{AuditsTo, Passes, SourceOfFile, program_version};
+ghost use Rattle.vsi.specs.Holding.{IsReadAt, IsImageAt};
+ghost use Rattle.vsi.specs.Performed.{AuditsTo, Passes, SourceOfFile, program_version, BoundsFile, BoundsImage, IsBuiltAt, PerformsBound, compilation_of, IsBoundedC};
 ghost use Rattle.vsi_answers.specs.Judged.{AreImage, Declares};
 ghost use Rattle.vsi_store.specs.Evidence.{evidence_text};
-ghost use Rattle.vsi.specs.Refusals.{NoOther, RefusesImage, RefusesLattice, FailsBy};
-ghost use Rattle.vsi.specs.Reasons.{HasNoText, IsRefusedImage, RefusesAudit};
-ghost use Rattle.vsi.specs.declared.failure.Failure.TheVariants as fails;
+ghost use Rattle.vsi.specs.Refusals.{NoOther, RefusesImage, RefusesLattice, FailsBy, AsksImage, IsDifference, RefusesFiles, IsUnbounded};
+ghost use Rattle.vsi.specs.Reasons.{HasNoText, IsRefusedImage, RefusesAudit, DiffersBound, WhyEmit};
 ghost use Rattle.std.specs.Global.{Vec};
+ghost use Rattle.vsi.specs.Partly.{AnswersBound, Leaves};
+ghost use Rattle.vsi.specs.Failures.{TellsFault};
+ghost use Rattle.vsi_devices.specs.Counted.{device_of, faults_of};
+ghost use Rattle.vsi_answers.specs.Bounds.{IsBound};
+ghost use Rattle.vsi.specs.Performed as spec;
+ghost use Rattle.vsi.specs.declared.failure.Failure.TheVariants as fails;
 
-use crate::cache::{InputCache, InputKind};
-use crate::failure::Failure;
+use crate::failure::{Failure, write_answer};
 use crate::files::Files;
-use crate::reading::{bytes_in, declared_lattice, image_in, two_classes};
-use crate::subcommands::profile;
+use crate::reading::{InputCache, InputKind, bytes_in, declared_lattice, image_in, two_classes};
+use crate::subcommands::{policy_and_text, profile};
+use crate::trying::made_image;
 use std::alloc::{AllocError, Global};
-use vsi_answers::judged_image;
-use vsi_arguments::Audit;
+use std::io::Write;
+use vsi_answers::{BoundAnswer, enough_budget, judged_image};
+use vsi_arguments::{Audit, Bounding, Compilation};
 use vsi_audit::{AuditError, audit_in, audit_text, source_text};
+use vsi_devices::Counted;
+use vsi_emit::{Origin, emit_bounded, emit_bounded_header};
 use vsi_image::{Image, Verified};
 use vsi_lattice::Lattice;
 use vsi_steady::{SteadyError, steady_in, steady_text};
@@ -228,5 +235,122 @@ pub(crate) fn source<'a, F: Files>(
             let classes = two_classes(cache.alloc)?;
             Err(refused_image(cache.alloc, &classes, verified.image(), error))
         }
+    }
+}
+
+/// The answer about the bound of an image file.
+fn image_bound<'a, F: Files>(
+    cache: &mut InputCache,
+    image: &'a str,
+    files: &mut F,
+) -> Result<BoundAnswer, Failure<'a>>
+    ensures kept { F.holds files.new ≡ F.holds files.old }
+    ensures told { IfOk result (BoundsImage (IsImageAt (F.holds files.old) image.now)) }
+    ensures failed { IfErr result
+        (FailsBy (RefusesImage (F.holds files.old) image.now) NoOther) }
+{
+    let verified = image_in(cache, image, files)?;
+    let found = vsi_answers::bound(cache.alloc, &verified)?;
+    Ok(found)
+}
+
+/// The answer about the bound of the image of a source text.
+fn text_bound<'a, F: Files>(
+    cache: &mut InputCache,
+    lattice: &'a str,
+    source: &'a str,
+    files: &mut F,
+) -> Result<BoundAnswer, Failure<'a>>
+    ensures kept { F.holds files.new ≡ F.holds files.old }
+    ensures told { IfOk result (BoundsImage
+        (IsBuiltAt (F.holds files.old) (compilation_of lattice.entry source.entry))) }
+    ensures failed { IfErr result (FailsBy (RefusesFiles (F.holds files.old)
+        (compilation_of lattice.entry source.entry) (AsksImage false)) NoOther) }
+{
+    let compilation = Compilation {
+        lattice,
+        source,
+        is_strict: false,
+    };
+    let (classes, text) = policy_and_text(cache, compilation, files)?;
+    let verified = made_image(cache, &classes, source, text.as_slice())?;
+    let found = vsi_answers::bound_in(cache.alloc, &classes, text.as_slice(), &verified)?;
+    Ok(found)
+}
+
+/// The answer about the bound of the requested image.
+pub(crate) fn bounded<'a, F: Files>(
+    cache: &mut InputCache,
+    asked: Bounding<'a>,
+    files: &mut F,
+) -> Result<BoundAnswer, Failure<'a>>
+    ensures kept { F.holds files.new ≡ F.holds files.old }
+    ensures told { IfOk result (BoundsFile (F.holds files.old) asked.entry) }
+    ensures failed { IfErr result (FailsBy
+        (WhyEmit (F.holds files.old) asked.entry.lattice asked.entry.file) NoOther) }
+{
+    match asked.lattice {
+        Some(lattice) => text_bound(cache, lattice, asked.file, files),
+        None => image_bound(cache, asked.file, files),
+    }
+}
+
+/// Writes the answer about the bound of the requested image.
+pub(crate) fn bound<'a, F: Files, W: Write>(
+    cache: &mut InputCache,
+    asked: Bounding<'a>,
+    files: &mut F,
+    output: &mut Counted<W>,
+) -> Result<(), Failure<'a>>
+    requires { faults_of output.old < u64.MAX }
+    ensures kept { F.holds files.new ≡ F.holds files.old }
+    ensures fault { TellsFault (faults_of output.old) (faults_of output.new) result }
+    ensures left { IfErr result (Leaves (AnswersBound (F.holds files.old) asked.entry) 4
+        (W.contents (device_of output.old)) (W.contents (device_of output.new))) }
+    ensures performed { OnOk result (PerformsBound (F.holds files.old) asked.entry
+        (W.contents (device_of output.old)) (W.contents (device_of output.new))) }
+    ensures failed { IfErr result (FailsBy
+        (WhyEmit (F.holds files.old) asked.entry.lattice asked.entry.file)
+        (IsDifference (DiffersBound (F.holds files.old) asked.entry
+        (W.contents (device_of output.old)) (W.contents (device_of output.new))))) }
+{
+    let found = bounded(cache, asked, files)?;
+    write_answer(&found.text, found.is_bounded, output)
+}
+
+/// The most instructions of an image's runs, or the failure with the line of `bound` that says why
+/// there is no such number.
+fn most_of<'a>(alloc: Global, verified: &Verified) -> Result<u64, Failure<'a>>
+    ensures told { IfOk result (IsBound verified.now) }
+    ensures failed { IfErr result (FailsBy (λ reason. ⊥) (IsUnbounded verified.now)) }
+{
+    match enough_budget(alloc, verified)? {
+        Ok(most) => Ok(most),
+        Err(line) => Err(Failure::Refused(line, None)),
+    }
+}
+
+/// The header of an image's C without a budget, or that C.
+pub(crate) fn bounded_in_c<'a>(
+    alloc: Global,
+    verified: &Verified,
+    origin: Origin<'_>,
+    name: &[u8],
+    is_header: bool,
+) -> Result<Vec<u8>, Failure<'a>>
+    ensures told { IfOk result
+        (λ text. IsBoundedC is_header verified.now origin.entry name.now text.items) }
+    ensures failed { IfErr result (FailsBy (λ reason. ⊥) (IsUnbounded verified.now)) }
+{
+    let most = most_of(alloc, verified)?;
+    let answer = if is_header {
+        emit_bounded_header(alloc, verified, origin, most, name)
+    } else {
+        emit_bounded(alloc, verified, origin, most, name)
+    };
+    match answer {
+        Ok(text) => Ok(text),
+        // The name was judged before: functions may have it.
+        Err(_) => Err(Failure::Memory),
     }
 }

@@ -1,26 +1,27 @@
-//! Carries out a command line.
+//! The arguments of a command line, carried out.
 
-ghost use Rattle.std.specs.Prelude.{◌≡◌, ◌≢◌, ◌<◌, ◌≤◌, ◌⊎◌, ◌++◌, [], false, Ok, Err, IfOk, IfErr, OnOk, codes};
+ghost use Rattle.std.specs.Prelude.{◌≡◌, ◌≢◌, ◌<◌, ◌≤◌, ◌⊎◌, ◌++◌, [], false, Ok, Err, IfOk, IfErr, OnOk, codes, IsOkAnd};
 ghost use Rattle.std.specs.Io.KnownBytes.{Keeps};
 ghost use Rattle.vsi.specs.Done.{Done, Failed, FailsAt};
 ghost use Rattle.vsi.specs.Input.{AnswersInput, RefusesRun, SpendsRun, FailsRun, TellsFailure, WritesRun, WritesRunOf};
 ghost use Rattle.vsi.specs.Noted.{NotesFailure, NotesOf, TellsNote};
 ghost use Rattle.vsi.specs.Partly.{BytesOf, Partly};
 ghost use Rattle.vsi.specs.Saved.{KeepsStateOf};
-ghost use Rattle.vsi.specs.Screen.{tamed};
+ghost use Rattle.vsi.specs.Screen.{tamed, tamed as tamed_text};
 ghost use Rattle.vsi.specs.Failures.{note_after, status_of, text_of_failure, Gets, IsStreamFault, FailsFor, TellsFault};
-ghost use Rattle.vsi.specs.Words as spec;
 ghost use Rattle.vsi_answers.specs.Requests.{RunsSourceTo};
 ghost use Rattle.vsi_devices.specs.Counted.{device_of, faults_of};
+ghost use Rattle.vsi.specs.Words as spec;
+ghost use Rattle.vsi_caret.specs.Safe as safe;
+ghost use Rattle.vsi.specs.Screen as screen_spec;
 
 use crate::carrying_out::carry_out;
 use crate::failure::{Failure, STREAM, write};
 use crate::files::Files;
 use crate::reading::{answered, device_failure, two_classes};
-use crate::telling::{ErrorText, tell_failure};
-use std::alloc::Global;
+use std::alloc::{AllocError, Global};
 use std::io::{Read, Write};
-use vsi_devices::{Counted, read_all};
+use vsi_devices::{Counted, read_all, write_out};
 use vsi_lattice::Lattice;
 
 /// The budget of a run without arguments, in instructions.
@@ -277,4 +278,107 @@ fn ran<'a>(alloc: Global, lattice: &Lattice, source: &[u8]) -> Result<Vec<u8>, F
 {
     let answer = vsi_answers::run_source(alloc, lattice, source, DEFAULT_BUDGET);
     answered(answer)
+}
+
+/// The note after a failure, or after a request that was performed.
+#[derive(Drop)]
+pub(crate) struct ErrorText {
+    /// The lines of the note.
+    pub(crate) lines: Vec<u8>,
+}
+
+impl ErrorText {
+    /// Nothing yet.
+    pub(crate) fn new(alloc: Global) -> ErrorText
+        ensures { result.lines.items ≡ [] }
+    {
+        ErrorText {
+            lines: Vec::new(alloc),
+        }
+    }
+
+    /// Appends lines to the note.
+    pub(crate) fn put(&mut self, lines: Result<Vec<u8>, AllocError>) -> Result<(), AllocError>
+        ensures put { (self.new.lines.items ≡ self.old.lines.items)
+            ⊎ IsOkAnd lines (λ more. self.new.lines.items ≡ self.old.lines.items ++ more.items) }
+    {
+        self.lines.extend_from_slice(&lines?)
+    }
+
+    /// Writes the note, if no byte of it controls a terminal except for its colours.
+    pub(crate) fn tell<E: Write>(&self, error: &mut Counted<E>)
+        ensures count { faults_of error.old ≤ faults_of error.new }
+        ensures told { Gets E.contents error.old error.new (tamed_text self.now.lines.items) }
+    {
+        let text = tamed(&self.lines);
+        if !text.is_empty() {
+            say(text, error);
+        }
+    }
+}
+
+/// Writes a text to standard error, whose faults change nothing.
+pub(crate) fn say<E: Write>(text: &[u8], error: &mut Counted<E>)
+    ensures count { faults_of error.old ≤ faults_of error.new }
+    ensures told { Gets E.contents error.old error.new text.now }
+{
+    if error.faults() < u64::MAX {
+        let _ = write_out(text, error);
+    }
+}
+
+/// Writes the text of a failure to standard error, whose faults change nothing.
+pub(crate) fn tell_failure<E: Write>(failure: &Failure<'_>, error: &mut Counted<E>)
+    ensures count { faults_of error.old ≤ faults_of error.new }
+    ensures told { Gets E.contents error.old error.new (text_of_failure failure.now) }
+{
+    if error.faults() < u64::MAX {
+        let _ = failure.tell(error);
+    }
+}
+
+/// Whether a byte is printable ASCII or a line feed.
+fn is_plain(byte: u8) -> bool
+    ensures { result ≡ safe.is_plain byte }
+{
+    byte == b'\n' || (byte >= 32 && byte <= 126)
+}
+
+/// The number of bytes of the sequence for colours that bytes begin with; 0 if they begin with
+/// none.
+fn colour_length(bytes: &[u8]) -> usize
+    ensures { result ≡ screen_spec.colour_length bytes.now }
+{
+    if bytes.starts_with(b"\x1b[1;31m") {
+        7
+    } else if bytes.starts_with(b"\x1b[0m") {
+        4
+    } else {
+        0
+    }
+}
+
+/// Whether each byte is printable ASCII, a line feed, or part of a sequence that turns a colour on
+/// or all colours off.
+fn is_tame(bytes: &[u8]) -> bool
+    ensures { result ≡ screen_spec.is_tame bytes.now }
+{
+    let mut left: usize = 0;
+    for at in 0..bytes.len() {
+        if left == 0 {
+            left = colour_length(&bytes[at..]);
+            if left == 0 && !is_plain(bytes[at]) {
+                return false;
+            }
+        }
+        left = left.saturating_sub(1);
+    }
+    true
+}
+
+/// The bytes if none of them controls a terminal except for its colours, and none otherwise.
+pub(crate) fn tamed(bytes: &[u8]) -> &[u8]
+    ensures { result.now ≡ screen_spec.tamed bytes.now }
+{
+    if is_tame(bytes) { bytes } else { b"" }
 }

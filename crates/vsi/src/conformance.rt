@@ -21,13 +21,11 @@ ghost use Rattle.vsi.specs.Supplied.{IsSuppliedAs, TellsSupplied};
 ghost use Rattle.vsi.specs.Supplied as supplied;
 ghost use Rattle.vsi_answers.specs.Requests.{ReadsImage};
 
-use crate::cache::{InputCache, InputKind};
 use crate::failure::{Failure, write_answer};
 use crate::files::Files;
 use crate::filing::{asked_files, lines_after, with_lines};
-use crate::reached::reached_answer;
-use crate::reading::{bytes_in, declared_lattice, whole_in};
-use crate::references::with_reference;
+use crate::reading::{InputCache, InputKind, bytes_in, declared_lattice, whole_in};
+use crate::references::{reached_answer, with_reference};
 use std::alloc::{AllocError, Global};
 use std::io::Write;
 use vsi_answers::judged_image;

@@ -1,34 +1,41 @@
-//! The answers that are documents, which programs read.
+//! Answers as lines of JSON and as documents of SARIF.
 
-ghost use Rattle.std.specs.Prelude.{◌≡◌, ◌<◌, ◌⊎◌, [], Bool, false, true, IfErr, IfOk, OnOk};
-ghost use Rattle.vsi.specs.Documents.{AuditsJson, BoundsJson, ToldAuditJson, ToldClassesJson, ToldFlowsJson, ToldSarif};
+ghost use Rattle.std.specs.Prelude.{◌≡◌, ◌<◌, ◌⊎◌, [], Bool, false, true, IfErr, IfOk, OnOk, IsSomeAnd};
+ghost use Rattle.vsi.specs.Documents.{AuditsJson, BoundsJson, ToldAuditJson, ToldClassesJson, ToldFlowsJson, ToldSarif, ComparesJson, RunsJson};
 ghost use Rattle.vsi.specs.Files.{OfFiles, Writes};
 ghost use Rattle.vsi.specs.Holding.{IsImageAt};
-ghost use Rattle.vsi.specs.Noted.{Notes, document_noting};
+ghost use Rattle.vsi.specs.Noted.{Notes, document_noting, NotesCompare};
 ghost use Rattle.vsi.specs.Partly.{BytesOf, Leaves, document_cut_from};
-ghost use Rattle.vsi.specs.Performed.{DocumentOf, IsBuiltAt, IsEmittedFrom, compilation_of, judgement_of, profile_of};
-ghost use Rattle.vsi.specs.Reasons.{LacksDocument, OtherDocument, RefusesDocument, WhyDocument, WhyEmit, failure_of_document};
-ghost use Rattle.vsi.specs.Refusals.{AsksImage, NoOther, RefusesFiles, RefusesImage, RefusesLattice, FailsBy};
+ghost use Rattle.vsi.specs.Performed.{DocumentOf, IsBuiltAt, IsEmittedFrom, compilation_of, judgement_of, profile_of, SearchesJson};
+ghost use Rattle.vsi.specs.Reasons.{LacksDocument, OtherDocument, RefusesDocument, WhyDocument, WhyEmit, failure_of_document, LacksCompare, RefusesSearch, WhyCompare};
+ghost use Rattle.vsi.specs.Refusals.{AsksImage, NoOther, RefusesFiles, RefusesImage, RefusesLattice, FailsBy, LacksBoundAt, LacksClassAt, RefusesStart};
 ghost use Rattle.vsi.specs.Failures.{TellsFault};
 ghost use Rattle.vsi_devices.specs.Counted.{device_of, faults_of};
 
-use crate::cache::InputCache;
+use crate::drawing::looking;
+use crate::driving::{admit, budget_of, stored_words};
 use crate::failure::{Failure, write_document};
 use crate::files::Files;
-use crate::reading::{image_in, lattice_in};
-use crate::run_documents::{comparison_line, run_line, search_line};
+use crate::reading::{
+    InputCache, InputKind, bytes_in, image_in, lattice_in, policy_and_image, refused,
+};
+use crate::running::image_and_words;
 use crate::sarif_documents::audited_sarif;
 use crate::subcommands::{judgement, policy_and_text, profile};
 use crate::trying::made_image;
 use std::alloc::{AllocError, Global};
 use std::io::Write;
-use vsi_arguments::{Audit, Bounding, Compilation, Document, Judging};
+use vsi_arguments::{
+    Audit, Bounding, Comparison, Compilation, Document, Execution, InitialStore, Judging, Search,
+};
 use vsi_devices::Counted;
 use vsi_documents::{
-    Documented, audit_json, bound_json, bound_json_in, classes_json, flows_json, steady_json,
+    Documented, audit_json, bound_json, bound_json_in, classes_json, compare_json, flows_json,
+    leak_json, run_json, steady_json,
 };
 use vsi_image::Verified;
 use vsi_lattice::Lattice;
+use vsi_leak::{Effort, Wanted};
 use vsi_sarif::check_sarif;
 
 /// Whether the source text is accepted, and the document of SARIF that says so.
@@ -258,4 +265,105 @@ pub(crate) fn put_document<'a, F: Files, W: Write>(
     let failure = failure_of(&asked);
     let (good, text) = document(cache, asked, files, note)?;
     write_document(&text, good, failure, output)
+}
+
+/// The line of JSON for the run of an image file, and whether it halts within its budget.
+pub(crate) fn run_line<'a, F: Files>(
+    cache: &mut InputCache,
+    execution: Execution<'a>,
+    initial_store: &InitialStore<'a>,
+    files: &mut F,
+) -> Result<(bool, Vec<u8>), Failure<'a>>
+    ensures kept { F.holds files.new ≡ F.holds files.old }
+    ensures told { IfOk result (λ pair. RunsJson (F.holds files.old) execution.entry
+        initial_store.now pair.0 pair.1) }
+    ensures failed { IfErr result (FailsBy (λ reason.
+        RefusesImage (F.holds files.old) execution.entry.image.now reason
+        ⊎ RefusesStart (F.holds files.old) execution.entry initial_store.now reason)
+        (LacksBoundAt (F.holds files.old) execution.entry.image.now execution.entry.budget)) }
+{
+    let (verified, words) = image_and_words(cache, execution, initial_store, files)?;
+    let budget = budget_of(cache.alloc, execution.budget, &verified)?;
+    let told = run_json(cache.alloc, &verified, &words, budget)?;
+    Ok((told.is_good, told.line))
+}
+
+/// The line of JSON for the runs of an image file from two store files, and whether the class sees
+/// the same after both. The note gets a line if the budget isn't enough and is taken all the same.
+pub(crate) fn comparison_line<'a, F: Files>(
+    cache: &mut InputCache,
+    asked: Comparison<'a>,
+    files: &mut F,
+    note: &mut Vec<u8>,
+) -> Result<(bool, Vec<u8>), Failure<'a>>
+    ensures kept { F.holds files.new ≡ F.holds files.old }
+    ensures told { IfOk result
+        (λ pair. ComparesJson (F.holds files.old) asked.entry pair.0 pair.1) }
+    ensures noted { note.old.items ≡ [] → OnOk result
+        (NotesCompare (F.holds files.old) asked.entry note.new.items) }
+    ensures hushed { note.old.items ≡ [] → IfErr result (λ _.
+        (note.new.items ≡ []) ⊎ NotesCompare (F.holds files.old) asked.entry note.new.items) }
+    ensures failed { IfErr result (FailsBy (WhyCompare (F.holds files.old) asked.entry)
+        (LacksCompare (F.holds files.old) asked.entry)) }
+{
+    let (classes, class, verified) = policy_and_image(
+        cache,
+        asked.lattice,
+        asked.class,
+        asked.image,
+        files,
+    )?;
+    let first = stored_words(cache, &verified, Some(asked.stores.0), files)?;
+    let second = stored_words(cache, &verified, Some(asked.stores.1), files)?;
+    let budget = budget_of(cache.alloc, asked.budget, &verified)?;
+    admit(
+        cache.alloc,
+        asked.is_unbounded,
+        &classes,
+        &verified,
+        budget,
+        note,
+    )?;
+    let told = compare_json(
+        cache.alloc,
+        &classes,
+        &verified,
+        class,
+        &first,
+        &second,
+        budget,
+    )?;
+    Ok((told.is_good, told.line))
+}
+
+/// The line of JSON for a search of a source text, and whether it found no leak.
+pub(crate) fn search_line<'a, F: Files>(
+    cache: &mut InputCache,
+    search: Search<'a>,
+    files: &mut F,
+) -> Result<(bool, Vec<u8>), Failure<'a>>
+    ensures kept { F.holds files.new ≡ F.holds files.old }
+    ensures told { IfOk result
+        (λ pair. SearchesJson (F.holds files.old) search.entry pair.0 pair.1) }
+    ensures failed { IfErr result (FailsBy (RefusesSearch (F.holds files.old) search.entry)
+        (λ failure. IsSomeAnd search.entry.class
+        (λ class. LacksClassAt (F.holds files.old) search.entry.lattice.now class.now failure))) }
+{
+    let classes = lattice_in(cache, search.lattice, files)?;
+    let class = looking(&classes, search.class)?;
+    let text = bytes_in(cache, InputKind::Source, search.source, files)?;
+    let wanted = Wanted {
+        class,
+        endings: search.has_endings,
+        steps: search.has_steps,
+        effort: Effort {
+            budget: search.budget,
+            tries: search.tries,
+            seed: search.seed,
+        },
+    };
+    match leak_json(cache.alloc, &classes, text.as_slice(), &wanted) {
+        Ok(told) => Ok((told.is_good, told.line)),
+        Err(error) => Err(refused(cache.alloc, &classes, text.as_slice(), error)),
+    }
 }

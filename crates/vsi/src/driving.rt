@@ -1,11 +1,11 @@
 //! Drives an image, a cycle for each line of the input.
 
-ghost use Rattle.std.specs.Prelude.{◌≡◌, ◌<◌, ◌≤◌, ◌∷◌, [], ℕ, List, length, IfOk, IfErr, OnOk};
+ghost use Rattle.std.specs.Prelude.{◌≡◌, ◌<◌, ◌≤◌, ◌∷◌, [], ℕ, List, length, IfOk, IfErr, OnOk, false, MatchResult};
 ghost use Rattle.std.specs.Io.KnownBytes.{Appends};
 ghost use Rattle.vsi.specs.Driven.{Drives, DrivesInput, begun, last_line, whole_lines};
-ghost use Rattle.vsi.specs.Files.{IsStoredAt};
+ghost use Rattle.vsi.specs.Files.{IsStoredAt, IsBudgetOf};
 ghost use Rattle.vsi.specs.Performed.{PerformsDrive};
-ghost use Rattle.vsi.specs.Noted.{NotesDrive, NotesStop};
+ghost use Rattle.vsi.specs.Noted.{NotesDrive, NotesStop, TellsBudget};
 ghost use Rattle.vsi.specs.Partly.{AnswersDrive, Leaves};
 ghost use Rattle.vsi.specs.Saved.{Advances, CutsInput, CutsLines, LeavesState};
 ghost use Rattle.vsi.specs.State.{Touches};
@@ -14,28 +14,32 @@ ghost use Rattle.vsi_devices.specs.Counted.{device_of, faults_of};
 ghost use Rattle.vsi_drive.specs.Control.{control};
 ghost use Rattle.vsi_drive.specs.Cycles.{cycle};
 ghost use Rattle.vsi.specs.Holding.{IsStoreAt};
-ghost use Rattle.vsi.specs.Refusals.{NoOther, FailsBy};
-ghost use Rattle.vsi.specs.Undriven.{LacksDrive, WhyDrive};
+ghost use Rattle.vsi.specs.Refusals.{NoOther, FailsBy, LacksBound};
+ghost use Rattle.vsi.specs.Undriven.{LacksDrive, WhyDrive, SaysShort};
 ghost use Rattle.vsi_answers.specs.Answers.{Because};
 ghost use Rattle.vsi_answers.specs.Judged.{IsStoreFault};
+ghost use Rattle.vsi.specs.Admitted.{IsAdmitted, IsEnough, IsShort, short_line};
+ghost use Rattle.vsi_answers.specs.Bounds.{IsBound};
+ghost use Rattle.vsi_arguments.specs.declared.request.Budget.TheVariants.{Auto};
 ghost use Rattle.vsi_answers.specs.Judged as judged;
 
-use crate::admitting::admit;
 use crate::boundaries::{controller_of, names_in};
-use crate::budgets::budget_of;
-use crate::cache::InputCache;
 use crate::failure::{Failure, STREAM, write};
-use crate::files::Files;
-use crate::reading::{faulty, store_in};
-use crate::saving::{Drive, first_path, first_store, save, save_line};
+use crate::files::{Drive, Files, first_path, first_store, save, save_line};
+use crate::reading::{InputCache, faulty, store_in};
 use crate::steering::steered;
+use std::alloc::{AllocError, Global};
 use std::io::{Read, Write};
-use vsi_arguments::Driving;
+use vsi_answers::enough_budget;
+use vsi_arguments::{Budget, Driving};
 use vsi_devices::Counted;
 use vsi_diagnostics::Fault;
 use vsi_drive::LINE_LIMIT;
 use vsi_image::Verified;
+use vsi_lattice::Lattice;
+use vsi_steady::{SteadyError, steady_in};
 use vsi_store::read_store;
+use vsi_syntax::put_number;
 
 /// The size of the buffer of a read, in bytes.
 const CHUNK: usize = 4096;
@@ -277,5 +281,121 @@ fn drive_line<'a, F: Files, W: Write>(
             write(text.as_slice(), output)
         }
         Err(_) => Err(Failure::Memory),
+    }
+}
+
+/// The line of a budget below the bound.
+fn short_line(alloc: Global, budget: u64, most: u64) -> Result<Vec<u8>, AllocError>
+    ensures { IfOk result (λ text. text.items ≡ short_line budget most) }
+{
+    let mut text = Vec::new(alloc);
+    text.extend_from_slice(b"budget below the bound: ")?;
+    put_number(&mut text, budget as usize)?;
+    text.extend_from_slice(b" of ")?;
+    put_number(&mut text, most as usize)?;
+    text.extend_from_slice(b" instructions\n")?;
+    Ok(text)
+}
+
+/// Whether a budget is enough for an image with this bound: it isn't below the bound, or the image
+/// is steady. If it isn't enough, the line that says so.
+fn reaching(
+    alloc: Global,
+    classes: &Lattice,
+    verified: &Verified,
+    budget: u64,
+    most: u64,
+) -> Result<Result<(), Vec<u8>>, AllocError>
+    requires { IsBound verified.now most }
+    ensures { IfOk result (λ answer. MatchResult answer
+        (λ _. IsEnough classes.now verified.now budget)
+        (λ line. IsShort classes.now verified.now budget line.items)) }
+{
+    if most <= budget {
+        return Ok(Ok(()));
+    }
+    match steady_in(alloc, classes, verified) {
+        Ok(()) => Ok(Ok(())),
+        Err(error) => match error {
+            SteadyError::Memory => Err(AllocError),
+            _ => {
+                let line = short_line(alloc, budget, most)?;
+                Ok(Err(line))
+            }
+        },
+    }
+}
+
+/// Whether a budget is enough for an image, or the line that says that it isn't.
+fn judged(
+    alloc: Global,
+    classes: &Lattice,
+    verified: &Verified,
+    budget: u64,
+) -> Result<Result<(), Vec<u8>>, AllocError>
+    ensures { IfOk result (λ answer. MatchResult answer
+        (λ _. IsEnough classes.now verified.now budget)
+        (λ line. IsShort classes.now verified.now budget line.items)) }
+{
+    match enough_budget(alloc, verified)? {
+        Ok(most) => reaching(alloc, classes, verified, budget, most),
+        Err(line) => Ok(Err(line)),
+    }
+}
+
+/// Lets a request go on with a budget that is enough, or with any budget if that is requested. The
+/// note then gets the line that says that it isn't enough.
+pub(crate) fn admit<'a>(
+    alloc: Global,
+    is_unbounded: bool,
+    classes: &Lattice,
+    verified: &Verified,
+    budget: u64,
+    note: &mut Vec<u8>,
+) -> Result<(), Failure<'a>>
+    ensures admitted { OnOk result
+        (IsAdmitted is_unbounded classes.now verified.now budget) }
+    ensures told { note.old.items ≡ []
+        → OnOk result (TellsBudget is_unbounded classes.now verified.now budget note.new.items) }
+    ensures quiet { IfErr result (λ _. note.new.items ≡ note.old.items) }
+    ensures failed { IfErr result (FailsBy (λ reason. ⊥) (λ failure.
+        (is_unbounded ≡ false) × SaysShort classes.now verified.now budget failure)) }
+{
+    match judged(alloc, classes, verified, budget)? {
+        Ok(()) => Ok(()),
+        Err(line) => {
+            if !is_unbounded {
+                return Err(Failure::Refused(line, None));
+            }
+            note.extend_from_slice(&line)?;
+            Ok(())
+        }
+    }
+}
+
+/// A number of instructions within which an image halts from every store. Without one the failure says
+/// why none was found.
+fn bound_number<'a>(alloc: Global, verified: &Verified) -> Result<u64, Failure<'a>>
+    ensures budget { IfOk result (IsBudgetOf Auto verified.now) }
+    ensures failed { IfErr result (FailsBy (λ reason. ⊥) (LacksBound Auto verified.now)) }
+{
+    match enough_budget(alloc, verified)? {
+        Ok(most) => Ok(most),
+        Err(line) => Err(Failure::Refused(line, None)),
+    }
+}
+
+/// The number of instructions of a budget for the runs of an image.
+pub(crate) fn budget_of<'a>(
+    alloc: Global,
+    budget: Budget,
+    verified: &Verified,
+) -> Result<u64, Failure<'a>>
+    ensures budget { IfOk result (IsBudgetOf budget verified.now) }
+    ensures failed { IfErr result (FailsBy (λ reason. ⊥) (LacksBound budget verified.now)) }
+{
+    match budget {
+        Budget::Number(number) => Ok(number),
+        Budget::Auto => bound_number(alloc, verified),
     }
 }

@@ -9,13 +9,10 @@ ghost use Rattle.vsi_answers.specs.Bounds.{IsBound};
 ghost use Rattle.vsi.specs.Reasons.{LacksEmitBound, WhyEmit};
 ghost use Rattle.vsi.specs.declared.failure.Failure.TheVariants as fails;
 
-use crate::auditing::{verified_in, version};
-use crate::bounded::bounded_in_c;
-use crate::bounding::bounded;
-use crate::cache::{InputCache, InputKind};
+use crate::auditing::{bounded, bounded_in_c, verified_in, version};
 use crate::failure::Failure;
 use crate::files::Files;
-use crate::reading::bytes_in;
+use crate::reading::{InputCache, InputKind, bytes_in};
 use crate::subcommands::built;
 use std::alloc::Global;
 use vsi_answers::{enough_budget, judged_image};

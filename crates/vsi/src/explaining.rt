@@ -1,25 +1,21 @@
 //! The explanation that follows a refusal, made from the files that were read.
 
-ghost use Rattle.std.specs.Prelude.{◌≡◌, ◌⊎◌, ◌++◌, Contains, IfOk, IfSome, OnOk};
-ghost use Rattle.vsi.specs.Objections as spec;
-ghost use Rattle.vsi.specs.Objections.{MayObject, OBJECTIONS, objection_line};
+ghost use Rattle.std.specs.Prelude.{◌≡◌};
 
-use crate::cache::{InputCache, InputKind, Kept};
-use crate::diagnosing::failure_diagnostic;
-use crate::failure::{Failure, STREAM};
+use crate::failure::{Failure, cause_diagnostic, failure_diagnostic};
 use crate::files::Files;
-use crate::raising::put_least_raise;
-use crate::reading::TWO_CLASSES;
-use crate::subcommands::profile;
+use crate::objections::of_fault;
+use crate::reading::{InputCache, InputKind, Kept, TWO_CLASSES};
+use crate::subcommands::{profile, put_least_raise};
 use std::alloc::{AllocError, Global};
 use vsi_advice::advice;
 use vsi_answers::Cause;
 use vsi_arguments::{Colour, Document, Request};
 use vsi_audit::AuditError;
 use vsi_blame::refused_flows_of;
-use vsi_caret::{ColourMode, put_safe};
+use vsi_caret::ColourMode;
 use vsi_compiler::{CompileError, Source, read_source};
-use vsi_conform::InterfaceError;
+use vsi_conform::{InterfaceError, Judgement, Policy, flows_profile, judged, read_interface};
 use vsi_diagnostics::{Diagnostic, Fault};
 use vsi_drive::{LineFault, StartFault};
 use vsi_image::{Image, decode};
@@ -48,10 +44,6 @@ With --steady each `if` counts as a `while`: a variable that a guard reads must
 have the least class. Compute both results and select one by arithmetic, as in
 `out := g * a + (1 - g) * b` for a guard g that is 0 or 1.
 ";
-
-/// The sentence about a store file with a wrong checksum.
-const BROKEN: &str = "the file was changed or cut short: its first line isn't the checksum of the \
-rest. To use it all the same, delete that line.";
 
 /// The settings of an explanation: its colours, and the profile that judges a source text.
 #[derive(Clone, Copy)]
@@ -142,10 +134,45 @@ impl Explaining {
             Failure::LostFile(path) => of_fault(cache, files, path.as_str()),
             Failure::OutOfBudget => Vec::from_slice(cache.alloc, SPENT),
             Failure::NoClass(_) => of_class(cache),
-            Failure::Refused(_, None) | Failure::Differs | Failure::Usage(_) | Failure::Memory => {
+            Failure::Differs => self.of_difference(cache),
+            Failure::Refused(_, None) | Failure::Usage(_) | Failure::Memory => {
                 Ok(Vec::new(cache.alloc))
             }
         }
+    }
+
+    /// The explanation of a source text that isn't accepted as its interface requires, with the page
+    /// that says more. There is none if no text was read beside an interface, or if it is accepted.
+    fn of_difference(self, cache: &InputCache) -> Result<Vec<u8>, AllocError> {
+        let (Some(kept), Some(asked)) = (
+            cache.last(InputKind::Source),
+            cache.last(InputKind::Interface),
+        ) else {
+            return Ok(Vec::new(cache.alloc));
+        };
+        let (Ok(asked), Some(lattice)) = (read_interface(cache.alloc, &asked.bytes), policy(cache))
+        else {
+            return Err(AllocError);
+        };
+        let judgement = asked.interface.judgement;
+        let Err(error) = judged(cache.alloc, judgement, &lattice, &kept.bytes)? else {
+            return Ok(Vec::new(cache.alloc));
+        };
+        let is_flow = matches!(&error, UnsteadyError::Compile(CompileError::Flow(_)));
+        let explaining = Explaining {
+            mode: self.mode,
+            profile: flows_profile(judgement),
+        };
+        let cause = Cause::Steady(error);
+        let mut lines = if is_flow && !matches!(judgement, Judgement::Steady) {
+            explaining.of_flow(cache.alloc, &lattice, kept)?
+        } else {
+            explaining.of_cause(cache, &cause)?
+        };
+        if let Some(diagnostic) = cause_diagnostic(&kept.bytes, &cause) {
+            put_page(&mut lines, &diagnostic)?;
+        }
+        Ok(lines)
     }
 
     /// The explanation of a refusal with this cause.
@@ -352,88 +379,23 @@ fn put_page(lines: &mut Vec<u8>, diagnostic: &Diagnostic) -> Result<(), AllocErr
     lines.extend_from_slice(b"\n")
 }
 
-/// The reason why a file can't be used.
-fn of_fault<F: Files>(cache: &InputCache, files: &mut F, path: &str) -> Result<Vec<u8>, AllocError>
-    ensures { F.holds files.new ≡ F.holds files.old }
-{
-    let mut lines = Vec::new(cache.alloc);
-    if path == STREAM {
-        lines.extend_from_slice(b"A standard stream can't be read or written.\n")?;
-        return Ok(lines);
+/// The lattice that was read or that an interface has, or `L` below `H` if there is none.
+fn policy(cache: &InputCache) -> Option<Lattice> {
+    if let Some(kept) = cache.last(InputKind::Lattice) {
+        return read_lattice(cache.alloc, kept.bytes.as_slice()).ok();
     }
-    let found = match objection_to(cache, files) {
-        Some(sentence) => Some(sentence),
-        None => files.trouble(path),
-    };
-    match found {
-        Some(sentence) => put_sentence(&mut lines, path, sentence)?,
-        None => {
-            put_safe(&mut lines, path.as_bytes())?;
-            lines.extend_from_slice(b" can't be opened, read or written.\n")?;
+    if let Some(kept) = cache.last(InputKind::Interface) {
+        match read_interface(cache.alloc, &kept.bytes) {
+            Ok(asked) => {
+                if let Policy::Tables(text) = asked.policy {
+                    return read_lattice(cache.alloc, &text).ok();
+                }
+            }
+            Err(InterfaceError::Memory) => return None,
+            Err(_) => {}
         }
     }
-    Ok(lines)
-}
-
-/// Appends the path, and a sentence about its file.
-fn put_sentence(lines: &mut Vec<u8>, path: &str, sentence: &str) -> Result<(), AllocError>
-    ensures { OnOk result
-        (lines.new.items ≡ lines.old.items ++ objection_line path.now sentence.now) }
-{
-    put_safe(lines, path.as_bytes())?;
-    lines.extend_from_slice(b": ")?;
-    lines.extend_from_slice(sentence.as_bytes())?;
-    lines.extend_from_slice(b"\n")
-}
-
-/// Why a file isn't used, where each user has to know: its checksum is wrong, or it would be replaced
-/// and is of another kind.
-fn objection_to<F: Files>(cache: &InputCache, files: &mut F) -> Option<&'static str>
-    ensures kept { F.holds files.new ≡ F.holds files.old }
-    ensures known { IfSome result (λ sentence. Contains OBJECTIONS sentence.now
-        ⊎ (sentence.now ≡ spec.BROKEN)) }
-{
-    if cache.is_broken {
-        return Some(BROKEN);
-    }
-    files.objection()
-}
-
-/// The line with the path and a sentence about its file.
-fn sentence_line(alloc: Global, path: &str, sentence: &str) -> Result<Vec<u8>, AllocError>
-    ensures { IfOk result (λ line. line.items ≡ objection_line path.now sentence.now) }
-{
-    let mut line = Vec::new(alloc);
-    put_sentence(&mut line, path, sentence)?;
-    Ok(line)
-}
-
-/// The line about such a file, if it is the reason for the failure.
-pub(crate) fn objection<F: Files>(
-    cache: &InputCache,
-    files: &mut F,
-    failure: &Failure<'_>,
-) -> Result<Vec<u8>, AllocError>
-    ensures kept { F.holds files.new ≡ F.holds files.old }
-    ensures line { IfOk result (λ line. MayObject failure.now line.items) }
-{
-    let Failure::FileFault(path) = failure else {
-        return Ok(Vec::new(cache.alloc));
-    };
-    let Some(sentence) = objection_to(cache, files) else {
-        return Ok(Vec::new(cache.alloc));
-    };
-    let line = sentence_line(cache.alloc, path, sentence)?;
-    Ok(line)
-}
-
-/// The lattice that was read, or `L` below `H` if none was.
-fn policy(cache: &InputCache) -> Option<Lattice> {
-    let text = match cache.last(InputKind::Lattice) {
-        Some(kept) => kept.bytes.as_slice(),
-        None => TWO_CLASSES,
-    };
-    read_lattice(cache.alloc, text).ok()
+    read_lattice(cache.alloc, TWO_CLASSES).ok()
 }
 
 /// The explanation of a class name that the lattice lacks.

@@ -1,10 +1,29 @@
-//! The files that a command line names.
+//! Files, and texts written to them as a whole.
 
-ghost use Rattle.std.specs.Prelude.{◌≡◌, ◌≢◌, ℕ, List, true, Contains, Option, Some, None, IfSome};
-ghost use Rattle.vsi.specs.Holding.{HoldsAt, KeepsOthers};
+ghost use Rattle.std.specs.Prelude.{◌≡◌, ◌≢◌, ℕ, List, true, Contains, Option, Some, None, IfSome, ◌<◌, ◌++◌, IfErr, OnOk, codes, ◌≤◌, [], length, IfOk, Err};
+ghost use Rattle.vsi.specs.Holding.{HoldsAt, KeepsOthers, Delivers, Fills, Replaces, IsStoreAt};
 ghost use Rattle.vsi.specs.Objections.{OBJECTIONS};
+ghost use Rattle.std.specs.Io.KnownBytes.{Appends};
+ghost use Rattle.vsi.specs.Partly.{WritesPart};
+ghost use Rattle.vsi.specs.Files.{shown, IsFullAt, IsStoredAt};
+ghost use Rattle.vsi.specs.State.{StaysAt, Touches, state_text};
+ghost use Rattle.vsi.specs.Failures.{TellsFault, status_of};
+ghost use Rattle.vsi_devices.specs.Counted.{device_of, faults_of};
+ghost use Rattle.vsi.specs.Beginning.{IsBegunFrom};
+ghost use Rattle.vsi.specs.Refusals.{NoOther, FailsBy};
+ghost use Rattle.vsi.specs.Saved.{SavesLine};
+ghost use Rattle.vsi_answers.specs.Requests.{BeginsWith};
 
-use std::io::Read;
+use crate::failure::{Failure, write};
+use crate::reading::{InputCache, store_in};
+use std::alloc::Global;
+use std::io::{Read, Write};
+use vsi_answers::start_words;
+use vsi_arguments::Driving;
+use vsi_devices::Counted;
+use vsi_drive::Controller;
+use vsi_image::Verified;
+use vsi_store::{sealed, store_text};
 
 /// The kind of the file that a request writes.
 #[derive(Clone, Copy, Debug, PartialEq, Eq)]
@@ -109,4 +128,166 @@ pub trait Files {
     {
         false
     }
+}
+
+/// Makes or empties a file, and fills it with these bytes.
+pub(crate) fn fill<'a, F: Files>(
+    bytes: &[u8],
+    path: &'a str,
+    files: &mut F,
+) -> Result<(), Failure<'a>>
+    ensures failure { IfErr result (λ failure. 3 < status_of failure) }
+    ensures filled { OnOk result
+        (Fills path.now bytes.now (F.holds files.old) (F.holds files.new)) }
+    ensures others { KeepsOthers path.now (F.holds files.old) (F.holds files.new) }
+{
+    match files.fill_file(path, bytes) {
+        Some(()) => Ok(()),
+        None => Err(Failure::FileFault(path)),
+    }
+}
+
+/// Writes a whole text to a file: first to one beside it, whose name has `.new` appended.
+pub(crate) fn replace<'a, F: Files>(
+    alloc: Global,
+    text: &[u8],
+    path: &'a str,
+    files: &mut F,
+) -> Result<(), Failure<'a>>
+    ensures failure { IfErr result (λ failure. 3 < status_of failure) }
+    ensures replaced { OnOk result
+        (Replaces path.now text.now (F.holds files.old) (F.holds files.new)) }
+    ensures stays { IfErr result (λ _. F.holds files.new path.now ≡ F.holds files.old path.now) }
+    ensures others { (other : List ℕ) → other ≢ path.now → other ≢ path.now ++ codes ".new"
+        → F.holds files.new other ≡ F.holds files.old other }
+{
+    let fresh = format!(in alloc; "{path}.new")?;
+    match files.replace_file(path, fresh.as_str(), text) {
+        Some(()) => Ok(()),
+        None => Err(Failure::FileFault(path)),
+    }
+}
+
+/// Writes a whole text to the requested file, or else to standard output.
+pub(crate) fn deliver<'a, F: Files, W: Write>(
+    alloc: Global,
+    text: &[u8],
+    out: Option<&'a str>,
+    files: &mut F,
+    output: &mut Counted<W>,
+) -> Result<(), Failure<'a>>
+    requires { faults_of output.old < u64.MAX }
+    ensures fault { TellsFault (faults_of output.old) (faults_of output.new) result }
+    ensures failure { IfErr result (λ failure. 3 < status_of failure) }
+    ensures whole { OnOk result (Appends (W.contents (device_of output.old))
+        (W.contents (device_of output.new)) (shown out.entry text.now)) }
+    ensures part { WritesPart (shown out.entry text.now)
+        (W.contents (device_of output.old)) (W.contents (device_of output.new)) }
+    ensures delivered { OnOk result
+        (Delivers out.entry text.now (F.holds files.old) (F.holds files.new)) }
+    ensures touched { Touches out.entry (F.holds files.old) (F.holds files.new) }
+    ensures stays { IfErr result (λ _. StaysAt out.entry (F.holds files.old) (F.holds files.new)) }
+{
+    match out {
+        Some(path) => replace(alloc, text, path, files),
+        None => write(text, output),
+    }
+}
+
+/// A controller that is driven, and the file that receives its store.
+#[derive(Drop)]
+pub(crate) struct Drive<'a, 'c> {
+    pub(crate) alloc: Global,
+    pub(crate) controller: &'c Controller<'c>,
+    pub(crate) verified: &'c Verified,
+    /// The path of the file.
+    pub(crate) save: Option<&'a str>,
+    /// The most lines after which the store isn't saved yet.
+    pub(crate) most: u64,
+}
+
+/// The path of the store with which a drive begins: that of its start store, if it has one and no
+/// file is at the path of its store.
+pub(crate) fn first_path<'a, F: Files>(driving: Driving<'a>, files: &F) -> Option<&'a str>
+    ensures { IsBegunFrom (F.holds files.now) driving.entry result }
+{
+    match (driving.start, driving.execution.store) {
+        (Some(start), Some(store)) if files.lacks(store) => Some(start),
+        _ => driving.execution.store,
+    }
+}
+
+/// The words that a store file gives to the globals of an image, or zeros without one. With
+/// `is_full` each global must have a key in the file.
+pub(crate) fn first_store<'a, F: Files>(
+    cache: &mut InputCache,
+    verified: &Verified,
+    path: Option<&'a str>,
+    is_full: bool,
+    files: &mut F,
+) -> Result<Vec<i64>, Failure<'a>>
+    ensures kept { F.holds files.new ≡ F.holds files.old }
+    ensures len { IfOk result (λ words. length words.items ≡ length verified.now.globals.items) }
+    ensures stored { IfOk result (λ words.
+        IsStoredAt (F.holds files.old) path.entry verified.now words.items) }
+    ensures full { IfOk result (λ words.
+        IsFullAt (F.holds files.old) path.entry verified.now is_full) }
+    ensures failed { IfErr result (FailsBy (λ reason.
+        (file : List ℕ) × IsStoreAt (F.holds files.old) path.entry file
+        × BeginsWith verified.now file [] is_full (Err reason)) NoOther) }
+{
+    let bytes = store_in(cache, path, files)?;
+    Ok(start_words(cache.alloc, verified, &bytes, &[], is_full)?)
+}
+
+/// Writes a store to the requested file, if there is one, after the line with its checksum.
+pub(crate) fn save<'a, F: Files>(
+    alloc: Global,
+    verified: &Verified,
+    words: &[i64],
+    path: Option<&'a str>,
+    files: &mut F,
+) -> Result<(), Failure<'a>>
+    requires { length words.now ≡ length verified.now.globals.items }
+    ensures failure { IfErr result (λ failure. 3 < status_of failure) }
+    ensures saved { OnOk result (Delivers path.entry (state_text verified.now words.now)
+        (F.holds files.old) (F.holds files.new)) }
+    ensures touched { Touches path.entry (F.holds files.old) (F.holds files.new) }
+    ensures stays { IfErr result (λ _. StaysAt path.entry (F.holds files.old) (F.holds files.new)) }
+{
+    match path {
+        Some(path) => {
+            let text = store_text(alloc, verified.image(), words)?;
+            let whole = sealed(alloc, &text)?;
+            replace(alloc, &whole, path, files)
+        }
+        None => Ok(()),
+    }
+}
+
+/// Saves the store after a line, unless it is one of the lines after which it isn't saved.
+pub(crate) fn save_line<'a, F: Files>(
+    drive: &Drive<'a, '_>,
+    words: &[i64],
+    unsaved: &mut u64,
+    files: &mut F,
+) -> Result<(), Failure<'a>>
+    requires len { length words.now ≡ length drive.now.verified.now.globals.items }
+    requires few { unsaved.old ≤ drive.now.most }
+    ensures few { unsaved.new ≤ drive.now.most }
+    ensures failure { IfErr result (λ failure. 3 < status_of failure) }
+    ensures saved { OnOk result (SavesLine drive.now.save
+        (state_text drive.now.verified.now words.now) unsaved.old unsaved.new
+        (F.holds files.old) (F.holds files.new)) }
+    ensures touched { Touches drive.now.save (F.holds files.old) (F.holds files.new) }
+    ensures stays { IfErr result (λ _. (unsaved.new ≡ unsaved.old)
+        × StaysAt drive.now.save (F.holds files.old) (F.holds files.new)) }
+{
+    if *unsaved < drive.most {
+        *unsaved += 1;
+        return Ok(());
+    }
+    save(drive.alloc, drive.verified, words, drive.save, files)?;
+    *unsaved = 0;
+    Ok(())
 }

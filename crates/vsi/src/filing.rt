@@ -15,13 +15,12 @@ ghost use Rattle.vsi_conform.specs.Totals.{total_of};
 ghost use Rattle.vsi_store.specs.Evidence.{conformity_text};
 
 use crate::auditing::version;
-use crate::cache::{InputCache, InputKind};
 use crate::conformance::{
     begins_image, interface_of, know_budgets, know_classes, know_cycles, policy_bytes,
 };
 use crate::failure::Failure;
 use crate::files::Files;
-use crate::reading::{bytes_in, declared_lattice};
+use crate::reading::{InputCache, InputKind, bytes_in, declared_lattice};
 use std::alloc::{AllocError, Global};
 use vsi_answers::{enough_budget, judged_image};
 use vsi_arguments::Conformance;

@@ -7,10 +7,10 @@ ghost use Rattle.vsi.specs.Refusals.{FailsBy};
 ghost use Rattle.vsi.specs.Undriven.{IsUnusable, RefusesAsked};
 ghost use Rattle.vsi.specs.Visible.{ShowsFiles, ToldVisible};
 
-use crate::cache::InputCache;
 use crate::conformance::{interface_in, know_classes, know_cycles, lattice_of};
 use crate::failure::Failure;
 use crate::files::Files;
+use crate::reading::InputCache;
 use std::alloc::{AllocError, Global};
 use vsi_arguments::Visibility;
 use vsi_conform::{Interface, InterfaceFile};

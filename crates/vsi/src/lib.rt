@@ -15,56 +15,32 @@
 //! second part; its first part and `Walked` are stepping stones of proofs.
 #![tactic(auto)]
 
-mod admitting;
 mod auditing;
 mod boundaries;
-mod bounded;
-mod bounding;
-mod budgets;
-mod cache;
 mod carrying_out;
 mod command_line;
-mod comparing;
 mod conformance;
-mod diagnosing;
 mod documents;
 mod drawing;
 mod driving;
 mod emitting;
 mod explaining;
 mod failure;
-mod faulty_files;
 mod files;
 mod filing;
-mod filling;
-mod inputs;
 mod interface_policies;
 pub mod laws;
 mod laying;
-mod leaking;
 mod loaded;
-mod observing;
-mod ordering;
-mod paths;
-mod performing;
+mod objections;
 mod policies;
-mod raising;
-mod reached;
 mod reading;
 mod references;
-mod run_documents;
 mod running;
 mod sarif_documents;
-mod saving;
-mod screen;
-mod serving;
-mod shaping;
 mod steering;
 mod subcommands;
-mod telling;
 mod trying;
-mod viewing;
-mod walking;
 
 pub use command_line::command;
 pub use files::Files;

@@ -1,17 +1,24 @@
-//! The classes that each class sees under a lattice.
+//! The classes that each class sees under a lattice, and lattice files.
 
-ghost use Rattle.std.specs.Prelude.{◌≡◌, ◌⊎◌, Some, IfErr, IfOk, IsSomeAnd};
-ghost use Rattle.vsi.specs.Refusals.{NoOther, RefusesLattice, FailsBy};
+ghost use Rattle.std.specs.Prelude.{◌≡◌, ◌⊎◌, Some, IfErr, IfOk, IsSomeAnd, ◌<◌};
+ghost use Rattle.vsi.specs.Refusals.{NoOther, RefusesLattice, FailsBy, LacksClassAt, RefusesImage};
 ghost use Rattle.vsi.specs.Reasons.{WhyPolicy};
 ghost use Rattle.vsi.specs.Seeing.{SeesFiles, ToldPolicy};
+ghost use Rattle.vsi.specs.Shaping.{ShapedText};
+ghost use Rattle.vsi.specs.Holding.{IsImageAt, IsLatticeAt};
+ghost use Rattle.vsi.specs.Files.{LooksAt};
 
-use crate::cache::InputCache;
 use crate::failure::Failure;
 use crate::files::Files;
-use crate::reading::lattice_in;
+use crate::reading::{
+    InputCache, InputKind, bytes_in, class_in, declared_lattice, image_in, lattice_in,
+};
+use std::alloc::{AllocError, Global};
 use vsi_arguments::Looking;
-use vsi_lattice::Lattice;
-use vsi_policy::{policy_warnings, seen_changes, seen_table};
+use vsi_caret::put_safe;
+use vsi_image::Verified;
+use vsi_lattice::{Class, Lattice};
+use vsi_policy::{Shape, ShapeError, lattice_text, policy_warnings, seen_changes, seen_table};
 
 /// The differences of a lattice from that of an older file.
 fn changes<'a, F: Files>(
@@ -67,4 +74,137 @@ pub(crate) fn policy<'a, F: Files>(
     let warnings = policy_warnings(cache.alloc, &classes)?;
     note.extend_from_slice(&warnings)?;
     Ok(text)
+}
+
+/// How a mistake in the arguments ends.
+const MORE: &[u8] = b"\n\nFor more information, try 'vsi help lattice'.\n";
+
+/// The text of the lattice file that arguments describe.
+pub(crate) fn lattice<'a>(alloc: Global, arguments: &[&[u8]]) -> Result<Vec<u8>, Failure<'a>>
+    ensures told { IfOk result (ShapedText arguments.now) }
+    ensures failed { IfErr result (FailsBy (λ reason. ⊥) NoOther) }
+{
+    match lattice_text(alloc, arguments) {
+        Ok(text) => Ok(text),
+        Err(error) => Err(mistaken(alloc, &error)),
+    }
+}
+
+/// The failure for arguments that make no lattice.
+fn mistaken<'a>(alloc: Global, error: &ShapeError) -> Failure<'a>
+    ensures { FailsBy (λ reason. ⊥) NoOther result }
+{
+    if let ShapeError::Memory = error {
+        return Failure::Memory;
+    }
+    match mistake_text(alloc, error) {
+        Ok(text) => Failure::Usage(text),
+        Err(_) => Failure::Memory,
+    }
+}
+
+/// The message that says what is wrong with the arguments.
+fn mistake_text(alloc: Global, error: &ShapeError) -> Result<String, AllocError> {
+    let mut text = Vec::from_slice(alloc, b"error: ")?;
+    match error {
+        ShapeError::NoShape => {
+            text.extend_from_slice(b"the shapes are two, levels, diamond and powerset")?;
+        }
+        ShapeError::WrongCount(shape) => text.extend_from_slice(taken_by(*shape))?,
+        ShapeError::NoName(name) => {
+            put_quoted(&mut text, name)?;
+            text.extend_from_slice(b" isn't a valid name of a class")?;
+        }
+        ShapeError::Twice(name) => {
+            text.extend_from_slice(b"two classes would have the name ")?;
+            put_quoted(&mut text, name)?;
+        }
+        ShapeError::Memory => {}
+    }
+    text.extend_from_slice(MORE)?;
+    String::from_utf8_lossy(alloc, &text)
+}
+
+/// Which names a shape takes.
+fn taken_by(shape: Shape) -> &'static [u8] {
+    match shape {
+        Shape::Two => b"`two` takes no names: its classes are L and H",
+        Shape::Levels => b"`levels` takes 1 to 64 names",
+        Shape::Diamond => b"`diamond` takes 4 names, the lowest first and the highest last",
+        Shape::Powerset => b"`powerset` takes 1 to 6 names",
+    }
+}
+
+/// Adds a name in quotes, safe for a terminal.
+fn put_quoted(text: &mut Vec<u8>, name: &[u8]) -> Result<(), AllocError> {
+    text.extend_from_slice(b"`")?;
+    put_safe(text, name)?;
+    text.extend_from_slice(b"`")
+}
+
+/// The message if an image is given where the lattice file should be.
+const EXCHANGED: &str = "\
+error: the first file is an image, and should be the lattice file
+
+Usage: vsi drive [OPTIONS] --class <C> <LATTICE> <IMAGE>
+
+For more information, try '--help'.
+";
+
+/// Whether bytes begin as those of an image do, with its magic bytes and its version. No lattice
+/// file does, since a version is a control byte.
+fn begins_image(bytes: &[u8]) -> bool {
+    matches!(bytes, [b'V', b'S', b'I', version, ..] if *version < b' ')
+}
+
+/// The failure for an image in place of the lattice file.
+fn exchanged<'a>(alloc: Global) -> Failure<'a>
+    ensures { FailsBy (λ reason. ⊥) NoOther result }
+{
+    match String::from_str(alloc, EXCHANGED) {
+        Ok(text) => Failure::Usage(text),
+        Err(_) => Failure::Memory,
+    }
+}
+
+/// The lattice of a file that comes before an image.
+fn first_lattice<'a, F: Files>(
+    cache: &mut InputCache,
+    path: &'a str,
+    files: &mut F,
+) -> Result<Lattice, Failure<'a>>
+    ensures kept { F.holds files.new ≡ F.holds files.old }
+    ensures read { IfOk result (IsLatticeAt (F.holds files.old) path.now) }
+    ensures failed { IfErr result
+        (FailsBy (RefusesLattice (F.holds files.old) path.now) NoOther) }
+{
+    let bytes = bytes_in(cache, InputKind::Lattice, path, files)?;
+    if begins_image(bytes.as_slice()) {
+        return Err(exchanged(cache.alloc));
+    }
+    declared_lattice(cache.alloc, bytes.as_slice())
+}
+
+/// The lattice of a file, the class of the driver, and the image that it drives. The image is read
+/// only if the lattice has the class.
+pub(crate) fn policy_before_image<'a, F: Files>(
+    cache: &mut InputCache,
+    lattice: &'a str,
+    class: &'a str,
+    image: &'a str,
+    files: &mut F,
+) -> Result<(Lattice, Class, Verified), Failure<'a>>
+    ensures kept { F.holds files.new ≡ F.holds files.old }
+    ensures looks { IfOk result
+        (λ seen. LooksAt (F.holds files.old) lattice.now class.now seen.0 seen.1) }
+    ensures held { IfOk result (λ seen. IsImageAt (F.holds files.old) image.now seen.2) }
+    ensures failed { IfErr result (FailsBy (λ reason.
+        RefusesLattice (F.holds files.old) lattice.now reason
+        ⊎ RefusesImage (F.holds files.old) image.now reason)
+        (LacksClassAt (F.holds files.old) lattice.now class.now)) }
+{
+    let classes = first_lattice(cache, lattice, files)?;
+    let driver = class_in(&classes, class)?;
+    let verified = image_in(cache, image, files)?;
+    Ok((classes, driver, verified))
 }

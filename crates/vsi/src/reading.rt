@@ -1,4 +1,4 @@
-//! Files, read and judged.
+//! Files as requests read them, each once.
 
 ghost use Rattle.std.specs.Prelude.{◌≡◌, ◌<◌, ◌⊎◌, false, Some, IfOk, IfErr, Ok, Err, MatchResult};
 ghost use Rattle.vsi.specs.Holding.{IsImageAt, IsLatticeAt, IsReadAt, IsStoreAt};
@@ -6,25 +6,27 @@ ghost use Rattle.vsi.specs.Input.{two_classes};
 ghost use Rattle.vsi.specs.Files.{LooksAt};
 ghost use Rattle.vsi.specs.Refusals.{IsNoMemory, LacksClass, LacksClassAt, NoOther, RefusesImage, RefusesLattice, FailsBy};
 ghost use Rattle.vsi.specs.Failures.{status_of, failure_of};
-ghost use Rattle.vsi.specs.declared.failure.Failure.TheVariants as fails;
 ghost use Rattle.vsi_answers.specs.Answers.{Because};
 ghost use Rattle.vsi_answers.specs.Judged.{Declares, TellsFault, TellsSource};
 ghost use Rattle.vsi_answers.specs.Requests.{ReadsLattice};
-ghost use Rattle.vsi_devices.specs.declared.error.EngineError.TheVariants.{ReadFault, WriteFault, Memory};
+ghost use Rattle.vsi_devices.specs.declared.engine.EngineError.TheVariants.{ReadFault, WriteFault, Memory};
 ghost use Rattle.vsi_lattice.specs.LatticeView.{class_named, order};
 ghost use Rattle.vsi_lattice.specs.Order.{IsClass};
+ghost use Rattle.vsi.specs.declared.failure.Failure.TheVariants as fails;
 
-use crate::cache::{InputCache, InputKind};
+use crate::explaining::flow_lines;
 use crate::failure::{Failure, STREAM};
 use crate::files::Files;
-use std::alloc::Global;
-use vsi_answers::{Unanswered, judged_image, refused_file, refused_source};
-use vsi_compiler::CompileError;
+use std::alloc::{AllocError, Global};
+use vsi_answers::{Observer, Unanswered, judged_image, refused_file, refused_source};
+use vsi_compiler::{CompileError, Source};
 use vsi_devices::{Counted, EngineError, READ_LIMIT, read_all};
 use vsi_diagnostics::Fault;
 use vsi_image::{DecodeError, Verified};
 use vsi_lattice::{Class, Lattice, LatticeError};
 use vsi_store::{StoreError, ViewError, is_whole};
+use vsi_types::Profile;
+use vsi_warnings::warning_lines;
 
 /// The lattice of a run without arguments.
 pub(crate) const TWO_CLASSES: &[u8] = b"classes = [\"L\", \"H\"]\nbelow = [[\"L\", \"H\"]]\n";
@@ -241,4 +243,173 @@ pub(crate) fn policy_and_image<'a, F: Files>(
     let viewer = class_in(&classes, class)?;
     let verified = image_in(cache, image, files)?;
     Ok((classes, viewer, verified))
+}
+
+/// The kind of a file that was read.
+#[derive(Clone, Copy, Debug, PartialEq, Eq)]
+pub(crate) enum InputKind {
+    Lattice,
+    Source,
+    Image,
+    Store,
+    Interface,
+    /// The source text of the reference of an interface.
+    Reference,
+    /// A setting of the command line, which isn't a file.
+    Setting,
+    /// A list of names on the command line, which isn't one either.
+    Names,
+}
+
+impl InputKind {
+    /// Whether only a whole file of this kind is useful.
+    pub(crate) fn must_be_whole(self) -> bool {
+        matches!(
+            self,
+            InputKind::Lattice | InputKind::Store | InputKind::Interface
+        )
+    }
+}
+
+/// A file that was read.
+#[derive(Drop)]
+pub(crate) struct Kept {
+    pub(crate) kind: InputKind,
+    pub(crate) path: Vec<u8>,
+    pub(crate) bytes: Vec<u8>,
+}
+
+/// The files that were read, if refusals are explained or answered with JSON.
+#[derive(Drop)]
+pub(crate) struct InputCache {
+    pub(crate) alloc: Global,
+    /// Whether files are kept: refusals are explained or answered with JSON.
+    pub(crate) keeps_files: bool,
+    /// Whether a store file was read whose checksum isn't that of the rest.
+    pub(crate) is_broken: bool,
+    /// Whether refusals are explained.
+    explains: bool,
+    /// The explanation of a refused flow, made while its source text was at hand.
+    flow_lines: Option<Result<Vec<u8>, AllocError>>,
+    kept: Vec<Kept>,
+}
+
+impl InputCache {
+    /// An empty cache, which keeps files for explanations or for positions in lines of JSON.
+    pub(crate) fn new(alloc: Global, explains: bool, answers_json: bool) -> InputCache {
+        InputCache {
+            alloc,
+            keeps_files: explains || answers_json,
+            is_broken: false,
+            explains,
+            flow_lines: None,
+            kept: Vec::new(alloc),
+        }
+    }
+
+    /// Keeps the bytes of a file, before they are judged.
+    pub(crate) fn keep(
+        &mut self,
+        kind: InputKind,
+        path: &str,
+        bytes: &[u8],
+    ) -> Result<(), AllocError> {
+        if !self.keeps_files {
+            return Ok(());
+        }
+        let kept = Kept {
+            kind,
+            path: Vec::from_slice(self.alloc, path.as_bytes())?,
+            bytes: Vec::from_slice(self.alloc, bytes)?,
+        };
+        self.kept.push(kept)?;
+        Ok(())
+    }
+
+    /// Keeps the explanation of a source text that is refused for a flow under a profile, if refusals
+    /// are explained.
+    pub(crate) fn explain_flow(&mut self, profile: Profile, source: &Source<'_>) {
+        if !self.explains {
+            return;
+        }
+        let lines = match self.last(InputKind::Source) {
+            Some(kept) => {
+                let path = str::from_utf8(&kept.path).unwrap_or("");
+                flow_lines(self.alloc, profile, path, source)
+            }
+            None => return,
+        };
+        self.flow_lines = Some(lines);
+    }
+
+    /// The explanation of a refused flow, if one was kept.
+    pub(crate) fn flow_lines(&self) -> Option<Result<Vec<u8>, AllocError>> {
+        match &self.flow_lines {
+            Some(Ok(lines)) => Some(Vec::from_slice(self.alloc, lines)),
+            Some(Err(_)) => Some(Err(AllocError)),
+            None => None,
+        }
+    }
+
+    /// The last file of this kind that was read. A lattice file that was read before an interface is
+    /// that of an older interface, and doesn't count.
+    pub(crate) fn last(&self, kind: InputKind) -> Option<&Kept> {
+        let mut found = None;
+        for kept in &self.kept {
+            if kept.kind == kind {
+                found = Some(kept);
+            } else if kind == InputKind::Lattice && kept.kind == InputKind::Interface {
+                found = None;
+            }
+        }
+        found
+    }
+
+    /// The file of this kind that was read after this many others of the kind.
+    pub(crate) fn behind(&self, kind: InputKind, others: usize) -> Option<&Kept> {
+        let mut left = others;
+        for kept in &self.kept {
+            if kept.kind != kind {
+                continue;
+            }
+            if left == 0 {
+                return Some(kept);
+            }
+            left -= 1;
+        }
+        None
+    }
+}
+
+/// Observes a source text that is checked.
+#[derive(Drop)]
+pub(crate) struct CheckObserver<'o> {
+    pub(crate) cache: &'o mut InputCache,
+    /// Gets the warnings about the text, if they are requested.
+    pub(crate) note: &'o mut Vec<u8>,
+    pub(crate) has_warnings: bool,
+}
+
+impl<'o> Observer for CheckObserver<'o> {
+    fn read(&mut self, source: &Source<'_>) -> Result<(), AllocError> {
+        if !self.has_warnings {
+            return Ok(());
+        }
+        let lines = warning_lines(self.cache.alloc, source)?;
+        self.note.extend_from_slice(&lines)
+    }
+
+    fn refused(&mut self, profile: Profile, source: &Source<'_>) {
+        self.cache.refused(profile, source);
+    }
+}
+
+impl Observer for InputCache {
+    fn read(&mut self, _source: &Source<'_>) -> Result<(), AllocError> {
+        Ok(())
+    }
+
+    fn refused(&mut self, profile: Profile, source: &Source<'_>) {
+        self.explain_flow(profile, source);
+    }
 }

@@ -1,22 +1,31 @@
 //! The reference of an interface, beside which `conform` runs a source text or an image.
 
-ghost use Rattle.std.specs.Prelude.{◌≡◌, IfErr, IfOk};
+ghost use Rattle.std.specs.Prelude.{◌≡◌, IfErr, IfOk, map, true};
 ghost use Rattle.vsi.specs.Referred.{BeginsSo, IsReferred, IsTried};
 ghost use Rattle.vsi.specs.Refusals.{FailsBy};
 ghost use Rattle.vsi.specs.Undriven.{IsUnusable};
+ghost use Rattle.vsi_answers.specs.Judged.{AreImage};
+ghost use Rattle.vsi_conform.specs.Reaching.{released};
+ghost use Rattle.vsi.specs.Reached as spec;
+ghost use Rattle.vsi.specs.Supplied as supplied;
 
-use crate::cache::{InputCache, InputKind};
 use crate::conformance::{begins_image, named_file, unusable};
 use crate::failure::Failure;
 use crate::files::Files;
 use crate::filing::AskedFiles;
+use crate::reading::{InputCache, InputKind};
 use std::alloc::{AllocError, Global};
 use vsi_answers::judged_image;
 use vsi_arguments::{AnswerForm, Conformance};
 use vsi_compiler::{CompileError, unjudged_image};
-use vsi_conform::{InterfaceError, Judgement, judged, refusal_lines};
-use vsi_conform_image::{Reference, compare_reference, json_with, lines_with, reference_line};
-use vsi_diagnostics::members::without_end;
+use vsi_conform::{
+    InterfaceError, InterfaceFile, Judgement, Reach, are_within, judged, refusal_lines,
+    text_reaches, with_reached_json, with_reached_lines,
+};
+use vsi_conform_image::{
+    Reference, compare_reference, image_reaches, json_with, lines_with, reference_line,
+};
+use vsi_diagnostics::without_end;
 use vsi_image::Verified;
 use vsi_lattice::Lattice;
 use vsi_steady::UnsteadyError;
@@ -167,4 +176,86 @@ pub(crate) fn with_reference<'a, F: Files>(
     let (agrees, line) = told_of(cache, asked, path, read, bytes, files)?;
     let told = referred(cache.alloc, asked.form, holds, answer, agrees, &line)?;
     Ok(told)
+}
+
+/// The image with these bytes, which were judged before.
+fn image_of(alloc: Global, bytes: &[u8]) -> Result<Verified, AllocError>
+    ensures { IfOk result (AreImage bytes.now) }
+{
+    match judged_image(alloc, bytes) {
+        Ok(verified) => Ok(verified),
+        Err(_) => Err(AllocError),
+    }
+}
+
+/// The released outputs of an interface, by the flows of the image with these bytes.
+fn image_released(
+    alloc: Global,
+    lattice: &Lattice,
+    bytes: &[u8],
+    asked: &InterfaceFile,
+) -> Result<Vec<Reach>, AllocError>
+    ensures { IfOk result (λ reaches. spec.AreReleasedIn true lattice.now bytes.now asked.now
+        (map released reaches.items)) }
+{
+    let verified = image_of(alloc, bytes)?;
+    let judgement = asked.interface.judgement;
+    let reaches = image_reaches(alloc, lattice, &verified, judgement, &asked.cycles)?;
+    Ok(reaches)
+}
+
+/// The released outputs of an interface, by the flows of the image with these bytes or of a source
+/// text. The bytes of an image were judged before.
+fn reaches_in(
+    alloc: Global,
+    is_image: bool,
+    lattice: &Lattice,
+    bytes: &[u8],
+    asked: &InterfaceFile,
+) -> Result<Vec<Reach>, AllocError>
+    ensures { IfOk result (λ reaches. spec.AreReleasedIn is_image lattice.now bytes.now asked.now
+        (map released reaches.items)) }
+{
+    if is_image {
+        return image_released(alloc, lattice, bytes, asked);
+    }
+    let judgement = asked.interface.judgement;
+    text_reaches(alloc, lattice, bytes, judgement, asked.cycles.as_slice())
+}
+
+/// An answer with its points and the released outputs.
+fn with_reached(
+    alloc: Global,
+    form: AnswerForm,
+    fits: bool,
+    points: &[u8],
+    reaches: &[Reach],
+) -> Result<Vec<u8>, AllocError>
+    ensures { IfOk result (λ answer. answer.items
+        ≡ spec.with_released form fits points.now (map released reaches.now)) }
+{
+    match form {
+        AnswerForm::Lines => with_reached_lines(alloc, fits, points, reaches),
+        AnswerForm::Json => with_reached_json(alloc, fits, points, reaches),
+        AnswerForm::Sarif => Vec::from_slice(alloc, points),
+    }
+}
+
+/// The answer with the released outputs, and whether the bytes of a file conform: if no point
+/// differs, and the interface allows each global that reaches a released output.
+pub(crate) fn reached_answer(
+    alloc: Global,
+    form: AnswerForm,
+    read: &AskedFiles,
+    bytes: &[u8],
+    fits: bool,
+    points: &[u8],
+) -> Result<(bool, Vec<u8>), AllocError>
+    ensures { IfOk result (λ pair. spec.IsReachedAs form (supplied.begins_image bytes.now)
+        read.now.lattice bytes.now read.now.found fits points.now pair.0 pair.1.items) }
+{
+    let is_image = begins_image(bytes);
+    let reaches = reaches_in(alloc, is_image, &read.lattice, bytes, &read.found)?;
+    let answer = with_reached(alloc, form, fits, points, &reaches)?;
+    Ok((fits && are_within(&reaches), answer))
 }

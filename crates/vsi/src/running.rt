@@ -2,9 +2,9 @@
 
 ghost use Rattle.std.specs.Prelude.{◌≡◌, ◌<◌, ◌⊎◌, [], true, length, IfOk, IfErr, OnOk, Ok, Err};
 ghost use Rattle.vsi.specs.Files.{BeginsAt};
-ghost use Rattle.vsi.specs.Noted.{Counts, CountsRun};
-ghost use Rattle.vsi.specs.Performed.{PerformsRun, PerformsView, ViewsFiles};
-ghost use Rattle.vsi.specs.Partly.{AnswersRun, AnswersView, Leaves};
+ghost use Rattle.vsi.specs.Noted.{Counts, CountsRun, NotesCompare};
+ghost use Rattle.vsi.specs.Performed.{PerformsRun, PerformsView, ViewsFiles, ComparesFiles, PerformsCompare};
+ghost use Rattle.vsi.specs.Partly.{AnswersRun, AnswersView, Leaves, AnswersCompare};
 ghost use Rattle.vsi.specs.State.{StaysBeside};
 ghost use Rattle.vsi.specs.Failures.{TellsFault, status_of};
 ghost use Rattle.vsi.specs.declared.failure.Failure.TheVariants.{Memory};
@@ -14,18 +14,16 @@ ghost use Rattle.vsi_lattice.specs.NamePlaces.{texts};
 ghost use Rattle.vsi_machine.specs.Counting.{Halts};
 ghost use Rattle.vsi_machine.specs.Runs.{run_of};
 ghost use Rattle.vsi.specs.Refusals.{LacksBoundAt, LacksEither, NoOther, RefusesImage, RefusesStart, FailsBy};
-ghost use Rattle.vsi.specs.Reasons.{WhyRun, WhyView};
+ghost use Rattle.vsi.specs.Reasons.{WhyRun, WhyView, LacksCompare, OtherCompare, WhyCompare};
 
-use crate::budgets::budget_of;
-use crate::cache::{InputCache, InputKind};
-use crate::failure::Failure;
-use crate::files::Files;
-use crate::filling::deliver;
-use crate::reading::{device_failure, image_in, policy_and_image, store_in};
+use crate::driving::{admit, budget_of, stored_words};
+use crate::failure::{Failure, write_answer};
+use crate::files::{Files, deliver};
+use crate::reading::{InputCache, InputKind, device_failure, image_in, policy_and_image, store_in};
 use std::alloc::Global;
 use std::io::Write;
 use vsi_answers::start_words;
-use vsi_arguments::{Execution, InitialStore};
+use vsi_arguments::{Comparison, Execution, InitialStore};
 use vsi_devices::{Counted, run_words};
 use vsi_image::Verified;
 use vsi_machine::{Outcome, count_text, counted, stop_text};
@@ -258,4 +256,78 @@ pub(crate) fn view<'a, F: Files, W: Write>(
 {
     let text = seen(cache, lattice, class, execution, initial_store, files)?;
     deliver(cache.alloc, &text, initial_store.out, files, output)
+}
+
+/// Runs an image file from two store files, and returns the comparison that a class makes of both
+/// runs. The note gets a line if the budget isn't enough and is taken all the same.
+fn compared<'a, F: Files>(
+    cache: &mut InputCache,
+    asked: Comparison<'a>,
+    files: &mut F,
+    note: &mut Vec<u8>,
+) -> Result<vsi_store::Comparison, Failure<'a>>
+    ensures kept { F.holds files.new ≡ F.holds files.old }
+    ensures told { IfOk result (ComparesFiles (F.holds files.old) asked.entry) }
+    ensures noted { note.old.items ≡ [] → OnOk result
+        (NotesCompare (F.holds files.old) asked.entry note.new.items) }
+    ensures hushed { note.old.items ≡ [] → IfErr result (λ _.
+        (note.new.items ≡ []) ⊎ NotesCompare (F.holds files.old) asked.entry note.new.items) }
+    ensures failed { IfErr result (FailsBy (WhyCompare (F.holds files.old) asked.entry)
+        (LacksCompare (F.holds files.old) asked.entry)) }
+{
+    let (classes, class, verified) = policy_and_image(
+        cache,
+        asked.lattice,
+        asked.class,
+        asked.image,
+        files,
+    )?;
+    let first = stored_words(cache, &verified, Some(asked.stores.0), files)?;
+    let second = stored_words(cache, &verified, Some(asked.stores.1), files)?;
+    let budget = budget_of(cache.alloc, asked.budget, &verified)?;
+    admit(
+        cache.alloc,
+        asked.is_unbounded,
+        &classes,
+        &verified,
+        budget,
+        note,
+    )?;
+    let found = vsi_answers::compare(
+        cache.alloc,
+        &classes,
+        &verified,
+        class,
+        &first,
+        &second,
+        budget,
+    )?;
+    Ok(found)
+}
+
+/// Writes the comparison that a class makes of the runs of an image file from two store files.
+pub(crate) fn compare<'a, F: Files, W: Write>(
+    cache: &mut InputCache,
+    asked: Comparison<'a>,
+    files: &mut F,
+    output: &mut Counted<W>,
+    note: &mut Vec<u8>,
+) -> Result<(), Failure<'a>>
+    requires { faults_of output.old < u64.MAX }
+    ensures kept { F.holds files.new ≡ F.holds files.old }
+    ensures fault { TellsFault (faults_of output.old) (faults_of output.new) result }
+    ensures left { IfErr result (Leaves (AnswersCompare (F.holds files.old) asked.entry) 4
+        (W.contents (device_of output.old)) (W.contents (device_of output.new))) }
+    ensures performed { OnOk result (PerformsCompare (F.holds files.old) asked.entry
+        (W.contents (device_of output.old)) (W.contents (device_of output.new))) }
+    ensures noted { note.old.items ≡ [] → OnOk result
+        (NotesCompare (F.holds files.old) asked.entry note.new.items) }
+    ensures hushed { note.old.items ≡ [] → IfErr result (λ _.
+        (note.new.items ≡ []) ⊎ NotesCompare (F.holds files.old) asked.entry note.new.items) }
+    ensures failed { IfErr result (FailsBy (WhyCompare (F.holds files.old) asked.entry)
+        (OtherCompare (F.holds files.old) asked.entry
+        (W.contents (device_of output.old)) (W.contents (device_of output.new)))) }
+{
+    let found = compared(cache, asked, files, note)?;
+    write_answer(&found.text, found.is_same, output)
 }

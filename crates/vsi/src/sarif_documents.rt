@@ -5,10 +5,9 @@ ghost use Rattle.vsi.specs.Documents.{AuditsSarif, ToldAuditSarif};
 ghost use Rattle.vsi.specs.Performed.{profile_of};
 ghost use Rattle.vsi.specs.Refusals.{NoOther, RefusesImage, RefusesLattice, FailsBy};
 
-use crate::cache::InputCache;
 use crate::failure::Failure;
 use crate::files::Files;
-use crate::reading::{image_in, lattice_in};
+use crate::reading::{InputCache, image_in, lattice_in};
 use crate::subcommands::profile;
 use std::alloc::{AllocError, Global};
 use vsi_arguments::Audit;

@@ -1,11 +1,10 @@
 //! The answers of the subcommands that run nothing: the text to write, or why there is none.
 
-ghost use Rattle.std.specs.Prelude.{◌≡◌, ◌<◌, true, false, IfErr, IfOk, OnOk};
+ghost use Rattle.std.specs.Prelude.{◌≡◌, ◌<◌, true, false, IfErr, IfOk, OnOk, ◌≤◌, length};
 ghost use Rattle.vsi.specs.Laying.{ToldCanonical};
 ghost use Rattle.vsi.specs.Holding.{KeepsOthers};
 ghost use Rattle.vsi.specs.Files.{AreFiles, OfFile, OfFiles, Writes};
-ghost use Rattle.vsi.specs.Performed.{BuildsFile, PerformsMend, ToldAccepted, ToldClasses, ToldFlows, ToldImage, ToldJson, ToldListing, ToldRaises};
-ghost use Rattle.vsi.specs.Performed.{judgement_of, profile_of};
+ghost use Rattle.vsi.specs.Performed.{BuildsFile, PerformsMend, ToldAccepted, ToldClasses, ToldFlows, ToldImage, ToldJson, ToldListing, ToldRaises, judgement_of, profile_of};
 ghost use Rattle.vsi.specs.Refusals.{AsksCanonical, AsksCheck, AsksClasses, AsksFlows, AsksImage, AsksMend, NoOther, RefusesFile, RefusesFiles, RefusesLattice, FailsBy};
 ghost use Rattle.vsi.specs.Reasons.{ToldRefusal, WhyCheck, WhyMend};
 ghost use Rattle.vsi.specs.Raises.{ToldUnserved};
@@ -14,20 +13,22 @@ ghost use Rattle.vsi.specs.Failures.{TellsFault, status_of};
 ghost use Rattle.vsi_answers.specs.Requests.{ListsTo};
 ghost use Rattle.vsi_devices.specs.Counted.{device_of, faults_of};
 
-use crate::cache::{InputCache, InputKind};
 use crate::failure::{Failure, write_answer};
-use crate::files::Files;
-use crate::filling::fill;
-use crate::observing::CheckObserver;
-use crate::reading::{answered, bytes_in, lattice_in, two_classes};
-use std::alloc::Global;
+use crate::files::{Files, fill};
+use crate::reading::{
+    CheckObserver, InputCache, InputKind, answered, bytes_in, lattice_in, two_classes,
+};
+use std::alloc::{AllocError, Global};
 use std::io::Write;
 use vsi_answers::{Observer, Unanswered};
 use vsi_arguments::{Compilation, Judging, Mending};
+use vsi_caret::put_text;
+use vsi_compiler::{CompileError, Source};
 use vsi_conform::{Checked, Judgement, check_json_for};
 use vsi_devices::Counted;
+use vsi_documents::{Mended, mend_json};
+use vsi_flows::raise_lines_of;
 use vsi_lattice::Lattice;
-use vsi_raises_json::{Mended, mend_json};
 use vsi_types::Profile;
 
 /// The profile that judges a text or an image.
@@ -359,4 +360,64 @@ pub(crate) fn format<'a, F: Files>(
     let bytes = bytes_in(cache, InputKind::Source, source, files)?;
     let classes = two_classes(cache.alloc)?;
     answered(vsi_answers::format(cache.alloc, &classes, bytes.as_slice()))
+}
+
+/// The largest number of raises that are listed.
+const LISTED: usize = 20;
+
+/// The line before the raises.
+const BEFORE: &[u8] =
+    b"The least raise of classes under which the text is accepted (`vsi mend`):\n";
+
+/// The meaning of a raise.
+const MEANING: &[u8] = b"Whoever sees only the class before `->` no longer sees the variable.\n";
+
+/// The line for raises that are left out.
+const LEFT: &[u8] = b"`vsi mend` prints the others, too.\n";
+
+/// The line for a text that no raise makes accepted.
+const NONE: &[u8] = b"No raise of declared classes makes the text accepted.\n";
+
+/// The number of bytes of the first lines that are listed.
+fn listed_length(lines: &[u8]) -> usize
+    ensures { result ≤ length lines.now }
+{
+    let mut count: usize = 0;
+    for place in 0..lines.len() {
+        if lines[place] == b'\n' {
+            count = count.saturating_add(1);
+        }
+        if count == LISTED {
+            return place + 1;
+        }
+    }
+    lines.len()
+}
+
+/// Adds these raises and their meaning, if there are any.
+fn put_raises(text: &mut Vec<u8>, lines: &[u8]) -> Result<(), AllocError> {
+    if lines.is_empty() {
+        return Ok(());
+    }
+    let length = listed_length(lines);
+    text.extend_from_slice(BEFORE)?;
+    put_text(text, &lines[..length])?;
+    if length < lines.len() {
+        text.extend_from_slice(LEFT)?;
+    }
+    text.extend_from_slice(MEANING)
+}
+
+/// Adds the least raise of a text that is refused for a flow, or that there is none.
+pub(crate) fn put_least_raise(
+    alloc: Global,
+    text: &mut Vec<u8>,
+    profile: Profile,
+    source: &Source<'_>,
+) -> Result<(), AllocError> {
+    match raise_lines_of(alloc, profile, source) {
+        Ok(lines) => put_raises(text, &lines),
+        Err(CompileError::Memory) => Err(AllocError),
+        Err(_) => text.extend_from_slice(NONE),
+    }
 }

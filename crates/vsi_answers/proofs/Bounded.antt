@@ -17,7 +17,7 @@ use Rattle.vsi_machine.specs.declared.bound.Bound.{Bound}
 use Rattle.vsi_machine.specs.declared.bound.Bound.TheVariants.{Halts, Endless, Unstructured, TooLarge}
 use Rattle.vsi_machine.proofs.Ending as bounds
 use Rattle.vsi_compiler.specs.Observation.{AgreeAt, Ends, IsNoninterfering}
-use Rattle.vsi_answers.specs.declared.places.Place.{Place}
+use Rattle.vsi_answers.specs.declared.bounds.Place.{Place}
 use Rattle.vsi_answers.specs.Bounds.{bound_line, halts_line, is_bounded}
 use Rattle.vsi_answers.specs.Laws.{AlwaysEndAlike, BoundIsKept, BoundedIsNoninterfering}
 use Rattle.vsi_answers.proofs.Views.{same_fields}

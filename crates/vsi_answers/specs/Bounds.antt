@@ -11,7 +11,7 @@ use Rattle.vsi_machine.specs.declared.bound.Bound.TheVariants.{Halts, Endless, U
 use Rattle.vsi_machine.specs.declared.reasons.Reason.{Reason}
 use Rattle.vsi_machine.specs.declared.reasons.Reason.TheVariants.{Guard, Start, Step, Wraps}
 use Rattle.vsi_answers.specs.declared.bounds.BoundAnswer.{BoundAnswer}
-use Rattle.vsi_answers.specs.declared.places.Place.{Place}
+use Rattle.vsi_answers.specs.declared.bounds.Place.{Place}
 
 -- Why a loop has no bound.
 abbrev pub reason_text : Reason → List ℕ

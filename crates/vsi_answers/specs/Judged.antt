@@ -16,7 +16,7 @@ use Rattle.vsi_image.specs.Reading.{image_of}
 use Rattle.vsi_image.specs.Valid.{IsValid}
 use Rattle.vsi_store.specs.File.{IsRefusal}
 use Rattle.vsi_store.specs.View.{first_unknown}
-use Rattle.vsi_store.specs.declared.error.StoreError.TheVariants as store
+use Rattle.vsi_store.specs.declared.reader.StoreError.TheVariants as store
 use Rattle.vsi_store.specs.declared.views.ViewError.TheVariants as views
 use Rattle.vsi_compiler.specs.Headline.{IsImageOf}
 use Rattle.vsi_compiler.specs.Readable.{HasProgram}
@@ -34,8 +34,8 @@ use Rattle.vsi_drive.specs.Starts.{IsStartFault, start_fault_line}
 use Rattle.vsi_drive.specs.declared.starts.StartFault.{StartFault}
 use Rattle.vsi_diagnostics.specs.Files.{fault_diagnostic}
 use Rattle.vsi_diagnostics.specs.Texts.{IsRefusalText, text_of}
-use Rattle.vsi_diagnostics.specs.declared.fault.Fault.{Fault}
-use Rattle.vsi_diagnostics.specs.declared.fault.Fault.TheVariants as fault
+use Rattle.vsi_diagnostics.specs.declared.diagnostic.Fault.{Fault}
+use Rattle.vsi_diagnostics.specs.declared.diagnostic.Fault.TheVariants as fault
 use Rattle.vsi_answers.specs.declared.unanswered.Cause.TheVariants.{Source, File as InFile, Start, Steady, Raised}
 use Rattle.vsi_answers.specs.Answers.{Telling}
 

@@ -13,7 +13,7 @@ use Rattle.vsi_machine.specs.Runs.{HaltsWith, run_of}
 use Rattle.vsi_store.specs.Compare.{Compares}
 use Rattle.vsi_store.specs.Text.{store_text_of}
 use Rattle.vsi_store.specs.View.{Views}
-use Rattle.vsi_store.specs.declared.comparison.Comparison.{Comparison}
+use Rattle.vsi_store.specs.declared.comparing.Comparison.{Comparison}
 use Rattle.vsi_store.specs.declared.views.View.TheVariants as view
 use Rattle.vsi_compiler.specs.Acceptance.{IsAccepted}
 use Rattle.vsi_compiler.specs.Classes.{IsClassText}

@@ -1,14 +1,19 @@
 //! The answer about the bound of an image.
 
 ghost use Rattle.std.specs.Prelude.{◌≡◌, ◌++◌, IfOk, MatchResult, OnOk};
+ghost use Rattle.vsi_answers.specs.Requests.{ListsTo, ReadsImage, ReadsLattice};
 ghost use Rattle.vsi_answers.specs.Bounds as spec;
 
-use crate::places::{Place, loop_place};
+use crate::unanswered::{Unanswered, refused_file};
 use std::alloc::{AllocError, Global};
-use vsi_image::Verified;
-use vsi_lattice::Lattice;
+use vsi_compiler::{CompileError, resolved_program};
+use vsi_devices::{EngineError, verified_image};
+use vsi_diagnostics::Fault;
+use vsi_image::{Instr, Verified, listing};
+use vsi_lattice::{Lattice, LatticeError, read_lattice};
 use vsi_machine::{Bound, Reason, bound_of};
-use vsi_syntax::{put_line_column, put_number};
+use vsi_scope::{Cmd, Ex};
+use vsi_syntax::{Kind, LexError, lex, line_column, put_line_column, put_number};
 
 /// The answer about the bound of an image: its line, and whether there is a bound.
 #[derive(Debug, Drop)]
@@ -223,4 +228,155 @@ pub fn enough_budget(alloc: Global, verified: &Verified) -> Result<Result<u64, V
             Ok(Err(line))
         }
     }
+}
+
+/// The lattice that the bytes of a lattice file declare.
+pub fn declared_lattice(alloc: Global, bytes: &[u8]) -> Result<Lattice, Unanswered>
+    ensures lattice { ReadsLattice bytes.now result }
+{
+    match read_lattice(alloc, bytes) {
+        Ok(lattice) => Ok(lattice),
+        Err(LatticeError::Memory) => Err(Unanswered::Memory),
+        Err(error) => Err(refused_file(alloc, Fault::Lattice(error))),
+    }
+}
+
+/// The valid image with these bytes.
+pub fn judged_image(alloc: Global, bytes: &[u8]) -> Result<Verified, Unanswered>
+    ensures image { ReadsImage bytes.now result }
+{
+    match verified_image(alloc, bytes) {
+        Ok(verified) => Ok(verified),
+        Err(EngineError::Decode(error)) => Err(refused_file(alloc, Fault::Decode(error))),
+        Err(EngineError::Verify(error)) => Err(refused_file(alloc, Fault::Verify(error))),
+        Err(_) => Err(Unanswered::Memory),
+    }
+}
+
+/// The listing of the image with these bytes.
+pub fn list(alloc: Global, bytes: &[u8]) -> Result<Vec<u8>, Unanswered>
+    ensures lists { ListsTo bytes.now result }
+{
+    let verified = judged_image(alloc, bytes)?;
+    Ok(listing(alloc, verified.image())?)
+}
+
+/// The line and the column of a loop in a source text.
+#[derive(Clone, Copy, Debug, PartialEq, Eq)]
+pub struct Place {
+    pub line: usize,
+    pub column: usize,
+}
+
+/// The number that an expression without variables gives.
+fn constant(e: &Ex) -> Option<i64> {
+    match e {
+        Ex::Num(n) => Some(*n),
+        Ex::Loc(_, _) => None,
+        Ex::Op(op, left, right) => match constant(left) {
+            Some(left) => match constant(right) {
+                Some(right) => Some(op.apply(left, right)),
+                None => None,
+            },
+            None => None,
+        },
+    }
+}
+
+/// Adds for each loop of a body, in the order of the text, whether the optimiser keeps it.
+#[cycle(marking)]
+fn mark_all(body: &[Cmd], is_kept: bool, kept: &mut Vec<bool>) -> Result<(), AllocError> {
+    for c in body {
+        mark_one(c, is_kept, kept)?;
+    }
+    Ok(())
+}
+
+/// Adds the same for each loop of a command.
+#[cycle(marking)]
+fn mark_one(c: &Cmd, is_kept: bool, kept: &mut Vec<bool>) -> Result<(), AllocError> {
+    match c {
+        Cmd::Assign { .. } => Ok(()),
+        Cmd::If { guard, yes, no } => {
+            let value = constant(guard);
+            mark_all(yes, is_kept && value != Some(0), kept)?;
+            mark_all(no, is_kept && (value.is_none() || value == Some(0)), kept)
+        }
+        Cmd::While { guard, body } => {
+            let is_kept = is_kept && constant(guard) != Some(0);
+            kept.push(is_kept)?;
+            mark_all(body, is_kept, kept)
+        }
+        Cmd::Letvar { body, .. } => mark_all(body, is_kept, kept),
+    }
+}
+
+/// The places in a text, in bytes, of the loops that the optimiser keeps, in their order.
+fn loop_starts(
+    alloc: Global,
+    lattice: &Lattice,
+    source: &[u8],
+) -> Result<Vec<usize>, CompileError> {
+    let program = resolved_program(alloc, lattice, source)?;
+    let mut kept = Vec::new(alloc);
+    mark_all(program.body(), true, &mut kept)?;
+    let tokens = lex(alloc, source)?;
+    let mut starts = Vec::new(alloc);
+    let mut number = 0;
+    for token in &tokens {
+        if token.kind == Kind::While && number < kept.len() {
+            if kept[number] {
+                starts.push(token.span.start)?;
+            }
+            number += 1;
+        }
+    }
+    Ok(starts)
+}
+
+/// Whether the instruction at a place tests the guard of a loop.
+fn tests_loop(code: &[Instr], place: usize) -> bool {
+    let Some(Instr::Jz(target)) = code.get(place) else {
+        return false;
+    };
+    let Some(jump) = (*target as usize).checked_sub(1) else {
+        return false;
+    };
+    match code.get(jump) {
+        Some(Instr::Jmp(start)) => *start as usize <= place,
+        _ => false,
+    }
+}
+
+/// The number of loops whose tests are before this place of a code.
+fn loops_before(code: &[Instr], end: usize) -> usize {
+    let mut count = 0;
+    for place in 0..end {
+        if tests_loop(code, place) {
+            count += 1;
+        }
+    }
+    count
+}
+
+/// The place of the loop with this test, where an image has this code and was made from a text.
+/// Loops and tests have the same order. There is none for a text that has no program.
+pub(crate) fn loop_place(
+    alloc: Global,
+    lattice: &Lattice,
+    source: &[u8],
+    code: &[Instr],
+    test: usize,
+) -> Result<Option<Place>, AllocError> {
+    let starts = match loop_starts(alloc, lattice, source) {
+        Ok(starts) => starts,
+        Err(CompileError::Memory) => return Err(AllocError),
+        Err(_) => return Ok(None),
+    };
+    let number = loops_before(code, test);
+    if starts.len() != loops_before(code, code.len()) || number >= starts.len() {
+        return Ok(None);
+    }
+    let (line, column) = line_column(source, starts[number]);
+    Ok(Some(Place { line, column }))
 }

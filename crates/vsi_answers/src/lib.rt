@@ -8,24 +8,19 @@
 #![tactic(auto)]
 
 mod bounds;
-mod files;
 pub mod laws;
-mod observer;
-mod places;
-mod raising;
-mod refusing;
 mod runs;
 mod steady;
 mod texts;
 mod unanswered;
 
-pub use bounds::{BoundAnswer, bound, bound_in, bound_text, bound_text_in, enough_budget};
-pub use files::{declared_lattice, judged_image, list};
-pub use observer::{Observer, Unobserved};
-pub use places::Place;
-pub use raising::{apply, mend};
-pub use refusing::{refused_file, refused_source, refused_start};
+pub use bounds::{
+    BoundAnswer, Place, bound, bound_in, bound_text, bound_text_in, declared_lattice,
+    enough_budget, judged_image, list,
+};
 pub use runs::{compare, run, run_source, start_words, view};
 pub use steady::{check_steady, image_text, image_text_of, looped_text, looped_text_of};
-pub use texts::{build, check, classes, flows, format};
-pub use unanswered::{Cause, Unanswered};
+pub use texts::{apply, build, check, classes, flows, format, mend};
+pub use unanswered::{
+    Cause, Observer, Unanswered, Unobserved, refused_file, refused_source, refused_start,
+};

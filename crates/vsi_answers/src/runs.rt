@@ -6,8 +6,7 @@ ghost use Rattle.vsi_lattice.specs.NamePlaces.{texts};
 ghost use Rattle.vsi_lattice.specs.Order.{IsClass};
 ghost use Rattle.vsi_answers.specs.Requests.{BeginsWith, ComparesTo, RunsSourceTo, RunsTo, ViewsTo, zeros};
 
-use crate::refusing::{refused_file, refused_source, refused_start};
-use crate::unanswered::Unanswered;
+use crate::unanswered::{Unanswered, refused_file, refused_source, refused_start};
 use std::alloc::Global;
 use vsi_compiler::compile;
 use vsi_diagnostics::Fault;

@@ -5,9 +5,8 @@ ghost use Rattle.vsi_answers.specs.Answers.{Because};
 ghost use Rattle.vsi_answers.specs.Judged.{IsImageText, IsSteadyText, IsLoopedText, TellsSteady};
 ghost use Rattle.vsi_answers.specs.Requests.{ChecksSteadyTo};
 
-use crate::observer::Observer;
 use crate::texts::ACCEPTED;
-use crate::unanswered::{Cause, Unanswered};
+use crate::unanswered::{Cause, Observer, Unanswered};
 use std::alloc::{AllocError, Global};
 use vsi_compiler::{CompileError, Source, image_of, read_source};
 use vsi_diagnostics::{refusal_text, refusal_text_of};

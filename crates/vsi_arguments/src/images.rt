@@ -1,8 +1,6 @@
 //! The subcommands about an image.
 
-use crate::argument::{Argument, Form, argument};
-use crate::shared::*;
-use crate::subcommand::{Subcommand, subcommand};
+use crate::subcommand::{Argument, Form, Subcommand, argument, subcommand, *};
 
 /// The subcommands about an image, in the order of the help.
 pub(crate) const IMAGES: [Subcommand; 5] = [

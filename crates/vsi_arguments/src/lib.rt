@@ -1,23 +1,33 @@
-//! The arguments of a command line: `manner_of` returns the help for them, or says what is wrong with
-//! them or how their request is carried out, which `vsi_asked` reads from them.
+//! The arguments of a command line, and the request that they make.
+//!
+//! `manner_of` returns the help for them, or says what is wrong with them or how their request is
+//! carried out. `request_of` reads the request from them, down to the numbers of its options and the
+//! page that `explain` names, and answers none where an argument is a flag or an option that its
+//! subcommand lacks. The program prints help only if `asks_help` finds that the arguments ask for it.
+//!
+//! To be believed: all files of `specs/`.
 #![tactic(auto)]
 
-mod argument;
+mod asking;
 mod error;
 mod escaped;
+mod given_numbers;
 mod images;
 mod judging;
+pub mod laws;
 mod numbers;
 mod pages;
 mod reader;
+mod reading;
 mod request;
+mod requests;
+mod running;
 mod runs;
-mod shared;
 mod subcommand;
 mod texts;
-mod tips;
 mod usage;
 
+pub use asking::{asks_help, request_of};
 pub use error::ArgumentsError;
 pub use reader::manner_of;
 pub use request::{

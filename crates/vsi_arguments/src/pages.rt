@@ -1,8 +1,6 @@
 //! The subcommands that print a page, a graph or a text, or serve an editor.
 
-use crate::argument::{Argument, Form, argument};
-use crate::shared::*;
-use crate::subcommand::{Subcommand, subcommand};
+use crate::subcommand::{Argument, Form, Subcommand, argument, subcommand, *};
 
 /// The subcommands that print a page, a graph or a text, or serve an editor, as the help has them.
 pub(crate) const PAGES: [Subcommand; 7] = [

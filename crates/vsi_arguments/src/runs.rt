@@ -1,8 +1,6 @@
 //! The subcommands that run an image or a text.
 
-use crate::argument::{Argument, Form, argument};
-use crate::shared::*;
-use crate::subcommand::{Subcommand, subcommand};
+use crate::subcommand::{Argument, Form, Subcommand, argument, subcommand, *};
 
 /// The subcommands that run an image or a text, in the order of the help.
 pub(crate) const RUNS: [Subcommand; 5] = [

@@ -1,8 +1,6 @@
 //! The subcommands that judge a source text or compile it.
 
-use crate::argument::{Argument, Form, argument};
-use crate::shared::*;
-use crate::subcommand::{Subcommand, subcommand};
+use crate::subcommand::{Argument, Form, Subcommand, argument, subcommand, *};
 
 /// The subcommands that judge a source text or compile it, in the order of the help.
 pub(crate) const TEXTS: [Subcommand; 7] = [

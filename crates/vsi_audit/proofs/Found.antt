@@ -10,8 +10,8 @@ use Rattle.vsi_syntax.specs.declared.token.Span.{Span}
 use Rattle.vsi_scope.specs.Language.{Expression, Number, Location, Operator, Command, Skip, Assign, Sequence, If, While, Letvar, HasLocations, HasPlaces, expression_size, expression_depth, expressions_depth, nesting, size, depth, letvars}
 use Rattle.vsi_code.specs.Layout.{op_code, expression_code, code_at}
 use Rattle.vsi_audit.specs.Coding.{StandsAt}
-use Rattle.vsi_audit.specs.declared.error.Unread.{Unread}
-use Rattle.vsi_audit.specs.declared.error.Unread.TheVariants.{Memory}
+use Rattle.vsi_audit.specs.declared.flow.Unread.{Unread}
+use Rattle.vsi_audit.specs.declared.flow.Unread.TheVariants.{Memory}
 use Rattle.vsi_audit.specs.Fitting.{FitsExpression}
 use Rattle.vsi_audit.proofs.CodeParts.{one_stands, operator_stands, assign_stands, choice_stands, loop_stands, letvar_stands}
 use Rattle.vsi_audit.specs.Reading.{is_operand, IsValue, number, location, operator, IsStop, Readable, nothing, more, Begins, begins, Goes, assign, letvar, choice, loop, IsRead, Leaves}

@@ -14,8 +14,8 @@ use Rattle.vsi_audit.specs.Reading.{IsRead, Readable, nothing}
 use Rattle.vsi_audit.specs.Structure.{HasCommands}
 use Rattle.vsi_audit.specs.Unread.{IsUnread}
 use Rattle.vsi_audit.specs.Refusal.{Refuses, unread_as}
-use Rattle.vsi_audit.specs.declared.error.Unread.{Unread}
-use Rattle.vsi_audit.specs.declared.error.Unread.TheVariants as unread
+use Rattle.vsi_audit.specs.declared.flow.Unread.{Unread}
+use Rattle.vsi_audit.specs.declared.flow.Unread.TheVariants as unread
 use Rattle.vsi_lattice.specs.Known.{Known}
 use Rattle.vsi_lattice.specs.Order.{Lattice}
 use Rattle.vsi_types.specs.declared.rules.Profile.{Profile}

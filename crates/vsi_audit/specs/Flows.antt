@@ -7,7 +7,7 @@ use Rattle.vsi_scope.specs.Program.{Resolved}
 use Rattle.vsi_types.specs.declared.rules.Profile.{Profile}
 use Rattle.vsi_types.specs.Security.{program}
 use Rattle.vsi_flows.specs.Table.{IsTable}
-use Rattle.vsi_flows.specs.declared.pair.Pair.{Pair}
+use Rattle.vsi_flows.specs.declared.table.Pair.{Pair}
 use Rattle.vsi_audit.specs.Standing.{HaveClasses, StandsFor}
 
 -- The image is that of a program, and these pairs are the program's table of flows.

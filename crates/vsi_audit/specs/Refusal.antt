@@ -11,10 +11,10 @@ use Rattle.vsi_infer.specs.Inference.{IsShortest}
 use Rattle.vsi_lattice.specs.Known.{Known}
 use Rattle.vsi_audit.specs.Standing.{HaveClasses, StandsFor}
 use Rattle.vsi_audit.specs.Structure.{HasCommands}
-use Rattle.vsi_audit.specs.declared.error.AuditError.{AuditError}
-use Rattle.vsi_audit.specs.declared.error.AuditError.TheVariants.{UnknownClass, Unstructured, WrongFields, NoText, Flow, Memory}
-use Rattle.vsi_audit.specs.declared.error.Unread.{Unread}
-use Rattle.vsi_audit.specs.declared.error.Unread.TheVariants as unread
+use Rattle.vsi_audit.specs.declared.flow.AuditError.{AuditError}
+use Rattle.vsi_audit.specs.declared.flow.AuditError.TheVariants.{UnknownClass, Unstructured, WrongFields, NoText, Flow, Memory}
+use Rattle.vsi_audit.specs.declared.flow.Unread.{Unread}
+use Rattle.vsi_audit.specs.declared.flow.Unread.TheVariants as unread
 
 -- The error for code that wasn't read back.
 abbrev pub unread_as : Unread → AuditError

@@ -9,8 +9,8 @@ use Rattle.vsi_types.specs.declared.rules.Step.{Step}
 use Rattle.vsi_types.specs.Steps.{sink}
 use Rattle.vsi_types.specs.Walks.{last_target}
 use Rattle.vsi_infer.specs.Explanation.{rule_text, class_text}
-use Rattle.vsi_audit.specs.declared.error.AuditError.{AuditError}
-use Rattle.vsi_audit.specs.declared.error.AuditError.TheVariants.{UnknownClass, Unstructured, WrongFields, NoText, Flow, Memory}
+use Rattle.vsi_audit.specs.declared.flow.AuditError.{AuditError}
+use Rattle.vsi_audit.specs.declared.flow.AuditError.TheVariants.{UnknownClass, Unstructured, WrongFields, NoText, Flow, Memory}
 use Rattle.vsi_audit.specs.declared.names.Form.{Form}
 use Rattle.vsi_audit.specs.MadeNames.{made, IsForm}
 

@@ -4,8 +4,8 @@ use Rattle.vsi_image.specs.declared.instr.Image.{Image}
 use Rattle.vsi_scope.specs.Language.{letvars}
 use Rattle.vsi_scope.specs.View.{sequence}
 use Rattle.vsi_audit.specs.declared.builder.Commands.{Commands}
-use Rattle.vsi_audit.specs.declared.error.Unread.{Unread}
-use Rattle.vsi_audit.specs.declared.error.Unread.TheVariants as unread
+use Rattle.vsi_audit.specs.declared.flow.Unread.{Unread}
+use Rattle.vsi_audit.specs.declared.flow.Unread.TheVariants as unread
 use Rattle.vsi_audit.specs.Reading.{IsRead}
 use Rattle.vsi_audit.specs.Structure.{HasCommands}
 

@@ -17,10 +17,10 @@ ghost use Rattle.vsi_audit.specs.Standing.{HasKnownClasses, HaveClasses, StandsF
 ghost use Rattle.vsi_audit.specs.Unread.{IsUnread};
 
 use crate::builder::{Commands, MAX_DECLARATIONS, commands_of};
-use crate::error::{AuditError, Unread};
 use crate::fitting::fit_all;
-use crate::globals::{declarations, declared_program, unknown_class};
+use crate::flow::{AuditError, Unread};
 use crate::lasting::lasting_commands;
+use crate::names::{declarations, declared_program, unknown_class};
 use crate::reading::span_at;
 use std::alloc::{AllocError, Global};
 use vsi_code::generate;

@@ -1,9 +1,8 @@
 //! Turns events into commands over locations.
 
-use crate::error::Unread;
-use crate::events::{Event, Need, Part};
-use crate::needs::needs_of;
-use crate::reading::{events_of, span_at};
+use crate::flow::Unread;
+use crate::lasting::needs_of;
+use crate::reading::{Event, Need, Part, events_of, span_at};
 use std::alloc::Global;
 use std::mem;
 use vsi_image::Image;

@@ -1,20 +1,100 @@
-//! The report about a flow that breaks the policy.
+//! The flows of an image between its variables, and the report about one that breaks the policy.
 
-ghost use Rattle.std.specs.Prelude.{◌≡◌, ◌++◌, OnOk, IfOk, codes, decimal};
+ghost use Rattle.std.specs.Prelude.{◌≡◌, ◌++◌, OnOk, IfOk, codes, decimal, IfErr};
+ghost use Rattle.vsi_audit.specs.declared.flow.AuditError.TheVariants.{Memory};
 ghost use Rattle.std.specs.List.{flat_map};
+ghost use Rattle.vsi_audit.specs.Telling.{IsAuditText};
+ghost use Rattle.vsi_lattice.specs.LatticeView.{class_named, order};
+ghost use Rattle.vsi_audit.specs.Flows.{IsTableOfImage};
+ghost use Rattle.vsi_audit.specs.Refusal.{Refuses};
+ghost use Rattle.vsi_audit.specs.declared.flow.Unread.TheVariants as unread;
 ghost use Rattle.vsi_image.specs.Fields as fields;
 ghost use Rattle.vsi_audit.specs.Telling as spec;
-ghost use Rattle.vsi_audit.specs.Telling.{IsAuditText};
 
-use crate::error::AuditError;
-use crate::names::Names;
-use std::alloc::{AllocError, Global};
-use vsi_image::Image;
-use vsi_infer::{Step, rule_text};
+use crate::audit::program_of;
+use crate::names::{Names, declarations, unknown_class};
+use std::alloc::{AllocError, AllocFailed, Global};
+use thiserror::Error;
+use vsi_flows::{FlowsError, Pair, flows_in};
+use vsi_image::{Image, Verified};
+use vsi_infer::{Step, Walk, rule_text};
 use vsi_lattice::{Classes, Lattice};
 use vsi_scope::Var;
 use vsi_syntax::put_number;
-use vsi_types::LOOP;
+use vsi_types::{LOOP, Profile};
+
+/// The reason why an image isn't accepted.
+#[derive(Debug, Drop, Error)]
+pub enum AuditError {
+    /// The lattice has no class of this global's class name; globals are numbered from 0.
+    #[error("the class of global {0} is not in the lattice")]
+    UnknownClass(usize),
+    /// The code isn't the code of commands; the number is that of the first instruction that
+    /// doesn't fit, or the number of instructions.
+    #[error("the code has no commands that can be judged, at instruction {0}")]
+    Unstructured(usize),
+    /// The number of slots or the stack field differs from what the code needs.
+    #[error("the slots or the stack is not what the code needs")]
+    WrongFields,
+    /// The commands of the code have no text within the limits on texts.
+    #[error("the commands have no text within the limits")]
+    NoText,
+    /// A flow breaks the policy. The places of the steps are numbers of instructions: of the LOAD
+    /// that reads and of the STORE that writes. The variables after the globals are the locals, in
+    /// the order of the code.
+    #[error("a flow breaks the policy")]
+    Flow(Walk),
+    #[error("out of memory")]
+    Memory,
+}
+
+/// The reason why code wasn't read back.
+#[derive(Debug, Drop)]
+pub(crate) enum Unread {
+    /// The instruction with this number doesn't fit.
+    At(usize),
+    /// A field other than the code differs from that of the commands.
+    Fields,
+    Memory,
+}
+
+impl From<AllocError> for AuditError {
+    ghost from_gives = { λ _ e. e ≡ Memory };
+
+    fn from(_error: AllocError) -> AuditError {
+        AuditError::Memory
+    }
+}
+
+impl From<Unread> for AuditError {
+    ghost use Rattle.vsi_audit.specs.Refusal.{unread_as};
+
+    ghost from_gives = { λ inner e. e ≡ unread_as inner };
+
+    fn from(error: Unread) -> AuditError {
+        match error {
+            Unread::At(place) => AuditError::Unstructured(place),
+            Unread::Fields => AuditError::WrongFields,
+            Unread::Memory => AuditError::Memory,
+        }
+    }
+}
+
+impl From<AllocError> for Unread {
+    ghost from_gives = { λ _ e. e ≡ unread.Memory };
+
+    fn from(_error: AllocError) -> Unread {
+        Unread::Memory
+    }
+}
+
+impl<T: Drop> From<AllocFailed<T>> for Unread {
+    ghost from_gives = { λ _ e. e ≡ unread.Memory };
+
+    fn from(_error: AllocFailed<T>) -> Unread {
+        Unread::Memory
+    }
+}
 
 /// Adds the name of a variable.
 fn put_name(out: &mut Vec<u8>, names: &Names<'_>, variable: Var) -> Result<(), AllocError>
@@ -163,4 +243,33 @@ pub fn audit_text(
         AuditError::Memory => out.extend_from_slice(b"out of memory\n")?,
     }
     Ok(out)
+}
+
+/// The table of flows of the program that the audit reads back from an image. Its first variables
+/// are the globals of the image.
+///
+/// # Errors
+///
+/// Those of `audit_in`, except `Flow`: a flow that the audit refuses is in the table.
+pub fn image_flows(
+    alloc: Global,
+    profile: Profile,
+    lattice: &Lattice,
+    image: &Verified,
+) -> Result<Vec<Pair>, AuditError>
+    ensures table { IfOk result (λ pairs. IsTableOfImage (class_named lattice.now)
+        (order lattice.now) profile image.now pairs.items) }
+    ensures refused { IfErr result
+        (Refuses (class_named lattice.now) (order lattice.now) profile image.now) }
+{
+    let image = image.image();
+    if let Some(global) = unknown_class(lattice, &image.globals) {
+        return Err(AuditError::UnknownClass(global));
+    }
+    let text = declarations(alloc, image)?;
+    let program = program_of(alloc, lattice, &text, image)?;
+    match flows_in(alloc, profile, lattice, &program) {
+        Ok(pairs) => Ok(pairs),
+        Err(FlowsError::Memory) => Err(AuditError::Memory),
+    }
 }

@@ -2,25 +2,25 @@
 //! code alone decides how it is read.
 
 ghost use Rattle.std.specs.Prelude.{◌≡◌, ℕ, [], ◌∷◌, ◌+◌, ◌-◌, ◌<◌, ◌≤◌, None, Some, true, IfSome, IfOk, IfErr, length, slice_get};
-ghost use Rattle.vsi_image.specs.declared.instr.Instr.TheVariants as kinds;
 ghost use Rattle.vsi_scope.specs.Language.{expression_size, letvars};
 ghost use Rattle.vsi_scope.specs.View.{expression, command, sequence};
 ghost use Rattle.vsi_syntax.specs.declared.operator.Op.{Op as Operator};
-ghost use Rattle.vsi_code.specs.Layout as layout;
 ghost use Rattle.vsi_code.specs.Layout.{expression_code};
 ghost use Rattle.vsi_audit.specs.Coding.{StandsAt};
 ghost use Rattle.vsi_audit.specs.Fitting.{FitsExpression};
-ghost use Rattle.vsi_audit.specs.Reading as reading;
 ghost use Rattle.vsi_audit.specs.Reading.{IsStop, IsValue, Readable, Begins, IsRead, Leaves};
 ghost use Rattle.vsi_audit.specs.Unread.{AreRead, IsUnread};
 ghost use Rattle.vsi_image.specs.Valid.{IsValid};
 ghost use Rattle.vsi_audit.specs.Steps.{IsStep, IsStore, IsPart};
-ghost use Rattle.vsi_audit.specs.declared.error.Unread.TheVariants.{Memory};
+ghost use Rattle.vsi_audit.specs.declared.flow.Unread.TheVariants.{Memory};
+ghost use Rattle.vsi_image.specs.declared.instr.Instr.TheVariants as kinds;
+ghost use Rattle.vsi_code.specs.Layout as layout;
+ghost use Rattle.vsi_audit.specs.Reading as reading;
 
 use crate::builder::{Commands, MAX_DECLARATIONS};
-use crate::error::Unread;
-use crate::reading::span_at;
-use std::alloc::Global;
+use crate::flow::Unread;
+use crate::reading::{Event, Need, Part, span_at};
+use std::alloc::{AllocError, Global};
 use vsi_image::{Image, Instr};
 use vsi_scope::{Cmd, Ex};
 use vsi_syntax::Op;
@@ -406,4 +406,71 @@ fn is_halt(instr: Option<Instr>) -> bool
         Instr::Halt => true,
         _ => false,
     }
+}
+
+/// The need before a store, and whether the store begins a `letvar`: it does if its value reads no
+/// slot at or above its own, and nothing after it needs an older value of a slot above.
+fn before_store(globals: u16, after: u16, slot: u16, reads: u16) -> Need {
+    let above = slot.saturating_add(1);
+    if slot >= globals && reads <= slot && after <= above {
+        return Need {
+            scope: slot,
+            begins: true,
+        };
+    }
+    Need {
+        scope: after.max(reads).max(above),
+        begins: false,
+    }
+}
+
+/// The need at an event, given the number of slots needed after it. `saved` has the needs after the
+/// parts of the code that enclose the event.
+fn need_at(
+    saved: &mut Vec<u16>,
+    globals: u16,
+    after: u16,
+    event: &Event,
+) -> Result<Need, AllocError> {
+    let scope = match event {
+        Event::Store { slot, reads, .. } => {
+            return Ok(before_store(globals, after, *slot, *reads));
+        }
+        Event::Begin { part, reads, .. } => before_part(saved, *part, after).max(*reads),
+        Event::Else | Event::End(_) => {
+            saved.push(after)?;
+            0
+        }
+    };
+    Ok(Need {
+        scope,
+        begins: false,
+    })
+}
+
+/// The number of slots that a part of the code and everything after it need, given the need at its
+/// beginning.
+fn before_part(saved: &mut Vec<u16>, part: Part, first: u16) -> u16 {
+    let behind = saved.pop().unwrap_or(0);
+    match part {
+        Part::If => saved.pop().unwrap_or(0).max(behind).max(first),
+        Part::While => behind.max(first),
+    }
+}
+
+/// The needs at the events, in reverse order.
+pub(crate) fn needs_of(
+    alloc: Global,
+    globals: u16,
+    events: &[Event],
+) -> Result<Vec<Need>, AllocError> {
+    let mut needs = Vec::new(alloc);
+    let mut saved: Vec<u16> = Vec::new(alloc);
+    let mut scope: u16 = 0;
+    for place in (0..events.len()).rev() {
+        let need = need_at(&mut saved, globals, scope, &events[place])?;
+        scope = need.scope;
+        needs.push(need)?;
+    }
+    Ok(needs)
 }

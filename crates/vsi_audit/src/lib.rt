@@ -17,22 +17,15 @@
 mod audit;
 mod builder;
 mod coding;
-mod error;
-mod events;
 mod fitting;
 mod flow;
-mod flowing;
-mod globals;
 mod lasting;
 pub mod laws;
 mod names;
-mod needs;
 mod reading;
 mod source;
 mod writing;
 
 pub use audit::audit_in;
-pub use error::AuditError;
-pub use flow::audit_text;
-pub use flowing::image_flows;
+pub use flow::{AuditError, audit_text, image_flows};
 pub use source::source_text;

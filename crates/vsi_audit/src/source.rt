@@ -7,9 +7,8 @@ ghost use Rattle.vsi_audit.specs.Text.{IsWritten, IsSourceText};
 
 use crate::builder::{Commands, commands_of};
 use crate::coding::is_code_of;
-use crate::error::AuditError;
-use crate::globals::{declares, put_declarations};
-use crate::names::Names;
+use crate::flow::AuditError;
+use crate::names::{Names, declares, put_declarations};
 use crate::writing::{InScope, check_all};
 use std::alloc::{AllocError, Global};
 use vsi_image::{Image, Verified};

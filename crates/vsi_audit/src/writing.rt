@@ -12,7 +12,7 @@ ghost use Rattle.vsi_scope.specs.View.{expression, command, sequence};
 ghost use Rattle.vsi_audit.specs.Written.{names_of};
 ghost use Rattle.vsi_audit.specs.Writing.{WritesExpression, WritesCommand, WritesPart, WritesAll};
 
-use crate::error::AuditError;
+use crate::flow::AuditError;
 use std::alloc::{AllocError, Global};
 use vsi_scope::{Cmd, Ex};
 use vsi_syntax::{Expr, Name, Op, Stmt};

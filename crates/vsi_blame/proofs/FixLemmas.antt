@@ -14,7 +14,7 @@ use Rattle.vsi_lattice.specs.LatticeView.{order}
 use Rattle.vsi_scope.specs.Program.{Resolved}
 use Rattle.vsi_types.specs.declared.rules.Step.{Step}
 use Rattle.vsi_types.specs.Security.{program}
-use Rattle.vsi_flows.specs.declared.pair.Pair.{Pair}
+use Rattle.vsi_flows.specs.declared.table.Pair.{Pair}
 use Rattle.vsi_flows.specs.declared.walked.WalkedPair.{WalkedPair}
 use Rattle.vsi_blame.specs.Fixes.{passing, is_busier, IsBusiest, change_prose, IsAdvised, declare_prose, warning_prose, fix_prose}
 use Rattle.vsi_blame.proofs.PartLemmas.{four_parts}

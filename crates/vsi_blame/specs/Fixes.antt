@@ -9,7 +9,7 @@ use Rattle.vsi_scope.specs.Program.{Resolved}
 use Rattle.vsi_types.specs.declared.rules.Step.{Step}
 use Rattle.vsi_types.specs.Steps.{sink}
 use Rattle.vsi_types.specs.Security.{Program}
-use Rattle.vsi_flows.specs.declared.pair.Pair.{Pair}
+use Rattle.vsi_flows.specs.declared.table.Pair.{Pair}
 use Rattle.vsi_flows.specs.declared.walked.WalkedPair.{WalkedPair}
 use Rattle.vsi_blame.specs.Raised.{IsRaised}
 use Rattle.vsi_blame.specs.Violation.{variable_prose, class_name, class_prose}
@@ -82,9 +82,18 @@ fixed_prose r v = codes "- No declaration changes the class of " ++ variable_pro
 abbrev pub raise_prose : named.Lattice → Resolved → ℕ → ℕ → List ℕ
 raise_prose l r v c = codes "- Or declare " ++ variable_prose r v ++ codes " as " ++ class_name l c
 
--- The observers who then no longer see the variable.
+-- The text before the class of a global that observers saw, or of a declaration that may lack it.
+abbrev pub before_class : Resolved → ℕ → List ℕ
+before_class r v = if nat_lt v (length r.globals) then codes ": an observer at " else codes ", or leave out `: "
+
+-- The text after that class.
+abbrev pub after_class : Resolved → ℕ → List ℕ
+after_class r v =
+    if nat_lt v (length r.globals) then codes " then no longer sees it.\n" else codes "`, and its class is inferred.\n"
+
+-- The observers who then no longer see a global, or that a local variable needs no declared class.
 abbrev pub hidden_prose : named.Lattice → Resolved → ℕ → List ℕ
-hidden_prose l r v = codes ": an observer at " ++ class_prose l r v ++ codes " then no longer sees it.\n"
+hidden_prose l r v = before_class r v ++ class_prose l r v ++ after_class r v
 
 -- Both sentences.
 abbrev pub declared_prose : named.Lattice → Resolved → ℕ → ℕ → List ℕ

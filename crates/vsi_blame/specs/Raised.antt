@@ -3,7 +3,7 @@ use Rattle.std.specs.Prelude.{◌≡◌, ℕ, Some}
 use Rattle.vsi_lattice.specs.Order.{Lattice, IsJoin, Below}
 use Rattle.vsi_types.specs.Security.{Program}
 use Rattle.vsi_types.specs.Walks.{declared_class}
-use Rattle.vsi_flows.specs.declared.pair.Pair.{Pair}
+use Rattle.vsi_flows.specs.declared.table.Pair.{Pair}
 
 -- The class is the join of the classes of the pair's source and target: the least to which the source may flow and that
 -- isn't lower than the target's own.

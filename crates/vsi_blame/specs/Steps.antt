@@ -60,7 +60,7 @@ sentence r s =
 -- The sentence about what a step under a guard reveals.
 abbrev pub learns_prose : Resolved → Step → List ℕ
 learns_prose r s =
-    codes "No value is copied, but whoever sees " ++ variable_prose r s.target ++ codes " learns something about "
+    codes "No value is copied, but whoever sees " ++ variable_prose r s.target ++ codes " may learn something about "
     ++ variable_prose r s.source ++ codes ".\nThe assignment is here:\n"
 
 -- The sentence about what is revealed, and the position where the target is assigned.

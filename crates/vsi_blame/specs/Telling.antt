@@ -9,7 +9,7 @@ use Rattle.vsi_types.specs.declared.rules.Profile.{Profile}
 use Rattle.vsi_types.specs.declared.rules.Step.{Step}
 use Rattle.vsi_types.specs.Security.{program, steps_of}
 use Rattle.vsi_compiler.specs.Stands.{Stands}
-use Rattle.vsi_flows.specs.declared.pair.Pair.{Pair}
+use Rattle.vsi_flows.specs.declared.table.Pair.{Pair}
 use Rattle.vsi_flows.specs.Text.{IsWalkOf}
 use Rattle.vsi_flows.specs.declared.walked.WalkedPair.{WalkedPair}
 use Rattle.vsi_flows.specs.Refused.{AreRefused, AreWalked}

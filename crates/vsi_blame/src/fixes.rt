@@ -207,7 +207,31 @@ fn put_raise(
     put_class_name(text, lattice, class)
 }
 
-/// Adds who then no longer sees the variable.
+/// The text before the class of a global that observers saw, or of a declaration that may lack it.
+fn before_class(program: &Resolved<'_>, variable: Var) -> &'static [u8]
+    ensures { result.now ≡ spec.before_class program.now variable }
+{
+    let number = variable.0 as usize;
+    if number < program.globals().len() {
+        b": an observer at "
+    } else {
+        b", or leave out `: "
+    }
+}
+
+/// The text after that class.
+fn after_class(program: &Resolved<'_>, variable: Var) -> &'static [u8]
+    ensures { result.now ≡ spec.after_class program.now variable }
+{
+    let number = variable.0 as usize;
+    if number < program.globals().len() {
+        b" then no longer sees it.\n"
+    } else {
+        b"`, and its class is inferred.\n"
+    }
+}
+
+/// Adds who then no longer sees a global, or that a local variable needs no declared class.
 fn put_hidden(
     text: &mut Vec<u8>,
     lattice: &Lattice,
@@ -219,12 +243,12 @@ fn put_hidden(
     ensures { OnOk result
         (text.new.items ≡ text.old.items ++ spec.hidden_prose lattice.now program.now variable) }
 {
-    text.extend_from_slice(b": an observer at ")?;
+    text.extend_from_slice(before_class(program, variable))?;
     put_class_of(text, lattice, program, variable)?;
-    text.extend_from_slice(b" then no longer sees it.\n")
+    text.extend_from_slice(after_class(program, variable))
 }
 
-/// Adds the advice to declare a variable with a class, and who then no longer sees it.
+/// Adds the advice to declare a variable with a class, and what that changes.
 fn put_declared(
     text: &mut Vec<u8>,
     lattice: &Lattice,

@@ -95,7 +95,7 @@ fn put_learns(text: &mut Vec<u8>, program: &Resolved<'_>, step: &Step) -> Result
 {
     text.extend_from_slice(b"No value is copied, but whoever sees ")?;
     put_variable(text, program, step.target)?;
-    text.extend_from_slice(b" learns something about ")?;
+    text.extend_from_slice(b" may learn something about ")?;
     put_variable(text, program, step.source)?;
     text.extend_from_slice(b".\nThe assignment is here:\n")
 }

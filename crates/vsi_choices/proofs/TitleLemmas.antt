@@ -15,7 +15,7 @@ use Rattle.vsi_flows.proofs.VerdictLemmas.{declared_within}
 use Rattle.vsi_compiler.specs.SourceView.{Source, IsSource}
 use Rattle.vsi_compiler.proofs.Compiled.{lawful}
 use Rattle.vsi_compiler.proofs.Held.{globals_at, declared_at}
-use Rattle.vsi_flows.specs.declared.raise.Raise.{Raise}
+use Rattle.vsi_flows.specs.declared.least.Raise.{Raise}
 use Rattle.vsi_flows.specs.Raising.{Change, change, change_at, changes, change_of, AreLeastRaises}
 use Rattle.vsi_choices.specs.Titles.{HasOldClassesIn}
 

@@ -10,7 +10,7 @@ use Rattle.vsi_types.specs.declared.rules.Profile.{Profile}
 use Rattle.vsi_types.specs.Security.{program}
 use Rattle.vsi_infer.specs.Explanation.{name_of}
 use Rattle.vsi_compiler.specs.Stands.{Stands}
-use Rattle.vsi_flows.specs.declared.raise.Raise.{Raise}
+use Rattle.vsi_flows.specs.declared.least.Raise.{Raise}
 use Rattle.vsi_flows.specs.Raising.{AreLeastRaises}
 use Rattle.vsi_flows.specs.Lines.{class_name}
 

@@ -11,18 +11,13 @@
 //! To be believed: `specs/Titles`, and the definitions of the crates below that the clauses cite.
 #![tactic(auto)]
 
-mod branching;
 mod completing;
-mod folding;
+mod document;
 mod laying;
-mod objects;
 mod repairing;
 mod rewriting;
-mod scope;
-mod titles;
 
 pub use completing::completion;
-pub use folding::folds;
-pub use laying::{laid_out, layout_edits};
-pub use objects::{document_edits, edit, place_object, range_object, text_value};
+pub use document::{DocumentText, edit, place_at, range_object, text_value};
+pub use laying::{folds, laid_out, layout_edits};
 pub use repairing::{fixes, repaired};

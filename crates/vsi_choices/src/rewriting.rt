@@ -1,15 +1,15 @@
-//! Rewrites of a part of a text that is refused: of constructs of other languages, and of names.
+//! Rewrites of a part of a text that is refused.
 
-use crate::branching::put_branch;
-use crate::objects::{document_edits, edit, text_value};
-use crate::scope::names_after;
-use serde_json::{Value, json};
+use crate::completing::names_after;
+use crate::document::{DocumentText, number_at, place_at, tokens_of};
+use serde_json::Value;
 use std::alloc::{AllocError, Global};
 use std::str::from_utf8;
 use strsim::osa_distance;
-use vsi_client::{Encoding, Place, offset_of, range_of};
+use vsi_client::offset_of;
 use vsi_hints::{Hint, hint_at};
-use vsi_syntax::{LexError, Span, lex};
+use vsi_recovery::{Sort, expected_after};
+use vsi_syntax::{Kind, ParseError, Span, Token, parse};
 
 /// The numbers of the refusals of tokens and of the tree, of which the last one is Unexpected.
 const FIRST: u64 = 12;
@@ -22,21 +22,119 @@ const UNBOUND: u64 = 19;
 /// The most bytes of a text that a title shows.
 const LONGEST: usize = 120;
 
-/// The document for which repairs are requested.
-#[derive(Clone, Copy)]
-pub(crate) struct FaultyDocument<'a> {
-    pub(crate) encoding: Encoding,
-    pub(crate) uri: &'a [u8],
-    pub(crate) text: &'a [u8],
+/// The repairs of a document that have been found.
+#[derive(Drop)]
+pub(crate) struct Rewrites<'a> {
+    pub(crate) document: DocumentText<'a>,
+    pub(crate) list: Vec<Value>,
 }
 
-/// The text that a hint offers, and the part of the source that it replaces.
-fn offered<'h>(hint: &'h Hint<'_>) -> Option<(&'h [u8], &'h [u8])> {
-    match hint {
-        Hint::Offer(new, old, _) => Some((new, old)),
-        Hint::Put(new, old, _) => Some((new.as_bytes(), old)),
-        _ => None,
+impl Rewrites<'_> {
+    /// Adds the repairs for an error of a request.
+    pub(crate) fn put(&mut self, error: &Value) -> Result<(), AllocError> {
+        let Some(place) = place_at(error, "/range/start") else {
+            return Ok(());
+        };
+        let at = offset_of(self.document.encoding, self.document.text, place);
+        match number_at(error, "/code") {
+            Some(UNBOUND) => self.put_nearest(at),
+            Some(LAST) => {
+                self.put_hinted(at)?;
+                self.put_branch(at)
+            }
+            Some(code) if FIRST <= code && code < LAST => self.put_hinted(at),
+            _ => Ok(()),
+        }
     }
+
+    /// Adds the repair that writes a text in place of a part.
+    fn put_rewrite(&mut self, span: Span, new: &[u8], old: &[u8]) -> Result<(), AllocError> {
+        let mut title = Vec::from_slice(self.document.alloc, b"Write `")?;
+        title.extend_from_slice(new)?;
+        title.extend_from_slice(b"` in place of `")?;
+        title.extend_from_slice(old)?;
+        title.extend_from_slice(b"`")?;
+        Ok(self.list.push(self.document.repair(&title, span, new)?)?)
+    }
+
+    /// Adds the rewrite that the hint at a byte offers, if it has one.
+    fn put_hinted(&mut self, at: usize) -> Result<(), AllocError> {
+        let text = self.document.text;
+        let hint = hint_at(self.document.alloc, text, at)?;
+        let (new, old): (&[u8], &[u8]) = match &hint {
+            Some(Hint::Offer(new, old, _)) => (new, old),
+            Some(Hint::Put(new, old, _)) => (new.as_bytes(), old),
+            _ => return Ok(()),
+        };
+        if old.is_empty() || LONGEST < old.len() || LONGEST < new.len() {
+            return Ok(());
+        }
+        match span_of(text, old, at) {
+            Some(span) => self.put_rewrite(span, new, old),
+            None => Ok(()),
+        }
+    }
+
+    /// Adds the rewrite of a name that isn't declared to the nearest name in scope.
+    fn put_nearest(&mut self, at: usize) -> Result<(), AllocError> {
+        let alloc = self.document.alloc;
+        let Some(tokens) = tokens_of(alloc, self.document.text)? else {
+            return Ok(());
+        };
+        let (ahead, rest) = parted(&tokens, at);
+        let Some(token) = rest.first() else {
+            return Ok(());
+        };
+        if token.span.start == at
+            && let Some(name) = nearest(alloc, token.text, &names_after(alloc, ahead)?)?
+        {
+            self.put_rewrite(token.span, name, token.text)?;
+        }
+        Ok(())
+    }
+
+    /// Adds the repair of an `if` whose `else` is missing at a byte, if `else` may come there and
+    /// the text is read on with the repair. The branch assigns to a variable of the other branch its
+    /// own value, so nothing flows by it that doesn't flow without it.
+    fn put_branch(&mut self, at: usize) -> Result<(), AllocError> {
+        let (alloc, text) = (self.document.alloc, self.document.text);
+        let Some(tokens) = tokens_of(alloc, text)? else {
+            return Ok(());
+        };
+        let (ahead, rest) = parted(&tokens, at);
+        let Some(last) = ahead.last() else {
+            return Ok(());
+        };
+        let stop = last.span.stop;
+        if !expected_after(alloc, ahead)?.has(Sort::Else) {
+            return Ok(());
+        }
+        let Some(name) = assigned(alloc, ahead)? else {
+            return Ok(());
+        };
+        let mut new = Vec::from_slice(alloc, b" else ")?;
+        new.extend_from_slice(name)?;
+        new.extend_from_slice(b" := ")?;
+        new.extend_from_slice(name)?;
+        if is_read(alloc, text, stop, &new, rest)? {
+            let mut title = Vec::from_slice(alloc, b"Add `")?;
+            title.extend_from_slice(new.get(1..).unwrap_or(b""))?;
+            title.extend_from_slice(b"`, which changes nothing")?;
+            let span = Span { start: stop, stop };
+            self.list.push(self.document.repair(&title, span, &new)?)?;
+        }
+        Ok(())
+    }
+}
+
+/// The tokens that begin before a byte, and the others.
+fn parted<'a>(tokens: &'a [Token<'a>], at: usize) -> (&'a [Token<'a>], &'a [Token<'a>]) {
+    let count = tokens
+        .iter()
+        .take_while(|token| token.span.start < at)
+        .count();
+    let ahead = tokens.get(..count).unwrap_or(&[]);
+    (ahead, tokens.get(count..).unwrap_or(&[]))
 }
 
 /// The span of a part of a text around a byte.
@@ -50,54 +148,9 @@ fn span_of(text: &[u8], part: &[u8], at: usize) -> Option<Span> {
     None
 }
 
-/// The repair that writes a text in place of a part.
-fn rewrite(
-    alloc: Global,
-    document: FaultyDocument<'_>,
-    span: Span,
-    new: &[u8],
-    old: &[u8],
-) -> Result<Value, AllocError> {
-    let mut title = Vec::from_slice(alloc, b"Write `")?;
-    title.extend_from_slice(new)?;
-    title.extend_from_slice(b"` in place of `")?;
-    title.extend_from_slice(old)?;
-    title.extend_from_slice(b"`")?;
-    let range = range_of(document.encoding, document.text, span.start, span.stop);
-    let change = edit(alloc, range, new)?;
-    let changes = document_edits(alloc, document.uri, json!(in alloc; [change])?)?;
-    let title = text_value(alloc, &title)?;
-    json!(in alloc; {"title": title, "kind": "quickfix", "edit": changes})
-}
-
-/// Adds the rewrite that the hint at a byte offers, if it has one.
-fn put_hinted(
-    alloc: Global,
-    document: FaultyDocument<'_>,
-    at: usize,
-    list: &mut Vec<Value>,
-) -> Result<(), AllocError> {
-    let Some(hint) = hint_at(alloc, document.text, at)? else {
-        return Ok(());
-    };
-    let Some((new, old)) = offered(&hint) else {
-        return Ok(());
-    };
-    if old.is_empty() || LONGEST < old.len() || LONGEST < new.len() {
-        return Ok(());
-    }
-    if let Some(span) = span_of(document.text, old, at) {
-        list.push(rewrite(alloc, document, span, new, old)?)?;
-    }
-    Ok(())
-}
-
 /// How many letters differ between two names, if they are near: fewer than a third of them.
 fn distance(alloc: Global, written: &[u8], meant: &[u8]) -> Result<Option<usize>, AllocError> {
-    let Ok(written_text) = from_utf8(written) else {
-        return Ok(None);
-    };
-    let Ok(meant_text) = from_utf8(meant) else {
+    let (Ok(written_text), Ok(meant_text)) = (from_utf8(written), from_utf8(meant)) else {
         return Ok(None);
     };
     if written.eq_ignore_ascii_case(meant) {
@@ -119,89 +172,60 @@ fn nearest<'n>(
     let mut best = None;
     let mut least = LONGEST;
     for name in names {
-        if let Some(far) = distance(alloc, written, name)? {
-            if far < least {
-                least = far;
-                best = Some(*name);
-            }
+        if let Some(far) = distance(alloc, written, name)?
+            && far < least
+        {
+            least = far;
+            best = Some(*name);
         }
     }
     Ok(best)
 }
 
-/// Adds the rewrite of a name that isn't declared to the nearest name in scope.
-fn put_nearest(
+/// The last variable that is assigned after the last `then` of these tokens and is in scope after
+/// an `else` that follows them.
+fn assigned<'a>(alloc: Global, ahead: &[Token<'a>]) -> Result<Option<&'a [u8]>, AllocError> {
+    let mut list = Vec::from_slice(alloc, ahead)?;
+    if let Some(tokens) = tokens_of(alloc, b"else")? {
+        list.extend_from_slice(&tokens)?;
+    }
+    let names = names_after(alloc, &list)?;
+    let mut found = None;
+    let mut last: &'a [u8] = b"";
+    for token in ahead {
+        match token.kind {
+            Kind::Then => found = None,
+            Kind::Assign if names.contains(&last) => found = Some(last),
+            _ => {}
+        }
+        last = token.text;
+    }
+    Ok(found)
+}
+
+/// Whether the text into which `new` is put at a byte is read over the next two tokens, or is a
+/// program if there are fewer.
+fn is_read(
     alloc: Global,
-    document: FaultyDocument<'_>,
+    text: &[u8],
     at: usize,
-    list: &mut Vec<Value>,
-) -> Result<(), AllocError> {
-    let tokens = match lex(alloc, document.text) {
-        Ok(tokens) => tokens,
-        Err(LexError::Memory) => return Err(AllocError),
-        Err(_) => return Ok(()),
+    new: &[u8],
+    next: &[Token<'_>],
+) -> Result<bool, AllocError> {
+    let mut changed = Vec::from_slice(alloc, text.get(..at).unwrap_or(text))?;
+    changed.extend_from_slice(new)?;
+    changed.extend_from_slice(text.get(at..).unwrap_or(b""))?;
+    let least = match next {
+        [_, second, ..] => second.span.stop.saturating_add(new.len()),
+        _ => usize::MAX,
     };
-    for (number, token) in tokens.iter().enumerate() {
-        if token.span.start == at {
-            let names = names_after(alloc, tokens.get(..number).unwrap_or(&[]))?;
-            if let Some(name) = nearest(alloc, token.text, &names)? {
-                list.push(rewrite(alloc, document, token.span, name, token.text)?)?;
-            }
-            return Ok(());
-        }
+    let Some(tokens) = tokens_of(alloc, &changed)? else {
+        return Ok(false);
+    };
+    match parse(alloc, &tokens) {
+        Ok(_) => Ok(true),
+        Err(ParseError::Unexpected(span)) => Ok(least <= span.start),
+        Err(ParseError::Memory) => Err(AllocError),
+        Err(ParseError::TooDeep(_)) => Ok(false),
     }
-    Ok(())
-}
-
-/// A number of an object at a path.
-fn number_at(value: &Value, path: &str) -> Option<u64> {
-    value.pointer(path)?.as_u64()
-}
-
-/// The position at which an error begins.
-fn place_of(error: &Value) -> Option<Place> {
-    let line = usize::try_from(number_at(error, "/range/start/line")?).ok()?;
-    let character = usize::try_from(number_at(error, "/range/start/character")?).ok()?;
-    Some(Place { line, character })
-}
-
-/// Adds the rewrites for an error of a request.
-fn put_rewrite(
-    alloc: Global,
-    document: FaultyDocument<'_>,
-    error: &Value,
-    list: &mut Vec<Value>,
-) -> Result<(), AllocError> {
-    let Some(place) = place_of(error) else {
-        return Ok(());
-    };
-    let at = offset_of(document.encoding, document.text, place);
-    match number_at(error, "/code") {
-        Some(UNBOUND) => put_nearest(alloc, document, at, list),
-        Some(LAST) => {
-            put_hinted(alloc, document, at, list)?;
-            put_branch(alloc, document, at, list)
-        }
-        Some(code) if FIRST <= code && code < LAST => put_hinted(alloc, document, at, list),
-        _ => Ok(()),
-    }
-}
-
-/// Adds the rewrites for the errors of a request, up to 20.
-pub(crate) fn put_rewrites(
-    alloc: Global,
-    document: FaultyDocument<'_>,
-    value: &Value,
-    list: &mut Vec<Value>,
-) -> Result<(), AllocError> {
-    let Some(errors) = value.pointer("/params/context/diagnostics") else {
-        return Ok(());
-    };
-    let Some(errors) = errors.as_array() else {
-        return Ok(());
-    };
-    for error in errors.iter().take(20) {
-        put_rewrite(alloc, document, error, list)?;
-    }
-    Ok(())
 }

@@ -49,20 +49,14 @@ fn number_in(digits: &[u8]) -> Option<usize> {
     Some(number)
 }
 
-/// The number that a line of a header gives as the length of the message.
-fn length_in(line: &[u8]) -> Option<usize> {
-    let name = b"content-length:";
-    let (start, rest) = line.split_at_checked(name.len())?;
-    if !start.eq_ignore_ascii_case(name) {
-        return None;
-    }
-    number_in(rest.trim_ascii())
-}
-
 /// The length that a header gives.
 fn message_size(header: &[u8]) -> Option<usize> {
+    let name = b"content-length:";
     for line in header.split(|byte| *byte == b'\n') {
-        if let Some(length) = length_in(line) {
+        if let Some((start, rest)) = line.split_at_checked(name.len())
+            && start.eq_ignore_ascii_case(name)
+            && let Some(length) = number_in(rest.trim_ascii())
+        {
             return Some(length);
         }
     }

@@ -17,34 +17,18 @@ pub struct Place {
     pub character: usize,
 }
 
-/// The code units of a character of several bytes, at its first byte.
-fn long_units(encoding: Encoding, byte: u8) -> usize
-    ensures { result ≡ spec.long_units encoding byte }
-{
-    match encoding {
-        Encoding::Utf8 => {
-            if byte < 224 {
-                2
-            } else if byte < 240 {
-                3
-            } else {
-                4
-            }
-        }
-        Encoding::Utf16 => { if byte < 240 { 1 } else { 2 } }
-    }
-}
-
-/// The code units that a byte adds.
+/// The code units that a byte adds: those of its character at the first byte.
 fn units(encoding: Encoding, byte: u8) -> usize
     ensures { result ≡ spec.units encoding byte }
 {
-    if byte < 128 {
-        1
-    } else if byte < 192 {
-        0
-    } else {
-        long_units(encoding, byte)
+    match encoding {
+        _ if byte < 128 => 1,
+        _ if byte < 192 => 0,
+        Encoding::Utf8 if byte < 224 => 2,
+        Encoding::Utf8 if byte < 240 => 3,
+        Encoding::Utf8 => 4,
+        Encoding::Utf16 if byte < 240 => 1,
+        Encoding::Utf16 => 2,
     }
 }
 

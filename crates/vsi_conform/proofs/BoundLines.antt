@@ -16,7 +16,7 @@ use Rattle.vsi_conform.specs.Conforms.{IsUnbounded, TellsReadable}
 use Rattle.vsi_conform.specs.declared.interface.Bounded.{Bounded}
 use Rattle.vsi_conform.specs.declared.interface.Bounded.TheVariants.{No, Yes, AtMost}
 use Rattle.vsi_conform.specs.declared.interface.Interface.{Interface}
-use Rattle.vsi_conform.specs.declared.point.Point.{Point}
+use Rattle.vsi_conform.specs.declared.interface.Point.{Point}
 
 -- An answer with a number is a bound.
 has_bound : (image : Image) (found : Bound) → Answers image found → is_bounded found ≡ true → HasBound image

@@ -19,8 +19,8 @@ use Rattle.vsi_conform.specs.declared.interface.Interface.{Interface}
 use Rattle.vsi_conform.specs.declared.interface.Judgement.{Judgement}
 use Rattle.vsi_conform.specs.declared.interface.Judgement.TheVariants.{Base, Strict, Steady}
 use Rattle.vsi_conform.specs.declared.interface.Trial.{Trial}
-use Rattle.vsi_conform.specs.declared.point.Point.{Point}
-use Rattle.vsi_conform.specs.declared.point.Point.TheVariants.{OutOfBudget}
+use Rattle.vsi_conform.specs.declared.interface.Point.{Point}
+use Rattle.vsi_conform.specs.declared.interface.Point.TheVariants.{OutOfBudget}
 use Rattle.vsi_conform.specs.Conforms.{EndsAsAsked, AllEndAsAsked, Fits, IsAcceptedAs, IsRefusedAs, TellsReadable, Conforms}
 use Rattle.vsi_conform.specs.Points.{entries, given_words, is_none_told, word_points, words_of, state_points, trial_points, trials_points, global_points, points_of}
 use Rattle.vsi_conform.proofs.Points.{empty_both, globals_told, words_told}

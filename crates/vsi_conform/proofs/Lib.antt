@@ -4,7 +4,6 @@ pub mod Fitting
 pub mod Converse
 pub mod Numbers
 pub mod Paths
-pub mod Plain
 pub mod Pushed
 pub mod Begins
 pub mod Tables

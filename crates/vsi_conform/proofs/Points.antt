@@ -4,8 +4,8 @@ use Rattle.std.specs.Ordering.{int_eq}
 use Rattle.std.proofs.lemmas.Bool.Decides.{Decides-int_eq}
 use Rattle.std.proofs.lemmas.Slice.Eq.{bytes_eq-Decides}
 use Rattle.vsi_image.specs.Fields.{Global, is_taken}
-use Rattle.vsi_conform.specs.declared.point.Point.{Point}
-use Rattle.vsi_conform.specs.declared.point.Point.TheVariants.{Unexpected, WrongClass, WrongWord}
+use Rattle.vsi_conform.specs.declared.interface.Point.{Point}
+use Rattle.vsi_conform.specs.declared.interface.Point.TheVariants.{Unexpected, WrongClass, WrongWord}
 use Rattle.vsi_conform.specs.Points.{told, class_point, entry_point, entry_points, unexpected_points, set_points, first_difference, points_from, global_points, Entry, word_of, word_point, expected_point, word_points}
 use Rattle.vsi_conform.specs.Asked.{class_of, HasEach, AreAskedFor, HasGlobals, HasWords}
 

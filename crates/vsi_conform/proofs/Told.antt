@@ -3,19 +3,17 @@ use Rattle.std.proofs.Common.{◌≡◌, ℕ, Bool, true, false, not, ◌&&◌, 
 use Rattle.std.specs.Global.{Vec}
 use Rattle.serde_json.specs.Data.{Data}
 use Rattle.serde_json.specs.View.{items_of}
-use Rattle.serde_json.specs.Written.{items_have_float, items_text}
+use Rattle.serde_json.specs.Written.{items_text}
 use Rattle.vsi_syntax.specs.Tree.{Declared}
 use Rattle.vsi_lattice.specs.declared.lattice.Lattice.{Lattice}
 use Rattle.vsi_steady.specs.declared.unsteady.UnsteadyError.{UnsteadyError}
 use Rattle.vsi_conform.specs.declared.interface.Interface.{Interface}
-use Rattle.vsi_conform.specs.declared.point.Answer.{Answer}
-use Rattle.vsi_conform.specs.declared.point.Point.{Point}
+use Rattle.vsi_conform.specs.declared.interface.Answer.{Answer}
+use Rattle.vsi_conform.specs.declared.interface.Point.{Point}
 use Rattle.vsi_conform.specs.Points.{is_conforming, is_none_told}
 use Rattle.vsi_conform.specs.Shown.{Declares, Page}
 use Rattle.vsi_conform.specs.Lines.{page_of}
 use Rattle.vsi_conform.specs.Json as json
-use Rattle.vsi_diagnostics.proofs.Plain.{append_plain}
-use Rattle.vsi_conform.proofs.Plain.{bound_plain, refusal_plain, points_plain}
 use Rattle.vsi_conform.proofs.Begins.{conforming_so, differing_so}
 
 -- The line without a refusal and points is fixed.
@@ -43,20 +41,15 @@ pub json_so : (l : Lattice) (text : List ℕ) (i : Interface) (a : Answer) (ds :
     json.TellsRefusal l (page_of text ds i) a.refusal first →
     begun ≡ first ++ json.objects_of_points (page_of text ds i) a.points.items →
     all ≡ begun ++ json.objects_of_bound a.unbounded →
-    (items_have_float (items_of all) ≡ false → out ≡ json.answer_line (is_conforming a) all) →
+    out ≡ json.answer_line (is_conforming a) all →
     json.IsConformJson l text i a out
 json_so l text i a ds first begun all out declares told parts whole written =
     let page = page_of text ds i in
     let points = json.objects_of_points page a.points.items in
     let bound = json.objects_of_bound a.unbounded in
     let same : all ≡ first ++ points ++ bound = whole ∙ ap (λ (es : List Data). es ++ bound) parts in
-    let plain : items_have_float (items_of all) ≡ false =
-    ap (λ (es : List Data). items_have_float (items_of es)) same
-    ∙ append_plain (first ++ points) bound
-    (append_plain first points (ap (λ (es : List Data). items_have_float (items_of es)) told.objects
-    ∙ refusal_plain a.refusal told.lines) (points_plain page a.points.items)) (bound_plain a.unbounded) in
     let line : out ≡ json.answer_line (is_conforming a) (first ++ points ++ bound) =
-    written plain ∙ ap (json.answer_line (is_conforming a)) same in
+    written ∙ ap (json.answer_line (is_conforming a)) same in
     record {
       tells = record { globals = ds; declares = declares; first = first; refusal = told; line = line };
       conforms = λ h. conforming_line_so l page a.refusal a.points.items a.unbounded first out told h line;

@@ -5,7 +5,7 @@ use Rattle.vsi_image.specs.declared.instr.Image.{Image}
 use Rattle.vsi_machine.specs.Bound.{Answers}
 use Rattle.vsi_machine.specs.declared.bound.Bound.{Bound}
 use Rattle.vsi_answers.specs.Bounds.{IsBound, bound_line, is_bounded}
-use Rattle.vsi_answers.specs.declared.places.Place.{Place}
+use Rattle.vsi_answers.specs.declared.bounds.Place.{Place}
 use Rattle.vsi_conform.specs.declared.interface.Bounded.{Bounded}
 use Rattle.vsi_conform.specs.declared.interface.Bounded.TheVariants.{No, Yes, AtMost}
 

@@ -9,8 +9,8 @@ use Rattle.vsi_steady.specs.declared.error.SteadyError.{SteadyError}
 use Rattle.vsi_steady.specs.declared.error.SteadyError.TheVariants as steady
 use Rattle.vsi_steady.specs.declared.unsteady.UnsteadyError.{UnsteadyError}
 use Rattle.vsi_steady.specs.declared.unsteady.UnsteadyError.TheVariants as unsteady
-use Rattle.vsi_audit.specs.declared.error.AuditError.{AuditError}
-use Rattle.vsi_audit.specs.declared.error.AuditError.TheVariants as audit
+use Rattle.vsi_audit.specs.declared.flow.AuditError.{AuditError}
+use Rattle.vsi_audit.specs.declared.flow.AuditError.TheVariants as audit
 use Rattle.vsi_diagnostics.specs.Diagnostic.{Diagnostic, nothing, number}
 use Rattle.vsi_diagnostics.specs.Json.{IsRefusalJson, accepted_line, refused_begin}
 use Rattle.vsi_diagnostics.specs.Source.{refusal_diagnostic, refused}

@@ -22,8 +22,8 @@ use Rattle.vsi_conform.specs.declared.interface.Interface.{Interface}
 use Rattle.vsi_conform.specs.declared.interface.Judgement.{Judgement}
 use Rattle.vsi_conform.specs.declared.interface.Judgement.TheVariants.{Base, Strict, Steady}
 use Rattle.vsi_conform.specs.declared.interface.Trial.{Trial}
-use Rattle.vsi_conform.specs.declared.point.Answer.{Answer}
-use Rattle.vsi_conform.specs.declared.point.Point.{Point}
+use Rattle.vsi_conform.specs.declared.interface.Answer.{Answer}
+use Rattle.vsi_conform.specs.declared.interface.Point.{Point}
 use Rattle.vsi_conform.specs.Asked.{HasGlobals, HasWords}
 use Rattle.vsi_conform.specs.Bounded.{FaultsBound, IsBoundedAs, ReportsBound, demands_bound}
 use Rattle.vsi_conform.specs.Points.{entries, points_of, words_of}

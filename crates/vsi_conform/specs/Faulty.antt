@@ -1,7 +1,7 @@
 -- The line of a refused interface.
 use Rattle.std.specs.Prelude.{ℕ, List, [], ◌++◌, codes, decimal, Option, Some, None}
-use Rattle.vsi_conform.specs.declared.error.InterfaceError.{InterfaceError}
-use Rattle.vsi_conform.specs.declared.error.InterfaceError.TheVariants.{NotToml, UnknownKey, BadLattice, BadProfile, BadOrder, BadBounded, BadGlobals, BadName, RepeatedGlobal, UnknownClass, BadRuns, BadRun, BadStore, NoBudget, NothingExpected, UnknownGlobal, BadCycle, UnknownInCycle, BadReference, RefusedReference, AboveBudget, Memory}
+use Rattle.vsi_conform.specs.declared.interface.InterfaceError.{InterfaceError}
+use Rattle.vsi_conform.specs.declared.interface.InterfaceError.TheVariants.{NotToml, UnknownKey, BadLattice, BadProfile, BadOrder, BadBounded, BadGlobals, BadName, RepeatedGlobal, UnknownClass, BadRuns, BadRun, BadStore, NoBudget, NothingExpected, UnknownGlobal, BadCycle, UnknownInCycle, BadReference, RefusedReference, AboveBudget, Memory}
 
 -- The name of a fault.
 abbrev pub name_of : InterfaceError → List ℕ

@@ -1,29 +1,24 @@
 -- The JSON of an answer.
 use Rattle.std.specs.Prelude.{◌≡◌, ℕ, ℤ, Bool, true, false, List, [], ◌∷◌, ◌++◌, map, codes, Option, Some, None, slice_get}
 use Rattle.std.specs.Global.{Vec}
-use Rattle.serde_json.specs.Data.{Data, null, boolean, number, string, array, object, Members, no_members, put}
-use Rattle.serde_json.specs.Find.{of_integer}
+use Rattle.serde_json.specs.Data.{Data, boolean, string, array, object, Members, no_members, put}
 use Rattle.serde_json.specs.View.{items_of}
 use Rattle.serde_json.specs.Written.{compact_text}
 use Rattle.vsi_syntax.specs.Tree.{Declared}
 use Rattle.vsi_lattice.specs.declared.lattice.Lattice.{Lattice}
 use Rattle.vsi_image.specs.Fields.{Global}
 use Rattle.vsi_steady.specs.declared.unsteady.UnsteadyError.{UnsteadyError}
-use Rattle.vsi_diagnostics.specs.Members.{with_text, with_natural}
+use Rattle.vsi_diagnostics.specs.Members.{found, with_text, with_natural, with_word}
 use Rattle.vsi_conform.specs.declared.interface.Interface.{Interface}
 use Rattle.vsi_conform.specs.declared.interface.Trial.{Trial}
-use Rattle.vsi_conform.specs.declared.point.Answer.{Answer}
-use Rattle.vsi_conform.specs.declared.point.Point.{Point}
-use Rattle.vsi_conform.specs.declared.point.Point.TheVariants.{Missing, Unexpected, WrongClass, WrongOrder, OutOfBudget, WrongWord, NoWord}
+use Rattle.vsi_conform.specs.declared.interface.Answer.{Answer}
+use Rattle.vsi_conform.specs.declared.interface.Point.{Point}
+use Rattle.vsi_conform.specs.declared.interface.Point.TheVariants.{Missing, Unexpected, WrongClass, WrongOrder, OutOfBudget, WrongWord, NoWord}
 use Rattle.vsi_conform.specs.Points.{Entry, is_conforming}
 use Rattle.vsi_conform.specs.Shown.{asked, expected, run_number, Declares, Shown, Page, by_name, by_class}
 use Rattle.vsi_conform.specs.Lines.{AreFirst, page_of}
 
 -- ---- members of objects, with their keys in byte order.
-
--- The members with a word added.
-abbrev pub with_word : List ℕ → ℤ → Members → Members
-with_word key word ms = put key (number (of_integer word)) ms
 
 -- The kind of a point.
 abbrev pub kind : List ℕ → Members
@@ -65,11 +60,6 @@ with_budget (Some t) ms = with_natural (codes "budget") t.budget ms
 -- A run that doesn't halt.
 abbrev pub out_of_budget : ℕ → Option Trial → Members
 out_of_budget run t = with_budget t (with_run run (kind (codes "budget")))
-
--- The word, or `null` if there is none.
-abbrev pub found : Option ℤ → Data
-found None = null
-found (Some word) = number (of_integer word)
 
 -- A word that differs from the expected one.
 abbrev pub wrong_word : ℕ → Entry → Option ℤ → Members

@@ -16,9 +16,9 @@ use Rattle.vsi_conform.specs.declared.interface.Interface.{Interface}
 use Rattle.vsi_conform.specs.declared.interface.Judgement.{Judgement}
 use Rattle.vsi_conform.specs.declared.interface.Judgement.TheVariants.{Base, Strict, Steady}
 use Rattle.vsi_conform.specs.declared.interface.Trial.{Trial}
-use Rattle.vsi_conform.specs.declared.point.Answer.{Answer}
-use Rattle.vsi_conform.specs.declared.point.Point.{Point}
-use Rattle.vsi_conform.specs.declared.point.Point.TheVariants.{Missing, Unexpected, WrongClass, WrongOrder, OutOfBudget, WrongWord, NoWord}
+use Rattle.vsi_conform.specs.declared.interface.Answer.{Answer}
+use Rattle.vsi_conform.specs.declared.interface.Point.{Point}
+use Rattle.vsi_conform.specs.declared.interface.Point.TheVariants.{Missing, Unexpected, WrongClass, WrongOrder, OutOfBudget, WrongWord, NoWord}
 use Rattle.vsi_conform.specs.Points.{Entry, is_conforming}
 use Rattle.vsi_conform.specs.Shown.{asked, expected, run_number, Declares, Shown, Page, by_name, by_class}
 

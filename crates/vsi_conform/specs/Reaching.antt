@@ -9,7 +9,7 @@ use Rattle.vsi_types.specs.Security.{program}
 use Rattle.vsi_compiler.specs.Readable.{HasProgram}
 use Rattle.vsi_compiler.specs.Stands.{Stands}
 use Rattle.vsi_flows.specs.Table.{IsTable}
-use Rattle.vsi_flows.specs.declared.pair.Pair.{Pair}
+use Rattle.vsi_flows.specs.declared.table.Pair.{Pair}
 use Rattle.vsi_conform.specs.declared.interface.Judgement.{Judgement}
 use Rattle.vsi_conform.specs.declared.interface.Judgement.TheVariants.{Base, Strict, Steady}
 use Rattle.vsi_conform.specs.declared.reaching.GlobalFlows.{GlobalFlows}

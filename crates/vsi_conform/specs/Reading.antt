@@ -10,8 +10,8 @@ use Rattle.vsi_lattice.specs.Known.{Known}
 use Rattle.vsi_lattice.specs.Shape.{pair_of, all_of, array_at}
 use Rattle.vsi_image.specs.Fields.{Global, globals, is_taken}
 use Rattle.vsi_conform.specs.declared.cycles.Cycle.{Cycle}
-use Rattle.vsi_conform.specs.declared.error.InterfaceError.{InterfaceError}
-use Rattle.vsi_conform.specs.declared.error.InterfaceError.TheVariants.{NotToml, Memory}
+use Rattle.vsi_conform.specs.declared.interface.InterfaceError.{InterfaceError}
+use Rattle.vsi_conform.specs.declared.interface.InterfaceError.TheVariants.{NotToml, Memory}
 use Rattle.vsi_conform.specs.declared.interface.Bounded.{Bounded}
 use Rattle.vsi_conform.specs.declared.interface.Bounded.TheVariants.{No, Yes, AtMost}
 use Rattle.vsi_conform.specs.declared.interface.Interface.{Interface}

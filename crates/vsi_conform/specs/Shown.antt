@@ -6,7 +6,7 @@ use Rattle.vsi_syntax.specs.Tree.{Whole, Declared}
 use Rattle.vsi_syntax.specs.CommandView.{declared}
 use Rattle.vsi_image.specs.Fields.{Global, global}
 use Rattle.vsi_compiler.specs.Source.{Reads}
-use Rattle.vsi_conform.specs.declared.declared.Shown as code
+use Rattle.vsi_conform.specs.declared.globals.Shown as code
 use Rattle.vsi_conform.specs.declared.interface.Interface.{Interface}
 use Rattle.vsi_conform.specs.declared.interface.Trial.{Trial}
 use Rattle.vsi_conform.specs.declared.texts.Pages.{Pages}

@@ -6,7 +6,7 @@ ghost use Rattle.vsi_diagnostics.specs.View.{diagnostic_of};
 ghost use Rattle.vsi_steady.specs.declared.unsteady.UnsteadyError.TheVariants as unsteady;
 ghost use Rattle.vsi_conform.specs.Checking as spec;
 
-use crate::accepting::judged_of;
+use crate::conforming::judged_of;
 use crate::interface::Judgement;
 use crate::texts::{is_steady, refusal_lines, refusal_lines_of};
 use std::alloc::{AllocError, Global};

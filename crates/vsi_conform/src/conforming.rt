@@ -1,22 +1,29 @@
 //! Whether a text conforms to an interface.
 
-ghost use Rattle.std.specs.Prelude.{◌≡◌, IfOk, IfSome, None, true, []};
-ghost use Rattle.vsi_lattice.specs.LatticeView.{class_named};
+ghost use Rattle.std.specs.Prelude.{◌≡◌, IfOk, IfSome, None, true, [], IsOk, MatchResult, ◌++◌, OnOk, length};
+ghost use Rattle.vsi_lattice.specs.LatticeView.{class_named, order};
 ghost use Rattle.vsi_conform.specs.Bounded.{ReportsBound};
-ghost use Rattle.vsi_conform.specs.Conforms as spec;
 ghost use Rattle.vsi_conform.specs.Points.{is_conforming, points_of};
+ghost use Rattle.vsi_types.specs.declared.rules.Profile.{Profile};
+ghost use Rattle.vsi_compiler.specs.Acceptance.{IsAccepted};
+ghost use Rattle.vsi_image.specs.Fields.{global, globals};
+ghost use Rattle.vsi_answers.specs.Bounds.{TellsBound};
+ghost use Rattle.vsi_conform.specs.declared.interface.Bounded.TheVariants.{AtMost};
+ghost use Rattle.vsi_conform.specs.Conforms as spec;
+ghost use Rattle.vsi_conform.specs.Points as points_spec;
+ghost use Rattle.vsi_conform.specs.Bounded as bounded_spec;
 
-use crate::accepting::judged;
-use crate::bounding::bound_report;
 use crate::globals::global_points;
-use crate::interface::Interface;
-use crate::point::{Answer, Point};
-use crate::trials::put_trials;
+use crate::interface::{Answer, Bounded, Interface, Judgement, Point, Trial, put_told};
 use std::alloc::{AllocError, Global};
-use vsi_answers::bound_in;
-use vsi_compiler::{CompileError, unjudged_image};
+use vsi_answers::{BoundAnswer, bound_in, enough_budget};
+use vsi_compiler::{CompileError, Source, compile_source, read_source, unjudged_image};
 use vsi_image::Verified;
 use vsi_lattice::Lattice;
+use vsi_machine::{Machine, Outcome};
+use vsi_steady::{UnsteadyError, steady_image_of};
+use vsi_syntax::put_number;
+use vsi_types::Profile;
 
 /// The differences between the globals and runs of an image and the required ones.
 pub fn image_points(
@@ -126,6 +133,305 @@ pub fn conform(
                 points,
                 unbounded,
             })
+        }
+    }
+}
+
+/// The image of a source text under a profile, or its refusal.
+fn compiled_of(
+    alloc: Global,
+    profile: Profile,
+    source: &Source<'_>,
+) -> Result<Result<Verified, UnsteadyError>, AllocError>
+    ensures { IfOk result (λ answer. MatchResult answer
+        (spec.IsCompiled (class_named source.now.lattice) (order source.now.lattice) profile
+        source.now.text)
+        (spec.IsRefused (class_named source.now.lattice) (order source.now.lattice) profile
+        source.now.text)) }
+{
+    match compile_source(alloc, profile, source) {
+        Ok(verified) => Ok(Ok(verified)),
+        Err(CompileError::Memory) => Err(AllocError),
+        Err(error) => Ok(Err(UnsteadyError::Compile(error))),
+    }
+}
+
+/// The steady image of a source text, or its refusal.
+fn steadily_of(
+    alloc: Global,
+    source: &Source<'_>,
+) -> Result<Result<Verified, UnsteadyError>, AllocError>
+    ensures { IfOk result (λ answer. MatchResult answer
+        (spec.IsSteadilyCompiled (class_named source.now.lattice) (order source.now.lattice)
+        source.now.text)
+        (spec.IsSteadilyRefused (class_named source.now.lattice) (order source.now.lattice)
+        source.now.text)) }
+{
+    match steady_image_of(alloc, source) {
+        Ok(verified) => Ok(Ok(verified)),
+        Err(UnsteadyError::Memory) => Err(AllocError),
+        Err(error) => Ok(Err(error)),
+    }
+}
+
+/// The image of a source text that was read and is accepted as required, or its refusal. An error
+/// means that memory ran out.
+pub fn judged_of(
+    alloc: Global,
+    judgement: Judgement,
+    source: &Source<'_>,
+) -> Result<Result<Verified, UnsteadyError>, AllocError>
+    ensures { IfOk result (λ answer. MatchResult answer
+        (spec.IsAcceptedAs (class_named source.now.lattice) (order source.now.lattice) judgement
+        source.now.text)
+        (spec.IsRefusedAs (class_named source.now.lattice) (order source.now.lattice) judgement
+        source.now.text)) }
+{
+    match judgement {
+        Judgement::Base => compiled_of(alloc, Profile::Base, source),
+        Judgement::Strict => compiled_of(alloc, Profile::Strict, source),
+        Judgement::Steady => steadily_of(alloc, source),
+    }
+}
+
+/// The image of a text that is accepted as required, or its refusal. An error means that memory ran
+/// out.
+pub fn judged(
+    alloc: Global,
+    judgement: Judgement,
+    lattice: &Lattice,
+    text: &[u8],
+) -> Result<Result<Verified, UnsteadyError>, AllocError>
+    ensures { IfOk result (λ answer. MatchResult answer
+        (spec.IsAcceptedAs (class_named lattice.now) (order lattice.now) judgement text.now)
+        (spec.IsRefusedAs (class_named lattice.now) (order lattice.now) judgement text.now)) }
+{
+    match read_source(alloc, lattice, text) {
+        Ok(source) => judged_of(alloc, judgement, &source),
+        Err(CompileError::Memory) => Err(AllocError),
+        Err(error) => Ok(Err(UnsteadyError::Compile(error))),
+    }
+}
+
+/// The word of a global that a run doesn't name.
+const UNNAMED: i64 = 0;
+
+/// The word given for a name, or 0.
+fn given_word(entries: &[(Vec<u8>, i64)], name: &[u8]) -> i64
+    ensures { result ≡ points_spec.given_word (points_spec.entries entries.now) name.now }
+{
+    for entry in entries {
+        if entry.0.as_slice() == name {
+            return entry.1;
+        }
+    }
+    UNNAMED
+}
+
+/// The words at the start of a run.
+fn given_words(
+    alloc: Global,
+    entries: &[(Vec<u8>, i64)],
+    variables: &[(Vec<u8>, Vec<u8>)],
+) -> Result<Vec<i64>, AllocError>
+    ensures words { IfOk result (λ words. words.items
+        ≡ points_spec.given_words (points_spec.entries entries.now) (globals variables.now)) }
+    ensures len { IfOk result (λ words. length words.items ≡ length variables.now) }
+{
+    let mut words = Vec::new(alloc);
+    for variable in variables {
+        words.push(given_word(entries, variable.0.as_slice()))?;
+    }
+    Ok(words)
+}
+
+/// The word of the global with a name.
+fn word_of(variables: &[(Vec<u8>, Vec<u8>)], words: &[i64], name: &[u8]) -> Option<i64>
+    ensures { result ≡ points_spec.word_of (globals variables.now) words.now name.now }
+{
+    for (i, variable) in variables.iter().enumerate() {
+        let Some(word) = words.get(i) else {
+            return None;
+        };
+        if variable.0.as_slice() == name {
+            return Some(*word);
+        }
+    }
+    None
+}
+
+/// The point of one expected word, by the word found.
+fn word_point(trial: usize, wanted: usize, expected: i64, found: Option<i64>) -> Option<Point>
+    ensures { result ≡ points_spec.word_point trial wanted expected found }
+{
+    match found {
+        Some(word) => {
+            if word == expected {
+                None
+            } else {
+                Some(Point::WrongWord {
+                    trial,
+                    wanted,
+                    word,
+                })
+            }
+        }
+        None => Some(Point::NoWord { trial, wanted }),
+    }
+}
+
+/// The point of the word expected for a name.
+fn expected_point(
+    trial: usize,
+    wanted: usize,
+    entry: &(Vec<u8>, i64),
+    variables: &[(Vec<u8>, Vec<u8>)],
+    words: &[i64],
+) -> Option<Point>
+    ensures { result ≡ points_spec.expected_point trial wanted (points_spec.entry entry.now)
+        (globals variables.now) words.now }
+{
+    let found = word_of(variables, words, entry.0.as_slice());
+    word_point(trial, wanted, entry.1, found)
+}
+
+/// Adds the points of the expected words.
+fn put_words(
+    points: &mut Vec<Point>,
+    trial: usize,
+    expect: &[(Vec<u8>, i64)],
+    variables: &[(Vec<u8>, Vec<u8>)],
+    words: &[i64],
+) -> Result<(), AllocError>
+    ensures { OnOk result (points.new.items ≡ points.old.items
+        ++ points_spec.word_points trial 0 (points_spec.entries expect.now) (globals variables.now) words.now) }
+{
+    for (wanted, entry) in expect.iter().enumerate() {
+        put_told(
+            points,
+            expected_point(trial, wanted, entry, variables, words),
+        )?;
+    }
+    Ok(())
+}
+
+/// A machine at the start of a run.
+fn started<'a>(
+    alloc: Global,
+    verified: &'a Verified,
+    trial: &Trial,
+) -> Result<Machine<'a>, AllocError>
+    ensures image { IfOk result (λ m. m.image ≡ verified.now) }
+    ensures state { IfOk result (λ m. m.state ≡ points_spec.start_of verified.now trial.now) }
+{
+    let words = given_words(alloc, &trial.store, &verified.image().globals)?;
+    match Machine::new(alloc, verified, &words) {
+        Ok(machine) => Ok(machine),
+        Err(_) => Err(AllocError),
+    }
+}
+
+/// Adds the points of one run.
+fn put_trial(
+    alloc: Global,
+    points: &mut Vec<Point>,
+    verified: &Verified,
+    number: usize,
+    trial: &Trial,
+) -> Result<(), AllocError>
+    ensures { OnOk result (points.new.items ≡ points.old.items
+        ++ points_spec.trial_points verified.now number trial.now) }
+{
+    let mut machine = started(alloc, verified, trial)?;
+    match machine.run(trial.budget) {
+        Outcome::Halted => put_words(
+            points,
+            number,
+            &trial.expect,
+            &verified.image().globals,
+            machine.store(),
+        ),
+        Outcome::OutOfBudget => {
+            points.push(Point::OutOfBudget(number))?;
+            Ok(())
+        }
+    }
+}
+
+/// Adds the points of the runs.
+pub(crate) fn put_trials(
+    alloc: Global,
+    points: &mut Vec<Point>,
+    verified: &Verified,
+    trials: &[Trial],
+) -> Result<(), AllocError>
+    ensures { OnOk result (points.new.items ≡ points.old.items
+        ++ points_spec.trials_points verified.now 0 trials.now) }
+{
+    for (number, trial) in trials.iter().enumerate() {
+        put_trial(alloc, points, verified, number, trial)?;
+    }
+    Ok(())
+}
+
+/// The line of a bound above a maximum.
+fn excess_line(alloc: Global, most: u64, maximum: u64) -> Result<Vec<u8>, AllocError>
+    ensures { IfOk result (λ line. line.items ≡ bounded_spec.excess_line most maximum) }
+{
+    let mut line = Vec::new(alloc);
+    line.extend_from_slice(b"halts within ")?;
+    put_number(&mut line, most as usize)?;
+    line.extend_from_slice(b" instructions, expected at most ")?;
+    put_number(&mut line, maximum as usize)?;
+    line.extend_from_slice(b"\n")?;
+    Ok(line)
+}
+
+/// The report about a bound where one of at most `maximum` instructions is required.
+#[tactic(auto, using(crate::proofs::BoundLines::within_reported, crate::proofs::BoundLines::excess_reported, crate::proofs::BoundLines::line_reported))]
+fn report_within(
+    alloc: Global,
+    verified: &Verified,
+    maximum: u64,
+) -> Result<Option<Vec<u8>>, AllocError>
+    ensures { IfOk result (λ line. bounded_spec.ReportsBound (AtMost maximum) verified.now line) }
+{
+    match enough_budget(alloc, verified)? {
+        Ok(most) => {
+            if most <= maximum {
+                return Ok(None);
+            }
+            let line = excess_line(alloc, most, maximum)?;
+            Ok(Some(line))
+        }
+        Err(line) => Ok(Some(line)),
+    }
+}
+
+/// The line about the bound of an image that isn't as required, by the answer of `vsi bound`.
+#[tactic(auto, using(crate::proofs::BoundLines::answer_bounded, crate::proofs::BoundLines::answer_lacks, crate::proofs::BoundLines::answer_above))]
+pub fn bound_report(
+    alloc: Global,
+    verified: &Verified,
+    bounded: Bounded,
+    answer: BoundAnswer,
+) -> Result<Option<Vec<u8>>, AllocError>
+    requires answer { TellsBound verified.now answer }
+    ensures report { IfOk result (λ line. bounded_spec.ReportsBound bounded verified.now line) }
+{
+    match bounded {
+        Bounded::No => Ok(None),
+        Bounded::Yes => {
+            if answer.is_bounded {
+                return Ok(None);
+            }
+            Ok(Some(answer.text))
+        }
+        Bounded::AtMost(maximum) => {
+            if answer.is_bounded {
+                return report_within(alloc, verified, maximum);
+            }
+            Ok(Some(answer.text))
         }
     }
 }

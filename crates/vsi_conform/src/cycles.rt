@@ -10,8 +10,8 @@ ghost use Rattle.vsi_lattice.specs.LatticeView.{class_named};
 ghost use Rattle.vsi_lattice.specs.Shape as shape;
 ghost use Rattle.vsi_conform.specs.Reading as spec;
 
-use crate::error::InterfaceError;
 use crate::globals::is_named;
+use crate::interface::InterfaceError;
 use crate::keys::{other_key, text_at, value_at};
 use std::alloc::Global;
 use toml::{Table, Value};

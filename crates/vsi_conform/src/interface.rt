@@ -1,7 +1,17 @@
-//! The requirements on a text.
+//! The requirements on a text, why they are refused, and how a text differs from them.
 
-ghost use Rattle.std.specs.Prelude.{◌≡◌};
+ghost use Rattle.std.specs.Prelude.{◌≡◌, IfOk, ◌++◌, OnOk};
+ghost use Rattle.std.specs.Option.{option_copied};
+ghost use Rattle.vsi_conform.specs.declared.interface.InterfaceError.TheVariants.{Memory};
+ghost use Rattle.vsi_conform.specs.Points.{told, is_conforming};
 ghost use Rattle.vsi_conform.specs.Bounded as spec;
+ghost use Rattle.vsi_conform.specs.Faulty as faulty_spec;
+
+use crate::texts::put_parts;
+use std::alloc::{AllocError, AllocFailed, Global};
+use thiserror::Error;
+use vsi_steady::UnsteadyError;
+use vsi_syntax::put_number;
 
 /// How a text must be accepted.
 #[derive(Clone, Copy, PartialEq, Eq, Debug)]
@@ -60,5 +70,232 @@ impl Interface {
             Bounded::No => false,
             Bounded::Yes | Bounded::AtMost(_) => true,
         }
+    }
+}
+
+/// Why an interface file is refused. Runs and boundaries are numbered from 1.
+#[derive(Debug, Drop, Error)]
+pub enum InterfaceError {
+    /// The text isn't a TOML document.
+    #[error("the interface is no TOML")]
+    NotToml,
+    /// An interface has no such key.
+    #[error("the interface has a key that is none")]
+    UnknownKey(Vec<u8>),
+    /// The interface has neither a text at `lattice` nor the keys of a lattice file, or it has
+    /// both; or the path leads out of the folder of the interface.
+    #[error("the interface has no lattice, or two")]
+    BadLattice,
+    /// The value at `profile` is none of `base`, `strict` and `steady`.
+    #[error("the interface has no profile")]
+    BadProfile,
+    /// The value at `order` is neither `exact` nor `set`.
+    #[error("the order of the globals is none")]
+    BadOrder,
+    /// The value at `bounded` is none of `true`, `false` and a number of at least 1.
+    #[error("the required bound is neither true nor false nor a maximum")]
+    BadBounded,
+    /// The value at `globals` isn't an array of at most 256 pairs of texts.
+    #[error("the interface has no array of globals")]
+    BadGlobals,
+    /// This name of a global isn't a name of the language.
+    #[error("the name of a global is none")]
+    BadName(Vec<u8>),
+    /// Two globals have this name.
+    #[error("two globals have one name")]
+    RepeatedGlobal(Vec<u8>),
+    /// The class of the global with this name isn't a class of the lattice.
+    #[error("the class of a global is none")]
+    UnknownClass(Vec<u8>),
+    /// The value at `runs` isn't an array.
+    #[error("the runs are no array")]
+    BadRuns,
+    /// The run isn't a table, or has a key that runs don't have.
+    #[error("run {0} is no run")]
+    BadRun(usize),
+    /// The store of the run isn't a table of numbers.
+    #[error("the store of run {0} is none")]
+    BadStore(usize),
+    /// The run has no budget of at least 0.
+    #[error("run {0} has no budget")]
+    NoBudget(usize),
+    /// The run has neither a table of numbers at `expect` nor `halts = true`, or it has both.
+    #[error("run {0} expects nothing")]
+    NothingExpected(usize),
+    /// The run names this global, which the interface doesn't have.
+    #[error("run {0} names an unknown global")]
+    UnknownGlobal(usize, Vec<u8>),
+    /// The boundary isn't a table with a class and with arrays of names, has a key that boundaries
+    /// don't have, or has the class of a later one; or the value at `cycle` isn't an array.
+    #[error("cycle {0} is no boundary of a class")]
+    BadCycle(usize),
+    /// The boundary names this global, which the interface doesn't have, or it is that of this
+    /// class, which the lattice doesn't have.
+    #[error("cycle {0} names an unknown global or class")]
+    UnknownInCycle(usize, Vec<u8>),
+    /// The value at `reference` isn't a text, or the path leads out of the folder of the interface.
+    #[error("the reference is no path in the folder of the interface")]
+    BadReference,
+    /// The reference isn't accepted: its path, and the lines of its refusal without the last byte.
+    #[error("the reference isn't accepted")]
+    RefusedReference(Vec<u8>),
+    /// The runs may take more instructions together than this number.
+    #[error("the runs may take more than {0} instructions")]
+    AboveBudget(u64),
+    /// Memory ran out.
+    #[error("out of memory")]
+    Memory,
+}
+
+impl From<AllocError> for InterfaceError {
+    ghost from_gives = { λ _ e. e ≡ Memory };
+
+    fn from(_error: AllocError) -> InterfaceError {
+        InterfaceError::Memory
+    }
+}
+
+impl<T: Drop> From<AllocFailed<T>> for InterfaceError {
+    ghost from_gives = { λ _ e. e ≡ Memory };
+
+    fn from(_error: AllocFailed<T>) -> InterfaceError {
+        InterfaceError::Memory
+    }
+}
+
+/// The name of a fault.
+pub fn fault_name(error: &InterfaceError) -> &'static [u8]
+    ensures { result.now ≡ faulty_spec.name_of error.now }
+{
+    match error {
+        InterfaceError::NotToml => b"NotToml",
+        InterfaceError::UnknownKey(_) => b"UnknownKey",
+        InterfaceError::BadLattice => b"BadLattice",
+        InterfaceError::BadProfile => b"BadProfile",
+        InterfaceError::BadOrder => b"BadOrder",
+        InterfaceError::BadBounded => b"BadBounded",
+        InterfaceError::BadGlobals => b"BadGlobals",
+        InterfaceError::BadName(_) => b"BadName",
+        InterfaceError::RepeatedGlobal(_) => b"RepeatedGlobal",
+        InterfaceError::UnknownClass(_) => b"UnknownClass",
+        InterfaceError::BadRuns => b"BadRuns",
+        InterfaceError::BadRun(_) => b"BadRun",
+        InterfaceError::BadStore(_) => b"BadStore",
+        InterfaceError::NoBudget(_) => b"NoBudget",
+        InterfaceError::NothingExpected(_) => b"NothingExpected",
+        InterfaceError::UnknownGlobal(_, _) => b"UnknownGlobal",
+        InterfaceError::BadCycle(_) => b"BadCycle",
+        InterfaceError::UnknownInCycle(_, _) => b"UnknownInCycle",
+        InterfaceError::BadReference => b"BadReference",
+        InterfaceError::RefusedReference(_) => b"RefusedReference",
+        InterfaceError::AboveBudget(_) => b"AboveBudget",
+        InterfaceError::Memory => b"Memory",
+    }
+}
+
+/// The fields after the name of a fault: the number of a run or of a boundary, or a budget, and a
+/// name or a key, or what is said of the reference.
+fn fault_fields(error: &InterfaceError) -> (Option<usize>, Option<&[u8]>)
+    ensures run { result.0 ≡ faulty_spec.run_of error.now }
+    ensures word { option_copied result.1 ≡ faulty_spec.word_of error.now }
+{
+    match error {
+        InterfaceError::UnknownKey(word)
+        | InterfaceError::BadName(word)
+        | InterfaceError::RepeatedGlobal(word)
+        | InterfaceError::UnknownClass(word)
+        | InterfaceError::RefusedReference(word) => (None, Some(word.as_slice())),
+        InterfaceError::BadRun(run)
+        | InterfaceError::BadStore(run)
+        | InterfaceError::NoBudget(run)
+        | InterfaceError::NothingExpected(run)
+        | InterfaceError::BadCycle(run) => (Some(*run), None),
+        InterfaceError::UnknownGlobal(run, word) | InterfaceError::UnknownInCycle(run, word) => {
+            (Some(*run), Some(word.as_slice()))
+        }
+        InterfaceError::AboveBudget(budget) => (Some(*budget as usize), None),
+        _ => (None, None),
+    }
+}
+
+/// The line of a refused interface: the name of the fault and, if there is one, the faulty run or
+/// boundary and the faulty name or key.
+pub fn interface_text(alloc: Global, error: &InterfaceError) -> Result<Vec<u8>, AllocError>
+    ensures line { IfOk result (λ text. text.items ≡ faulty_spec.interface_line error.now) }
+{
+    let mut text = Vec::new(alloc);
+    put_parts(&mut text, &[b"refused interface: ", fault_name(error)])?;
+    let (run, word) = fault_fields(error);
+    if let Some(run) = run {
+        text.extend_from_slice(b" ")?;
+        put_number(&mut text, run)?;
+    }
+    if let Some(word) = word {
+        put_parts(&mut text, &[b" ", word])?;
+    }
+    text.extend_from_slice(b"\n")?;
+    Ok(text)
+}
+
+/// A difference between the globals or runs of a text and the required ones. All numbers count from
+/// 0, in the order of the interface or, for a `place`, in the order of the text.
+#[derive(Clone, Copy, PartialEq, Eq, Debug)]
+pub enum Point {
+    /// The text has no global with the name of this required one.
+    Missing(usize),
+    /// The global at this place has a name that isn't required.
+    Unexpected(usize),
+    /// A global has a class other than the required one.
+    WrongClass {
+        place: usize,
+        wanted: usize,
+    },
+    /// The globals are the required ones, but in another order from this place on.
+    WrongOrder(usize),
+    /// This run doesn't halt within its budget.
+    OutOfBudget(usize),
+    /// A global ends a run with a word other than the expected one.
+    WrongWord {
+        trial: usize,
+        wanted: usize,
+        word: i64,
+    },
+    /// The text has no global with the name for which a run expects a word.
+    NoWord {
+        trial: usize,
+        wanted: usize,
+    },
+}
+
+/// The answer for a text and an interface.
+#[derive(Debug, Drop)]
+pub struct Answer {
+    /// Why the text isn't accepted.
+    pub refusal: Option<UnsteadyError>,
+    /// The differences between its globals or runs and the required ones.
+    pub points: Vec<Point>,
+    /// The line about the bound of its image, if it isn't as required.
+    pub unbounded: Option<Vec<u8>>,
+}
+
+impl Answer {
+    /// Whether nothing differs.
+    pub fn conforms(&self) -> bool
+        ensures { result ≡ is_conforming self.now }
+    {
+        self.refusal.is_none() && self.points.is_empty() && self.unbounded.is_none()
+    }
+}
+
+/// Adds a point, if there is one.
+pub(crate) fn put_told(points: &mut Vec<Point>, point: Option<Point>) -> Result<(), AllocError>
+    ensures { OnOk result (points.new.items ≡ points.old.items ++ told point) }
+{
+    match point {
+        Some(point) => {
+            points.push(point)?;
+            Ok(())
+        }
+        None => Ok(()),
     }
 }

@@ -16,42 +16,32 @@
 //! To be believed: all files of `specs/`.
 #![tactic(auto)]
 
-mod accepting;
-mod bounding;
 mod checking;
 mod conforming;
 mod cycles;
-mod declared;
-mod error;
 mod globals;
 mod interface;
 mod json;
 mod keys;
-mod outside;
 pub mod parts;
-mod point;
 mod reached;
 mod reached_lines;
 mod reaching;
 mod reader;
-mod runs;
 mod texts;
 mod totals;
-mod trials;
 
-pub use accepting::{judged, judged_of};
-pub use bounding::bound_report;
 pub use checking::{
     Checked, audit_diagnostic, check_json, check_json_for, check_json_of, judgement_by,
     steady_diagnostic, unread_json, unsteady_diagnostic,
 };
-pub use conforming::{conform, image_points};
+pub use conforming::{bound_report, conform, image_points, judged, judged_of};
 pub use cycles::{Cycle, unknown_cycle};
-pub use declared::declarations;
-pub use error::{InterfaceError, fault_name, interface_text};
-pub use interface::{Bounded, Interface, Judgement, Trial};
+pub use globals::declarations;
+pub use interface::{
+    Answer, Bounded, Interface, InterfaceError, Judgement, Point, Trial, fault_name, interface_text,
+};
 pub use json::points_json;
-pub use point::{Answer, Point};
 pub use reached::{flows_profile, text_reaches};
 pub use reached_lines::{with_reached_json, with_reached_lines};
 pub use reaching::{GlobalFlows, Reach, are_within, have_released, reaches_of};

@@ -15,12 +15,9 @@ ghost use Rattle.vsi_lattice.specs.LatticeView.{class_named};
 ghost use Rattle.vsi_store.specs.View.{first_unknown};
 
 use crate::cycles::{Cycle, cycles_in};
-use crate::error::InterfaceError;
 use crate::globals::is_named;
-use crate::interface::{Bounded, Interface, Judgement};
-use crate::keys::{other_key, table_in, text_at, value_at};
-use crate::outside::leads_out;
-use crate::runs::{natural, trials_in};
+use crate::interface::{Bounded, Interface, InterfaceError, Judgement};
+use crate::keys::{leads_out, natural, other_key, table_in, text_at, trials_in, value_at};
 use std::alloc::{AllocError, Global};
 use toml::{Table, Value};
 use vsi_lattice::Lattice;

@@ -6,9 +6,8 @@ ghost use Rattle.std.specs.Option.{option_copied};
 ghost use Rattle.vsi_conform.specs.Lines as spec;
 ghost use Rattle.vsi_conform.specs.Shown as told;
 
-use crate::declared::{Shown, declarations, global_at};
-use crate::interface::{Interface, Judgement, Trial};
-use crate::point::{Answer, Point};
+use crate::globals::{Shown, declarations, global_at};
+use crate::interface::{Answer, Interface, Judgement, Point, Trial};
 use std::alloc::{AllocError, Global};
 use vsi_answers::{image_text, image_text_of, looped_text, looped_text_of};
 use vsi_compiler::{CompileError, Source};

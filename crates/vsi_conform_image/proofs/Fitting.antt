@@ -9,7 +9,7 @@ use Rattle.vsi_image.specs.declared.instr.Image.{Image}
 use Rattle.vsi_conform.specs.declared.interface.Interface.{Interface}
 use Rattle.vsi_conform.specs.declared.interface.Judgement.{Judgement}
 use Rattle.vsi_conform.specs.declared.interface.Judgement.TheVariants.{Base, Strict, Steady}
-use Rattle.vsi_conform.specs.declared.point.Point.{Point}
+use Rattle.vsi_conform.specs.declared.interface.Point.{Point}
 use Rattle.vsi_conform.specs.Bounded.{ReportsBound}
 use Rattle.vsi_conform.specs.Conforms.{Fits}
 use Rattle.vsi_conform.specs.Points.{is_none_told, points_of}
@@ -17,7 +17,7 @@ use Rattle.vsi_conform.proofs.BoundLines.{bounded_so}
 use Rattle.vsi_conform.proofs.Converse.{fitting_told}
 use Rattle.vsi_conform.proofs.Fitting.{image_fits}
 use Rattle.vsi_conform_image.specs.Conforms.{Conforms, IsAcceptedAs, IsJudged}
-use Rattle.vsi_conform_image.specs.declared.answer.Refusal.{Refusal}
+use Rattle.vsi_conform_image.specs.declared.conforming.Refusal.{Refusal}
 
 -- An image without a refusal is as the profile requires.
 accepted_so : (known : Known) (L : Lattice) (j : Judgement) (image : Image) → IsJudged known L j image None →

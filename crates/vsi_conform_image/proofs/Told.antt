@@ -3,21 +3,18 @@ use Rattle.std.proofs.Common.{◌≡◌, ℕ, Bool, true, false, not, ◌&&◌, 
 use Rattle.std.specs.Global.{Vec}
 use Rattle.serde_json.specs.Data.{Data}
 use Rattle.serde_json.specs.View.{items_of}
-use Rattle.serde_json.specs.Written.{items_have_float, items_text}
+use Rattle.serde_json.specs.Written.{items_text}
 use Rattle.vsi_lattice.specs.declared.lattice.Lattice.{Lattice}
 use Rattle.vsi_image.specs.declared.instr.Image.{Image}
-use Rattle.vsi_diagnostics.proofs.Plain.{append_plain}
 use Rattle.vsi_conform.specs.declared.interface.Interface.{Interface}
-use Rattle.vsi_conform.specs.declared.point.Point.{Point}
+use Rattle.vsi_conform.specs.declared.interface.Point.{Point}
 use Rattle.vsi_conform.specs.Json as common
 use Rattle.vsi_conform.specs.Points.{is_none_told}
 use Rattle.vsi_conform.proofs.Begins.{conforming_so, differing_so}
-use Rattle.vsi_conform.proofs.Plain.{bound_plain}
 use Rattle.vsi_conform_image.specs.Conforms.{is_conforming}
 use Rattle.vsi_conform_image.specs.Json as json
-use Rattle.vsi_conform_image.specs.declared.answer.Answer.{Answer}
-use Rattle.vsi_conform_image.specs.declared.answer.Refusal.{Refusal}
-use Rattle.vsi_conform_image.proofs.Plain.{refusal_plain, points_plain}
+use Rattle.vsi_conform_image.specs.declared.conforming.Answer.{Answer}
+use Rattle.vsi_conform_image.specs.declared.conforming.Refusal.{Refusal}
 
 -- The line without a refusal and points is fixed.
 conforming_line_so : (l : Lattice) (image : Image) (i : Interface) (r : Option Refusal) (ps : List Point)
@@ -43,19 +40,14 @@ pub json_so : (l : Lattice) (image : Image) (i : Interface) (a : Answer) (first 
     (out : List ℕ) → json.TellsRefusal l image a.refusal first →
     begun ≡ first ++ json.objects_of_points image i a.points.items →
     all ≡ begun ++ common.objects_of_bound a.unbounded →
-    (items_have_float (items_of all) ≡ false → out ≡ common.answer_line (is_conforming a) all) →
+    out ≡ common.answer_line (is_conforming a) all →
     json.IsConformJson l image i a out
 json_so l image i a first begun all out told parts whole written =
     let points = json.objects_of_points image i a.points.items in
     let bound = common.objects_of_bound a.unbounded in
     let same : all ≡ first ++ points ++ bound = whole ∙ ap (λ (es : List Data). es ++ bound) parts in
-    let plain : items_have_float (items_of all) ≡ false =
-    ap (λ (es : List Data). items_have_float (items_of es)) same
-    ∙ append_plain (first ++ points) bound
-    (append_plain first points (ap (λ (es : List Data). items_have_float (items_of es)) told.objects
-    ∙ refusal_plain a.refusal told.lines) (points_plain image i a.points.items)) (bound_plain a.unbounded) in
     let line : out ≡ common.answer_line (is_conforming a) (first ++ points ++ bound) =
-    written plain ∙ ap (common.answer_line (is_conforming a)) same in
+    written ∙ ap (common.answer_line (is_conforming a)) same in
     record {
       tells = record { first = first; refusal = told; line = line };
       conforms = λ h. conforming_line_so l image i a.refusal a.points.items a.unbounded first out told h line;

@@ -10,8 +10,8 @@ use Rattle.vsi_image.specs.declared.instr.Image.{Image}
 use Rattle.vsi_compiler.specs.Observation.{IsNoninterfering, EndsAlike}
 use Rattle.vsi_audit.specs.Refusal as audit
 use Rattle.vsi_audit.specs.Standing.{HasKnownClasses}
-use Rattle.vsi_audit.specs.declared.error.AuditError.{AuditError}
-use Rattle.vsi_audit.specs.declared.error.AuditError.TheVariants as error
+use Rattle.vsi_audit.specs.declared.flow.AuditError.{AuditError}
+use Rattle.vsi_audit.specs.declared.flow.AuditError.TheVariants as error
 use Rattle.vsi_steady.specs.Steady.{IsSteady}
 use Rattle.vsi_steady.specs.Refusal as steady
 use Rattle.vsi_steady.specs.declared.error.SteadyError.TheVariants as unsteady
@@ -21,9 +21,9 @@ use Rattle.vsi_conform.specs.declared.interface.Judgement.TheVariants.{Base, Str
 use Rattle.vsi_conform.specs.Bounded.{ReportsBound}
 use Rattle.vsi_conform.specs.Conforms.{Fits}
 use Rattle.vsi_conform.specs.Points.{is_none_told, points_of}
-use Rattle.vsi_conform_image.specs.declared.answer.Answer.{Answer}
-use Rattle.vsi_conform_image.specs.declared.answer.Refusal.{Refusal}
-use Rattle.vsi_conform_image.specs.declared.answer.Refusal.TheVariants as refusal
+use Rattle.vsi_conform_image.specs.declared.conforming.Answer.{Answer}
+use Rattle.vsi_conform_image.specs.declared.conforming.Refusal.{Refusal}
+use Rattle.vsi_conform_image.specs.declared.conforming.Refusal.TheVariants as refusal
 
 -- An image is noninterfering, and its runs end alike where the strict profile judges it.
 pub record IsAudited (known : Known) (L : Lattice) (P : Profile) (image : Image) : Type 0 where

@@ -6,14 +6,14 @@ use Rattle.vsi_image.specs.declared.instr.Image.{Image}
 use Rattle.vsi_image.specs.Fields.{Global}
 use Rattle.vsi_diagnostics.specs.Members.{with_text}
 use Rattle.vsi_conform.specs.declared.interface.Interface.{Interface}
-use Rattle.vsi_conform.specs.declared.point.Point.{Point}
-use Rattle.vsi_conform.specs.declared.point.Point.TheVariants.{Missing, Unexpected, WrongClass, WrongOrder, OutOfBudget, WrongWord, NoWord}
+use Rattle.vsi_conform.specs.declared.interface.Point.{Point}
+use Rattle.vsi_conform.specs.declared.interface.Point.TheVariants.{Missing, Unexpected, WrongClass, WrongOrder, OutOfBudget, WrongWord, NoWord}
 use Rattle.vsi_conform.specs.Json.{answer_line, conforming_line, differing_begin, kind, members_of_refusal, missing, objects_of_bound, out_of_budget, wrong_word}
 use Rattle.vsi_conform.specs.Shown.{asked, expected}
 use Rattle.vsi_conform_image.specs.Conforms.{is_conforming}
 use Rattle.vsi_conform_image.specs.Lines.{AreFirst, held}
-use Rattle.vsi_conform_image.specs.declared.answer.Answer.{Answer}
-use Rattle.vsi_conform_image.specs.declared.answer.Refusal.{Refusal}
+use Rattle.vsi_conform_image.specs.declared.conforming.Answer.{Answer}
+use Rattle.vsi_conform_image.specs.declared.conforming.Refusal.{Refusal}
 
 -- ---- points as objects.
 

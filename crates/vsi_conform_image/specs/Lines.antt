@@ -7,14 +7,14 @@ use Rattle.vsi_image.specs.Fields.{Global, globals}
 use Rattle.vsi_audit.specs.Telling.{IsAuditText}
 use Rattle.vsi_steady.specs.Telling.{IsUnsteadyText}
 use Rattle.vsi_conform.specs.declared.interface.Interface.{Interface}
-use Rattle.vsi_conform.specs.declared.point.Point.{Point}
-use Rattle.vsi_conform.specs.declared.point.Point.TheVariants.{Missing, Unexpected, WrongClass, WrongOrder, OutOfBudget, WrongWord, NoWord}
+use Rattle.vsi_conform.specs.declared.interface.Point.{Point}
+use Rattle.vsi_conform.specs.declared.interface.Point.TheVariants.{Missing, Unexpected, WrongClass, WrongOrder, OutOfBudget, WrongWord, NoWord}
 use Rattle.vsi_conform.specs.Lines.{bound_lines, budget_line, missing_line, word_line}
 use Rattle.vsi_conform.specs.Shown.{asked, expected}
 use Rattle.vsi_conform_image.specs.Conforms.{is_conforming}
-use Rattle.vsi_conform_image.specs.declared.answer.Answer.{Answer}
-use Rattle.vsi_conform_image.specs.declared.answer.Refusal.{Refusal}
-use Rattle.vsi_conform_image.specs.declared.answer.Refusal.TheVariants.{Audit, Steady}
+use Rattle.vsi_conform_image.specs.declared.conforming.Answer.{Answer}
+use Rattle.vsi_conform_image.specs.declared.conforming.Refusal.{Refusal}
+use Rattle.vsi_conform_image.specs.declared.conforming.Refusal.TheVariants.{Audit, Steady}
 
 -- ---- lines of points.
 

@@ -7,9 +7,9 @@ use Rattle.vsi_image.specs.Fields.{globals}
 use Rattle.vsi_image.specs.declared.instr.Image.{Image}
 use Rattle.vsi_audit.specs.Flows.{IsTableOfImage}
 use Rattle.vsi_audit.specs.Refusal.{Refuses}
-use Rattle.vsi_audit.specs.declared.error.AuditError.{AuditError}
-use Rattle.vsi_audit.specs.declared.error.AuditError.TheVariants as audit
-use Rattle.vsi_flows.specs.declared.pair.Pair.{Pair}
+use Rattle.vsi_audit.specs.declared.flow.AuditError.{AuditError}
+use Rattle.vsi_audit.specs.declared.flow.AuditError.TheVariants as audit
+use Rattle.vsi_flows.specs.declared.table.Pair.{Pair}
 use Rattle.vsi_conform.specs.declared.interface.Judgement.{Judgement}
 use Rattle.vsi_conform.specs.Reading.{ClassBoundary}
 use Rattle.vsi_conform.specs.Reaching.{AreReleased, Flowing, Released, profile_of, releases}

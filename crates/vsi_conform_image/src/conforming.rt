@@ -1,21 +1,29 @@
 //! Whether an image conforms to an interface.
 
-ghost use Rattle.std.specs.Prelude.{◌≡◌, IfOk, None, true};
+ghost use Rattle.std.specs.Prelude.{◌≡◌, IfOk, None, true, map, option_map};
 ghost use Rattle.vsi_lattice.specs.LatticeView.{class_named, order};
 ghost use Rattle.vsi_conform.specs.Bounded.{ReportsBound};
 ghost use Rattle.vsi_conform.specs.Conforms.{Fits};
 ghost use Rattle.vsi_conform.specs.declared.interface.Judgement.TheVariants.{Steady};
 ghost use Rattle.vsi_steady.specs.Steady.{IsSteady};
-ghost use Rattle.vsi_conform_image.specs.Conforms as spec;
 ghost use Rattle.vsi_conform_image.specs.Conforms.{is_conforming};
+ghost use Rattle.vsi_image.specs.Fields.{globals as globals_of};
+ghost use Rattle.vsi_conform.specs.Reaching.{flowing, released};
+ghost use Rattle.vsi_conform.specs.Reading.{bytes_of, cycle as cycle_of};
+ghost use Rattle.vsi_conform_image.specs.Conforms as spec;
+ghost use Rattle.vsi_conform_image.specs.Reaching as reaching_spec;
 
-use crate::answer::{Answer, Refusal};
 use std::alloc::{AllocError, Global};
 use vsi_answers::bound;
-use vsi_audit::{AuditError, audit_in};
-use vsi_conform::{Interface, Judgement, bound_report, image_points};
-use vsi_image::Verified;
+use vsi_audit::{AuditError, audit_in, image_flows};
+use vsi_conform::{
+    Cycle, GlobalFlows, Interface, Judgement, Point, Reach, bound_report, flows_profile,
+    have_released, image_points, reaches_of,
+};
+use vsi_flows::Pair;
+use vsi_image::{Image, Verified};
 use vsi_lattice::Lattice;
+use vsi_machine::{Machine, Outcome};
 use vsi_steady::{SteadyError, steady_in};
 use vsi_types::Profile;
 
@@ -119,4 +127,188 @@ pub fn conform_image(
         points,
         unbounded,
     })
+}
+
+/// Why an image isn't accepted.
+#[derive(Debug, Drop)]
+pub enum Refusal {
+    /// Under the base or the strict profile.
+    Audit(AuditError),
+    /// As a steady image.
+    Steady(SteadyError),
+}
+
+/// The answer for an image and an interface. The places of points are numbers of the image's
+/// globals.
+#[derive(Debug, Drop)]
+pub struct Answer {
+    /// Why the image isn't accepted.
+    pub refusal: Option<Refusal>,
+    /// The differences between its globals or runs and the required ones.
+    pub points: Vec<Point>,
+    /// The line about its bound, if it isn't as required.
+    pub unbounded: Option<Vec<u8>>,
+}
+
+impl Answer {
+    /// Whether nothing differs.
+    pub fn conforms(&self) -> bool
+        ensures { result ≡ is_conforming self.now }
+    {
+        self.refusal.is_none() && self.points.is_empty() && self.unbounded.is_none()
+    }
+}
+
+/// An image with its store, and the place of each global of the interface in it.
+#[derive(Drop)]
+pub(crate) struct Side<'a> {
+    pub(crate) verified: &'a Verified,
+    pub(crate) places: Vec<usize>,
+    pub(crate) store: Vec<i64>,
+}
+
+/// The place of a global in an image, by its name and its class.
+fn place_of(image: &Image, global: &(Vec<u8>, Vec<u8>)) -> Option<usize> {
+    for (place, found) in image.globals.iter().enumerate() {
+        if found.0.as_slice() == global.0.as_slice() && found.1.as_slice() == global.1.as_slice() {
+            return Some(place);
+        }
+    }
+    None
+}
+
+/// The place of each of these globals in an image, up to the first that it lacks.
+fn places_in(
+    alloc: Global,
+    image: &Image,
+    globals: &[(Vec<u8>, Vec<u8>)],
+) -> Result<Vec<usize>, AllocError> {
+    let mut places = Vec::new(alloc);
+    for global in globals {
+        let Some(place) = place_of(image, global) else {
+            return Ok(places);
+        };
+        places.push(place)?;
+    }
+    Ok(places)
+}
+
+impl<'a> Side<'a> {
+    /// An image with a store of zeros, beside an interface with these globals.
+    pub(crate) fn of(
+        alloc: Global,
+        verified: &'a Verified,
+        globals: &[(Vec<u8>, Vec<u8>)],
+    ) -> Result<Side<'a>, AllocError> {
+        let places = places_in(alloc, verified.image(), globals)?;
+        let mut store = Vec::new(alloc);
+        store.resize(verified.image().globals.len(), 0)?;
+        Ok(Side {
+            verified,
+            places,
+            store,
+        })
+    }
+
+    /// The word of a global, by its number in the interface.
+    pub(crate) fn word(&self, number: usize) -> i64 {
+        let Some(place) = self.places.get(number) else {
+            return 0;
+        };
+        match self.store.get(*place) {
+            Some(word) => *word,
+            None => 0,
+        }
+    }
+
+    /// Sets a global, by its number in the interface.
+    pub(crate) fn set(&mut self, number: usize, word: i64) {
+        let Some(place) = self.places.get(number) else {
+            return;
+        };
+        let place = *place;
+        if place < self.store.len() {
+            self.store[place] = word;
+        }
+    }
+
+    /// Runs a cycle, and returns whether it halts within the budget. Only then the store changes.
+    pub(crate) fn run(&mut self, alloc: Global, budget: u64) -> Result<bool, AllocError> {
+        let Ok(mut machine) = Machine::new(alloc, self.verified, &self.store) else {
+            return Err(AllocError);
+        };
+        match machine.run(budget) {
+            Outcome::Halted => {
+                let store = machine.store().to_vec(alloc)?;
+                self.store = store;
+                Ok(true)
+            }
+            Outcome::OutOfBudget => Ok(false),
+        }
+    }
+}
+
+/// The names of globals.
+fn names_of(alloc: Global, globals: &[(Vec<u8>, Vec<u8>)]) -> Result<Vec<Vec<u8>>, AllocError>
+    ensures { IfOk result
+        (λ names. bytes_of names.items ≡ map (λ g. g.0) (globals_of globals.now)) }
+{
+    let mut names = Vec::new(alloc);
+    for global in globals {
+        let name = Vec::from_slice(alloc, &global.0)?;
+        names.push(name)?;
+    }
+    Ok(names)
+}
+
+/// The table of flows of an image, if the audit reads its program back.
+fn table_of(
+    alloc: Global,
+    profile: Profile,
+    lattice: &Lattice,
+    verified: &Verified,
+) -> Result<Option<Vec<Pair>>, AllocError>
+    ensures { IfOk result (λ table. reaching_spec.IsTableIn lattice.now profile verified.now
+        (option_map (λ pairs. pairs.items) table)) }
+{
+    match image_flows(alloc, profile, lattice, verified) {
+        Ok(pairs) => Ok(Some(pairs)),
+        Err(AuditError::Memory) => Err(AllocError),
+        Err(_) => Ok(None),
+    }
+}
+
+/// The flows of an image between its globals.
+fn flows_of(
+    alloc: Global,
+    profile: Profile,
+    lattice: &Lattice,
+    verified: &Verified,
+) -> Result<GlobalFlows, AllocError>
+    ensures { IfOk result
+        (λ flows. reaching_spec.AreFlowsOf lattice.now profile verified.now (flowing flows)) }
+{
+    let names = names_of(alloc, &verified.image().globals)?;
+    let table = table_of(alloc, profile, lattice, verified)?;
+    Ok(GlobalFlows { names, table })
+}
+
+/// The released outputs of boundaries, in their order, each with the globals of an image that reach
+/// it. If the audit reads no program back from the image, each global counts as reaching every other
+/// one. An error means that memory ran out.
+pub fn image_reaches(
+    alloc: Global,
+    lattice: &Lattice,
+    verified: &Verified,
+    judgement: Judgement,
+    cycles: &[Cycle],
+) -> Result<Vec<Reach>, AllocError>
+    ensures reaches { IfOk result (λ reaches. reaching_spec.AreImageReleased lattice.now judgement verified.now
+        (map cycle_of cycles.now) (map released reaches.items)) }
+{
+    if !have_released(cycles) {
+        return Ok(Vec::new(alloc));
+    }
+    let flows = flows_of(alloc, flows_profile(judgement), lattice, verified)?;
+    reaches_of(alloc, &flows, cycles)
 }

@@ -4,31 +4,25 @@ ghost use Rattle.std.specs.Prelude.{◌≡◌, ◌++◌, map, IfOk, OnOk};
 ghost use Rattle.serde_json.specs.View.{members_view, view};
 ghost use Rattle.vsi_conform_image.specs.Json as spec;
 
-use crate::answer::{Answer, Refusal};
+use crate::conforming::{Answer, Refusal};
 use crate::texts::{first_lines, held};
-use serde_json::{Map, Value};
 use std::alloc::{AllocError, Global};
 use vsi_conform::parts::{
     answer_line, asked, missing, object, out_of_budget, push_bound_object, refused, wrong_word,
 };
 use vsi_conform::{Interface, Point};
-use vsi_diagnostics::members::put_text;
+use vsi_diagnostics::{Object, Objects};
 use vsi_image::Image;
 use vsi_lattice::Lattice;
 
 /// A point of this kind about a global.
-fn global_object(
-    alloc: Global,
-    point: &str,
-    global: (&[u8], &[u8]),
-) -> Result<Map<String, Value>, AllocError>
-    ensures { IfOk result (λ map. members_view map.entries
+fn global_object(alloc: Global, point: &str, global: (&[u8], &[u8])) -> Result<Object, AllocError>
+    ensures { IfOk result (λ made. members_view made
         ≡ spec.with_global point.now (global.entry.0.now, global.entry.1.now)) }
 {
-    let mut map = object(alloc, point)?;
-    put_text(alloc, &mut map, "name", global.0)?;
-    put_text(alloc, &mut map, "class", global.1)?;
-    Ok(map)
+    object(alloc, point)?
+        .text("name", global.0)?
+        .text("class", global.1)
 }
 
 /// A point of this kind about a global, with what was expected in its place.
@@ -37,13 +31,11 @@ fn expected_object(
     point: &str,
     global: (&[u8], &[u8]),
     expected: &[u8],
-) -> Result<Map<String, Value>, AllocError>
-    ensures { IfOk result (λ map. members_view map.entries
+) -> Result<Object, AllocError>
+    ensures { IfOk result (λ made. members_view made
         ≡ spec.with_expected point.now (global.entry.0.now, global.entry.1.now) expected.now) }
 {
-    let mut map = global_object(alloc, point, global)?;
-    put_text(alloc, &mut map, "expected", expected)?;
-    Ok(map)
+    global_object(alloc, point, global)?.text("expected", expected)
 }
 
 /// The object of a point.
@@ -52,8 +44,8 @@ fn point_object(
     image: &Image,
     interface: &Interface,
     point: Point,
-) -> Result<Map<String, Value>, AllocError>
-    ensures { IfOk result (λ map. members_view map.entries
+) -> Result<Object, AllocError>
+    ensures { IfOk result (λ made. members_view made
         ≡ spec.members_of_point image.now interface.now point) }
 {
     match point {
@@ -88,16 +80,16 @@ fn point_object(
 /// Adds the objects of the points.
 fn put_objects(
     alloc: Global,
-    found: &mut Vec<Value>,
+    found: &mut Objects,
     image: &Image,
     interface: &Interface,
     points: &[Point],
 ) -> Result<(), AllocError>
-    ensures { OnOk result (map view found.new.items ≡ map view found.old.items
+    ensures { OnOk result (map view found.new ≡ map view found.old
         ++ spec.objects_of_points image.now interface.now points.now) }
 {
     for point in points {
-        found.push(Value::Object(point_object(alloc, image, interface, *point)?))?;
+        found.push(point_object(alloc, image, interface, *point)?)?;
     }
     Ok(())
 }
@@ -108,15 +100,14 @@ fn refusal_objects(
     lattice: &Lattice,
     image: &Image,
     refusal: &Option<Refusal>,
-) -> Result<Vec<Value>, AllocError>
+) -> Result<Objects, AllocError>
     ensures { IfOk result (λ found. spec.TellsRefusal lattice.now image.now refusal.now
-        (map view found.items)) }
+        (map view found)) }
 {
     let lines = first_lines(alloc, lattice, image, refusal)?;
-    let mut found = Vec::new(alloc);
+    let mut found = Objects::new(alloc);
     if refusal.is_some() {
-        let map = refused(alloc, &lines)?;
-        found.push(Value::Object(map))?;
+        found.push(refused(alloc, &lines)?)?;
     }
     Ok(found)
 }

@@ -12,20 +12,12 @@
 //! To be believed: all files of `specs/`.
 #![tactic(auto)]
 
-mod answer;
 mod conforming;
-mod drawing;
 mod json;
-mod reaching;
 mod reference;
-mod reference_texts;
-mod side;
 mod texts;
 
-pub use answer::{Answer, Refusal};
-pub use conforming::conform_image;
+pub use conforming::{Answer, Refusal, conform_image, image_reaches};
 pub use json::points_json;
-pub use reaching::image_reaches;
 pub use reference::{Comparison, Contrast, Difference, Reference, compare_reference};
-pub use reference_texts::{json_with, lines_with, reference_line};
-pub use texts::{first_lines, points_text};
+pub use texts::{first_lines, json_with, lines_with, points_text, reference_line};

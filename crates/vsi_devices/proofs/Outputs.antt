@@ -14,7 +14,7 @@ use Rattle.vsi_machine.specs.declared.interpreter.Outcome.TheVariants.{Halted, O
 use Rattle.vsi_machine.specs.Runs.{globals_of, outcome_of, run_of}
 use Rattle.vsi_store.specs.Text.{store_text_of}
 use Rattle.vsi_machine.proofs.Progress.{never_stuck}
-use Rattle.vsi_devices.specs.declared.error.EngineError.{EngineError}
+use Rattle.vsi_devices.specs.declared.engine.EngineError.{EngineError}
 use Rattle.vsi_devices.specs.Running.{RunsAndWrites, RunsApart, Runs, Started, Traces, WrittenApart, WrittenPartly, WrittenSome, WrittenSteps, WrittenWhole, ending_of, text_at, trace_of}
 
 -- If the outcome says that a run has halted, its text is the text of its store.

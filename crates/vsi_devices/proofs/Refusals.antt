@@ -7,16 +7,16 @@ use Rattle.vsi_image.specs.declared.instr.Image.{Image}
 use Rattle.vsi_image.specs.Fields.{fields, globals}
 use Rattle.vsi_image.specs.Reading.{image_of}
 use Rattle.vsi_image.specs.Valid.{IsValid}
-use Rattle.vsi_store.specs.declared.error.StoreError.{StoreError}
-use Rattle.vsi_store.specs.declared.error.StoreError.TheVariants as store
+use Rattle.vsi_store.specs.declared.reader.StoreError.{StoreError}
+use Rattle.vsi_store.specs.declared.reader.StoreError.TheVariants as store
 use Rattle.vsi_store.specs.File.{IsRefusal}
 use Rattle.vsi_compiler.specs.declared.error.CompileError.{CompileError}
 use Rattle.vsi_compiler.specs.declared.error.CompileError.TheVariants as compiler
 use Rattle.vsi_compiler.specs.Acceptance.{IsAccepted}
 use Rattle.vsi_compiler.specs.Refusal.{Refuses}
 use Rattle.vsi_compiler.proofs.Runs.{is_refused}
-use Rattle.vsi_devices.specs.declared.error.EngineError.{EngineError}
-use Rattle.vsi_devices.specs.declared.error.EngineError.TheVariants.{ReadFault, WriteFault, Compile, Decode, Verify, Store, Memory}
+use Rattle.vsi_devices.specs.declared.engine.EngineError.{EngineError}
+use Rattle.vsi_devices.specs.declared.engine.EngineError.TheVariants.{ReadFault, WriteFault, Compile, Decode, Verify, Store, Memory}
 use Rattle.vsi_devices.specs.Engine.{IsReadFrom}
 use Rattle.vsi_devices.specs.Errors.{compiling, storing}
 use Rattle.vsi_devices.specs.Refusing.{RefusesImage, RefusesRead, RefusesRun, RefusesText}

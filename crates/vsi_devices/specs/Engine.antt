@@ -1,8 +1,8 @@
 -- The bytes that calls over devices read, and the errors that they may return.
 use Rattle.std.specs.Prelude.{◌≡◌, ◌≤◌, ℕ, List, length, take, Option, IfSome}
 use Rattle.std.specs.Io.KnownBytes.{Consumes}
-use Rattle.vsi_devices.specs.declared.error.EngineError.{EngineError}
-use Rattle.vsi_devices.specs.declared.error.EngineError.TheVariants.{ReadFault, WriteFault, Compile, Decode, Verify, Store, Memory}
+use Rattle.vsi_devices.specs.declared.engine.EngineError.{EngineError}
+use Rattle.vsi_devices.specs.declared.engine.EngineError.TheVariants.{ReadFault, WriteFault, Compile, Decode, Verify, Store, Memory}
 
 -- The most bytes that are read from a reader: one more than the longest text has.
 abbrev pub max_read : ℕ

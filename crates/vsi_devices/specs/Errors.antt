@@ -3,10 +3,10 @@ use Rattle.vsi_compiler.specs.declared.error.CompileError.{CompileError}
 use Rattle.vsi_compiler.specs.declared.error.CompileError.TheVariants as compiler
 use Rattle.vsi_image.specs.declared.decoder.DecodeError.{DecodeError}
 use Rattle.vsi_image.specs.declared.decoder.DecodeError.TheVariants as decoder
-use Rattle.vsi_store.specs.declared.error.StoreError.{StoreError}
-use Rattle.vsi_store.specs.declared.error.StoreError.TheVariants as store
-use Rattle.vsi_devices.specs.declared.error.EngineError.{EngineError}
-use Rattle.vsi_devices.specs.declared.error.EngineError.TheVariants.{Compile, Decode, Store, Memory}
+use Rattle.vsi_store.specs.declared.reader.StoreError.{StoreError}
+use Rattle.vsi_store.specs.declared.reader.StoreError.TheVariants as store
+use Rattle.vsi_devices.specs.declared.engine.EngineError.{EngineError}
+use Rattle.vsi_devices.specs.declared.engine.EngineError.TheVariants.{Compile, Decode, Store, Memory}
 
 -- A refusal of the compiler.
 abbrev pub compiling : CompileError → EngineError

@@ -9,12 +9,12 @@ use Rattle.vsi_image.specs.Faults.{first_fault}
 use Rattle.vsi_image.specs.Fields.{fields, globals}
 use Rattle.vsi_image.specs.Reading.{image_of}
 use Rattle.vsi_image.specs.Valid.{IsValid}
-use Rattle.vsi_store.specs.declared.error.StoreError.TheVariants as store
+use Rattle.vsi_store.specs.declared.reader.StoreError.TheVariants as store
 use Rattle.vsi_store.specs.File.{IsRefusal}
 use Rattle.vsi_compiler.specs.Refusal.{IsRefused}
 use Rattle.vsi_devices.specs.Engine.{IsReadFrom}
-use Rattle.vsi_devices.specs.declared.error.EngineError.{EngineError}
-use Rattle.vsi_devices.specs.declared.error.EngineError.TheVariants.{ReadFault, WriteFault, Compile, Decode, Verify, Store, Memory}
+use Rattle.vsi_devices.specs.declared.engine.EngineError.{EngineError}
+use Rattle.vsi_devices.specs.declared.engine.EngineError.TheVariants.{ReadFault, WriteFault, Compile, Decode, Verify, Store, Memory}
 
 -- A refusal of bytes as an image: the decoder's, or the verifier's of the image that they are.
 abbrev pub RefusesImage : List ℕ → EngineError → Type 0

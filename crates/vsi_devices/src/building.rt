@@ -11,8 +11,7 @@ ghost use Rattle.vsi_devices.specs.Refusing.{RefusesRead, RefusesText};
 ghost use Rattle.vsi_devices.specs.Running.{WrittenSome};
 
 use crate::counted::Counted;
-use crate::engine::{read_all, write_out};
-use crate::error::EngineError;
+use crate::engine::{EngineError, read_all, write_out};
 use std::alloc::Global;
 use std::io::{Read, Write};
 use vsi_compiler::{Source, image_of, judge, read_source};

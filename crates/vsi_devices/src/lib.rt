@@ -13,13 +13,10 @@
 mod building;
 mod counted;
 mod engine;
-mod error;
 pub mod laws;
 mod running;
-mod tracing;
 
 pub use building::{build, build_in, image_bytes, image_bytes_of};
 pub use counted::Counted;
-pub use engine::{READ_LIMIT, read_all, write_out};
-pub use error::EngineError;
+pub use engine::{EngineError, READ_LIMIT, read_all, write_out};
 pub use running::{run_image, run_words, verified_image};

@@ -3,7 +3,7 @@ use Rattle.std.proofs.Common.{◌≡◌, ℕ, Bool, true, false, List, [], ◌�
 use Rattle.std.specs.Str.Lossy.{utf8_lossy}
 use Rattle.std.specs.Cmp.Lexicographic.{slice_cmp}
 use Rattle.std.specs.Ordering.{match_ordering}
-use Rattle.serde_json.specs.Data.{Data, number, string, unsigned, boolean, array, Members, no_members, member, put}
+use Rattle.serde_json.specs.Data.{Data, number, string, unsigned, boolean, array, object, Members, no_members, member, put}
 use Rattle.serde_json.specs.View.{items_of}
 use Rattle.serde_json.specs.Written.{has_float, items_have_float, members_have_float}
 use Rattle.vsi_lattice.specs.declared.lattice.Lattice.{Lattice}
@@ -67,64 +67,9 @@ append_plain (d ∷ ds) es e f =
     (left (has_float d) (items_have_float (items_of ds)) e)
     (append_plain ds es (right (has_float d) (items_have_float (items_of ds)) e) f)
 
--- The object of a step.
-step_plain : (source : List ℕ) (r : Resolved) (s : Step) → members_have_float (json.step_members source r s) ≡ false
-step_plain source r s =
-    let lined = with_natural (codes "line") (line_of source s.read.start) no_members in
-    let placed = with_natural (codes "column") (column_of source s.read.start) lined in
-    let kind = with_text (codes "kind") (rule_text s.rule) placed in
-    let from = with_text (codes "from") (name_of r s.source) kind in
-    text_plain (codes "to") (name_of r s.target) from (text_plain (codes "from") (name_of r s.source) kind
-    (text_plain (codes "kind") (rule_text s.rule) placed
-    (natural_plain (codes "column") (column_of source s.read.start) lined
-    (natural_plain (codes "line") (line_of source s.read.start) no_members refl))))
-
--- The objects of steps.
-steps_plain : (source : List ℕ) (r : Resolved) (steps : List Step) →
-    items_have_float (items_of (json.step_objects source r steps)) ≡ false
-steps_plain source r [] = refl
-steps_plain source r (s ∷ steps) =
-    both (members_have_float (json.step_members source r s))
-    (items_have_float (items_of (json.step_objects source r steps))) (step_plain source r s) (steps_plain source r steps)
-
--- The objects of a walk.
-walk_plain : (l : Lattice) (source : List ℕ) (steps : List Step) (ds : List Data) → json.NamesWalk l source steps ds →
-    items_have_float (items_of ds) ≡ false
-walk_plain l source steps ds (inl names) =
-    ap (λ (es : List Data). items_have_float (items_of es)) names.are ∙ steps_plain source names.resolved steps
-walk_plain l source steps ds (inr names) = ap (λ (es : List Data). items_have_float (items_of es)) names.nothing
-
--- The steps of a flow add no fractional number.
-flow_plain : (l : Lattice) (source : List ℕ) (steps : Option (List Step)) (objects : Option (List Data)) (ms : Members) →
-    json.NamesFlow l source steps objects → members_have_float ms ≡ false →
-    members_have_float (json.with_steps objects ms) ≡ false
-flow_plain l source None None ms names e = e
-flow_plain l source None (Some ds) ms names e = absurd names
-flow_plain l source (Some steps) None ms names e = absurd names
-flow_plain l source (Some steps) (Some ds) ms names e =
-    put_plain (codes "steps") (array (items_of ds)) ms (walk_plain l source steps ds names) e
-
--- A position adds no fractional number.
-place_plain : (f : diagnostic.Field) (ms : Members) → members_have_float ms ≡ false →
-    members_have_float (json.with_place f ms) ≡ false
-place_plain diagnostic.nothing ms e = e
-place_plain (diagnostic.number n) ms e = e
-place_plain (diagnostic.pair a b) ms e = e
-place_plain (diagnostic.place line column) ms e =
-    natural_plain (codes "column") column (with_natural (codes "line") line ms) (natural_plain (codes "line") line ms e)
-place_plain (diagnostic.word w) ms e = e
-place_plain (diagnostic.numbered w n) ms e = e
-
--- The members of a refusal.
-pub refusal_plain : (l : Lattice) (source : List ℕ) (d : diagnostic.Diagnostic) (steps : Option (List Data))
-    (lines : List ℕ) → json.NamesFlow l source d.steps steps →
-    members_have_float (json.refusal_members d steps lines) ≡ false
-refusal_plain l source d steps lines names =
-    let refused = put (codes "accepted") (boolean false) no_members in
-    let numbered = with_natural (codes "number") d.code refused in
-    let named = with_text (codes "name") d.name numbered in
-    let placed = json.with_place d.field named in
-    text_plain (codes "text") (without_end lines) (json.with_steps steps placed)
-    (flow_plain l source d.steps steps placed names
-    (place_plain d.field named (text_plain (codes "name") d.name numbered
-    (natural_plain (codes "number") d.code refused (put_plain (codes "accepted") (boolean false) no_members refl refl)))))
+-- One more object without fractional numbers adds none.
+pub one_plain : (ds es : List Data) (ms : Members) → es ≡ ds ++ object ms ∷ [] → items_have_float (items_of ds) ≡ false →
+    members_have_float ms ≡ false → items_have_float (items_of es) ≡ false
+one_plain ds es ms are e f =
+    ap (λ (x : List Data). items_have_float (items_of x)) are
+    ∙ append_plain ds (object ms ∷ []) e (both (members_have_float ms) false f refl)

@@ -6,12 +6,12 @@ use Rattle.vsi_image.specs.declared.limits.Limit.{Limit}
 use Rattle.vsi_image.specs.declared.limits.Limit.TheVariants as limits
 use Rattle.vsi_image.specs.declared.verifier.VerifyError.{VerifyError}
 use Rattle.vsi_image.specs.declared.verifier.VerifyError.TheVariants as verifier
-use Rattle.vsi_store.specs.declared.error.StoreError.{StoreError}
-use Rattle.vsi_store.specs.declared.error.StoreError.TheVariants as store
+use Rattle.vsi_store.specs.declared.reader.StoreError.{StoreError}
+use Rattle.vsi_store.specs.declared.reader.StoreError.TheVariants as store
 use Rattle.vsi_store.specs.declared.views.ViewError.{ViewError}
 use Rattle.vsi_store.specs.declared.views.ViewError.TheVariants as views
-use Rattle.vsi_diagnostics.specs.declared.fault.Fault.{Fault}
-use Rattle.vsi_diagnostics.specs.declared.fault.Fault.TheVariants as fault
+use Rattle.vsi_diagnostics.specs.declared.diagnostic.Fault.{Fault}
+use Rattle.vsi_diagnostics.specs.declared.diagnostic.Fault.TheVariants as fault
 use Rattle.vsi_diagnostics.specs.Diagnostic.{Field, nothing, number, word, numbered, Diagnostic, refusal}
 use Rattle.vsi_diagnostics.specs.Lattice.{lattice_diagnostic}
 use Rattle.vsi_diagnostics.specs.Source.{refused}

@@ -1,10 +1,14 @@
 //! A refusal as a value, and its line.
 
 ghost use Rattle.std.specs.Prelude.{◌≡◌, ◌++◌, IfOk, OnOk};
-ghost use Rattle.vsi_diagnostics.specs.Diagnostic as spec;
 ghost use Rattle.vsi_diagnostics.specs.View.{diagnostic_of, field_of};
+ghost use Rattle.vsi_diagnostics.specs.Diagnostic as spec;
 
 use std::alloc::{AllocError, Global};
+use thiserror::Error;
+use vsi_image::{DecodeError, VerifyError};
+use vsi_lattice::LatticeError;
+use vsi_store::{StoreError, ViewError};
 use vsi_syntax::put_number;
 use vsi_types::Step;
 
@@ -102,4 +106,24 @@ pub fn line_text(alloc: Global, diagnostic: &Diagnostic) -> Result<Vec<u8>, Allo
     put_field(&mut text, diagnostic.field)?;
     text.extend_from_slice(b"\n")?;
     Ok(text)
+}
+
+/// Why a file other than a source text is refused.
+#[derive(Debug, Drop, Error)]
+pub enum Fault {
+    /// The lattice file doesn't declare a lattice.
+    #[error("the lattice file is refused: {0}")]
+    Lattice(LatticeError),
+    /// The bytes of the file aren't an image.
+    #[error("the bytes are no image: {0}")]
+    Decode(DecodeError),
+    /// The image isn't valid.
+    #[error("the image is not valid: {0}")]
+    Verify(VerifyError),
+    /// The store file doesn't give a store.
+    #[error("the store file is refused: {0}")]
+    Store(StoreError),
+    /// The class has no view of a run.
+    #[error("the class sees nothing of the run: {0}")]
+    View(ViewError),
 }

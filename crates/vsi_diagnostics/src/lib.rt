@@ -11,17 +11,13 @@
 #![tactic(auto)]
 
 mod diagnostic;
-mod fault;
-mod files;
 mod json;
-mod lattice;
-pub mod members;
-mod source;
+mod object;
+mod refusals;
 mod texts;
 
-pub use diagnostic::{Diagnostic, Field, line_text};
-pub use fault::Fault;
-pub use files::fault_diagnostic;
-pub use json::{accepted_json, refusal_json, refusal_json_of};
-pub use source::{refusal_diagnostic, wants_memory};
+pub use diagnostic::{Diagnostic, Fault, Field, line_text};
+pub use json::{accepted_json, refusal_json, refusal_json_of, refusal_object, without_end};
+pub use object::{Object, Objects};
+pub use refusals::{fault_diagnostic, refusal_diagnostic, wants_memory};
 pub use texts::{fault_text, refusal_text, refusal_text_of};

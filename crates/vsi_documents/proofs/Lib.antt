@@ -1,5 +1,3 @@
-pub mod Plain
 pub mod Made
 pub mod Worded
-pub mod Sides
-pub mod Refusing
+pub mod Lines

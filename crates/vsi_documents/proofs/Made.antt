@@ -1,8 +1,6 @@
--- The line of classes, from its parts.
-use Rattle.std.proofs.Common.{◌≡◌, ◌∙◌, ℕ, false, List, ◌++◌, map, ap}
+-- The objects of declarations, from their parts.
+use Rattle.std.proofs.Common.{◌≡◌, ◌∙◌, ℕ, List, ◌++◌, map, ap}
 use Rattle.serde_json.specs.Data.{Data}
-use Rattle.serde_json.specs.View.{items_of}
-use Rattle.serde_json.specs.Written.{items_have_float}
 use Rattle.vsi_syntax.specs.CommandView.{declared}
 use Rattle.vsi_syntax.specs.Tree.{Declared, Whole}
 use Rattle.vsi_syntax.specs.declared.tree.Declaration.{Declaration}
@@ -12,8 +10,7 @@ use Rattle.vsi_scope.specs.declared.resolved.Entry.{Entry}
 use Rattle.vsi_scope.specs.Resolving.{variable}
 use Rattle.vsi_compiler.specs.Source.{Reads}
 use Rattle.vsi_compiler.specs.SourceView.{Source}
-use Rattle.vsi_documents.specs.Classes.{classes_line, global_objects, letvar_objects}
-use Rattle.vsi_documents.proofs.Plain.{classes_plain}
+use Rattle.vsi_documents.specs.Classes.{global_objects, letvar_objects}
 
 -- The objects are those of the declarations, with parts of the source under whatever names.
 pub objects_are : (s : Source) (tree : Whole) (l : Lattice) (text : List ℕ) (gs : List Declaration) (vs : List Entry)
@@ -38,18 +35,3 @@ objects_are s tree l text gs vs classes first objects reads here there globals l
     (λ (x : List Entry). global_objects s.text tree.globals
     ++ letvar_objects s.text (names s.lattice) (map variable x) classes)
     letvars
-
--- The line of these objects.
-pub line_made : (s : Source) (tree : Whole) (classes : List ℕ) (objects : List Data) (out : List ℕ) →
-    objects
-    ≡ global_objects s.text tree.globals
-    ++ letvar_objects s.text (names s.lattice) (map variable s.resolved.letvars) classes →
-    (items_have_float (items_of objects) ≡ false → out ≡ classes_line objects) →
-    out
-    ≡ classes_line
-    (global_objects s.text tree.globals
-    ++ letvar_objects s.text (names s.lattice) (map variable s.resolved.letvars) classes)
-line_made s tree classes objects out are line =
-    line (ap (λ (ds : List Data). items_have_float (items_of ds)) are
-    ∙ classes_plain s.text tree.globals (names s.lattice) (map variable s.resolved.letvars) classes)
-    ∙ ap classes_line are

@@ -8,9 +8,9 @@ use Rattle.vsi_lattice.specs.declared.lattice.Lattice as named
 use Rattle.vsi_image.specs.declared.instr.Image.{Image}
 use Rattle.vsi_image.specs.Fields.{Global, globals}
 use Rattle.vsi_store.specs.Compare.{Compares}
-use Rattle.vsi_store.specs.declared.comparison.Comparison.{Comparison}
-use Rattle.vsi_store.specs.declared.comparison.RunEnding.{RunEnding}
-use Rattle.vsi_store.specs.declared.comparison.RunEnding.TheVariants.{Halted, OutOfBudget}
+use Rattle.vsi_store.specs.declared.comparing.Comparison.{Comparison}
+use Rattle.vsi_store.specs.declared.comparing.RunEnding.{RunEnding}
+use Rattle.vsi_store.specs.declared.comparing.RunEnding.TheVariants.{Halted, OutOfBudget}
 use Rattle.vsi_answers.specs.Answers.{Judges}
 use Rattle.vsi_answers.specs.Judged.{IsViewFault, TellsFault}
 use Rattle.vsi_answers.specs.declared.unanswered.Unanswered.{Unanswered}

@@ -12,7 +12,7 @@ use Rattle.vsi_types.specs.Walks.{declared_class}
 use Rattle.vsi_infer.specs.Explanation.{class_text, name_of}
 use Rattle.vsi_compiler.specs.Readable.{HasProgram}
 use Rattle.vsi_compiler.specs.Stands.{Stands}
-use Rattle.vsi_flows.specs.declared.pair.Pair.{Pair}
+use Rattle.vsi_flows.specs.declared.table.Pair.{Pair}
 use Rattle.vsi_flows.specs.Table.{IsTable}
 use Rattle.vsi_flows.specs.Text.{DecideAcceptance, ShowDependence}
 use Rattle.vsi_diagnostics.specs.Members.{with_text, with_natural, object_line}

@@ -7,3 +7,5 @@ pub mod Runs
 pub mod Comparisons
 pub mod Leaks
 pub mod Refused
+pub mod Json
+pub mod Answers

@@ -2,7 +2,7 @@
 use Rattle.std.specs.Prelude.{ℕ, List, None, false, codes}
 use Rattle.serde_json.specs.Data.{boolean, Members, no_members, put}
 use Rattle.vsi_conform.specs.Faulty.{name_of}
-use Rattle.vsi_conform.specs.declared.error.InterfaceError.{InterfaceError}
+use Rattle.vsi_conform.specs.declared.interface.InterfaceError.{InterfaceError}
 use Rattle.vsi_diagnostics.specs.Diagnostic.{Diagnostic}
 use Rattle.vsi_diagnostics.specs.Json.{refusal_line}
 use Rattle.vsi_diagnostics.specs.Members.{without_end, with_text, object_line}

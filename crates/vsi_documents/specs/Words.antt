@@ -6,8 +6,7 @@ use Rattle.vsi_image.specs.Fields.{Global}
 use Rattle.vsi_lattice.specs.Known.{Known}
 use Rattle.vsi_lattice.specs.Order.{Lattice}
 use Rattle.vsi_leak.specs.Texts.{is_shown}
-use Rattle.vsi_diagnostics.specs.Members.{with_text, with_natural}
-use Rattle.vsi_conform.specs.Json.{with_word}
+use Rattle.vsi_diagnostics.specs.Members.{with_text, with_natural, with_word}
 
 -- The members of the object of a global: its name and its word.
 abbrev pub word_members : List ℕ → ℤ → Members

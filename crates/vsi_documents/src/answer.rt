@@ -1,9 +1,19 @@
-//! An answer, and that of a refused text.
+//! Answers and refused files as lines of JSON, and what they are made of.
 
-ghost use Rattle.std.specs.Prelude.{◌≡◌, false, IfOk};
+ghost use Rattle.std.specs.Prelude.{◌≡◌, false, IfOk, OnOk, ◌++◌, length, map, IfSome};
+ghost use Rattle.serde_json.specs.View.{members_view, view};
+ghost use Rattle.vsi_diagnostics.specs.View.{diagnostic_of};
+ghost use Rattle.vsi_image.specs.Fields.{globals};
+ghost use Rattle.vsi_lattice.specs.LatticeView.{class_named, order};
+ghost use Rattle.vsi_lattice.specs.Order.{IsClass};
+ghost use Rattle.vsi_documents.specs.Refused as spec;
+ghost use Rattle.vsi_documents.specs.Words as words_spec;
 
-use std::alloc::AllocError;
-use vsi_conform::Checked;
+use std::alloc::{AllocError, Global};
+use vsi_conform::{Checked, InterfaceError, fault_name};
+use vsi_diagnostics::{Diagnostic, Object, Objects, refusal_object, without_end};
+use vsi_lattice::{Class, Lattice};
+use vsi_leak::is_shown;
 
 /// An answer: whether it is good, and the line of JSON that says so.
 #[derive(Debug, Drop)]
@@ -26,4 +36,149 @@ pub(crate) fn refused(checked: Checked) -> Result<Documented, AllocError>
         is_good: false,
         line: checked.line,
     })
+}
+
+/// A refusal as a line of JSON: an object with `accepted`, `number`, `name`, `text`, these lines
+/// without the last line feed, and `line` and `column` if the refusal has a position. It has no
+/// `steps`. An error means that memory ran out.
+pub fn refused_json(
+    alloc: Global,
+    diagnostic: &Diagnostic,
+    text: &[u8],
+) -> Result<Vec<u8>, AllocError>
+    ensures line { IfOk result
+        (λ line. line.items ≡ spec.refused_line (diagnostic_of diagnostic.now) text.now) }
+{
+    refusal_object(alloc, diagnostic, None, text)?.line()
+}
+
+/// A refused interface as a line of JSON: an object with `accepted`, `name` and `text`, these lines
+/// without the last line feed. An error means that memory ran out.
+pub fn refused_interface_json(
+    alloc: Global,
+    error: &InterfaceError,
+    text: &[u8],
+) -> Result<Vec<u8>, AllocError>
+    ensures line { IfOk result
+        (λ line. line.items ≡ spec.refused_interface_line error.now text.now) }
+{
+    Object::new(alloc)
+        .flag("accepted", false)?
+        .text("name", fault_name(error))?
+        .text("text", without_end(text))?
+        .line()
+}
+
+/// The object of a global.
+fn word_object(alloc: Global, name: &[u8], word: i64) -> Result<Object, AllocError>
+    ensures { IfOk result (λ made. members_view made ≡ words_spec.word_members name.now word) }
+{
+    Object::new(alloc).text("name", name)?.word("word", word)
+}
+
+/// An object for each global, in order.
+pub(crate) fn word_objects(
+    alloc: Global,
+    variables: &[(Vec<u8>, Vec<u8>)],
+    words: &[i64],
+) -> Result<Objects, AllocError>
+    requires { length words.now ≡ length variables.now }
+    ensures { IfOk result (λ found. map view found
+        ≡ words_spec.word_objects (globals variables.now) words.now) }
+{
+    let mut found = Objects::new(alloc);
+    for (i, variable) in variables.iter().enumerate() {
+        found.push(word_object(alloc, variable.0.as_slice(), words[i])?)?;
+    }
+    Ok(found)
+}
+
+/// The object of a global in two runs.
+fn pair_object(alloc: Global, name: &[u8], words: (i64, i64)) -> Result<Object, AllocError>
+    ensures { IfOk result
+        (λ made. members_view made ≡ words_spec.pair_members name.now words.0 words.1) }
+{
+    Object::new(alloc)
+        .text("name", name)?
+        .word("first", words.0)?
+        .word("second", words.1)
+}
+
+/// Adds the object of a global in two runs, if it is shown.
+fn put_pair_object(
+    alloc: Global,
+    found: &mut Objects,
+    shown: bool,
+    name: &[u8],
+    words: (i64, i64),
+) -> Result<(), AllocError>
+    ensures { OnOk result (map view found.new
+        ≡ map view found.old ++ words_spec.shown_pair shown name.now words.0 words.1) }
+{
+    if shown {
+        found.push(pair_object(alloc, name, words)?)?;
+    }
+    Ok(())
+}
+
+/// Adds an object for each global that is shown.
+fn put_pair_objects(
+    alloc: Global,
+    found: &mut Objects,
+    lattice: &Lattice,
+    to: &Option<Class>,
+    variables: &[(Vec<u8>, Vec<u8>)],
+    words: (&[i64], &[i64]),
+) -> Result<(), AllocError>
+    requires { IfSome to.now (IsClass (order lattice.now)) }
+    ensures { OnOk result (map view found.new ≡ map view found.old
+        ++ words_spec.pair_objects (class_named lattice.now) (order lattice.now) to.now
+        (globals variables.now) words.entry.0.now words.entry.1.now) }
+{
+    let (first, second) = words;
+    for (i, variable) in variables.iter().enumerate() {
+        let shown = is_shown(lattice, to, variable.1.as_slice());
+        match (first.get(i), second.get(i)) {
+            (Some(one), Some(other)) => {
+                let pair = (*one, *other);
+                put_pair_object(alloc, found, shown, variable.0.as_slice(), pair)?;
+            }
+            _ => return Ok(()),
+        }
+    }
+    Ok(())
+}
+
+/// The object with an array of an object for each global that is shown.
+pub(crate) fn with_pairs(
+    alloc: Global,
+    made: Object,
+    key: &str,
+    lattice: &Lattice,
+    to: &Option<Class>,
+    variables: &[(Vec<u8>, Vec<u8>)],
+    words: (&[i64], &[i64]),
+) -> Result<Object, AllocError>
+    requires { IfSome to.now (IsClass (order lattice.now)) }
+    ensures { IfOk result (λ all. members_view all ≡ words_spec.with_pairs key.now
+        (class_named lattice.now) (order lattice.now) to.now (globals variables.now)
+        words.entry.0.now words.entry.1.now (members_view made)) }
+{
+    let mut found = Objects::new(alloc);
+    put_pair_objects(alloc, &mut found, lattice, to, variables, words)?;
+    made.array(key, found)
+}
+
+/// The object of a run that executes so many instructions.
+pub(crate) fn end_object(
+    alloc: Global,
+    halted: bool,
+    instructions: u64,
+) -> Result<Object, AllocError>
+    ensures { IfOk result
+        (λ made. members_view made ≡ words_spec.end_members halted instructions) }
+{
+    Object::new(alloc)
+        .flag("halted", halted)?
+        .natural("instructions", instructions as usize)
 }

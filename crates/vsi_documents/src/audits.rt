@@ -1,20 +1,26 @@
-//! The judgement of an image as a line of JSON.
+//! The judgement of an image and its bound as lines of JSON.
 
 ghost use Rattle.std.specs.Prelude.{◌≡◌, IfOk, true};
 ghost use Rattle.vsi_steady.specs.Telling.{IsUnsteadyText};
 ghost use Rattle.vsi_audit.specs.Telling.{IsAuditText};
 ghost use Rattle.vsi_diagnostics.specs.Json.{accepted_line};
-ghost use Rattle.vsi_conform.specs.Checking.{audit_diagnostic as audit_of};
-ghost use Rattle.vsi_conform.specs.Checking.{steady_diagnostic as steady_of};
+ghost use Rattle.vsi_conform.specs.Checking.{audit_diagnostic as audit_of, steady_diagnostic as steady_of};
+ghost use Rattle.serde_json.specs.View.{members_view};
+ghost use Rattle.vsi_answers.specs.Bounds.{IsBoundLine, is_bounded as is_bounded_of};
+ghost use Rattle.vsi_machine.specs.Bound.{Answers};
 ghost use Rattle.vsi_documents.specs.Audits as spec;
+ghost use Rattle.vsi_documents.specs.Bounds as bounds_spec;
+ghost use Rattle.vsi_diagnostics.specs.Members as lines;
 
 use crate::answer::Documented;
 use std::alloc::{AllocError, Global};
+use vsi_answers::{bound_text, bound_text_in};
 use vsi_audit::{AuditError, audit_in, audit_text};
 use vsi_conform::{audit_diagnostic, steady_diagnostic};
-use vsi_diagnostics::{accepted_json, refusal_json};
+use vsi_diagnostics::{Object, accepted_json, refusal_json, without_end};
 use vsi_image::{Image, Verified};
 use vsi_lattice::Lattice;
+use vsi_machine::{Bound, bound_of};
 use vsi_steady::{SteadyError, steady_in, steady_text};
 use vsi_types::Profile;
 
@@ -109,4 +115,90 @@ pub fn steady_json(
             })
         }
     }
+}
+
+/// Whether an answer has a number of instructions.
+fn is_bounded(found: Bound) -> bool
+    ensures { result ≡ is_bounded_of found }
+{
+    match found {
+        Bound::Halts { .. } => true,
+        Bound::Endless { .. } => false,
+        Bound::Unstructured(_) => false,
+        Bound::TooLarge => false,
+    }
+}
+
+/// The object with the numbers of a bound.
+fn with_bound(made: Object, found: Bound) -> Result<Object, AllocError>
+    ensures { IfOk result
+        (λ all. members_view all ≡ bounds_spec.with_bound found (members_view made)) }
+{
+    match found {
+        Bound::Halts { least, most } => {
+            made.natural("least", least as usize)?
+                .natural("most", most as usize)
+        }
+        Bound::Endless { test, reason: _ } => made.natural("instruction", test),
+        Bound::Unstructured(at) => made.natural("instruction", at),
+        Bound::TooLarge => Ok(made),
+    }
+}
+
+/// The line of an answer with this text.
+fn bound_line(alloc: Global, found: Bound, text: &[u8]) -> Result<Vec<u8>, AllocError>
+    ensures { IfOk result
+        (λ line. line.items ≡ lines.object_line (bounds_spec.bound_members found text.now)) }
+{
+    let made = Object::new(alloc).flag("bounded", is_bounded(found))?;
+    with_bound(made, found)?
+        .text("text", without_end(text))?
+        .line()
+}
+
+/// An answer about an image, with its line.
+fn document_of(
+    alloc: Global,
+    verified: &Verified,
+    found: Bound,
+    text: &[u8],
+) -> Result<Documented, AllocError>
+    requires right { Answers verified.now found }
+    requires line { IsBoundLine found text.now }
+    ensures { IfOk result
+        (λ answer. bounds_spec.IsBoundJson verified.now answer.is_good answer.line.items) }
+{
+    let line = bound_line(alloc, found, text)?;
+    Ok(Documented {
+        is_good: is_bounded(found),
+        line,
+    })
+}
+
+/// The answer of `vsi bound` to an image as a line of JSON: an object with `bounded`, whether a
+/// bound was found, `text`, the line of `vsi_answers::bound` without its line feed, and the numbers
+/// `least` and `most` of instructions or, where there is no bound, the number `instruction` of the
+/// one that is named. An error means that memory ran out.
+pub fn bound_json(alloc: Global, verified: &Verified) -> Result<Documented, AllocError>
+    ensures answer { IfOk result
+        (λ answer. bounds_spec.IsBoundJson verified.now answer.is_good answer.line.items) }
+{
+    let found = bound_of(alloc, verified)?;
+    let text = bound_text(alloc, found)?;
+    document_of(alloc, verified, found, &text)
+}
+
+/// The same for the image of a source text, whose line has the position of a loop.
+pub fn bound_json_in(
+    alloc: Global,
+    lattice: &Lattice,
+    source: &[u8],
+    verified: &Verified,
+) -> Result<Documented, AllocError>
+    ensures answer { IfOk result
+        (λ answer. bounds_spec.IsBoundJson verified.now answer.is_good answer.line.items) }
+{
+    let found = bound_of(alloc, verified)?;
+    let text = bound_text_in(alloc, lattice, source, verified, found)?;
+    document_of(alloc, verified, found, &text)
 }

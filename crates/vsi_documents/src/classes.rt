@@ -1,9 +1,8 @@
 //! The classes of declarations as a line of JSON.
 
-ghost use Rattle.std.specs.Prelude.{◌≡◌, ◌++◌, false, length, map, IfOk, IfSome, OnOk};
+ghost use Rattle.std.specs.Prelude.{◌≡◌, ◌++◌, length, map, IfOk, IfSome, OnOk};
 ghost use Rattle.std.specs.List.{All};
-ghost use Rattle.serde_json.specs.View.{items_view, members_view, view};
-ghost use Rattle.serde_json.specs.Written.{items_have_float};
+ghost use Rattle.serde_json.specs.View.{members_view, view};
 ghost use Rattle.vsi_lattice.specs.LatticeView.{names, order};
 ghost use Rattle.vsi_lattice.specs.Order.{IsClass};
 ghost use Rattle.vsi_scope.specs.Resolving.{variable};
@@ -13,12 +12,10 @@ ghost use Rattle.vsi_compiler.specs.Source.{Reads};
 ghost use Rattle.vsi_documents.specs.Classes as spec;
 
 use crate::answer::{Documented, refused};
-use serde_json::{Map, Value, put};
 use std::alloc::{AllocError, Global};
 use vsi_compiler::{Source, judge, read_source};
 use vsi_conform::{check_json, judgement_by};
-use vsi_diagnostics::members::{object_line, put_natural, put_text};
-use vsi_diagnostics::wants_memory;
+use vsi_diagnostics::{Object, Objects, wants_memory};
 use vsi_lattice::{Class, Lattice};
 use vsi_scope::Entry;
 use vsi_syntax::{Declaration, Span, line_column};
@@ -31,33 +28,31 @@ fn class_object(
     span: Span,
     name: &[u8],
     class: &[u8],
-) -> Result<Map<String, Value>, AllocError>
-    ensures { IfOk result (λ members. members_view members.entries
+) -> Result<Object, AllocError>
+    ensures { IfOk result (λ made. members_view made
         ≡ spec.class_members text.now span name.now class.now) }
 {
-    let mut members = Map::new(alloc);
     let (line, column) = line_column(text, span.start);
-    put_natural(alloc, &mut members, "line", line)?;
-    put_natural(alloc, &mut members, "column", column)?;
-    put_text(alloc, &mut members, "name", name)?;
-    put_text(alloc, &mut members, "class", class)?;
-    Ok(members)
+    Object::new(alloc)
+        .natural("line", line)?
+        .natural("column", column)?
+        .text("name", name)?
+        .text("class", class)
 }
 
 /// Adds the objects of the globals.
 fn put_globals(
     alloc: Global,
-    found: &mut Vec<Value>,
+    found: &mut Objects,
     text: &[u8],
     globals: &[Declaration],
 ) -> Result<(), AllocError>
-    ensures { OnOk result (map view found.new.items
-        ≡ map view found.old.items ++ spec.global_objects text.now (map declared globals.now)) }
+    ensures { OnOk result (map view found.new
+        ≡ map view found.old ++ spec.global_objects text.now (map declared globals.now)) }
 {
     for global in globals {
         let (span, name) = (global.name.span, global.name.text);
-        let members = class_object(alloc, text, span, name, global.class.text)?;
-        found.push(Value::Object(members))?;
+        found.push(class_object(alloc, text, span, name, global.class.text)?)?;
     }
     Ok(())
 }
@@ -65,7 +60,7 @@ fn put_globals(
 /// Adds the objects of the letvars, with the classes chosen for them.
 fn put_letvars(
     alloc: Global,
-    found: &mut Vec<Value>,
+    found: &mut Objects,
     text: &[u8],
     lattice: &Lattice,
     letvars: &[Entry],
@@ -73,28 +68,25 @@ fn put_letvars(
 ) -> Result<(), AllocError>
     requires each { length letvars.now ≡ length classes.now }
     requires within { All (IsClass (order lattice.now)) classes.now }
-    ensures { OnOk result (map view found.new.items ≡ map view found.old.items
+    ensures { OnOk result (map view found.new ≡ map view found.old
         ++ spec.letvar_objects text.now (names lattice.now) (map variable letvars.now)
         classes.now) }
 {
     for (i, entry) in letvars.iter().enumerate() {
         let class = lattice.name(classes[i]);
-        let members = class_object(alloc, text, entry.span, entry.name, class)?;
-        found.push(Value::Object(members))?;
+        found.push(class_object(alloc, text, entry.span, entry.name, class)?)?;
     }
     Ok(())
 }
 
 /// The line of an accepted text with the objects of its declarations.
-fn classes_line(alloc: Global, objects: Vec<Value>) -> Result<Vec<u8>, AllocError>
-    ensures { IfOk result (λ line. items_have_float (items_view objects.items) ≡ false
-        → line.items ≡ spec.classes_line (map view objects.items)) }
+fn classes_line(alloc: Global, objects: Objects) -> Result<Vec<u8>, AllocError>
+    ensures { IfOk result (λ line. line.items ≡ spec.classes_line (map view objects)) }
 {
-    let mut members = Map::new(alloc);
-    put(&mut members, alloc, "accepted", Value::Bool(true))?;
-    put(&mut members, alloc, "classes", Value::Array(objects))?;
-    let line = object_line(alloc, members)?;
-    Ok(line)
+    Object::new(alloc)
+        .flag("accepted", true)?
+        .array("classes", objects)?
+        .line()
 }
 
 /// The line of an accepted source text with these classes for its letvars.
@@ -107,7 +99,7 @@ fn line_of(alloc: Global, source: &Source<'_>, classes: &[Class]) -> Result<Vec<
         (map variable source.now.resolved.letvars) classes.now)) }
 {
     let text = source.text();
-    let mut found = Vec::new(alloc);
+    let mut found = Objects::new(alloc);
     put_globals(alloc, &mut found, text, source.globals())?;
     let letvars = source.resolved().letvars();
     put_letvars(alloc, &mut found, text, source.lattice(), letvars, classes)?;

@@ -1,9 +1,8 @@
 //! Flows as a line of JSON.
 
-ghost use Rattle.std.specs.Prelude.{◌≡◌, ◌++◌, false, map, IfOk, MatchOption, OnOk};
+ghost use Rattle.std.specs.Prelude.{◌≡◌, map, IfOk, MatchOption};
 ghost use Rattle.std.specs.List.{All};
-ghost use Rattle.serde_json.specs.View.{items_view, members_view, view};
-ghost use Rattle.serde_json.specs.Written.{items_have_float};
+ghost use Rattle.serde_json.specs.View.{members_view, view};
 ghost use Rattle.vsi_lattice.specs.LatticeView.{order};
 ghost use Rattle.vsi_lattice.specs.Order.{IsClass};
 ghost use Rattle.vsi_types.specs.Security.{program as program_of};
@@ -11,36 +10,32 @@ ghost use Rattle.vsi_infer.specs.Inference.{AreClasses};
 ghost use Rattle.vsi_documents.specs.Flows as spec;
 
 use crate::answer::{Documented, refused};
-use serde_json::{Map, Value, put};
 use std::alloc::{AllocError, Global};
 use vsi_compiler::{Source, read_source};
 use vsi_conform::{check_json, judgement_by};
-use vsi_diagnostics::members::{object_line, put_natural, put_text};
-use vsi_diagnostics::wants_memory;
+use vsi_diagnostics::{Object, Objects, wants_memory};
 use vsi_flows::{FlowsError, Pair, flows_in};
 use vsi_infer::{class_name, declared_class, variable_name};
 use vsi_lattice::Lattice;
 use vsi_scope::{Resolved, Var};
 use vsi_types::Profile;
 
-/// Puts the name of a variable and the name of its declared class at two keys.
-fn put_variable(
-    alloc: Global,
-    members: &mut Map<String, Value>,
+/// The object with the name of a variable and the name of its declared class at two keys.
+fn with_variable(
+    made: Object,
     keys: (&str, &str),
     lattice: &Lattice,
     program: &Resolved<'_>,
     variable: Var,
-) -> Result<(), AllocError>
+) -> Result<Object, AllocError>
     requires globals { All (IsClass (order lattice.now)) (program_of program.now).globals }
     requires declared { AreClasses (order lattice.now) (program_of program.now).declared }
-    ensures { OnOk result (members_view members.new.entries ≡ spec.with_variable
-        keys.entry.0.now keys.entry.1.now lattice.now program.now variable
-        (members_view members.old.entries)) }
+    ensures { IfOk result (λ all. members_view all ≡ spec.with_variable keys.entry.0.now
+        keys.entry.1.now lattice.now program.now variable (members_view made)) }
 {
-    put_text(alloc, members, keys.0, variable_name(program, variable))?;
     let class = declared_class(lattice, program, variable);
-    put_text(alloc, members, keys.1, class_name(lattice, class))
+    made.text(keys.0, variable_name(program, variable))?
+        .text(keys.1, class_name(lattice, class))
 }
 
 /// The object of a pair.
@@ -49,19 +44,17 @@ fn pair_object(
     lattice: &Lattice,
     program: &Resolved<'_>,
     pair: Pair,
-) -> Result<Map<String, Value>, AllocError>
+) -> Result<Object, AllocError>
     requires globals { All (IsClass (order lattice.now)) (program_of program.now).globals }
     requires declared { AreClasses (order lattice.now) (program_of program.now).declared }
-    ensures { IfOk result (λ members. members_view members.entries
+    ensures { IfOk result (λ made. members_view made
         ≡ spec.pair_members lattice.now program.now pair) }
 {
-    let mut members = Map::new(alloc);
     let (from, to) = (("from", "from_class"), ("to", "to_class"));
-    put_variable(alloc, &mut members, from, lattice, program, pair.source)?;
-    put_variable(alloc, &mut members, to, lattice, program, pair.target)?;
-    put(&mut members, alloc, "allowed", Value::Bool(pair.allowed))?;
-    put_natural(alloc, &mut members, "steps", pair.steps as usize)?;
-    Ok(members)
+    let made = with_variable(Object::new(alloc), from, lattice, program, pair.source)?;
+    with_variable(made, to, lattice, program, pair.target)?
+        .flag("allowed", pair.allowed)?
+        .natural("steps", pair.steps as usize)
 }
 
 /// The objects of pairs, in their order.
@@ -70,16 +63,15 @@ fn pair_objects(
     lattice: &Lattice,
     program: &Resolved<'_>,
     pairs: &[Pair],
-) -> Result<Vec<Value>, AllocError>
+) -> Result<Objects, AllocError>
     requires globals { All (IsClass (order lattice.now)) (program_of program.now).globals }
     requires declared { AreClasses (order lattice.now) (program_of program.now).declared }
-    ensures { IfOk result (λ found. map view found.items
+    ensures { IfOk result (λ found. map view found
         ≡ spec.pair_objects lattice.now program.now pairs.now) }
 {
-    let mut found = Vec::new(alloc);
+    let mut found = Objects::new(alloc);
     for pair in pairs {
-        let members = pair_object(alloc, lattice, program, *pair)?;
-        found.push(Value::Object(members))?;
+        found.push(pair_object(alloc, lattice, program, *pair)?)?;
     }
     Ok(found)
 }
@@ -98,18 +90,6 @@ fn are_allowed(pairs: &[Pair]) -> bool
     true
 }
 
-/// The line of a verdict and the objects of pairs.
-fn flows_line(alloc: Global, is_accepted: bool, objects: Vec<Value>) -> Result<Vec<u8>, AllocError>
-    ensures { IfOk result (λ line. items_have_float (items_view objects.items) ≡ false
-        → line.items ≡ spec.flows_line is_accepted (map view objects.items)) }
-{
-    let mut members = Map::new(alloc);
-    put(&mut members, alloc, "accepted", Value::Bool(is_accepted))?;
-    put(&mut members, alloc, "flows", Value::Array(objects))?;
-    let line = object_line(alloc, members)?;
-    Ok(line)
-}
-
 /// The line of pairs.
 fn table_line(
     alloc: Global,
@@ -123,8 +103,10 @@ fn table_line(
         (spec.pair_objects lattice.now program.now pairs.now)) }
 {
     let objects = pair_objects(alloc, lattice, program, pairs)?;
-    let line = flows_line(alloc, are_allowed(pairs), objects)?;
-    Ok(line)
+    Object::new(alloc)
+        .flag("accepted", are_allowed(pairs))?
+        .array("flows", objects)?
+        .line()
 }
 
 /// The line of the flows of a source text.

@@ -1,6 +1,6 @@
 //! A search for a leak as a line of JSON.
 
-ghost use Rattle.std.specs.Prelude.{◌≡◌, ℕ, List, slice_get, IfErr, IfOk, IfSome, OnOk, Some};
+ghost use Rattle.std.specs.Prelude.{◌≡◌, ℕ, List, slice_get, IfErr, IfOk, IfSome, Some};
 ghost use Rattle.serde_json.specs.View.{members_view};
 ghost use Rattle.vsi_image.specs.Fields.{globals};
 ghost use Rattle.vsi_lattice.specs.LatticeView.{class_named, names, order};
@@ -11,102 +11,58 @@ ghost use Rattle.vsi_compiler.specs.declared.error.CompileError.TheVariants.{Mem
 ghost use Rattle.vsi_documents.specs.Leaks as spec;
 ghost use Rattle.vsi_diagnostics.specs.Members as lines;
 
-use crate::answer::Documented;
-use crate::words::{put_end, put_pairs};
-use serde_json::{Map, Value, put};
+use crate::answer::{Documented, end_object, with_pairs};
 use std::alloc::{AllocError, Global};
 use vsi_compiler::CompileError;
-use vsi_diagnostics::members::{object_line, put_natural, put_text};
+use vsi_diagnostics::Object;
 use vsi_image::Image;
 use vsi_lattice::Lattice;
 use vsi_leak::{Ending, Finding, Leak, Wanted, leak_of_text};
 
-/// Puts the globals that the class sees at the ends of both runs, if both halt.
-fn put_after(
+/// The object with the globals that the class sees at the ends of both runs, if both halt.
+fn with_after(
     alloc: Global,
-    members: &mut Map<String, Value>,
+    made: Object,
     lattice: &Lattice,
     variables: &[(Vec<u8>, Vec<u8>)],
     leak: &Leak,
-) -> Result<(), AllocError>
+) -> Result<Object, AllocError>
     requires { IsClass (order lattice.now) leak.now.class }
-    ensures { OnOk result (members_view members.new.entries ≡ spec.with_after
+    ensures { IfOk result (λ all. members_view all ≡ spec.with_after
         (class_named lattice.now) (order lattice.now) leak.now.class (globals variables.now)
-        leak.now.first.ending leak.now.second.ending (members_view members.old.entries)) }
+        leak.now.first.ending leak.now.second.ending (members_view made)) }
 {
     match (&leak.first.ending, &leak.second.ending) {
-        (Ending::Halted { words, .. }, Ending::Halted { words: others, .. }) => put_pairs(
+        (Ending::Halted { words, .. }, Ending::Halted { words: others, .. }) => with_pairs(
             alloc,
-            members,
+            made,
             "after",
             lattice,
             &Some(leak.class),
             variables,
             (words.as_slice(), others.as_slice()),
         ),
-        (Ending::Halted { .. }, Ending::OutOfBudget) => Ok(()),
-        (Ending::OutOfBudget, _) => Ok(()),
+        (Ending::Halted { .. }, Ending::OutOfBudget) => Ok(made),
+        (Ending::OutOfBudget, _) => Ok(made),
     }
 }
 
-/// Puts how a run within a budget ends.
-fn put_ending(
+/// The object with the end of a run within a budget at a key.
+fn with_ending(
     alloc: Global,
-    members: &mut Map<String, Value>,
+    made: Object,
     key: &str,
     budget: u64,
     ending: &Ending,
-) -> Result<(), AllocError>
-    ensures { OnOk result (members_view members.new.entries
-        ≡ spec.with_ending key.now budget ending.now (members_view members.old.entries)) }
+) -> Result<Object, AllocError>
+    ensures { IfOk result (λ all. members_view all
+        ≡ spec.with_ending key.now budget ending.now (members_view made)) }
 {
-    match ending {
-        Ending::Halted { instructions, .. } => { put_end(alloc, members, key, true, *instructions) }
-        Ending::OutOfBudget => put_end(alloc, members, key, false, budget),
-    }
-}
-
-/// The object of a leak at a class of this name, without its runs.
-fn found_object(alloc: Global, name: &[u8]) -> Result<Map<String, Value>, AllocError>
-    ensures { IfOk result
-        (λ members. members_view members.entries ≡ spec.found_members name.now) }
-{
-    let mut members = Map::new(alloc);
-    put(&mut members, alloc, "found", Value::Bool(true))?;
-    put_text(alloc, &mut members, "class", name)?;
-    Ok(members)
-}
-
-/// The object of a leak.
-fn leak_object(
-    alloc: Global,
-    lattice: &Lattice,
-    image: &Image,
-    budget: u64,
-    leak: &Leak,
-) -> Result<Map<String, Value>, AllocError>
-    requires { IsClass (order lattice.now) leak.now.class }
-    ensures { IfOk result (λ members. (name : List ℕ)
-        × (slice_get (names lattice.now) leak.now.class ≡ Some name)
-        × (members_view members.entries ≡ spec.leak_members (class_named lattice.now)
-        (order lattice.now) name budget (globals image.now.globals.items) leak.now)) }
-{
-    let variables = image.globals.as_slice();
-    let mut members = found_object(alloc, lattice.name(leak.class))?;
-    let stores = (leak.first.store.as_slice(), leak.second.store.as_slice());
-    put_pairs(
-        alloc,
-        &mut members,
-        "before",
-        lattice,
-        &None,
-        variables,
-        stores,
-    )?;
-    put_after(alloc, &mut members, lattice, variables, leak)?;
-    put_ending(alloc, &mut members, "first", budget, &leak.first.ending)?;
-    put_ending(alloc, &mut members, "second", budget, &leak.second.ending)?;
-    Ok(members)
+    let end = match ending {
+        Ending::Halted { instructions, .. } => end_object(alloc, true, *instructions)?,
+        Ending::OutOfBudget => end_object(alloc, false, budget)?,
+    };
+    made.object(key, end)
 }
 
 /// The line of a leak.
@@ -123,30 +79,27 @@ fn leak_line(
         × (line.items ≡ lines.object_line (spec.leak_members (class_named lattice.now)
         (order lattice.now) name budget (globals image.now.globals.items) leak.now))) }
 {
-    let members = leak_object(alloc, lattice, image, budget, leak)?;
-    let line = object_line(alloc, members)?;
-    Ok(line)
+    let variables = image.globals.as_slice();
+    let stores = (leak.first.store.as_slice(), leak.second.store.as_slice());
+    let made = Object::new(alloc)
+        .flag("found", true)?
+        .text("class", lattice.name(leak.class))?;
+    let made = with_pairs(alloc, made, "before", lattice, &None, variables, stores)?;
+    let made = with_after(alloc, made, lattice, variables, leak)?;
+    let made = with_ending(alloc, made, "first", budget, &leak.first.ending)?;
+    let made = with_ending(alloc, made, "second", budget, &leak.second.ending)?;
+    made.line()
 }
 
-/// The object of a search that found no leak in so many pairs of runs.
-fn nothing_object(alloc: Global, pairs: u64) -> Result<Map<String, Value>, AllocError>
-    ensures { IfOk result
-        (λ members. members_view members.entries ≡ spec.nothing_members pairs) }
-{
-    let mut members = Map::new(alloc);
-    put(&mut members, alloc, "found", Value::Bool(false))?;
-    put_natural(alloc, &mut members, "pairs", pairs as usize)?;
-    Ok(members)
-}
-
-/// The line of such a search.
+/// The line of a search that found no leak in so many pairs of runs.
 fn nothing_line(alloc: Global, pairs: u64) -> Result<Vec<u8>, AllocError>
     ensures { IfOk result
         (λ line. line.items ≡ lines.object_line (spec.nothing_members pairs)) }
 {
-    let members = nothing_object(alloc, pairs)?;
-    let line = object_line(alloc, members)?;
-    Ok(line)
+    Object::new(alloc)
+        .flag("found", false)?
+        .natural("pairs", pairs as usize)?
+        .line()
 }
 
 /// The answer of `vsi leak` to a text as a line of JSON: an object with `found`, whether a leak was

@@ -5,7 +5,8 @@
 //! searches the image of a source text. Each answer is an object with the parts of the
 //! subcommand's lines as values, and whether the answer is good. A text that `classes_json` or
 //! `flows_json` refuses has the line of `check_json`; `refused_json` and `refused_interface_json`
-//! write the line of another refused file. Words and other numbers are integers of JSON with up to
+//! write the line of another refused file. `mend_json` has the verdict of `check_json` and an object
+//! for each of the least raises under which the text is accepted. Words and other numbers are integers of JSON with up to
 //! 64 bits.
 //!
 //! To be believed: all files of `specs/`.
@@ -13,21 +14,16 @@
 
 mod answer;
 mod audits;
-mod bounds;
 mod classes;
-mod comparisons;
 mod flows;
 mod leaks;
-mod refused;
+mod mending;
 mod runs;
-mod words;
 
-pub use answer::Documented;
-pub use audits::{audit_json, steady_json};
-pub use bounds::{bound_json, bound_json_in};
+pub use answer::{Documented, refused_interface_json, refused_json};
+pub use audits::{audit_json, bound_json, bound_json_in, steady_json};
 pub use classes::classes_json;
-pub use comparisons::compare_json;
 pub use flows::flows_json;
 pub use leaks::leak_json;
-pub use refused::{refused_interface_json, refused_json};
-pub use runs::run_json;
+pub use mending::{Mended, mend_json};
+pub use runs::{compare_json, run_json};

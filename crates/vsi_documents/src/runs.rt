@@ -1,39 +1,25 @@
-//! A run of an image as a line of JSON.
+//! Runs of an image as lines of JSON.
 
-ghost use Rattle.std.specs.Prelude.{◌≡◌, length, IfOk, false};
+ghost use Rattle.std.specs.Prelude.{◌≡◌, length, IfOk, false, ℕ, List, slice_get, Some};
 ghost use Rattle.serde_json.specs.View.{members_view};
 ghost use Rattle.vsi_image.specs.Fields.{globals};
+ghost use Rattle.vsi_lattice.specs.LatticeView.{class_named, names, order};
+ghost use Rattle.vsi_lattice.specs.Order.{IsClass};
 ghost use Rattle.vsi_diagnostics.specs.Members as lines;
 ghost use Rattle.vsi_documents.specs.Runs as spec;
 ghost use Rattle.vsi_documents.specs.Words as words_spec;
+ghost use Rattle.vsi_documents.specs.Comparisons as comparisons_spec;
 
-use crate::answer::Documented;
-use crate::words::{end_object, word_objects};
-use serde_json::{Map, Value, put};
+use crate::answer::{Documented, end_object, with_pairs, word_objects};
 use std::alloc::{AllocError, Global};
-use vsi_diagnostics::members::object_line;
+use vsi_answers::Unanswered;
+use vsi_diagnostics::Object;
 use vsi_image::{Image, Verified};
+use vsi_lattice::{Class, Lattice};
 use vsi_machine::{Outcome, counted};
+use vsi_store::{Comparison, RunEnding};
 
-/// The object of a run that halts after so many instructions, with these words in the globals.
-fn halted_object(
-    alloc: Global,
-    image: &Image,
-    words: &[i64],
-    instructions: u64,
-) -> Result<Map<String, Value>, AllocError>
-    requires { length words.now ≡ length image.now.globals.items }
-    ensures { IfOk result (λ members. members_view members.entries
-        ≡ spec.halted_members instructions
-        (words_spec.word_objects (globals image.now.globals.items) words.now)) }
-{
-    let objects = word_objects(alloc, image.globals.as_slice(), words)?;
-    let mut members = end_object(alloc, true, instructions)?;
-    put(&mut members, alloc, "globals", Value::Array(objects))?;
-    Ok(members)
-}
-
-/// The line of such a run.
+/// The line of a run that halts after so many instructions, with these words in the globals.
 fn halted_line(
     alloc: Global,
     image: &Image,
@@ -45,19 +31,10 @@ fn halted_line(
         (spec.halted_members instructions
         (words_spec.word_objects (globals image.now.globals.items) words.now))) }
 {
-    let members = halted_object(alloc, image, words, instructions)?;
-    let line = object_line(alloc, members)?;
-    Ok(line)
-}
-
-/// The line of a run that is out of budget after so many instructions.
-fn spent_line(alloc: Global, instructions: u64) -> Result<Vec<u8>, AllocError>
-    ensures { IfOk result
-        (λ line. line.items ≡ lines.object_line (words_spec.end_members false instructions)) }
-{
-    let members = end_object(alloc, false, instructions)?;
-    let line = object_line(alloc, members)?;
-    Ok(line)
+    let objects = word_objects(alloc, image.globals.as_slice(), words)?;
+    end_object(alloc, true, instructions)?
+        .array("globals", objects)?
+        .line()
 }
 
 /// The answer of `vsi run` to an image and words for its globals as a line of JSON: an object with
@@ -87,11 +64,124 @@ pub fn run_json(
             })
         }
         Outcome::OutOfBudget => {
-            let line = spent_line(alloc, count.instructions)?;
+            let line = end_object(alloc, false, count.instructions)?.line()?;
             Ok(Documented {
                 is_good: false,
                 line,
             })
         }
+    }
+}
+
+/// The object with the globals that the class sees at the ends of both runs, if both halt.
+fn with_after(
+    alloc: Global,
+    made: Object,
+    lattice: &Lattice,
+    class: Class,
+    variables: &[(Vec<u8>, Vec<u8>)],
+    found: &Comparison,
+) -> Result<Object, AllocError>
+    requires { IsClass (order lattice.now) class }
+    ensures { IfOk result (λ all. members_view all ≡ comparisons_spec.with_after
+        (class_named lattice.now) (order lattice.now) class (globals variables.now)
+        found.now.first found.now.second (members_view made)) }
+{
+    match (&found.first, &found.second) {
+        (RunEnding::Halted { words, .. }, RunEnding::Halted { words: others, .. }) => with_pairs(
+            alloc,
+            made,
+            "after",
+            lattice,
+            &Some(class),
+            variables,
+            (words.as_slice(), others.as_slice()),
+        ),
+        (RunEnding::Halted { .. }, RunEnding::OutOfBudget) => Ok(made),
+        (RunEnding::OutOfBudget, _) => Ok(made),
+    }
+}
+
+/// The object with the end of a run within a budget at a key.
+fn with_ending(
+    alloc: Global,
+    made: Object,
+    key: &str,
+    budget: u64,
+    ending: &RunEnding,
+) -> Result<Object, AllocError>
+    ensures { IfOk result (λ all. members_view all
+        ≡ comparisons_spec.with_ending key.now budget ending.now (members_view made)) }
+{
+    let end = match ending {
+        RunEnding::Halted { instructions, .. } => end_object(alloc, true, *instructions)?,
+        RunEnding::OutOfBudget => end_object(alloc, false, budget)?,
+    };
+    made.object(key, end)
+}
+
+/// The line of a comparison of runs from two stores.
+fn comparison_line(
+    alloc: Global,
+    lattice: &Lattice,
+    image: &Image,
+    class: Class,
+    stores: (&[i64], &[i64]),
+    budget: u64,
+    found: &Comparison,
+) -> Result<Vec<u8>, AllocError>
+    requires { IsClass (order lattice.now) class }
+    ensures { IfOk result (λ line. (name : List ℕ)
+        × (slice_get (names lattice.now) class ≡ Some name)
+        × (line.items ≡ lines.object_line (comparisons_spec.comparison_members (class_named lattice.now)
+        (order lattice.now) name class (globals image.now.globals.items)
+        stores.entry.0.now stores.entry.1.now budget found.now))) }
+{
+    let variables = image.globals.as_slice();
+    let to = Some(class);
+    let made = Object::new(alloc)
+        .flag("same", found.is_same)?
+        .text("class", lattice.name(class))?;
+    let made = with_pairs(alloc, made, "before", lattice, &to, variables, stores)?;
+    let made = with_after(alloc, made, lattice, class, variables, found)?;
+    let made = with_ending(alloc, made, "first", budget, &found.first)?;
+    let made = with_ending(alloc, made, "second", budget, &found.second)?;
+    made.line()
+}
+
+/// The answer of `vsi compare` to an image and words for two runs as a line of JSON: an object with
+/// `class`, the name of the class, `same`, whether it sees the same after both runs, `before` and,
+/// if both halt, `after`, arrays with an object for each global that it sees, which has its `name`
+/// and its words in the `first` and the `second` run, and `first` and `second`, how the runs end,
+/// as of `run_json`. The answer is good if the class sees the same.
+///
+/// # Errors
+///
+/// The errors of `vsi_answers::compare`.
+pub fn compare_json(
+    alloc: Global,
+    lattice: &Lattice,
+    verified: &Verified,
+    class: Class,
+    first: &[i64],
+    second: &[i64],
+    budget: u64,
+) -> Result<Documented, Unanswered>
+    requires class { IsClass (order lattice.now) class }
+    requires first { length first.now ≡ length verified.now.globals.items }
+    requires second { length second.now ≡ length verified.now.globals.items }
+    ensures answer { comparisons_spec.ComparesJsonTo lattice.now class verified.now first.now second.now
+        budget result }
+{
+    match vsi_answers::compare(alloc, lattice, verified, class, first, second, budget) {
+        Ok(found) => {
+            let (image, stores) = (verified.image(), (first, second));
+            let line = comparison_line(alloc, lattice, image, class, stores, budget, &found)?;
+            Ok(Documented {
+                is_good: found.is_same,
+                line,
+            })
+        }
+        Err(error) => Err(error),
     }
 }

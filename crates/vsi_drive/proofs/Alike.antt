@@ -14,7 +14,7 @@ use Rattle.vsi_image.specs.Meaning.{State}
 use Rattle.vsi_machine.specs.Runs.{globals_of, run_of}
 use Rattle.vsi_compiler.specs.Observation.{Ends, IsNoninterfering}
 use Rattle.vsi_compiler.proofs.Coded.{coded_valid}
-use Rattle.vsi_drive.specs.declared.fault.LineFault.{LineFault}
+use Rattle.vsi_drive.specs.declared.settings.LineFault.{LineFault}
 use Rattle.vsi_drive.specs.declared.controller.CycleEnding.{CycleEnding}
 use Rattle.vsi_drive.specs.declared.controller.CycleEnding.TheVariants.{Halted, OutOfBudget, Refused}
 use Rattle.vsi_drive.specs.Boundary.{is_among, is_listed}

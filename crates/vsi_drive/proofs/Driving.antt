@@ -8,7 +8,7 @@ use Rattle.vsi_machine.specs.Runs.{globals_of, run_of}
 use Rattle.vsi_machine.proofs.Ending.{enough_budget}
 use Rattle.vsi_compiler.specs.Observation.{IsStoreOf}
 use Rattle.vsi_store.proofs.Slots.{words_last}
-use Rattle.vsi_drive.specs.declared.fault.LineFault.{LineFault}
+use Rattle.vsi_drive.specs.declared.settings.LineFault.{LineFault}
 use Rattle.vsi_drive.specs.declared.controller.CycleEnding.TheVariants.{Halted, OutOfBudget, Refused}
 use Rattle.vsi_drive.specs.Control.{Control}
 use Rattle.vsi_drive.specs.Settings.{Setting, settings_of, applied}

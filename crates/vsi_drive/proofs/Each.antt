@@ -2,8 +2,8 @@
 use Rattle.std.proofs.Common.{◌≡◌, ◌≢◌, ℕ, ◌+◌, ◌<◌, Bool, List, [], ◌∷◌, length, drop, Some, Ok, Err, true, refl, sym, ap, ◌∙◌, arith}
 use Rattle.std.specs.Prelude.{ℤ, Result, slice_get, slice_set}
 use Rattle.std.proofs.lemmas.Option.{same_Some}
-use Rattle.vsi_drive.specs.declared.fault.LineFault.{LineFault}
-use Rattle.vsi_drive.specs.declared.fault.LineFault.TheVariants.{BadSetting}
+use Rattle.vsi_drive.specs.declared.settings.LineFault.{LineFault}
+use Rattle.vsi_drive.specs.declared.settings.LineFault.TheVariants.{BadSetting}
 use Rattle.vsi_drive.specs.Fields.{fields_of}
 use Rattle.vsi_drive.specs.Settings.{Setting, Settable, in_front, setting}
 use Rattle.vsi_drive.specs.Starts.{Start, start, one_setting, settings_each, set_behind}

@@ -7,7 +7,7 @@ use Rattle.vsi_image.specs.Meaning.{State}
 use Rattle.vsi_machine.specs.Runs.{globals_of}
 use Rattle.vsi_steady.specs.Laws.{AgreeBelow, RunsAlike}
 use Rattle.vsi_store.proofs.Slots.{words_last}
-use Rattle.vsi_drive.specs.declared.fault.LineFault.{LineFault}
+use Rattle.vsi_drive.specs.declared.settings.LineFault.{LineFault}
 use Rattle.vsi_drive.specs.Control.{Control}
 use Rattle.vsi_drive.specs.Settings.{Setting, settings_of, applied}
 use Rattle.vsi_drive.specs.Cycles.{cycle, cycle_from, cycle_of, run_to, spent, halted}

@@ -3,8 +3,8 @@ use Rattle.std.proofs.Common.{◌≡◌, ℕ, ◌+◌, ◌<◌, List, [], ◌∷
 use Rattle.std.specs.Prelude.{ℤ, Result, slice_get, slice_set}
 use Rattle.std.proofs.lemmas.List.{drop_more}
 use Rattle.std.proofs.lemmas.Option.{get_or_from_slice_get}
-use Rattle.vsi_drive.specs.declared.fault.LineFault.{LineFault}
-use Rattle.vsi_drive.specs.declared.fault.LineFault.TheVariants.{BadSetting}
+use Rattle.vsi_drive.specs.declared.settings.LineFault.{LineFault}
+use Rattle.vsi_drive.specs.declared.settings.LineFault.TheVariants.{BadSetting}
 use Rattle.vsi_drive.specs.Control.{Control}
 use Rattle.vsi_drive.specs.Settings as spec
 use Rattle.vsi_drive.specs.Cycles as cycles

@@ -5,7 +5,7 @@ use Rattle.std.specs.Fmt.{signed_decimal}
 use Rattle.vsi_image.specs.Fields.{Global, globals}
 use Rattle.vsi_image.specs.Meaning.{State}
 use Rattle.vsi_machine.specs.Runs.{globals_of, run_of}
-use Rattle.vsi_drive.specs.declared.fault.LineFault.{LineFault}
+use Rattle.vsi_drive.specs.declared.settings.LineFault.{LineFault}
 use Rattle.vsi_drive.specs.declared.controller.CycleEnding.{CycleEnding}
 use Rattle.vsi_drive.specs.declared.controller.CycleEnding.TheVariants.{Halted, OutOfBudget, Refused}
 use Rattle.vsi_drive.specs.Control.{Control, is_written}

@@ -1,6 +1,6 @@
 -- The two setters of globals.
-use Rattle.vsi_drive.specs.declared.reach.Reach.{Reach}
-use Rattle.vsi_drive.specs.declared.reach.Reach.TheVariants.{UpTo, All}
+use Rattle.vsi_drive.specs.declared.settings.Reach.{Reach}
+use Rattle.vsi_drive.specs.declared.settings.Reach.TheVariants.{UpTo, All}
 use Rattle.vsi_drive.specs.Control.{control}
 use Rattle.vsi_drive.specs.Settings.{Settable, at_or_below, any_of}
 

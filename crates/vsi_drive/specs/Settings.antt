@@ -2,8 +2,8 @@
 use Rattle.std.specs.Prelude.{ℕ, ◌+◌, nat_lt, ℤ, List, [], ◌∷◌, ◌++◌, length, Bool, true, Option, Some, None, Result, Ok, Err, if◌then◌else◌, bytes_eq, codes, decimal, slice_set}
 use Rattle.vsi_image.specs.declared.instr.Image.{Image}
 use Rattle.vsi_image.specs.Fields.{Global, globals}
-use Rattle.vsi_drive.specs.declared.fault.LineFault.{LineFault}
-use Rattle.vsi_drive.specs.declared.fault.LineFault.TheVariants.{TooLong, BadSetting, UnknownGlobal, AboveClass, NotAnInput, NotANumber}
+use Rattle.vsi_drive.specs.declared.settings.LineFault.{LineFault}
+use Rattle.vsi_drive.specs.declared.settings.LineFault.TheVariants.{TooLong, BadSetting, UnknownGlobal, AboveClass, NotAnInput, NotANumber}
 use Rattle.vsi_drive.specs.Control.{Control, is_input, sees}
 use Rattle.vsi_drive.specs.Fields.{fields_of, word_of}
 

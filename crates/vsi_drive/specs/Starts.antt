@@ -3,8 +3,8 @@ use Rattle.std.specs.Prelude.{◌≡◌, ℕ, ◌+◌, ℤ, Bool, true, List, []
 use Rattle.vsi_image.specs.declared.instr.Image.{Image}
 use Rattle.vsi_image.specs.Fields.{globals}
 use Rattle.vsi_store.specs.File.{Tells, Names}
-use Rattle.vsi_drive.specs.declared.fault.LineFault.{LineFault}
-use Rattle.vsi_drive.specs.declared.fault.LineFault.TheVariants.{BadSetting}
+use Rattle.vsi_drive.specs.declared.settings.LineFault.{LineFault}
+use Rattle.vsi_drive.specs.declared.settings.LineFault.TheVariants.{BadSetting}
 use Rattle.vsi_drive.specs.declared.starts.StartFault.{StartFault}
 use Rattle.vsi_drive.specs.declared.starts.StartFault.TheVariants as fault
 use Rattle.vsi_drive.specs.BoundaryFaults.{boundary_fault_name}

@@ -9,8 +9,7 @@ ghost use Rattle.vsi_store.specs.View.{first_unknown, is_seen};
 ghost use Rattle.vsi_store.specs.declared.views.ViewError.TheVariants.{Memory};
 
 use crate::boundary::{Boundary, BoundaryFault, Role, is_among, is_listed};
-use crate::fault::LineFault;
-use crate::settings::words_set;
+use crate::settings::{LineFault, words_set};
 use crate::texts::{fault_line, line_seen, spent_line, written_text};
 use std::alloc::Global;
 use vsi_image::Verified;

@@ -18,16 +18,13 @@
 
 mod boundary;
 mod controller;
-mod fault;
-mod fields;
 pub mod laws;
-mod reach;
 mod settings;
 mod starts;
 mod texts;
 
 pub use boundary::{Boundary, BoundaryFault, names_of};
 pub use controller::{Controller, CycleEnding};
-pub use fault::{LINE_LIMIT, LineFault};
+pub use settings::{LINE_LIMIT, LineFault};
 pub use starts::{StartFault, first_words};
 pub use texts::start_fault_line;

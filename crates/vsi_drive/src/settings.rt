@@ -1,17 +1,18 @@
-//! The settings of a line.
+//! The settings of a line, its fields, and their faults.
 
-ghost use Rattle.std.specs.Prelude.{◌≡◌, ◌+◌, ◌*◌, ◌<◌, length, drop, slice_get, Some, Ok, Err, IfOk, MatchResult};
+ghost use Rattle.std.specs.Prelude.{◌≡◌, ◌+◌, ◌*◌, ◌<◌, length, drop, slice_get, Some, Ok, Err, IfOk, MatchResult, ◌≤◌, ◌++◌, [], slice_range, nat_le, if◌then◌else◌, None, IfSome, true, pos, neg_ℤ, OnOk};
 ghost use Rattle.vsi_image.specs.Fields.{globals};
 ghost use Rattle.vsi_lattice.specs.NamePlaces.{texts};
 ghost use Rattle.vsi_drive.specs.Control.{control};
 ghost use Rattle.vsi_drive.specs.Reaches.{settable};
+ghost use Rattle.vsi_syntax.specs.Words.{is_digit, every, value_of};
 ghost use Rattle.vsi_drive.specs.Settings as spec;
+ghost use Rattle.vsi_drive.specs.Fields as fields_spec;
 
 use crate::controller::Controller;
-use crate::fault::{LINE_LIMIT, LineFault};
-use crate::fields::{fields_of, word_of};
-use crate::reach::Reach;
 use std::alloc::{AllocError, Global};
+use thiserror::Error;
+use vsi_image::Image;
 
 /// The number of the global that the setting of this number names, if it may be set.
 fn target(reach: &Reach, number: usize, name: &[u8]) -> Result<usize, LineFault>
@@ -136,5 +137,215 @@ pub(crate) fn words_set(
     match set_fields(&Reach::UpTo(controller), fields.as_slice(), &mut words) {
         Ok(()) => Ok(Ok(words)),
         Err(fault) => Ok(Err(fault)),
+    }
+}
+
+/// The greatest signed number of 64 bits.
+const GREATEST: u64 = 9_223_372_036_854_775_807;
+
+/// The magnitude of the least such number.
+const LEAST_MAGNITUDE: u64 = 9_223_372_036_854_775_808;
+
+/// Whether the byte separates fields.
+fn is_blank(byte: u8) -> bool
+    ensures { result ≡ fields_spec.is_blank byte }
+{
+    byte == b'\t' || byte == b'\r' || byte == b' '
+}
+
+/// Adds a field, unless it is empty.
+fn put_field<'a>(fields: &mut Vec<&'a [u8]>, field: &'a [u8]) -> Result<(), AllocError>
+    ensures { OnOk result
+        (texts fields.new.items ≡ texts fields.old.items ++ fields_spec.ended field.now []) }
+{
+    if !field.is_empty() {
+        fields.push(field)?;
+    }
+    Ok(())
+}
+
+/// Processes the byte at a position, within a field that began at `start`, and returns the start of
+/// the field after it.
+fn put_byte<'a>(
+    fields: &mut Vec<&'a [u8]>,
+    line: &'a [u8],
+    start: usize,
+    at: usize,
+) -> Result<usize, AllocError>
+    requires start { start ≤ at }
+    requires at { at < length line.now }
+    ensures start { IfOk result (λ next. next ≤ at + 1) }
+    ensures fields { IfOk result (λ next.
+        texts fields.new.items
+        ++ fields_spec.fields_behind (slice_range line.now next (at + 1)) (drop (at + 1) line.now)
+        ≡ texts fields.old.items
+        ++ fields_spec.fields_behind (slice_range line.now start at) (drop at line.now)) }
+{
+    let byte = line[at];
+    if is_blank(byte) {
+        put_field(fields, &line[start..at])?;
+        return Ok(at + 1);
+    }
+    if byte == b'=' {
+        put_field(fields, &line[start..at])?;
+        fields.push(b"=")?;
+        return Ok(at + 1);
+    }
+    Ok(start)
+}
+
+/// The fields of a line.
+pub(crate) fn fields_of<'a>(alloc: Global, line: &'a [u8]) -> Result<Vec<&'a [u8]>, AllocError>
+    ensures { IfOk result (λ fields. texts fields.items ≡ fields_spec.fields_of line.now) }
+{
+    let mut fields = Vec::new(alloc);
+    let mut start = 0;
+    for i in 0..line.len() {
+        start = put_byte(&mut fields, line, start, i)?;
+    }
+    put_field(&mut fields, &line[start..])?;
+    Ok(fields)
+}
+
+/// Whether all bytes are digits.
+fn all_digits(text: &[u8]) -> bool
+    ensures { result ≡ every is_digit text.now }
+{
+    let mut rest = text;
+    while let [byte, behind @ ..] = rest {
+        if !byte.is_ascii_digit() {
+            return false;
+        }
+        rest = behind;
+    }
+    true
+}
+
+/// The value of digits, if it is at most the limit.
+fn value_up_to(digits: &[u8], limit: u64) -> Option<u64>
+    requires { every is_digit digits.now ≡ true }
+    ensures value { result
+        ≡ (if nat_le (value_of digits.now) limit then Some (value_of digits.now) else None) }
+    ensures bound { IfSome result (λ n. n ≤ limit) }
+{
+    let mut value: u64 = 0;
+    let mut rest = digits;
+    while let [byte, behind @ ..] = rest {
+        let sum = 10 * value as u128 + (*byte - b'0') as u128;
+        if sum > limit as u128 {
+            return None;
+        }
+        value = sum as u64;
+        rest = behind;
+    }
+    Some(value)
+}
+
+/// The number that one or more digits spell, if it is at most the limit.
+fn number_up_to(digits: &[u8], limit: u64) -> Option<u64>
+    ensures number { result ≡ fields_spec.number_up_to limit digits.now }
+    ensures bound { IfSome result (λ n. n ≤ limit) }
+{
+    if digits.is_empty() || !all_digits(digits) {
+        return None;
+    }
+    value_up_to(digits, limit)
+}
+
+/// The word with this magnitude below 0.
+fn negative(value: u64) -> i64
+    requires { value ≤ 9223372036854775808 }
+    ensures { result ≡ neg_ℤ (pos value) }
+{
+    if value == LEAST_MAGNITUDE {
+        i64::MIN
+    } else {
+        -(value as i64)
+    }
+}
+
+/// The word that a field spells.
+pub(crate) fn word_of(field: &[u8]) -> Option<i64>
+    ensures { result ≡ fields_spec.word_of field.now }
+{
+    match field {
+        [] => None,
+        [b'-', digits @ ..] => match number_up_to(digits, LEAST_MAGNITUDE) {
+            Some(value) => Some(negative(value)),
+            None => None,
+        },
+        digits => match number_up_to(digits, GREATEST) {
+            Some(value) => Some(value as i64),
+            None => None,
+        },
+    }
+}
+
+/// The greatest number of bytes in a line, without its line end.
+pub const LINE_LIMIT: usize = 65_536;
+
+/// Why a line sets nothing: its first fault. The number is the number of the faulty setting, from
+/// 0.
+#[derive(Clone, Copy, PartialEq, Eq, Debug, Error)]
+pub enum LineFault {
+    /// The line has more than `LINE_LIMIT` bytes.
+    #[error("the line is too long")]
+    TooLong,
+    /// The fields aren't the name of a global, `=` and a number: the second one isn't `=`, or there
+    /// are too few.
+    #[error("setting {0} is not of the form NAME = NUMBER")]
+    BadSetting(usize),
+    /// The image has no global of this name.
+    #[error("setting {0} names no global")]
+    UnknownGlobal(usize),
+    /// The global isn't at or below the class that sets it.
+    #[error("setting {0} names a global that is not at or below the class")]
+    AboveClass(usize),
+    /// The global isn't one of the controller's inputs.
+    #[error("setting {0} names a global that is no input")]
+    NotAnInput(usize),
+    /// The third field isn't a number that fits in a word.
+    #[error("setting {0} has no number")]
+    NotANumber(usize),
+}
+
+/// Which globals of an image may be set.
+#[derive(Clone, Copy)]
+pub(crate) enum Reach<'r, 'a> {
+    /// Those at or below the class of the controller.
+    UpTo(&'r Controller<'a>),
+    /// All globals, for the user who starts a run.
+    All(&'r Image),
+}
+
+impl<'r, 'a> Reach<'r, 'a> {
+    /// The names of the globals and of their classes.
+    pub(crate) fn globals(&self) -> &[(Vec<u8>, Vec<u8>)]
+        ensures { result.now ≡ (settable self.now).image.globals.items }
+    {
+        match self {
+            Reach::UpTo(controller) => controller.globals(),
+            Reach::All(image) => image.globals.as_slice(),
+        }
+    }
+
+    /// Whether a global of this name is an input.
+    pub(crate) fn takes(&self, name: &[u8]) -> bool
+        ensures { result ≡ (settable self.now).takes name.now }
+    {
+        match self {
+            Reach::UpTo(controller) => controller.takes(name),
+            Reach::All(_) => true,
+        }
+    }
+
+    /// Whether a global of this class name may be set.
+    pub(crate) fn may_set(&self, class: &[u8]) -> bool
+        ensures { result ≡ (settable self.now).may class.now }
+    {
+        match self {
+            Reach::UpTo(controller) => controller.sees(class),
+            Reach::All(_) => true,
+        }
     }
 }

@@ -9,10 +9,7 @@ ghost use Rattle.vsi_drive.specs.Reaches.{settable};
 ghost use Rattle.vsi_drive.specs.Starts as spec;
 
 use crate::boundary::BoundaryFault;
-use crate::fault::LineFault;
-use crate::fields::fields_of;
-use crate::reach::Reach;
-use crate::settings::{field, setting};
+use crate::settings::{LineFault, Reach, field, fields_of, setting};
 use std::alloc::{AllocError, Global};
 use thiserror::Error;
 use vsi_image::Image;

@@ -11,7 +11,7 @@ ghost use Rattle.vsi_drive.specs.Views as views;
 
 use crate::boundary::BoundaryFault;
 use crate::controller::Controller;
-use crate::fault::LineFault;
+use crate::settings::LineFault;
 use crate::starts::StartFault;
 use std::alloc::{AllocError, Global};
 use vsi_syntax::{put_number, put_word};

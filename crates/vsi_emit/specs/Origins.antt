@@ -3,10 +3,10 @@ use Rattle.std.specs.Prelude.{ℕ, List, [], ◌++◌, Option, Some, None, codes
 use Rattle.std.specs.Borrow.{Bor}
 use Rattle.hex.specs.Hex.{encode_lower}
 use Rattle.sha2.specs.Sha256.{sha256}
-use Rattle.vsi_emit.specs.declared.origin.Build.{Build}
-use Rattle.vsi_emit.specs.declared.origin.Build.TheVariants.{Proved, Unproved}
-use Rattle.vsi_emit.specs.declared.origin.Origin.{Origin}
-use Rattle.vsi_emit.specs.declared.origin.TheConstants.{LICENCE}
+use Rattle.vsi_emit.specs.declared.emit.Build.{Build}
+use Rattle.vsi_emit.specs.declared.emit.Build.TheVariants.{Proved, Unproved}
+use Rattle.vsi_emit.specs.declared.emit.Origin.{Origin}
+use Rattle.vsi_emit.specs.declared.emit.TheConstants.{LICENCE}
 
 -- The part of the comment that says whether the program was proved.
 abbrev pub build_text : Build → List ℕ

@@ -19,21 +19,14 @@
 #![tactic(auto)]
 
 mod blocks;
-mod depths;
 mod emit;
-mod error;
 mod frame;
 pub mod laws;
 mod marks;
 mod names;
-mod operands;
-mod origin;
 mod paid;
-mod parts;
 mod pieces;
 mod statements;
 
-pub use emit::{emit_bounded, emit_bounded_header, emit_c, emit_header};
-pub use error::EmitError;
+pub use emit::{Build, EmitError, Origin, emit_bounded, emit_bounded_header, emit_c, emit_header};
 pub use names::is_function_name;
-pub use origin::{Build, Origin};

@@ -12,10 +12,7 @@
 
 mod diagnostics;
 mod flows;
-mod further;
-mod location;
 mod marks;
-mod warned;
 
-pub use diagnostics::{DocumentText, Shown, error_object, objects_in, one_error, shown_in};
-pub use location::location_object;
+pub use diagnostics::{Shown, error_object, location_object, objects_in, one_error, shown_in};
+pub use marks::Marked;

@@ -1,13 +1,13 @@
 //! Positions of many places of one text. Each is counted from the last mark before it, and marks are
 //! close together.
 
-use crate::diagnostics::DocumentText;
-use std::alloc::{AllocError, Global};
+use std::alloc::AllocError;
+use vsi_choices::DocumentText;
 use vsi_client::{Place, Range, range_of};
 use vsi_syntax::{Span, line_column};
 
 /// The distance between two marks of a text.
-const SPACE: usize = 1024;
+const SPACE: usize = 128;
 
 /// The beginning of a text.
 const ORIGIN: Place = Place {
@@ -32,22 +32,20 @@ const START: Mark = Mark {
 
 /// A text with marks.
 #[derive(Drop)]
-pub(crate) struct Marked<'p> {
+pub struct Marked<'p> {
     document: DocumentText<'p>,
     marks: Vec<Mark>,
 }
 
 /// The position after a part of a text, from the position before the part and the one in it.
 fn joined(before: Place, inside: Place) -> Place {
-    if inside.line == 0 {
-        return Place {
-            line: before.line,
-            character: before.character.saturating_add(inside.character),
-        };
-    }
+    let character = match inside.line {
+        0 => before.character.saturating_add(inside.character),
+        _ => inside.character,
+    };
     Place {
         line: before.line.saturating_add(inside.line),
-        character: inside.character,
+        character,
     }
 }
 
@@ -68,47 +66,34 @@ fn moved(document: DocumentText<'_>, mark: Mark, at: usize) -> Mark {
     }
 }
 
-/// The place itself, or the next one if the place is inside of a line's end.
-fn outside(text: &[u8], at: usize) -> usize {
-    match text.get(at.saturating_sub(1)..at.saturating_add(1)) {
-        Some([b'\r', b'\n']) => at.saturating_add(1),
-        _ => at,
-    }
-}
-
-/// A text with its marks.
-pub(crate) fn with_marks<'p>(
-    alloc: Global,
-    document: DocumentText<'p>,
-) -> Result<Marked<'p>, AllocError> {
-    let mut marks = Vec::new(alloc);
-    let mut mark = START;
-    marks.push(mark)?;
-    for number in 0..document.text.len() / SPACE {
-        let at = number.saturating_add(1).saturating_mul(SPACE);
-        mark = moved(document, mark, outside(document.text, at));
+impl<'p> Marked<'p> {
+    /// A text with its marks, none of which is inside of a line's end.
+    pub fn of(document: DocumentText<'p>) -> Result<Self, AllocError> {
+        let mut marks = Vec::new(document.alloc);
+        let mut mark = START;
         marks.push(mark)?;
-    }
-    Ok(Marked { document, marks })
-}
-
-impl Marked<'_> {
-    /// The name of the document.
-    pub(crate) fn uri(&self) -> &[u8] {
-        self.document.uri
+        for number in 0..document.text.len() / SPACE {
+            let mut at = number.saturating_add(1).saturating_mul(SPACE);
+            let around = document
+                .text
+                .get(at.saturating_sub(1)..at.saturating_add(1));
+            if let Some([b'\r', b'\n']) = around {
+                at = at.saturating_add(1);
+            }
+            mark = moved(document, mark, at);
+            marks.push(mark)?;
+        }
+        Ok(Marked { document, marks })
     }
 
     /// The mark of a place.
     fn mark(&self, at: usize) -> Mark {
-        let mark = match self.marks.get(at / SPACE) {
-            Some(mark) => *mark,
-            None => START,
-        };
-        moved(self.document, mark, at)
+        let mark = self.marks.get(at / SPACE).copied();
+        moved(self.document, mark.unwrap_or(START), at)
     }
 
     /// The positions of a part of the text.
-    pub(crate) fn range(&self, span: Span) -> Range {
+    pub fn range(&self, span: Span) -> Range {
         Range {
             start: self.mark(span.start).place,
             stop: self.mark(span.stop).place,

@@ -23,10 +23,10 @@ use Rattle.vsi_compiler.specs.declared.error.CompileError.TheVariants.{Lex, Pars
 use Rattle.vsi_compiler.specs.Refusal.{IsRefused, Refuses, RefusesProgram}
 use Rattle.vsi_compiler.specs.Source.{Reads}
 use Rattle.vsi_compiler.specs.SourceView.{Source, IsSource}
-use Rattle.vsi_flows.specs.declared.raise.Raise.{Raise}
+use Rattle.vsi_flows.specs.declared.least.Raise.{Raise}
 use Rattle.vsi_flows.specs.Raising.{AreLeastRaises, IsFinal}
-use Rattle.vsi_flows.specs.declared.raised_error.RaisedError.{RaisedError}
-use Rattle.vsi_flows.specs.declared.raised_error.RaisedError.TheVariants as raised
+use Rattle.vsi_flows.specs.declared.least.RaisedError.{RaisedError}
+use Rattle.vsi_flows.specs.declared.least.RaisedError.TheVariants as raised
 use Rattle.vsi_flows.specs.Answers.{HasNoProgram, IsFinalWalk, IsRaiseText, IsRaisedText, RefusesRaise, RefusesRaisedText, RefusesText}
 use Rattle.vsi_flows.specs.RaisedErrors.{raised_error, source_error}
 use Rattle.vsi_flows.specs.Lines.{raise_line}

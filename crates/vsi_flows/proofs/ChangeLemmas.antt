@@ -10,7 +10,7 @@ use Rattle.vsi_types.specs.Security.{Program, IsWellFormed}
 use Rattle.vsi_types.specs.Walks.{declared_class}
 use Rattle.vsi_infer.specs.Flowing.{size_of, AreFlowsOf}
 use Rattle.vsi_infer.specs.Inference.{AreClasses}
-use Rattle.vsi_flows.specs.declared.raise.Raise.{Raise}
+use Rattle.vsi_flows.specs.declared.least.Raise.{Raise}
 use Rattle.vsi_flows.specs.Raising.{change_at, changes, change_of, IsForced, AreLeastRaises}
 use Rattle.vsi_flows.specs.Reaching.{IsReached, IsSettled, IsQuiet}
 use Rattle.vsi_flows.proofs.PolicyLemmas.{is_least}

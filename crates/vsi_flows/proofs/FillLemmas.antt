@@ -11,7 +11,7 @@ use Rattle.vsi_types.specs.Security.{Program, IsWellFormed, steps_of}
 use Rattle.vsi_infer.specs.Flowing.{size_of, variable_at}
 use Rattle.vsi_infer.specs.Paths.{IsPath}
 use Rattle.vsi_infer.specs.Shortest.{row_of}
-use Rattle.vsi_flows.specs.declared.pair.Pair.{Pair}
+use Rattle.vsi_flows.specs.declared.table.Pair.{Pair}
 use Rattle.vsi_flows.specs.Table.{IsJoined, IsTold, IsTable, HasPair, Precedes, AreSorted}
 use Rattle.vsi_flows.specs.Filling.{ComesBefore, IsBefore, IsFilled}
 

@@ -23,7 +23,7 @@ use Rattle.vsi_infer.specs.Paths.{IsPath}
 use Rattle.vsi_infer.proofs.PathLemmas.{path_push}
 use Rattle.vsi_infer.proofs.RowsOf.{count_within}
 use Rattle.vsi_infer.proofs.LawLemmas.{stays}
-use Rattle.vsi_flows.specs.declared.pair.Pair.{Pair}
+use Rattle.vsi_flows.specs.declared.table.Pair.{Pair}
 use Rattle.vsi_flows.specs.Table.{IsJoined, IsTable, HasPair}
 use Rattle.vsi_flows.specs.Independence.{IsUnreached, AgreeOutside, Independence, UnlistedIsUnreached}
 use Rattle.vsi_flows.proofs.TwoClasses.{two, two_leq, two_laws}

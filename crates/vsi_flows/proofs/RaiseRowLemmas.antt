@@ -19,7 +19,7 @@ use Rattle.vsi_infer.specs.Shortest.{FindsWalks, IsArrived, LeadsDown}
 use Rattle.vsi_infer.specs.declared.shortest.WalksTo.{WalksTo}
 use Rattle.vsi_infer.proofs.Bridge.{at_place}
 use Rattle.vsi_infer.proofs.PathLemmas.{path_bad}
-use Rattle.vsi_flows.specs.declared.pair.Pair.{Pair}
+use Rattle.vsi_flows.specs.declared.table.Pair.{Pair}
 use Rattle.vsi_flows.specs.Rows.{IsRowTo}
 use Rattle.vsi_flows.specs.Table.{IsTold}
 use Rattle.vsi_flows.specs.Text.{IsWalkOf}
@@ -27,7 +27,7 @@ use Rattle.vsi_flows.specs.Walks.{FindsPair}
 use Rattle.vsi_flows.proofs.RowLemmas.{row_is}
 use Rattle.vsi_flows.proofs.VerdictLemmas.{declared_within}
 use Rattle.vsi_flows.proofs.WalkLemmas.{found_at}
-use Rattle.vsi_flows.specs.declared.raise.Raise.{Raise}
+use Rattle.vsi_flows.specs.declared.least.Raise.{Raise}
 use Rattle.vsi_flows.specs.Raising.{Change, change, change_at, change_of, IsForced, IsFinal}
 use Rattle.vsi_flows.specs.Reaching.{floor, AreFloors, IsJoined, IsOver, AreUnder, IsReached, IsQuiet, IsSettled}
 use Rattle.vsi_flows.proofs.PolicyLemmas.{hopeless}

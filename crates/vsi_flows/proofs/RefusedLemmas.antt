@@ -9,7 +9,7 @@ use Rattle.vsi_types.specs.declared.rules.Profile.{Profile}
 use Rattle.vsi_types.specs.Security.{Program}
 use Rattle.vsi_types.specs.Walks.{declared_class}
 use Rattle.vsi_types.proofs.Walking.{some_same}
-use Rattle.vsi_flows.specs.declared.pair.Pair.{Pair}
+use Rattle.vsi_flows.specs.declared.table.Pair.{Pair}
 use Rattle.vsi_flows.specs.Table.{IsJoined, IsTold, IsTable, HasPair, Precedes, AreSorted}
 use Rattle.vsi_flows.specs.Refused.{IsRefused, refused_of, AreRefused}
 

@@ -20,7 +20,7 @@ use Rattle.vsi_compiler.specs.Stands.{Stands}
 use Rattle.vsi_compiler.proofs.Compiled.{accepted}
 use Rattle.vsi_compiler.proofs.Held.{ready}
 use Rattle.vsi_compiler.proofs.Programs.{program_is}
-use Rattle.vsi_flows.specs.declared.pair.Pair.{Pair}
+use Rattle.vsi_flows.specs.declared.table.Pair.{Pair}
 use Rattle.vsi_flows.specs.Table.{AreAllowed, HasChoice, HasPair, IsTable}
 use Rattle.vsi_flows.specs.Text.{DecideAcceptance, ShowDependence}
 use Rattle.vsi_flows.proofs.ImageLemmas.{image_independence}

@@ -19,7 +19,7 @@ use Rattle.vsi_infer.specs.Paths.{IsPath}
 use Rattle.vsi_types.specs.Steps.{sink}
 use Rattle.vsi_infer.proofs.PathLemmas.{path_bad, chain_path}
 use Rattle.vsi_infer.proofs.ShortestLemmas.{path_place, source_within}
-use Rattle.vsi_flows.specs.declared.pair.Pair.{Pair}
+use Rattle.vsi_flows.specs.declared.table.Pair.{Pair}
 use Rattle.vsi_flows.specs.Rows.{IsRowTo, AreRows}
 use Rattle.vsi_flows.specs.Table.{IsDistance, IsJoined, IsTold, IsTable, HasPair, AreAllowed, HasChoice, HasBadWalk}
 use Rattle.vsi_flows.specs.Filling.{ComesBefore, IsFilled}

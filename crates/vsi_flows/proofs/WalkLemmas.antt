@@ -27,7 +27,7 @@ use Rattle.vsi_infer.specs.Shortest.{row_of, LeadsDown, IsArrived, FindsWalks}
 use Rattle.vsi_infer.specs.declared.shortest.WalksTo.{WalksTo}
 use Rattle.vsi_infer.proofs.Bridge.{step_there, at_place}
 use Rattle.vsi_infer.proofs.ShortestLemmas.{row_back, row_plain, source_within, path_place}
-use Rattle.vsi_flows.specs.declared.pair.Pair.{Pair}
+use Rattle.vsi_flows.specs.declared.table.Pair.{Pair}
 use Rattle.vsi_flows.specs.Rows.{AreRowsOf}
 use Rattle.vsi_flows.specs.Table.{AreAllowed, HasChoice, IsTold, IsTable}
 use Rattle.vsi_flows.specs.Text.{Walked, IsWalkOf, pair_line, walked_lines, AddsLines, DecideAcceptance, IsWalksText, ShowDependence}

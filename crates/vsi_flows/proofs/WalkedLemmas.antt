@@ -13,7 +13,7 @@ use Rattle.vsi_infer.specs.Paths.{IsPath}
 use Rattle.vsi_infer.specs.Shortest.{row_of, FindsWalks}
 use Rattle.vsi_infer.specs.declared.shortest.WalksTo.{WalksTo}
 use Rattle.vsi_infer.proofs.ShortestLemmas.{row_back, source_within, path_place}
-use Rattle.vsi_flows.specs.declared.pair.Pair.{Pair}
+use Rattle.vsi_flows.specs.declared.table.Pair.{Pair}
 use Rattle.vsi_flows.specs.Table.{IsTold}
 use Rattle.vsi_flows.specs.Text.{IsWalkOf}
 use Rattle.vsi_flows.specs.Walks.{FindsPair}

@@ -14,10 +14,10 @@ use Rattle.vsi_compiler.specs.declared.error.CompileError.TheVariants.{Lex, Pars
 use Rattle.vsi_compiler.specs.Readable.{HasProgram}
 use Rattle.vsi_compiler.specs.Refusal.{IsRefused, RefusesProgram}
 use Rattle.vsi_compiler.specs.Stands.{Stands}
-use Rattle.vsi_flows.specs.declared.raise.Raise.{Raise}
+use Rattle.vsi_flows.specs.declared.least.Raise.{Raise}
 use Rattle.vsi_flows.specs.Raising.{AreLeastRaises, IsFinal}
-use Rattle.vsi_flows.specs.declared.raised_error.RaisedError.{RaisedError}
-use Rattle.vsi_flows.specs.declared.raised_error.RaisedError.TheVariants as raised
+use Rattle.vsi_flows.specs.declared.least.RaisedError.{RaisedError}
+use Rattle.vsi_flows.specs.declared.least.RaisedError.TheVariants as raised
 use Rattle.vsi_flows.specs.Lines.{raise_line}
 use Rattle.vsi_flows.specs.Places.{with_raises, written_places}
 

@@ -6,7 +6,7 @@ use Rattle.vsi_types.specs.declared.rules.Profile.{Profile}
 use Rattle.vsi_types.specs.Security.{Program}
 use Rattle.vsi_infer.specs.Flowing.{size_of, variable_at}
 use Rattle.vsi_infer.specs.Shortest.{row_of}
-use Rattle.vsi_flows.specs.declared.pair.Pair.{Pair}
+use Rattle.vsi_flows.specs.declared.table.Pair.{Pair}
 use Rattle.vsi_flows.specs.Table.{IsJoined, IsTold, HasPair, AreSorted}
 
 -- A position comes before another one, by its source and then by its target.

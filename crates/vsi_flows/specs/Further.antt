@@ -8,7 +8,7 @@ use Rattle.vsi_types.specs.declared.rules.Step.{Step}
 use Rattle.vsi_types.specs.Security.{Program, program, steps_of}
 use Rattle.vsi_infer.specs.Flowing.{size_of}
 use Rattle.vsi_compiler.specs.SourceView.{Source}
-use Rattle.vsi_flows.specs.declared.pair.Pair.{Pair}
+use Rattle.vsi_flows.specs.declared.table.Pair.{Pair}
 use Rattle.vsi_flows.specs.Table.{IsTable}
 use Rattle.vsi_flows.specs.Text.{IsWalkOf}
 use Rattle.vsi_flows.specs.Refused.{IsRefused, AreWalked}

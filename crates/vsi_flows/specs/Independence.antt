@@ -14,7 +14,7 @@ use Rattle.vsi_infer.specs.Paths.{IsPath}
 use Rattle.vsi_code.specs.Behaves.{Halts}
 use Rattle.vsi_compiler.specs.Headline.{KeepsMeaning}
 use Rattle.vsi_compiler.specs.Stands.{Stands}
-use Rattle.vsi_flows.specs.declared.pair.Pair.{Pair}
+use Rattle.vsi_flows.specs.declared.table.Pair.{Pair}
 use Rattle.vsi_flows.specs.Table.{IsTable, HasPair}
 
 -- No walk leads from a variable of the list to b. A walk of no steps leads from b to itself.

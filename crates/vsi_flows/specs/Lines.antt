@@ -7,7 +7,7 @@ use Rattle.vsi_lattice.specs.LatticeView.{names}
 use Rattle.vsi_scope.specs.declared.resolved.Entry.{Entry}
 use Rattle.vsi_scope.specs.Program.{Resolved}
 use Rattle.vsi_infer.specs.Explanation.{name_of, variable_text}
-use Rattle.vsi_flows.specs.declared.raise.Raise.{Raise}
+use Rattle.vsi_flows.specs.declared.least.Raise.{Raise}
 
 -- The name of a class.
 abbrev pub class_name : Lattice → ℕ → List ℕ

@@ -3,8 +3,8 @@ use Rattle.std.specs.Prelude.{ℕ}
 use Rattle.std.specs.Global.{Vec}
 use Rattle.vsi_compiler.specs.declared.error.CompileError.{CompileError}
 use Rattle.vsi_compiler.specs.declared.error.CompileError.TheVariants as compiler
-use Rattle.vsi_flows.specs.declared.raised_error.RaisedError.{RaisedError}
-use Rattle.vsi_flows.specs.declared.raised_error.RaisedError.TheVariants as raised
+use Rattle.vsi_flows.specs.declared.least.RaisedError.{RaisedError}
+use Rattle.vsi_flows.specs.declared.least.RaisedError.TheVariants as raised
 
 -- The error for a source text that is refused.
 abbrev pub source_error : CompileError → RaisedError

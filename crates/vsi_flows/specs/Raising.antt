@@ -9,9 +9,9 @@ use Rattle.vsi_types.specs.Security.{Program, steps_of}
 use Rattle.vsi_types.specs.Walks.{declared_class, IsBad}
 use Rattle.vsi_infer.specs.Flowing.{size_of}
 use Rattle.vsi_infer.specs.Paths.{IsPath}
-use Rattle.vsi_flows.specs.declared.raise.Raise.{Raise}
-use Rattle.vsi_flows.specs.declared.raise.Raising.{Raising}
-use Rattle.vsi_flows.specs.declared.raise.Raising.TheVariants.{Raised, Refused}
+use Rattle.vsi_flows.specs.declared.least.Raise.{Raise}
+use Rattle.vsi_flows.specs.declared.least.Raising.{Raising}
+use Rattle.vsi_flows.specs.declared.least.Raising.TheVariants.{Raised, Refused}
 use Rattle.vsi_flows.specs.Policy.{IsLeastPolicy, IsHopeless}
 
 -- A declaration, its declared class and another one.

@@ -8,7 +8,7 @@ use Rattle.vsi_types.specs.Security.{Program, steps_of}
 use Rattle.vsi_types.specs.Walks.{declared_class}
 use Rattle.vsi_infer.specs.Flowing.{size_of}
 use Rattle.vsi_infer.specs.Paths.{IsPath}
-use Rattle.vsi_flows.specs.declared.raise.Raise.{Raise}
+use Rattle.vsi_flows.specs.declared.least.Raise.{Raise}
 use Rattle.vsi_flows.specs.Raising.{change_at, change_of, IsForced}
 
 -- The least class that a variable can have: its declared class, or the bottom if none is declared.

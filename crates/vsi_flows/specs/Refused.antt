@@ -5,7 +5,7 @@ use Rattle.vsi_lattice.specs.Order.{Lattice, Below}
 use Rattle.vsi_types.specs.declared.rules.Profile.{Profile}
 use Rattle.vsi_types.specs.declared.rules.Step.{Step}
 use Rattle.vsi_types.specs.Security.{Program}
-use Rattle.vsi_flows.specs.declared.pair.Pair.{Pair}
+use Rattle.vsi_flows.specs.declared.table.Pair.{Pair}
 use Rattle.vsi_flows.specs.Table.{IsJoined, IsTold, HasPair, AreSorted}
 use Rattle.vsi_flows.specs.Text.{IsWalkOf}
 use Rattle.vsi_flows.specs.declared.walked.WalkedPair.{WalkedPair}

@@ -7,7 +7,7 @@ use Rattle.vsi_types.specs.declared.rules.Step.{Step}
 use Rattle.vsi_types.specs.Security.{Program, IsTypable, steps_of}
 use Rattle.vsi_types.specs.Walks.{declared_class, IsBad}
 use Rattle.vsi_infer.specs.Paths.{IsPath}
-use Rattle.vsi_flows.specs.declared.pair.Pair.{Pair}
+use Rattle.vsi_flows.specs.declared.table.Pair.{Pair}
 
 -- This many steps lead from a to b, and no walk from a to b has fewer.
 pub record IsDistance (ss : List Step) (a b n : ℕ) : Type 0 where

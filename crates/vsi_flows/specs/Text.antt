@@ -15,7 +15,7 @@ use Rattle.vsi_code.specs.Behaves.{Halts}
 use Rattle.vsi_compiler.specs.Acceptance.{IsAccepted}
 use Rattle.vsi_compiler.specs.Headline.{KeepsMeaning}
 use Rattle.vsi_compiler.specs.Stands.{Stands}
-use Rattle.vsi_flows.specs.declared.pair.Pair.{Pair}
+use Rattle.vsi_flows.specs.declared.table.Pair.{Pair}
 use Rattle.vsi_flows.specs.Independence.{AgreeOutside}
 use Rattle.vsi_flows.specs.Table.{AreAllowed, HasPair, IsTable}
 

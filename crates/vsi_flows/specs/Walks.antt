@@ -8,7 +8,7 @@ use Rattle.vsi_types.specs.declared.rules.Step.{Step}
 use Rattle.vsi_infer.specs.Paths.{IsPath}
 use Rattle.vsi_infer.specs.Shortest.{row_of, LeadsDown, FindsWalks}
 use Rattle.vsi_infer.specs.declared.shortest.WalksTo.{WalksTo}
-use Rattle.vsi_flows.specs.declared.pair.Pair.{Pair}
+use Rattle.vsi_flows.specs.declared.table.Pair.{Pair}
 use Rattle.vsi_flows.specs.Text.{Walked, IsWalkOf, walked_lines}
 
 -- No other position reaches the row's variable.

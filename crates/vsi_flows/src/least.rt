@@ -1,25 +1,110 @@
-//! The raises to the least policy under which a program is accepted.
+//! The raises to the least policy under which a program is accepted, and why there is none.
 
-ghost use Rattle.std.specs.Prelude.{◌≡◌, IfOk};
+ghost use Rattle.std.specs.Prelude.{◌≡◌, IfOk, ◌<◌, MatchOption};
+ghost use Rattle.vsi_flows.specs.declared.least.RaisedError.TheVariants.{Memory};
 ghost use Rattle.std.specs.List.{All};
-ghost use Rattle.vsi_lattice.specs.LatticeView.{order};
 ghost use Rattle.vsi_lattice.specs.Order.{IsClass};
 ghost use Rattle.vsi_types.specs.Security.{program as program_of};
-ghost use Rattle.vsi_infer.specs.Flowing.{AreFlowsOf};
 ghost use Rattle.vsi_infer.specs.Inference.{AreClasses};
-ghost use Rattle.vsi_flows.specs.Raising.{Answers, AreLeastRaises};
-ghost use Rattle.vsi_flows.specs.Reaching.{AreFloors, IsQuiet};
+ghost use Rattle.vsi_flows.specs.Reaching.{floor, AreFloors, IsQuiet, IsSettled};
+ghost use Rattle.vsi_lattice.specs.LatticeView.{order};
+ghost use Rattle.vsi_infer.specs.Flowing.{AreFlowsOf, size_of};
+ghost use Rattle.vsi_flows.specs.Raising.{Answers, AreLeastRaises, IsFinal};
 
-use crate::floors::floors;
-use crate::raise::{Raise, Raising};
-use crate::rows::declarations;
-use crate::settling::{final_walk, settle};
-use std::alloc::{AllocError, Global as Heap};
-use vsi_compiler::Source;
-use vsi_infer::{Flow, FlowRows, flow_rows};
+use crate::rows::{declarations, joined, nearest_over};
+use std::alloc::{AllocError, AllocFailed, Global as Heap};
+use thiserror::Error;
+use vsi_compiler::{CompileError, Source};
+use vsi_infer::{
+    Flow, FlowRows, Walk, declared_class, fewest_flows, flow_rows, steps_down, walks_to,
+};
 use vsi_lattice::{Class, Classes};
-use vsi_scope::Resolved;
+use vsi_scope::{Resolved, Var};
 use vsi_types::Profile;
+
+/// A declared variable whose class must rise.
+#[derive(Clone, Copy, Debug, PartialEq, Eq)]
+pub struct Raise {
+    /// The variable.
+    pub variable: Var,
+    /// Its declared class.
+    pub old: Class,
+    /// The class to which it must rise.
+    pub new: Class,
+    /// A declared variable that reaches it and whose class isn't at or below the old one.
+    pub cause: Var,
+}
+
+/// How a program can be accepted.
+#[derive(Debug, Drop)]
+pub enum Raising {
+    /// By these raises, in the order of declarations; none if it is accepted unchanged.
+    Raised(Vec<Raise>),
+    /// By no raise: a variable whose declared class isn't the bottom reaches the ending of loops,
+    /// by this walk.
+    Refused(Walk),
+}
+
+/// A reason why there is no text with raised classes. Lack of memory is always `Memory`, and never
+/// an inner error.
+#[derive(Debug, Drop, Error)]
+pub enum RaisedError {
+    /// The source text has no program, or no raise makes it accepted.
+    #[error("the text is refused whatever its classes rise to")]
+    Source(CompileError),
+    /// The text with the raised classes isn't accepted: that text, and why it is refused.
+    #[error("the text with the raised classes is refused")]
+    Raised(Vec<u8>, CompileError),
+    /// There was too little memory.
+    #[error("out of memory")]
+    Memory,
+}
+
+impl From<AllocError> for RaisedError {
+    ghost from_gives = { λ _ e. e ≡ Memory };
+
+    fn from(_error: AllocError) -> RaisedError {
+        RaisedError::Memory
+    }
+}
+
+impl<T: Drop> From<AllocFailed<T>> for RaisedError {
+    ghost from_gives = { λ _ e. e ≡ Memory };
+
+    fn from(_error: AllocFailed<T>) -> RaisedError {
+        RaisedError::Memory
+    }
+}
+
+/// The declared class of a variable, or the bottom if none is declared.
+fn floor_of<C: Classes>(lattice: &C, program: &Resolved<'_>, variable: Var) -> Class
+    ensures { result ≡ floor (C.lattice lattice.now) (program_of program.now) variable }
+{
+    match declared_class(lattice, program, variable) {
+        Some(class) => class,
+        None => lattice.bottom(),
+    }
+}
+
+/// The floors of all declarations, in order.
+pub(crate) fn floors<C: Classes>(
+    alloc: Heap,
+    lattice: &C,
+    program: &Resolved<'_>,
+) -> Result<Vec<Class>, AllocError>
+    requires globals { All (IsClass (C.lattice lattice.now)) (program_of program.now).globals }
+    requires declared { AreClasses (C.lattice lattice.now) (program_of program.now).declared }
+    ensures floors { IfOk result
+        (λ f. AreFloors (C.lattice lattice.now) (program_of program.now) f.items) }
+    ensures classes { IfOk result (λ f. All (IsClass (C.lattice lattice.now)) f.items) }
+{
+    let count = declarations(program);
+    let mut floors = Vec::new(alloc);
+    for v in 0..count {
+        floors.push(floor_of(lattice, program, Var(v)))?;
+    }
+    Ok(floors)
+}
 
 /// The raise of a declaration that is settled.
 fn raise_of(settled: (Class, Option<Raise>)) -> Option<Raise>
@@ -91,4 +176,75 @@ pub fn raises_of(alloc: Heap, profile: Profile, source: &Source<'_>) -> Result<R
         (Answers (order source.now.lattice) profile (program_of source.now.resolved)) }
 {
     raises_in(alloc, profile, source.lattice(), source.resolved())
+}
+
+/// The class that reaches a variable, and its raise if its declared class is another one.
+pub(crate) fn settle<C: Classes>(
+    alloc: Heap,
+    profile: Profile,
+    lattice: &C,
+    program: &Resolved<'_>,
+    flow: &FlowRows,
+    floors: &[Class],
+    variable: u16,
+) -> Result<(Class, Option<Raise>), AllocError>
+    requires globals { All (IsClass (C.lattice lattice.now)) (program_of program.now).globals }
+    requires declared { AreClasses (C.lattice lattice.now) (program_of program.now).declared }
+    requires flows { AreFlowsOf profile (program_of program.now)
+        (⟦<FlowRows as Flow>⟧.flows flow.now) }
+    requires floors { AreFloors (C.lattice lattice.now) (program_of program.now) floors.now }
+    requires classes { All (IsClass (C.lattice lattice.now)) floors.now }
+    requires variable { variable < size_of (program_of program.now) }
+    ensures { IfOk result (λ r. IsSettled (C.lattice lattice.now) profile (program_of program.now)
+        variable r.0 r.1) }
+{
+    // `body` ensures that the program is resolved, which the proofs need.
+    let _body = program.body();
+    let row = fewest_flows(alloc, flow, floors.len() + 1, variable as usize)?;
+    let new = joined(lattice, floors, &row);
+    let Some(old) = declared_class(lattice, program, Var(variable)) else {
+        return Ok((new, None));
+    };
+    let Some(cause) = nearest_over(lattice, floors, &row, old) else {
+        return Ok((new, None));
+    };
+    let raise = Raise {
+        variable: Var(variable),
+        old,
+        new,
+        cause: Var(cause as u16),
+    };
+    Ok((new, Some(raise)))
+}
+
+/// A walk from a variable whose floor isn't the bottom to the ending of loops, if there is one.
+pub(crate) fn final_walk<C: Classes>(
+    alloc: Heap,
+    profile: Profile,
+    lattice: &C,
+    program: &Resolved<'_>,
+    flow: &FlowRows,
+    floors: &[Class],
+) -> Result<Option<Walk>, AllocError>
+    requires globals { All (IsClass (C.lattice lattice.now)) (program_of program.now).globals }
+    requires declared { AreClasses (C.lattice lattice.now) (program_of program.now).declared }
+    requires flows { AreFlowsOf profile (program_of program.now)
+        (⟦<FlowRows as Flow>⟧.flows flow.now) }
+    requires floors { AreFloors (C.lattice lattice.now) (program_of program.now) floors.now }
+    requires classes { All (IsClass (C.lattice lattice.now)) floors.now }
+    ensures { IfOk result (λ o. MatchOption o
+        (IsQuiet (C.lattice lattice.now) profile (program_of program.now))
+        (λ w. IsFinal (C.lattice lattice.now) profile (program_of program.now) w.steps.items)) }
+{
+    // `body` ensures that the program is resolved, which the proofs need.
+    let _body = program.body();
+    let last = declarations(program);
+    let row = fewest_flows(alloc, flow, last as usize + 1, last as usize)?;
+    let Some(from) = nearest_over(lattice, floors, &row, lattice.bottom()) else {
+        return Ok(None);
+    };
+    let known = steps_down(alloc, profile, program, &row, last)?;
+    let walks = walks_to(&known, 0, &row, last);
+    let steps = walks.walk_from(alloc, profile, program, Var(from as u16), row[from])?;
+    Ok(Some(Walk { steps }))
 }

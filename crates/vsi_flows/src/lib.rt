@@ -20,51 +20,25 @@
 //! `specs/Further` and `specs/Messages`. The other files of `specs/` only support proofs.
 #![tactic(auto)]
 
-mod choosing;
-mod error;
-mod finders;
-mod floors;
-mod judged;
 pub mod laws;
 mod least;
 mod lines;
 mod listing;
-mod lists;
-mod messages;
-mod names;
-mod pair;
-mod places;
-mod raise;
-mod raised_error;
-mod reaching;
-mod refused;
 mod relating;
 mod rows;
-mod settling;
-mod splice;
 mod table;
 mod text;
 mod walked;
-mod walking;
 mod walks;
 mod written;
 
-pub use error::FlowsError;
-pub use least::{raises_in, raises_of};
+pub use least::{Raise, RaisedError, Raising, raises_in, raises_of};
 pub use lines::{raise_lines_in, raise_lines_of};
 pub use listing::further_flows;
-pub use lists::Related;
-pub use messages::{ends_text, step_text};
-pub use names::name_start;
-pub use pair::Pair;
-pub use raise::{Raise, Raising};
-pub use raised_error::RaisedError;
-pub use refused::refused_pairs;
 pub use relating::related;
-pub use rows::declarations;
-pub use table::flows_in;
-pub use text::{flows_text_in, flows_text_of, table_text};
+pub use rows::{declarations, name_start};
+pub use table::{FlowsError, Pair, Related, flows_in, refused_pairs};
+pub use text::{ends_text, flows_text_in, flows_text_of, step_text, table_text};
 pub use walked::{WalkedPair, walks_of};
-pub use walking::{WalkTable, Walks, table_walks, walk_table};
-pub use walks::{walks_text_in, walks_text_of};
+pub use walks::{WalkTable, Walks, table_walks, walk_table, walks_text_in, walks_text_of};
 pub use written::{raised_text_in, raised_text_of};

@@ -12,9 +12,8 @@ ghost use Rattle.vsi_flows.specs.Raising.{AreLeastRaises};
 ghost use Rattle.vsi_flows.specs.Answers.{HasClassesIn, IsRaiseText, RefusesRaise};
 ghost use Rattle.vsi_flows.specs.Lines as spec;
 
-use crate::least::raises_of;
-use crate::names::name_start;
-use crate::raise::{Raise, Raising};
+use crate::least::{Raise, Raising, raises_of};
+use crate::rows::name_start;
 use std::alloc::{AllocError, Global};
 use vsi_compiler::{CompileError, Source, read_source};
 use vsi_infer::{put_variable, variable_name};

@@ -7,11 +7,8 @@ ghost use Rattle.vsi_types.specs.Security.{program as program_of};
 ghost use Rattle.vsi_flows.specs.Table.{AreSorted};
 ghost use Rattle.vsi_flows.specs.Further as spec;
 
-use crate::choosing::further_pairs;
-use crate::error::FlowsError;
-use crate::pair::Pair;
 use crate::rows::declarations;
-use crate::table::flows_in;
+use crate::table::{FlowsError, Pair, flows_in, further_pairs};
 use crate::walked::{WalkedPair, walks_of};
 use std::alloc::{AllocError, Global};
 use vsi_compiler::Source;

@@ -1,4 +1,4 @@
-//! The search for the variables that a chain of flow steps joins with a variable.
+//! The declared variables that chains of flow steps join with a variable.
 
 ghost use Rattle.std.specs.Prelude.{◌≡◌, ◌↔◌, ◌+◌, ◌<◌, ◌≤◌, true, false, length, slice_index, IfOk};
 ghost use Rattle.vsi_lattice.specs.LatticeView.{order};
@@ -10,7 +10,7 @@ ghost use Rattle.vsi_infer.specs.Shortest.{row_of as row_of_variable};
 ghost use Rattle.vsi_flows.specs.Rows.{IsRowTo};
 ghost use Rattle.vsi_flows.specs.Related.{IsOther, IsSource, IsTarget, AreExactly};
 
-use crate::lists::Related;
+use crate::table::Related;
 use std::alloc::{AllocError, Global as Heap};
 use vsi_compiler::Source;
 use vsi_infer::{Flow, FlowRows, declared_class, fewest_flows, flow_rows, row_of};

@@ -1,6 +1,7 @@
-//! The table of flows.
+//! The table of flows, its pairs, and which of them are listed.
 
-ghost use Rattle.std.specs.Prelude.{◌≡◌, ◌↔◌, ◌⊎◌, ◌+◌, ◌≤◌, ◌<◌, map, IfOk, IfSome, IfNone, OnOk};
+ghost use Rattle.std.specs.Prelude.{◌≡◌, ◌++◌, [], ◌∷◌, cond, IfOk, OnOk, ◌↔◌, ◌⊎◌, ◌+◌, ◌≤◌, ◌<◌, map, IfSome, IfNone, if◌then◌else◌};
+ghost use Rattle.vsi_flows.specs.declared.table.FlowsError.TheVariants.{Memory};
 ghost use Rattle.std.specs.List.{All};
 ghost use Rattle.vsi_lattice.specs.Order.{IsClass};
 ghost use Rattle.vsi_types.specs.Security.{program as program_of};
@@ -8,18 +9,109 @@ ghost use Rattle.vsi_types.specs.declared.rules.Profile.{Profile};
 ghost use Rattle.vsi_infer.specs.Flowing.{size_of, variable_at as variable_at_of};
 ghost use Rattle.vsi_infer.specs.Inference.{AreClasses};
 ghost use Rattle.vsi_flows.specs.Rows.{AreRows, AreRowsOf};
-ghost use Rattle.vsi_flows.specs.Table.{IsJoined, IsTold, IsTable, AreAllowed};
-ghost use Rattle.vsi_flows.specs.Table.{HasChoice, HasBadWalk};
+ghost use Rattle.vsi_flows.specs.Table.{IsJoined, IsTold, IsTable, AreAllowed, HasChoice, HasBadWalk};
 ghost use Rattle.vsi_flows.specs.Filling.{IsFilled};
+ghost use Rattle.vsi_flows.specs.Refused.{AreRefused, refused_of};
+ghost use Rattle.vsi_flows.specs.Further as spec;
 
-use crate::error::FlowsError;
-use crate::pair::Pair;
 use crate::rows::{declarations, far, program_rows, variable_at};
-use std::alloc::{AllocError, Global as Heap};
+use std::alloc::{AllocError, AllocFailed, Global, Global as Heap};
+use thiserror::Error;
 use vsi_infer::{InferError, declared_class, infer_in};
 use vsi_lattice::Classes;
 use vsi_scope::{Resolved, Var};
 use vsi_types::Profile;
+
+/// Two different declared variables joined by a chain of flow steps.
+#[derive(Clone, Copy, Debug, PartialEq, Eq)]
+pub struct Pair {
+    /// The beginning of the chain.
+    pub source: Var,
+    /// The end of the chain; `vsi_types::LOOP` for the ending of loops.
+    pub target: Var,
+    /// Whether the class of the source is at or below the class of the target.
+    pub allowed: bool,
+    /// The fewest steps of such a chain, at most 1,024.
+    pub steps: u16,
+}
+
+/// The declared variables that chains of flow steps join with a variable, in the order of their
+/// declarations. The ending of loops counts as declared with the bottom class, and comes last.
+#[derive(Debug, Drop)]
+pub struct Related {
+    /// The variables from which a chain leads to it.
+    pub from: Vec<Var>,
+    /// The variables to which a chain leads from it.
+    pub to: Vec<Var>,
+}
+
+/// Why there is no table.
+#[derive(Debug, Drop, Error)]
+pub enum FlowsError {
+    /// There was too little memory.
+    #[error("out of memory")]
+    Memory,
+}
+
+impl From<AllocError> for FlowsError {
+    ghost from_gives = { λ _ e. e ≡ Memory };
+
+    fn from(_error: AllocError) -> FlowsError {
+        FlowsError::Memory
+    }
+}
+
+impl<T: Drop> From<AllocFailed<T>> for FlowsError {
+    ghost from_gives = { λ _ e. e ≡ Memory };
+
+    fn from(_error: AllocFailed<T>) -> FlowsError {
+        FlowsError::Memory
+    }
+}
+
+/// The most steps of a walk.
+const MOST_STEPS: u16 = 32;
+
+/// Whether a pair is refused, has other ends than these, and has a walk of at most 32 steps.
+fn is_further(from: Var, to: Var, pair: &Pair) -> bool
+    ensures { result ≡ spec.is_further from to pair.now }
+{
+    if pair.allowed {
+        return false;
+    }
+    if pair.source == from && pair.target == to {
+        return false;
+    }
+    pair.steps <= MOST_STEPS
+}
+
+/// Adds a pair that is listed.
+fn put_further(kept: &mut Vec<Pair>, from: Var, to: Var, pair: &Pair) -> Result<(), AllocError>
+    ensures { OnOk result (kept.new.items
+        ≡ kept.old.items ++ cond (spec.is_further from to pair.now) (pair.now ∷ []) []) }
+{
+    if !is_further(from, to, pair) {
+        return Ok(());
+    }
+    kept.push(*pair)?;
+    Ok(())
+}
+
+/// The pairs that are listed, in their order.
+pub(crate) fn further_pairs(
+    alloc: Global,
+    from: Var,
+    to: Var,
+    pairs: &[Pair],
+) -> Result<Vec<Pair>, AllocError>
+    ensures { IfOk result (λ kept. kept.items ≡ spec.further_of from to pairs.now) }
+{
+    let mut kept = Vec::new(alloc);
+    for pair in pairs {
+        put_further(&mut kept, from, to, pair)?;
+    }
+    Ok(kept)
+}
 
 /// The pair of a variable and the one at a position, if a walk joins them.
 fn pair_at<C: Classes>(
@@ -181,4 +273,45 @@ pub fn flows_in<C: Classes>(
     let pairs = table_of(alloc, profile, lattice, program)?;
     decide(alloc, profile, lattice, program)?;
     Ok(pairs)
+}
+
+/// Adds a pair that isn't allowed.
+fn put_refused(kept: &mut Vec<Pair>, pair: Pair) -> Result<(), AllocError>
+    ensures { OnOk result
+        (kept.new.items ≡ kept.old.items ++ (if pair.allowed then [] else pair ∷ [])) }
+{
+    if pair.allowed {
+        return Ok(());
+    }
+    kept.push(pair)?;
+    Ok(())
+}
+
+/// The pairs that aren't allowed, in their order.
+fn without_allowed(alloc: Global, pairs: &[Pair]) -> Result<Vec<Pair>, AllocError>
+    ensures { IfOk result (λ kept. kept.items ≡ refused_of pairs.now) }
+{
+    let mut kept = Vec::new(alloc);
+    for pair in pairs {
+        put_refused(&mut kept, *pair)?;
+    }
+    Ok(kept)
+}
+
+/// The refused pairs of a program, ordered by the source and then by the target.
+pub fn refused_pairs<C: Classes>(
+    alloc: Global,
+    profile: Profile,
+    lattice: &C,
+    program: &Resolved<'_>,
+) -> Result<Vec<Pair>, AllocError>
+    requires globals { All (IsClass (C.lattice lattice.now)) (program_of program.now).globals }
+    requires declared { AreClasses (C.lattice lattice.now) (program_of program.now).declared }
+    ensures { IfOk result (λ pairs.
+        AreRefused (C.lattice lattice.now) profile (program_of program.now) pairs.items) }
+{
+    match flows_in(alloc, profile, lattice, program) {
+        Ok(pairs) => without_allowed(alloc, &pairs),
+        Err(FlowsError::Memory) => Err(AllocError),
+    }
 }

@@ -12,8 +12,8 @@ ghost use Rattle.vsi_flows.specs.Table.{IsTold};
 ghost use Rattle.vsi_flows.specs.Text.{IsWalkOf};
 ghost use Rattle.vsi_flows.specs.Refused.{AreWalked};
 
-use crate::pair::Pair;
 use crate::rows::declarations;
+use crate::table::Pair;
 use std::alloc::{AllocError, Global};
 use vsi_infer::{
     FirstSteps, Flow, FlowRows, fewest_flows, flow_rows, row_of, steps_down_each, walks_to,

@@ -1,6 +1,6 @@
-//! The table as text, with a walk below the line of each pair.
+//! The table with a shortest walk for each pair.
 
-ghost use Rattle.std.specs.Prelude.{◌≡◌, List, IfOk, IfErr};
+ghost use Rattle.std.specs.Prelude.{◌≡◌, List, IfOk, IfErr, ◌<◌, length, OnOk};
 ghost use Rattle.vsi_lattice.specs.LatticeView.{class_named};
 ghost use Rattle.vsi_syntax.specs.Tree.{Whole};
 ghost use Rattle.vsi_scope.specs.Language.{Command};
@@ -8,11 +8,17 @@ ghost use Rattle.vsi_scope.specs.Resolving.{IsResolution};
 ghost use Rattle.vsi_compiler.specs.Source.{Reads};
 ghost use Rattle.vsi_compiler.specs.declared.error.CompileError.TheVariants.{Memory};
 ghost use Rattle.vsi_compiler.specs.Refusal.{RefusesProgram};
+ghost use Rattle.vsi_types.specs.Security.{program, steps_of};
+ghost use Rattle.vsi_flows.specs.Text.{AddsLines};
+ghost use Rattle.vsi_flows.specs.Walking.{AreWalks, IsWalkTable};
 ghost use Rattle.vsi_flows.specs.Text as spec;
 
-use crate::walking::{table_walks, walk_table};
+use crate::rows::{declarations, found_in, program_rows, walk_of};
+use crate::table::{Pair, decide, pairs_of};
+use crate::text::put_pair;
 use std::alloc::{AllocError, Global as Heap};
 use vsi_compiler::{CompileError, Source, read_source};
+use vsi_infer::{FirstSteps, Mark, WalksTo, marks_of, put_steps, steps_down_each};
 use vsi_lattice::Lattice;
 use vsi_types::Profile;
 
@@ -54,4 +60,109 @@ pub fn walks_text_in(
     let source = read_source(alloc, lattice, text)?;
     let lines = walks_text_of(alloc, profile, &source)?;
     Ok(lines)
+}
+
+/// The pairs of a source text under a profile, the rows that walks go down, and the program's steps
+/// that lead down them.
+#[derive(Drop)]
+pub struct WalkTable<'s, 'a> {
+    profile: Profile,
+    source: &'s Source<'a>,
+    rows: Vec<Vec<u16>>,
+    pairs: Vec<Pair>,
+    known: FirstSteps,
+}
+
+/// The walks of a table's pairs. Each is found in the time that its steps take.
+#[derive(Drop)]
+pub struct Walks<'t, 's, 'a> {
+    table: &'t WalkTable<'s, 'a>,
+    found: Vec<Option<WalksTo<'t>>>,
+    marks: Vec<Mark>,
+}
+
+/// The table of a source text under a profile. This takes two passes over the program, and an
+/// inference of its classes, which proves the verdict.
+pub fn walk_table<'s, 'a>(
+    alloc: Heap,
+    profile: Profile,
+    source: &'s Source<'a>,
+) -> Result<WalkTable<'s, 'a>, AllocError>
+    ensures table { IfOk result IsWalkTable }
+    ensures source { IfOk result (λ t. t.source.now ≡ source.now) }
+    ensures profile { IfOk result (λ t. t.profile ≡ profile) }
+{
+    let lattice = source.lattice();
+    let resolved = source.resolved();
+    let rows = program_rows(alloc, profile, lattice, resolved)?;
+    let pairs = pairs_of(alloc, lattice, resolved, &rows)?;
+    decide(alloc, profile, lattice, resolved)?;
+    let last = declarations(resolved);
+    let known = steps_down_each(alloc, profile, resolved, &rows, last)?;
+    Ok(WalkTable {
+        profile,
+        source,
+        rows,
+        pairs,
+        known,
+    })
+}
+
+/// The walks of a table.
+pub fn table_walks<'t, 's, 'a>(
+    alloc: Heap,
+    table: &'t WalkTable<'s, 'a>,
+) -> Result<Walks<'t, 's, 'a>, AllocError>
+    requires { IsWalkTable table.now }
+    ensures walks { IfOk result AreWalks }
+    ensures table { IfOk result (λ w. w.table.now ≡ table.now) }
+{
+    let resolved = table.source.resolved();
+    let last = declarations(resolved);
+    let found = found_in(alloc, &table.known, &table.rows, last)?;
+    let text = table.source.text();
+    let marks = marks_of(alloc, text)?;
+    Ok(Walks {
+        table,
+        found,
+        marks,
+    })
+}
+
+impl<'t, 's, 'a> Walks<'t, 's, 'a> {
+    /// The number of pairs.
+    pub fn len(&self) -> usize
+        ensures { result ≡ length self.now.table.now.pairs.items }
+    {
+        self.table.pairs.len()
+    }
+
+    /// Adds the lines of the pair with this number: its own line and, below it, those of a walk of
+    /// its fewest steps, as in a refusal's explanation. It is the walk that a refusal would show:
+    /// the first in the order of the program's steps, step by step.
+    pub fn put_lines(
+        &self,
+        alloc: Heap,
+        number: usize,
+        text: &mut Vec<u8>,
+    ) -> Result<(), AllocError>
+        requires walks { AreWalks self.now }
+        requires number { number < length self.now.table.now.pairs.items }
+        ensures { OnOk result (AddsLines self.now.table.now.source.now.lattice
+            (steps_of self.now.table.now.profile (program self.now.table.now.source.now.resolved))
+            self.now.table.now.source.now.text self.now.table.now.source.now.resolved
+            self.now.table.now.pairs.items number text.old.items text.new.items) }
+    {
+        let source = self.table.source;
+        let lattice = source.lattice();
+        let source_text = source.text();
+        let resolved = source.resolved();
+        let pair = &self.table.pairs[number];
+        put_pair(text, lattice, resolved, *pair)?;
+        let last = declarations(resolved);
+        let profile = self.table.profile;
+        let walk = walk_of(alloc, profile, resolved, &self.found, last, *pair)?;
+        put_steps(text, source_text, &self.marks, resolved, &walk)?;
+        Ok(())
+    }
 }

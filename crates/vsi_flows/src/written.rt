@@ -1,25 +1,26 @@
 //! A text with its classes raised, which is accepted.
 
-ghost use Rattle.std.specs.Prelude.{◌≡◌, IfOk, IfErr};
+ghost use Rattle.std.specs.Prelude.{◌≡◌, IfOk, IfErr, ◌-◌, take, drop, ◌++◌, map, option_map, OnOk};
 ghost use Rattle.vsi_lattice.specs.LatticeView.{class_named, order};
-ghost use Rattle.vsi_syntax.specs.Tree.{Whole};
+ghost use Rattle.vsi_syntax.specs.Tree.{Whole, IsProgram, write_program};
 ghost use Rattle.vsi_types.specs.Security.{program as program_of};
 ghost use Rattle.vsi_compiler.specs.Acceptance.{IsAccepted};
 ghost use Rattle.vsi_compiler.specs.Source.{Reads};
 ghost use Rattle.vsi_flows.specs.Raising.{AreLeastRaises};
 ghost use Rattle.vsi_flows.specs.Answers.{HasClassesIn, IsRaisedText, RefusesRaisedText, RefusesText};
+ghost use Rattle.vsi_syntax.specs.CommandView.{body_of, command, declared};
+ghost use Rattle.vsi_syntax.specs.ProgramView.{whole};
+ghost use Rattle.vsi_syntax.specs.View.{lexemes, named};
 ghost use Rattle.vsi_flows.specs.RaisedErrors as errors;
 ghost use Rattle.vsi_flows.specs.Places as spec;
 
-use crate::judged::judged;
-use crate::least::raises_of;
-use crate::places::written_places;
-use crate::raise::{Raise, Raising};
-use crate::raised_error::RaisedError;
-use crate::splice::spliced;
+use crate::least::{Raise, RaisedError, Raising, raises_of};
+use crate::text::judged;
 use std::alloc::{AllocError, Global};
 use vsi_compiler::{CompileError, Source, read_source};
 use vsi_lattice::Lattice;
+use vsi_scope::Var;
+use vsi_syntax::{Declaration, Name, Program, Span, Stmt, Token, lex, parse};
 use vsi_types::Profile;
 
 /// The error for a source text that is refused.
@@ -142,4 +143,143 @@ pub fn raised_text_in(
         Ok(source) => raised_text_of(alloc, profile, &source),
         Err(error) => Err(source_error(error)),
     }
+}
+
+/// The bytes of a text from one place up to another: none where the other comes first.
+fn part(text: &[u8], from: usize, to: usize) -> &[u8]
+    ensures { result.now ≡ spec.part text.now from to }
+{
+    let begin = from.min(text.len());
+    let rest = &text[begin..];
+    let count = to.saturating_sub(from).min(rest.len());
+    &rest[..count]
+}
+
+/// Where a declaration writes its class.
+fn place_of(places: &[Span], variable: Var) -> Span
+    ensures { result ≡ spec.place_of places.now variable }
+{
+    match places.get(variable.0 as usize) {
+        Some(place) => *place,
+        None => Span { start: 0, stop: 0 },
+    }
+}
+
+/// The text in which the declaration of each raise writes its new class.
+pub(crate) fn spliced(
+    alloc: Global,
+    lattice: &Lattice,
+    text: &[u8],
+    places: &[Span],
+    raises: &[Raise],
+) -> Result<Vec<u8>, AllocError>
+    requires { HasClassesIn (order lattice.now) raises.now }
+    ensures { IfOk result (λ out. out.items ≡
+        spec.with_raises lattice.now places.now text.now 0 raises.now) }
+{
+    let mut out = Vec::new(alloc);
+    let mut at = 0;
+    for raise in raises {
+        let place = place_of(places, raise.variable);
+        out.extend_from_slice(part(text, at, place.start))?;
+        out.extend_from_slice(lattice.name(raise.new))?;
+        at = place.stop;
+    }
+    out.extend_from_slice(part(text, at, text.len()))?;
+    Ok(out)
+}
+
+/// Where a letvar writes its class: nothing after its name where it writes none.
+fn class_place(name: Name<'_>, class: Option<Name<'_>>) -> Span
+    ensures { result ≡ spec.class_place (named name.entry) (option_map named class.entry) }
+{
+    match class {
+        Some(class) => class.span,
+        None => Span {
+            start: name.span.stop,
+            stop: name.span.stop,
+        },
+    }
+}
+
+/// Adds where the letvars of a sequence write their classes.
+#[cycle(placing)]
+fn put_all(places: &mut Vec<Span>, body: &[Stmt<'_>]) -> Result<(), AllocError>
+    ensures { OnOk result
+        (places.new.items ≡ places.old.items ++ spec.all_class_places (body_of body.now)) }
+{
+    for statement in body {
+        put_each(places, statement)?;
+    }
+    Ok(())
+}
+
+/// Adds where the letvars of a command write their classes.
+#[cycle(placing)]
+fn put_each(places: &mut Vec<Span>, statement: &Stmt<'_>) -> Result<(), AllocError>
+    ensures { OnOk result
+        (places.new.items ≡ places.old.items ++ spec.class_places (command statement.now)) }
+{
+    match statement {
+        Stmt::Assign(_, _) => Ok(()),
+        Stmt::If(_, yes, no) => {
+            put_each(places, yes)?;
+            put_each(places, no)
+        }
+        Stmt::While(_, inner) => put_each(places, inner),
+        Stmt::Letvar(name, class, _, inner) => {
+            places.push(class_place(*name, *class))?;
+            put_each(places, inner)
+        }
+        Stmt::Block(inner) => put_all(places, inner),
+    }
+}
+
+/// Adds where the globals write their classes.
+fn put_globals(places: &mut Vec<Span>, globals: &[Declaration<'_>]) -> Result<(), AllocError>
+    ensures { OnOk result (places.new.items ≡
+        places.old.items ++ map (λ g. g.class.span) (map declared globals.now)) }
+{
+    for global in globals {
+        places.push(global.class.span)?;
+    }
+    Ok(())
+}
+
+/// The tree that writes tokens.
+fn tree_of<'a>(alloc: Global, tokens: &[Token<'a>]) -> Result<Program<'a>, AllocError>
+    ensures { (tree : Whole) → IsProgram tree.body → write_program tree ≡ lexemes tokens.now
+        → IfOk result (λ p. whole p ≡ tree) }
+{
+    match parse(alloc, tokens) {
+        Ok(program) => Ok(program),
+        Err(_) => Err(AllocError),
+    }
+}
+
+/// The tree of a text that has one.
+fn tree_in<'a>(alloc: Global, text: &'a [u8]) -> Result<Program<'a>, AllocError>
+    ensures { (tree : Whole) → Reads text.now tree → IfOk result (λ p. whole p ≡ tree) }
+{
+    match lex(alloc, text) {
+        Ok(tokens) => tree_of(alloc, &tokens),
+        Err(_) => Err(AllocError),
+    }
+}
+
+/// Where the declarations of a text that has a tree write their classes: globals, then letvars in
+/// the order of the text.
+///
+/// # Errors
+///
+/// There was too little memory, or the text has no tree.
+pub(crate) fn written_places(alloc: Global, text: &[u8]) -> Result<Vec<Span>, AllocError>
+    ensures { (tree : Whole) → Reads text.now tree
+        → IfOk result (λ places. places.items ≡ spec.written_places tree) }
+{
+    let program = tree_in(alloc, text)?;
+    let mut places = Vec::new(alloc);
+    put_globals(&mut places, program.globals())?;
+    put_all(&mut places, program.body())?;
+    Ok(places)
 }

@@ -6,11 +6,13 @@ ghost use Rattle.vsi_hints.specs.Hints.{OffersRead};
 use crate::choice::hint_of;
 use crate::expression::{is_false, is_true};
 use crate::look::Look;
-use crate::offers::Sense;
+use crate::loops::{COUNTED, loop_at};
+use crate::offers::{Sense, offer};
 use crate::pieces::pieces_of;
 use crate::shapes::{Found, Shape, shape_at};
 use crate::structure::{halved_at, structure_at};
 use crate::wording::{Hint, put_sentence};
+use crate::words::is_one_of;
 use std::alloc::{AllocError, Global};
 use vsi_syntax::put_place;
 
@@ -36,6 +38,17 @@ fn piece_number(look: &Look, at: usize) -> usize {
     number
 }
 
+/// The construct of another language that a piece begins: a loop with its body, if its commands can
+/// be offered.
+fn construct_at(alloc: Global, look: &Look, at: usize) -> Result<Option<Found>, AllocError> {
+    if let Some(found) = loop_at(look, at) {
+        if offer(alloc, look, &found)?.is_some() {
+            return Ok(Some(found));
+        }
+    }
+    Ok(shape_at(look, at))
+}
+
 /// The constructs of other languages in order; none begins inside another one.
 fn all_shapes(alloc: Global, look: &Look) -> Result<Vec<Found>, AllocError> {
     let mut shapes = Vec::new(alloc);
@@ -44,7 +57,7 @@ fn all_shapes(alloc: Global, look: &Look) -> Result<Vec<Found>, AllocError> {
         if at < next {
             continue;
         }
-        if let Some(found) = shape_at(look, at) {
+        if let Some(found) = construct_at(alloc, look, at)? {
             next = found.next;
             shapes.push(found)?;
         }
@@ -52,10 +65,30 @@ fn all_shapes(alloc: Global, look: &Look) -> Result<Vec<Found>, AllocError> {
     Ok(shapes)
 }
 
-/// The keywords and signs that are missing or superfluous.
-fn all_structures(alloc: Global, look: &Look) -> Result<Vec<Found>, AllocError> {
+/// The last piece of a construct that commands are offered for, or none.
+fn replaced_stop(found: &Found) -> usize {
+    match found.shape {
+        Shape::Offer(Sense::Commands, _, _, _) => found.next.saturating_sub(1),
+        _ => 0,
+    }
+}
+
+/// The keywords and signs that are missing or superfluous, where they remain.
+fn all_structures(alloc: Global, look: &Look, shapes: &[Found]) -> Result<Vec<Found>, AllocError> {
     let mut found = Vec::new(alloc);
+    let mut rest = shapes;
+    let mut stop: usize = 0;
     for at in 0..look.pieces.len() {
+        let is_replaced = at < stop;
+        if let [shape, others @ ..] = rest {
+            if shape.first == at {
+                rest = others;
+                stop = replaced_stop(shape);
+            }
+        }
+        if is_replaced {
+            continue;
+        }
         if let Some(structure) = structure_at(look, at) {
             found.push(structure)?;
         }
@@ -160,7 +193,8 @@ fn all_chosen(
     }
     choose(look, shapes, &mut keys, &mut chosen)?;
     let count = chosen.len();
-    choose(look, &all_structures(alloc, look)?, &mut keys, &mut chosen)?;
+    let structures = all_structures(alloc, look, shapes)?;
+    choose(look, &structures, &mut keys, &mut chosen)?;
     Ok((chosen, count))
 }
 
@@ -272,8 +306,11 @@ fn is_renaming(old: &[u8], name: &[u8]) -> bool {
 fn gets_declared(look: &Look, shapes: &[Found], name: &[u8]) -> bool {
     for found in shapes {
         let gets = match found.shape {
-            Shape::Say(_, _) | Shape::Offer(Sense::Declarations, _, _, _) => {
+            Shape::Say(_, _) | Shape::Put(_, _) | Shape::Offer(Sense::Declarations, _, _, _) => {
                 (found.first..found.next).any(|at| look.is(at, name))
+            }
+            Shape::Offer(Sense::Commands, _, rule, _) if rule == COUNTED => {
+                (found.first..found.value).any(|at| look.is(at, name))
             }
             Shape::Offer(Sense::Expression, _, _, _) => is_renaming(look.text(found.first), name),
             _ => false,
@@ -306,7 +343,7 @@ fn undeclared<'a>(
         if names.len() >= MOST || names.contains(&name) || gets_declared(look, shapes, name) {
             continue;
         }
-        if is_true(name) || is_false(name) || name == b"default".as_slice() {
+        if is_true(name) || is_false(name) || is_one_of(b"default repeat", name) {
             continue;
         }
         names.push(name)?;

@@ -6,6 +6,7 @@ ghost use Rattle.vsi_hints.specs.Hints.{OffersRead};
 use crate::forms::operator_text;
 use crate::look::Look;
 use crate::offers::offer;
+use crate::sayings::narrow;
 use crate::shapes::{Found, Shape};
 use crate::wording::{Hint, LONGEST, Reason};
 use std::alloc::{AllocError, Global};
@@ -61,6 +62,9 @@ fn operator_hint<'s>(sign: &'s [u8]) -> Option<Hint<'s>>
     ensures { IfSome result OffersRead }
 {
     let text = operator_text(sign)?;
+    if matches!(sign, [b'<' | b'=']) {
+        return None;
+    }
     Some(Hint::Operator(text, sign))
 }
 
@@ -73,7 +77,7 @@ fn fixed_hint<'s>(look: &Look<'s, '_>, found: &Found, replaced: &'s [u8]) -> Opt
         Shape::Say(before, after) if before == "remove " => {
             Some(Hint::Piece(before, replaced, after))
         }
-        Shape::Say(before, after) => Some(Hint::Piece(before, text, after)),
+        Shape::Say(before, after) => Some(Hint::Piece(before, narrow(text), after)),
         Shape::Tell(sentence) => Some(Hint::Plain(sentence)),
         Shape::Put(new, rest) => Some(Hint::Put(new, text, rest)),
         Shape::Comment => Some(comment_hint(text)),

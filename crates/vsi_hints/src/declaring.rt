@@ -2,6 +2,7 @@
 
 use crate::look::Look;
 use crate::offers::Sense;
+use crate::pieces::Sort;
 use crate::sayings::NONE;
 use crate::shapes::{Found, Shape, hyphen, make_found, put, say, word_for};
 use crate::words::is_one_of;
@@ -42,12 +43,19 @@ pub(crate) fn declaring_word(look: &Look, at: usize) -> Option<Found> {
     let word = look.text(at);
     let next = at.saturating_add(1);
     let declares = is_type(word) || is_one_of(OTHER_TYPES, word);
+    let sign = local_sign(look, at);
+    let stop = look.value_stop(sign.saturating_add(1));
+    if declares && look.is_any(sign, b":= =") && look.is(stop, b"in") {
+        let shape = Shape::Put("letvar", ": it declares a variable for one command.");
+        return Some(make_found(at, sign, shape));
+    }
     if declares && look.is(at.saturating_add(2), b":") {
         return initial(at, look.value_stop(at.saturating_add(5)));
     }
     if declares && look.is_name(next) {
-        let rest = ": declare a variable with `var x : L;` at the beginning, where L is a class of \
-            the lattice file, and set its value in the store.";
+        let rest = ": declare a global with `var x : L;` at the beginning, where L is a class of \
+            the lattice file, and set its value in the store, or begin the command that uses the \
+            variable with `letvar x := 1 in`.";
         return say(at, look.command_stop(at), NONE, rest);
     }
     if is_idle(word) {
@@ -95,6 +103,9 @@ pub(crate) fn declaration(look: &Look, at: usize) -> Option<Found> {
     }
     if look.is(sign, b",") {
         return listed(look, at);
+    }
+    if look.has_sort(sign, Sort::Strange) || look.has_sort(after, Sort::Strange) {
+        return None;
     }
     if !look.is(sign, b":") {
         let rest = " declares a variable with a class and no value, as in `var x : L;`: set its \

@@ -42,8 +42,8 @@ struct Operand {
     is_truth: bool,
     /// Its value, if it is a number.
     value: Option<u64>,
-    /// Its last operand, if it is a comparison without brackets around it.
-    compared: Option<Part>,
+    /// How it compares, and its last operand, if it is a comparison without brackets around it.
+    compared: Option<(Form, Part)>,
 }
 
 /// Adds a part in brackets if its level is below this one.
@@ -86,13 +86,21 @@ fn chained(
 }
 
 /// The operand that an operator makes.
-fn made(part: Part, form: Form, compared: Option<Part>) -> Option<Operand> {
+fn made(part: Part, form: Form, compared: Option<(Form, Part)>) -> Option<Operand> {
     Some(Operand {
         part,
         is_truth: form.is_truth(),
         value: None,
         compared,
     })
+}
+
+/// Whether a comparison with a number asks whether the one before it holds, as in `a < 5 = 1`, and
+/// compares its last operand no further.
+fn asks_truth(form: Form, last: Option<u64>, before: Form, middle: &Part) -> bool {
+    let is_number = middle.text.iter().all(|byte| byte.is_ascii_digit());
+    let is_truth = before != Form::Equal && matches!(last, Some(0 | 1));
+    matches!(form, Form::Equal | Form::Differs) && last.is_some() && (is_number || is_truth)
 }
 
 /// An operator between two operands, if it can be written. A comparison is chained to its left
@@ -111,16 +119,21 @@ fn between(
         compared,
         ..
     } = left;
-    let Operand { part: last, .. } = right;
+    let Operand {
+        part: last,
+        value,
+        ..
+    } = right;
     if !form.compares() {
         return Ok(made(joined(alloc, pattern, &first, &last)?, form, None));
     }
-    if let Some(middle) = compared {
-        let part = chained(alloc, pattern, &first, &middle, &last)?;
-        return Ok(made(part, form, None));
-    }
-    let part = joined(alloc, pattern, &first, &last)?;
-    Ok(made(part, form, Some(last)))
+    let part = match &compared {
+        Some((before, middle)) if !asks_truth(form, value, *before, middle) => {
+            chained(alloc, pattern, &first, middle, &last)?
+        }
+        _ => joined(alloc, pattern, &first, &last)?,
+    };
+    Ok(made(part, form, Some((form, last))))
 }
 
 /// An operator before an operand.

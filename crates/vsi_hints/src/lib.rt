@@ -17,6 +17,7 @@ mod declaring;
 mod expression;
 mod forms;
 mod look;
+mod loops;
 mod numbers;
 mod offered;
 mod offers;

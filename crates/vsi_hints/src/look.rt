@@ -3,6 +3,7 @@
 use crate::expression::is_no_operand;
 use crate::forms::is_operator;
 use crate::pieces::{Piece, Sort};
+use crate::sayings::narrow;
 use crate::words::is_one_of;
 
 /// The pieces of a text.
@@ -51,10 +52,13 @@ impl<'a, 't> Look<'a, 't> {
         0 < at && self.is_any(at.saturating_sub(1), texts)
     }
 
-    /// Whether the pieces from this one on are these texts, which have blanks between them.
+    /// Whether the pieces from this one on are these texts, which have blanks between them. A `*`
+    /// is any name or number.
     pub(crate) fn begins(&self, at: usize, texts: &[u8]) -> bool {
         for (number, text) in texts.split(|byte| *byte == b' ').enumerate() {
-            if !self.is(at.saturating_add(number), text) {
+            let place = at.saturating_add(number);
+            let is_any = matches!(text, [b'*']) && self.is_operand(place);
+            if !is_any && !self.is(place, text) {
                 return false;
             }
         }
@@ -175,7 +179,7 @@ impl<'a, 't> Look<'a, 't> {
     pub(crate) fn is_variable(&self, at: usize) -> bool {
         self.is_operand(at)
             && self.is_name(at)
-            && !self.is_after(at, b":")
+            && !matches!(narrow(self.text(at.saturating_sub(1))), [b':'])
             && !self.is_operand(at.saturating_add(1))
             && (at == 0 || !self.is_operand(at.saturating_sub(1)))
     }

@@ -3,7 +3,7 @@
 //! In the text of an offer these letters stand for others: N, A, P, C and Q for the first five
 //! pieces; V for the value, which X and Y write as a summand and a factor; W for the value after
 //! its comma; E for all pieces as an expression; D for a number; L for the declarations of all
-//! names; K, R and T for names that no piece has.
+//! names; K, R and T for names that no piece has; I, F, G and B for the parts of a loop.
 
 ghost use Rattle.std.specs.Prelude.{◌≡◌, ◌++◌, IfOk, IfSome, codes, true};
 ghost use Rattle.vsi_hints.specs.Hints.{IsRead};
@@ -11,6 +11,7 @@ ghost use Rattle.vsi_hints.specs.Offered.{IsProgramText};
 
 use crate::expression::rewritten;
 use crate::look::Look;
+use crate::loops::put_part;
 use crate::numbers::number_of;
 use crate::offered::{is_expression, is_program};
 use crate::shapes::{Found, Shape};
@@ -125,7 +126,7 @@ fn put_letter(
             return Ok(false);
         };
         put_number(words, number as usize)?;
-    } else {
+    } else if !put_part(words, look, found, letter)? {
         words.push(letter)?;
     }
     Ok(true)

@@ -39,9 +39,10 @@ const COMMANDS: [&str; 12] = [
     * (found = 0) do x := x + 1`.",
     "end endif fi done od endwhile endfor wend next esac END\nremove \n: a branch or a loop is \
     one command, and { } make one of several, as in `{ x := 1; y := 2 }`.",
-    "for foreach FOR\n: count with `letvar i := 0 in while i < 9 do { x := x + i; i := i + 1 }`.",
-    "repeat until loop\n: write the body before the loop too, as in `{ x := x + 1; while x < 9 \
-    do x := x + 1 }`.",
+    "for foreach FOR\n: count with `letvar i := a in while i < b do { C; i := i + 1 }` for the body \
+    C and each `i` from a to b - 1.",
+    "repeat until loop\n: write the body before the loop too, as in `{ C; while (E) = 0 do { C } }` \
+    for the body C, until E holds.",
     "switch case match when select default\n: choose with `if x = 1 then y := 1 else if x = 2 \
     then y := 2 else y := 3`.",
     "try catch except finally throw raise assert\n: nothing fails in a run, so test first, as in \
@@ -59,12 +60,12 @@ const COMMANDS: [&str; 12] = [
 const SIGNS: [&str; 14] = [
     "<< <<=\n: double the value for each place, as in `x := x * 2`.",
     ">> >>= >>> >>>=\n: halve the value for each place, as `while 1 < r do { r := r - 2; q := q \
-    + 1 }` does.",
+    + 1 }` does if r isn't negative.",
     "|= &= ^=\n: write the new value after `:=`, as in `x := 0 < x + y` where both are 0 or 1.",
     "/ // div DIV /= //=\n: count how often you can subtract, as `while 1 < r do { r := r - 2; q \
-    := q + 1 }` does for half of r.",
+    := q + 1 }` does for half of r, if r isn't negative.",
     "% mod MOD %=\n: subtract as often as you can, as `while 1 < r do r := r - 2` does for the \
-    remainder by 2.",
+    remainder by 2, if r isn't negative.",
     "?\n: choose with `if a < b then x := a else x := b`.",
     "[ ]\n: each variable holds one number, so declare one for each element, as in `var x_0 : L; \
     var x_1 : L;`.",
@@ -82,8 +83,9 @@ const SIGNS: [&str; 14] = [
 pub(crate) const BITS: Saying = (
     b"& |",
     NONE,
-    ": a number has no bits here. What `while 1 < r do r := r - 2` leaves of `r` is its lowest bit; \
-    write `a * b` where both are 0 or 1, and `0 < a + b` where one is enough.",
+    ": a number has no bits here. What `while 1 < r do r := r - 2` leaves of an `r` that isn't \
+    negative is its lowest bit; write `a * b` where both are 0 or 1, and `0 < a + b` where one is \
+    enough.",
 );
 
 /// The sentence for a name or a sign in a table.
@@ -116,6 +118,24 @@ pub(crate) fn command_saying(word: &[u8]) -> Option<Saying> {
 /// The sentence for a sign between or before operands.
 pub(crate) fn sign_saying(sign: &[u8]) -> Option<Saying> {
     saying_in(&SIGNS, sign)
+}
+
+/// The sign that a character outside of ASCII looks like, or else the same text.
+pub(crate) fn narrow<'a>(text: &'a [u8]) -> &'a [u8] {
+    match text {
+        [0xEF, 0xBC, 0x88] => b"(",
+        [0xEF, 0xBC, 0x89] => b")",
+        [0xEF, 0xBC, 0x8A] => b"*",
+        [0xEF, 0xBC, 0x8B] => b"+",
+        [0xEF, 0xBC, 0x8D] => b"-",
+        [0xEF, 0xBC, 0x9A] | [0xE2, 0x88, 0xB6] => b":",
+        [0xEF, 0xBC, 0x9B] | [0xCD, 0xBE] => b";",
+        [0xEF, 0xBC, 0x9C] => b"<",
+        [0xEF, 0xBC, 0x9D] => b"=",
+        [0xEF, 0xBD, 0x9B] => b"{",
+        [0xEF, 0xBD, 0x9D] => b"}",
+        _ => text,
+    }
 }
 
 /// The sentence for a character outside of ASCII, if it is a common one.

@@ -7,7 +7,9 @@ use crate::look::Look;
 use crate::numbers::number_of;
 use crate::offers::Sense;
 use crate::pieces::Sort;
-use crate::sayings::{NONE, Saying, call_saying, character_saying, command_saying, sign_saying};
+use crate::sayings::{
+    NONE, Saying, call_saying, character_saying, command_saying, narrow, sign_saying,
+};
 use crate::signs::{has_unwritten, is_foreign_operator, unwritten};
 use crate::words::is_one_of;
 
@@ -127,7 +129,7 @@ pub(crate) fn word_for(
 }
 
 /// Commands in place of pieces with a value.
-fn commands(
+pub(crate) fn commands(
     first: usize,
     value: usize,
     next: usize,
@@ -277,9 +279,10 @@ fn division(look: &Look, at: usize, value: usize) -> Option<Found> {
     } else {
         QUOTIENT
     };
-    let rule = ": subtract as often as you can, for a divisor above 0.";
-    let plain =
-        "divide in a loop, as `while 1 < r do { r := r - 2; q := q + 1 }` does for half of r.";
+    let rule = ": subtract as often as you can, if the dividend isn't negative and the divisor is \
+        above 0.";
+    let plain = "divide in a loop, as `while 1 < r do { r := r - 2; q := q + 1 }` does for half of \
+        r, if r isn't negative.";
     commands(at, value, next, (text, rule, plain))
 }
 
@@ -296,11 +299,41 @@ fn swap(look: &Look, at: usize) -> Option<Found> {
     commands(at, value, next, (text, rule, plain))
 }
 
+/// A value that is assigned to two names by one command.
+fn twice(look: &Look, at: usize) -> Option<Found> {
+    let sign = at.saturating_add(1);
+    let value = at.saturating_add(4);
+    let is_same = look.is(at.saturating_add(3), look.text(sign));
+    if !is_same || !look.is_name(at.saturating_add(2)) {
+        return None;
+    }
+    let plain = "assign to one variable at a time, as in `y := 1; x := y`.";
+    let next = look.value_stop(value);
+    if look.is_any(next, b":= ,") || look.is(value.saturating_add(1), b"=") {
+        return Some(make_found(at, next, Shape::Tell(plain)));
+    }
+    let text = if at == 0 || look.is_after(at, b"; { }") {
+        b"P := V; N := P".as_slice()
+    } else {
+        b"{ P := V; N := P }".as_slice()
+    };
+    let rule = ": a command assigns to one variable.";
+    commands(
+        at,
+        value,
+        written_stop(look, value, next),
+        (text, rule, plain),
+    )
+}
+
 /// A command that begins with a name and isn't valid here.
 fn assignment(look: &Look, at: usize) -> Option<Found> {
     let sign = at.saturating_add(1);
     let value = at.saturating_add(2);
     if look.is_any(sign, b":= =") {
+        if let Some(found) = twice(look, at) {
+            return Some(found);
+        }
         if let Some(found) = division(look, at, value) {
             return Some(found);
         }
@@ -382,14 +415,34 @@ fn number(text: &[u8], at: usize) -> Option<Found> {
     word_for(at, next, b"D", ": a number has only digits.")
 }
 
+/// A character outside of ASCII. A wide `=` after the name that a command assigns to is half of a
+/// `:=`.
+fn strange(look: &Look, at: usize) -> Option<Found> {
+    let next = at.saturating_add(1);
+    let text = look.text(at);
+    if narrow(text) == text {
+        return Some(make_found(at, next, Shape::Tell(character_saying(text)?)));
+    }
+    if look.is_assignment(at) && matches!(narrow(text), [b'=']) {
+        let sentence = "write `:=` for this character, which only looks like `=`.";
+        return Some(make_found(at, next, Shape::Tell(sentence)));
+    }
+    let rest = " for this character, which only looks like it: outside comments a text is ASCII.";
+    say(at, next, "write ", rest)
+}
+
 /// The construct that a sign, a number, a text or a comment begins.
 fn sign(look: &Look, at: usize) -> Option<Found> {
     let next = at.saturating_add(1);
     let piece = look.pieces.get(at)?;
     match piece.sort {
         Sort::Comment => Some(make_found(at, next, Shape::Comment)),
-        Sort::Strange => Some(make_found(at, next, Shape::Tell(character_saying(piece.text)?))),
+        Sort::Strange => strange(look, at),
         Sort::Quoted => quoted(look, at),
+        Sort::Number if look.is_command_start(at) && look.is_any(next, b":= =") => {
+            let rest = ": a name comes before the `:=`, as in `x := 1`.";
+            say(at, next, "you can't assign to ", rest)
+        }
         Sort::Number => number(piece.text, at),
         _ => operator(look, at),
     }
@@ -419,8 +472,8 @@ pub(crate) fn shape_at(look: &Look, at: usize) -> Option<Found> {
         return local(look, at);
     }
     if look.is(at, b"do") && look.is_command_start(at) {
-        let rest = ": write the body before the loop too, as in `{ x := x + 1; while x < 9 do x := \
-            x + 1 }`.";
+        let rest = ": write the body before the loop too, as in `{ C; while E do { C } }` for the \
+            body C and the guard E.";
         return say(at, at.saturating_add(1), "no loop begins with ", rest);
     }
     if look.is_name(at) {

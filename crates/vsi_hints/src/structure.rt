@@ -81,9 +81,11 @@ fn unended(look: &Look, at: usize) -> Option<Found> {
 }
 
 /// The piece at which the branch that begins at a piece has ended, if that is clear.
-fn branch_stop(look: &Look, at: usize) -> Option<usize> {
+pub(crate) fn branch_stop(look: &Look, at: usize) -> Option<usize> {
     if look.is(at, b"{") {
-        return Some(look.after_closing(at, b'{', b'}'));
+        let stop = look.after_closing(at, b'{', b'}');
+        let is_closed = look.is(stop.saturating_sub(1), b"}");
+        return if is_closed { Some(stop) } else { None };
     }
     if !is_command(look, at) || look.is_keyword(at) {
         return None;

@@ -1,72 +1,70 @@
-//! The columns of the groups.
+//! The levels and the columns of the groups that have nodes.
 //!
 //! The groups of a column form a chain, so in it no group is above another one that it isn't above
 //! in the order. The box of a group reaches over the columns beside its own whose groups it can be
 //! compared with.
 
-use crate::graph::{Graph, are_comparable, group_of, is_below};
-use crate::levels::{Groups, levels_of, nodes_of};
-use crate::lists::{apart, at, filled, greatest, write_at};
-use std::alloc::{AllocError, Global};
+use crate::graph::{Graph, Made, add_at, apart, at, filled, greatest, write_at};
+use std::alloc::Global;
+
+/// The groups: for each the number of its nodes, its level, its column, and the first and the last
+/// column of its box.
+#[derive(Drop)]
+pub(crate) struct Groups {
+    pub(crate) nodes: Vec<usize>,
+    pub(crate) levels: Vec<usize>,
+    pub(crate) columns: Vec<usize>,
+    pub(crate) firsts: Vec<usize>,
+    pub(crate) lasts: Vec<usize>,
+    pub(crate) count: usize,
+}
+
+/// The number of nodes of each group.
+fn nodes_of(alloc: Global, graph: Graph<'_>) -> Made<Vec<usize>> {
+    let mut nodes = filled(alloc, graph.titles.len(), 0)?;
+    for node in graph.nodes {
+        add_at(&mut nodes, node.group, 1);
+    }
+    Ok(nodes)
+}
+
+/// Raises the level of each group that has nodes above those of the groups below it, and answers
+/// whether one rose.
+fn raise_levels(graph: Graph<'_>, nodes: &[usize], levels: &mut Vec<usize>) -> bool {
+    let mut rose = false;
+    for high in 0..nodes.len() {
+        for low in 0..nodes.len() {
+            let least = at(levels, low).saturating_add(1);
+            let have_nodes = at(nodes, low) > 0 && at(nodes, high) > 0;
+            if low != high && have_nodes && graph.is_below(low, high) && at(levels, high) < least {
+                write_at(levels, high, least);
+                rose = true;
+            }
+        }
+    }
+    rose
+}
+
+/// For each group the length of the longest chain of groups with nodes that leads up to it.
+fn levels_of(alloc: Global, graph: Graph<'_>, nodes: &[usize]) -> Made<Vec<usize>> {
+    let mut levels = filled(alloc, nodes.len(), 0)?;
+    for _ in 0..nodes.len() {
+        if !raise_levels(graph, nodes, &mut levels) {
+            return Ok(levels);
+        }
+    }
+    Ok(levels)
+}
 
 /// The most columns whose order is searched.
 const MOST: usize = 12;
-
-/// The column with the highest top that is below a group, if there is one.
-fn column_below(graph: Graph<'_>, levels: &[usize], tops: &[usize], group: usize) -> Option<usize> {
-    let mut found = None;
-    let mut highest: usize = 0;
-    for (column, top) in tops.iter().enumerate() {
-        let level = at(levels, *top).saturating_add(1);
-        if is_below(graph, *top, group) && level > highest {
-            highest = level;
-            found = Some(column);
-        }
-    }
-    found
-}
-
-/// Puts a group on top of a column, or into a new one.
-fn put_group(
-    graph: Graph<'_>,
-    groups: &mut Groups,
-    tops: &mut Vec<usize>,
-    group: usize,
-) -> Result<(), AllocError> {
-    match column_below(graph, &groups.levels, tops, group) {
-        Some(column) => {
-            write_at(tops, column, group);
-            write_at(&mut groups.columns, group, column);
-        }
-        None => {
-            write_at(&mut groups.columns, group, tops.len());
-            tops.push(group)?;
-        }
-    }
-    Ok(())
-}
-
-/// Puts the groups of a level into columns.
-fn put_level(
-    graph: Graph<'_>,
-    groups: &mut Groups,
-    tops: &mut Vec<usize>,
-    level: usize,
-) -> Result<(), AllocError> {
-    for group in 0..groups.nodes.len() {
-        if at(&groups.nodes, group) > 0 && at(&groups.levels, group) == level {
-            put_group(graph, groups, tops, group)?;
-        }
-    }
-    Ok(())
-}
 
 /// The total distance of columns over which arrows go.
 fn cost(graph: Graph<'_>, columns: &[usize]) -> usize {
     let mut sum: usize = 0;
     for arrow in graph.arrows {
-        let from = at(columns, group_of(graph, arrow.0));
-        sum = sum.saturating_add(apart(from, at(columns, group_of(graph, arrow.1))));
+        let from = at(columns, graph.group_of(arrow.0));
+        sum = sum.saturating_add(apart(from, at(columns, graph.group_of(arrow.1))));
     }
     sum
 }
@@ -82,16 +80,7 @@ fn swap(columns: &mut Vec<usize>, one: usize, other: usize) {
     }
 }
 
-/// Swaps two columns if arrows then go over fewer columns.
-fn try_swap(graph: Graph<'_>, columns: &mut Vec<usize>, one: usize, other: usize) {
-    let before = cost(graph, columns);
-    swap(columns, one, other);
-    if cost(graph, columns) >= before {
-        swap(columns, one, other);
-    }
-}
-
-/// Orders the columns so that arrows go over few of them.
+/// Orders the columns so that arrows go over few of them: swaps two if that shortens the arrows.
 fn order_columns(graph: Graph<'_>, columns: &mut Vec<usize>, count: usize) {
     if count > MOST {
         return;
@@ -99,75 +88,102 @@ fn order_columns(graph: Graph<'_>, columns: &mut Vec<usize>, count: usize) {
     for _ in 0..count {
         for one in 0..count {
             for other in 0..one {
-                try_swap(graph, columns, one, other);
+                let before = cost(graph, columns);
+                swap(columns, one, other);
+                if cost(graph, columns) >= before {
+                    swap(columns, one, other);
+                }
             }
         }
     }
 }
 
-/// Whether a group can be compared with each other one whose box is in a column.
-fn can_reach(graph: Graph<'_>, groups: &Groups, group: usize, column: usize) -> bool {
-    for other in 0..groups.nodes.len() {
-        let first = at(&groups.firsts, other);
-        let is_there = first <= column && column <= at(&groups.lasts, other);
-        if is_there && at(&groups.nodes, other) > 0 && !are_comparable(graph, group, other) {
-            return false;
+impl Groups {
+    /// Puts a group on top of the column with the highest top that is below it, or into a new one.
+    fn put(&mut self, graph: Graph<'_>, tops: &mut Vec<usize>, group: usize) -> Made<()> {
+        let mut found = tops.len();
+        let mut highest: usize = 0;
+        for (column, top) in tops.iter().enumerate() {
+            let level = at(&self.levels, *top).saturating_add(1);
+            if graph.is_below(*top, group) && level > highest {
+                highest = level;
+                found = column;
+            }
         }
+        write_at(&mut self.columns, group, found);
+        if found == tops.len() {
+            tops.push(group)?;
+        }
+        write_at(tops, found, group);
+        Ok(())
     }
-    true
-}
 
-/// Widens the box of a group over the columns beside it that it can reach.
-fn widen(graph: Graph<'_>, groups: &mut Groups, group: usize) {
-    let own = at(&groups.columns, group);
-    for column in own.saturating_add(1)..groups.count {
-        if !can_reach(graph, groups, group, column) {
-            break;
+    /// Puts the groups into columns, level by level.
+    fn put_all(&mut self, alloc: Global, graph: Graph<'_>) -> Made<()> {
+        let mut tops = Vec::new(alloc);
+        for level in 0..greatest(&self.levels).saturating_add(1) {
+            for group in 0..self.nodes.len() {
+                if at(&self.nodes, group) > 0 && at(&self.levels, group) == level {
+                    self.put(graph, &mut tops, group)?;
+                }
+            }
         }
-        write_at(&mut groups.lasts, group, column);
+        self.count = tops.len();
+        order_columns(graph, &mut self.columns, tops.len());
+        self.firsts = self.columns.to_vec(alloc)?;
+        self.lasts = self.columns.to_vec(alloc)?;
+        Ok(())
     }
-    for step in 0..own {
-        let column = own.saturating_sub(1).saturating_sub(step);
-        if !can_reach(graph, groups, group, column) {
-            break;
-        }
-        write_at(&mut groups.firsts, group, column);
-    }
-}
 
-/// Puts the groups into columns, level by level.
-fn put_columns(alloc: Global, graph: Graph<'_>, groups: &mut Groups) -> Result<(), AllocError> {
-    let mut tops = Vec::new(alloc);
-    for level in 0..greatest(&groups.levels).saturating_add(1) {
-        put_level(graph, groups, &mut tops, level)?;
+    /// Whether a group can be compared with each other one whose box is in a column.
+    fn can_reach(&self, graph: Graph<'_>, group: usize, column: usize) -> bool {
+        for other in 0..self.nodes.len() {
+            let first = at(&self.firsts, other);
+            let is_there = first <= column && column <= at(&self.lasts, other);
+            let is_comparable = graph.is_below(group, other) || graph.is_below(other, group);
+            if is_there && at(&self.nodes, other) > 0 && !is_comparable {
+                return false;
+            }
+        }
+        true
     }
-    groups.count = tops.len();
-    order_columns(graph, &mut groups.columns, tops.len());
-    for group in 0..groups.nodes.len() {
-        let column = at(&groups.columns, group);
-        write_at(&mut groups.firsts, group, column);
-        write_at(&mut groups.lasts, group, column);
+
+    /// Widens the box of a group over the columns beside it that it can reach.
+    fn widen(&mut self, graph: Graph<'_>, group: usize) {
+        let own = at(&self.columns, group);
+        for column in own.saturating_add(1)..self.count {
+            if !self.can_reach(graph, group, column) {
+                break;
+            }
+            write_at(&mut self.lasts, group, column);
+        }
+        for step in 0..own {
+            let column = own.saturating_sub(1).saturating_sub(step);
+            if !self.can_reach(graph, group, column) {
+                break;
+            }
+            write_at(&mut self.firsts, group, column);
+        }
     }
-    Ok(())
 }
 
 /// The groups of a graph, with their levels and columns.
-pub(crate) fn groups_of(alloc: Global, graph: Graph<'_>) -> Result<Groups, AllocError> {
+pub(crate) fn groups_of(alloc: Global, graph: Graph<'_>) -> Made<Groups> {
     let nodes = nodes_of(alloc, graph)?;
     let levels = levels_of(alloc, graph, &nodes)?;
-    let count = nodes.len();
+    let columns = filled(alloc, nodes.len(), 0)?;
     let mut groups = Groups {
         nodes,
         levels,
-        columns: filled(alloc, count, 0)?,
-        firsts: filled(alloc, count, 0)?,
-        lasts: filled(alloc, count, 0)?,
+        columns,
+        firsts: Vec::new(alloc),
+        lasts: Vec::new(alloc),
         count: 0,
     };
-    put_columns(alloc, graph, &mut groups)?;
-    for group in 0..count {
+    groups.put_all(alloc, graph)?;
+    for group in 0..groups.nodes.len() {
         if at(&groups.nodes, group) > 0 {
-            widen(graph, &mut groups, group);
+            groups.widen(graph, group);
         }
     }
     Ok(groups)

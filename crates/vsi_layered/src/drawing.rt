@@ -1,56 +1,216 @@
-//! The drawing of a graph.
+//! The drawing of a graph, and the test that it is sound.
 
-ghost use Rattle.std.specs.Prelude.{IfOk, IfSome};
-ghost use Rattle.vsi_layered.specs.Drawing.{IsSound};
+ghost use Rattle.std.specs.Prelude.{◌≡◌, ◌≤◌, ◌<◌, ◌+◌, ℕ, length, IsTrue, IfOk, IfSome};
+ghost use Rattle.std.specs.List.{slice_index_or};
+ghost use Rattle.vsi_layered.specs.Drawing.{HasSize, IsWithin, IsInside, AreApart, AllApart};
+ghost use Rattle.vsi_layered.specs.Drawing.{AllSized, AllWithin, AllInside, IsSound};
+ghost use Rattle.vsi_layered.specs.declared.graph.Place.{Place as Box};
 
 use crate::columns::groups_of;
-use crate::frame::{Frame, frame_of};
-use crate::graph::{Drawing, Graph, Node, Place};
-use crate::layers::layers_of;
-use crate::lists::at;
-use crate::rows::middles_of;
-use crate::sound::is_sound;
-use crate::ways::{Placed, ways_of};
+use crate::frame::{frame_of, layers_of};
+use crate::graph::{Drawing, Graph, Made, Node, Place, at};
+use crate::rows::{Placed, middles_of};
 use std::alloc::{AllocError, Global};
 
-/// The box of the node at an index.
-fn place_of(node: Node, frame: &Frame, middles: &[usize], index: usize) -> Place {
-    Place {
-        left: at(middles, index).saturating_sub(node.wide / 2),
-        top: at(&frame.heights, at(&frame.rows, index)).saturating_sub(node.high / 2),
-        wide: node.wide,
-        high: node.high,
+/// Whether a stretch is within another one.
+fn stretch_within(from: usize, length: usize, outer: usize, whole: usize) -> bool
+    ensures { IsTrue result → (outer ≤ from) × (from + length ≤ outer + whole) }
+{
+    if from < outer {
+        return false;
+    }
+    if whole < length {
+        return false;
+    }
+    from - outer <= whole - length
+}
+
+/// Whether a stretch ends before a number.
+fn ends_before(from: usize, length: usize, other: usize) -> bool
+    ensures { IsTrue result → from + length ≤ other }
+{
+    if other < from {
+        return false;
+    }
+    length <= other - from
+}
+
+/// Whether a box has the size that its node asks for, and isn't empty.
+fn has_size(node: Node, place: Place) -> bool
+    ensures { IsTrue result → HasSize node place }
+{
+    if place.wide != node.wide {
+        return false;
+    }
+    if place.high != node.high {
+        return false;
+    }
+    if place.wide == 0 {
+        return false;
+    }
+    place.high > 0
+}
+
+/// Whether a box is within a picture of a width and a height.
+fn is_inside(place: Place, wide: usize, high: usize) -> bool
+    ensures { IsTrue result → IsInside wide high place }
+{
+    if !ends_before(place.left, place.wide, wide) {
+        return false;
+    }
+    ends_before(place.top, place.high, high)
+}
+
+/// Whether a box is within another one.
+fn is_within(inner: Place, outer: Place) -> bool
+    ensures { IsTrue result → IsWithin inner outer }
+{
+    if !stretch_within(inner.left, inner.wide, outer.left, outer.wide) {
+        return false;
+    }
+    stretch_within(inner.top, inner.high, outer.top, outer.high)
+}
+
+/// Whether two boxes have no point in common.
+fn are_apart(one: Place, other: Place) -> bool
+    ensures { IsTrue result → AreApart one other }
+{
+    if ends_before(one.left, one.wide, other.left) {
+        return true;
+    }
+    if ends_before(other.left, other.wide, one.left) {
+        return true;
+    }
+    if ends_before(one.top, one.high, other.top) {
+        return true;
+    }
+    ends_before(other.top, other.high, one.top)
+}
+
+/// Whether a box and each one before it have no point in common.
+fn is_apart_from_first(places: &[Place], place: usize) -> bool
+    requires { place < length places.now }
+    ensures { IsTrue result → (j : ℕ) (d : Box) → j < place
+        → AreApart (slice_index_or places.now j d) (slice_index_or places.now place d) }
+{
+    for other in 0..place {
+        if !are_apart(places[other], places[place]) {
+            return false;
+        }
+    }
+    true
+}
+
+/// Whether no two boxes have a point in common.
+fn are_all_apart(places: &[Place]) -> bool
+    ensures { IsTrue result → AllApart places.now }
+{
+    for place in 0..places.len() {
+        if !is_apart_from_first(places, place) {
+            return false;
+        }
+    }
+    true
+}
+
+/// Whether the box of each node is within the box of its group.
+fn are_all_within(nodes: &[Node], places: &[Place], groups: &[Place]) -> bool
+    requires { length nodes.now ≤ length places.now }
+    ensures { IsTrue result → AllWithin nodes.now places.now groups.now }
+{
+    for node in 0..nodes.len() {
+        if groups.len() <= nodes[node].group {
+            return false;
+        }
+        if !is_within(places[node], groups[nodes[node].group]) {
+            return false;
+        }
+    }
+    true
+}
+
+/// Whether each node's box has the size that the node asks for.
+fn are_all_sized(nodes: &[Node], places: &[Place]) -> bool
+    requires { length nodes.now ≤ length places.now }
+    ensures { IsTrue result → AllSized nodes.now places.now }
+{
+    for node in 0..nodes.len() {
+        if !has_size(nodes[node], places[node]) {
+            return false;
+        }
+    }
+    true
+}
+
+/// Whether each box is within a picture of a width and a height.
+fn are_all_inside(places: &[Place], wide: usize, high: usize) -> bool
+    ensures { IsTrue result → AllInside wide high places.now }
+{
+    for place in 0..places.len() {
+        if !is_inside(places[place], wide, high) {
+            return false;
+        }
+    }
+    true
+}
+
+/// Whether a drawing has a box for each node, of the size that it asks for and within the box of
+/// its group, and no two boxes of nodes or of groups overlap or reach out of the picture.
+pub(crate) fn is_sound(nodes: &[Node], drawing: &Drawing) -> bool
+    ensures { IsTrue result → IsSound nodes.now drawing.now }
+{
+    if drawing.places.len() != nodes.len() {
+        return false;
+    }
+    if !are_all_sized(nodes, &drawing.places) {
+        return false;
+    }
+    if !are_all_within(nodes, &drawing.places, &drawing.groups) {
+        return false;
+    }
+    if !are_all_inside(&drawing.places, drawing.wide, drawing.high) {
+        return false;
+    }
+    if !are_all_inside(&drawing.groups, drawing.wide, drawing.high) {
+        return false;
+    }
+    if !are_all_apart(&drawing.places) {
+        return false;
+    }
+    are_all_apart(&drawing.groups)
+}
+
+impl Placed<'_> {
+    /// The boxes of the nodes.
+    fn places(self, alloc: Global) -> Made<Vec<Place>> {
+        let mut places = Vec::new(alloc);
+        let nodes = self.graph.nodes;
+        for (index, node) in nodes.iter().enumerate() {
+            let height = at(&self.frame.heights, at(&self.frame.rows, index));
+            places.push(Place {
+                left: at(self.middles, index).saturating_sub(node.wide / 2),
+                top: height.saturating_sub(node.high / 2),
+                wide: node.wide,
+                high: node.high,
+            })?;
+        }
+        Ok(places)
     }
 }
 
-/// The boxes of the nodes.
-fn places_of(
-    alloc: Global,
-    graph: Graph<'_>,
-    frame: &Frame,
-    middles: &[usize],
-) -> Result<Vec<Place>, AllocError> {
-    let mut places = Vec::new(alloc);
-    for (index, node) in graph.nodes.iter().enumerate() {
-        places.push(place_of(*node, frame, middles, index))?;
-    }
-    Ok(places)
-}
-
-/// The drawing of a graph in a frame.
-fn drawn(
-    alloc: Global,
-    graph: Graph<'_>,
-    frame: Frame,
-    middles: &[usize],
-) -> Result<Drawing, AllocError> {
-    let places = places_of(alloc, graph, &frame, middles)?;
+/// The drawing that the search finds.
+fn proposed(alloc: Global, graph: Graph<'_>) -> Made<Drawing> {
+    let groups = groups_of(alloc, graph)?;
+    let layers = layers_of(alloc, graph, &groups)?;
+    let frame = frame_of(alloc, graph, &groups, &layers)?;
+    let middles = middles_of(alloc, graph, &frame)?;
     let placed = Placed {
         graph,
         frame: &frame,
-        middles,
+        middles: &middles,
     };
-    let ways = ways_of(alloc, placed)?;
+    let places = placed.places(alloc)?;
+    let ways = placed.ways(alloc)?;
     Ok(Drawing {
         places,
         groups: frame.boxes,
@@ -58,15 +218,6 @@ fn drawn(
         wide: frame.wide,
         high: frame.high,
     })
-}
-
-/// The drawing that the search finds.
-fn proposed(alloc: Global, graph: Graph<'_>) -> Result<Drawing, AllocError> {
-    let groups = groups_of(alloc, graph)?;
-    let layers = layers_of(alloc, graph, &groups)?;
-    let frame = frame_of(alloc, graph, &groups, &layers)?;
-    let middles = middles_of(alloc, graph, &frame)?;
-    drawn(alloc, graph, frame, &middles)
 }
 
 /// The drawing of a graph, if the search finds one that is sound; it finds none if a node's group

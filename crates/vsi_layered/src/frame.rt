@@ -1,13 +1,130 @@
-//! The boxes of the groups, and the rows of the nodes.
+//! The layers of the nodes within their groups, the boxes of the groups, and the rows of the nodes.
 
-use crate::graph::{Graph, Place, group_of};
-use crate::layers::{GAP, Layers};
-use crate::levels::Groups;
-use crate::lists::{at, filled, greatest, raise_at, write_at};
-use std::alloc::{AllocError, Global};
+use crate::columns::Groups;
+use crate::graph::{Graph, Made, Place, add_at, at, filled, greatest, raise_at, write_at};
+use std::alloc::Global;
+
+/// The space between two boxes of nodes.
+pub(crate) const GAP: usize = 30;
+/// The width of all columns together at which the layers of a group are full.
+const FULL: usize = 1_040;
+/// The least width at which a layer is full.
+const LEAST: usize = 230;
+
+/// The layer of each node within its group, the number of layers of each group, and the width of
+/// the widest one. For the nodes without a layer, how many arrows come to each from others of its
+/// group without a layer, and the least layer of each.
+#[derive(Drop)]
+pub(crate) struct Layers {
+    of: Vec<usize>,
+    counts: Vec<usize>,
+    widths: Vec<usize>,
+    before: Vec<usize>,
+    leasts: Vec<usize>,
+    is_done: Vec<usize>,
+}
+
+/// The first layer from `least` on that has room for a width.
+fn layer_with_room(widths: &[usize], least: usize, wide: usize, full: usize) -> usize {
+    for layer in least..widths.len() {
+        let used = at(widths, layer);
+        if used == 0 || used.saturating_add(wide) <= full {
+            return layer;
+        }
+    }
+    least
+}
+
+/// The width at which a layer of a group is full: its share of the columns.
+fn full_width(groups: &Groups, group: usize) -> usize {
+    let last = at(&groups.lasts, group).saturating_add(1);
+    let columns = last.saturating_sub(at(&groups.firsts, group));
+    if groups.count == 0 {
+        return FULL;
+    }
+    (FULL.saturating_mul(columns) / groups.count).max(LEAST)
+}
+
+impl Layers {
+    /// The next node of a group: the first to which the fewest arrows come from nodes that wait.
+    fn next_of(&self, graph: Graph<'_>, group: usize) -> Option<usize> {
+        let mut found = None;
+        let mut fewest = usize::MAX;
+        for node in 0..graph.nodes.len() {
+            let is_here = graph.group_of(node) == group && at(&self.is_done, node) == 0;
+            if is_here && (at(&self.before, node) < fewest || found.is_none()) {
+                fewest = at(&self.before, node);
+                found = Some(node);
+            }
+        }
+        found
+    }
+
+    /// Gives a node of a group its layer.
+    fn put(&mut self, graph: Graph<'_>, node: usize, layer: usize) {
+        write_at(&mut self.of, node, layer);
+        raise_at(
+            &mut self.counts,
+            graph.group_of(node),
+            layer.saturating_add(1),
+        );
+        write_at(&mut self.is_done, node, 1);
+        for arrow in graph.arrows {
+            if arrow.0 == node && graph.is_inside(*arrow) {
+                raise_at(&mut self.leasts, arrow.1, layer.saturating_add(1));
+                let left = at(&self.before, arrow.1).saturating_sub(1);
+                write_at(&mut self.before, arrow.1, left);
+            }
+        }
+    }
+
+    /// Gives the nodes of a group their layers.
+    fn put_all(
+        &mut self,
+        alloc: Global,
+        graph: Graph<'_>,
+        groups: &Groups,
+        group: usize,
+    ) -> Made<()> {
+        let mut used = filled(alloc, at(&groups.nodes, group), 0)?;
+        for _ in 0..at(&groups.nodes, group) {
+            if let Some(node) = self.next_of(graph, group) {
+                let wide = graph.width_of(node).saturating_add(GAP);
+                let full = full_width(groups, group);
+                let layer = layer_with_room(&used, at(&self.leasts, node), wide, full);
+                add_at(&mut used, layer, wide);
+                raise_at(&mut self.widths, group, at(&used, layer));
+                self.put(graph, node, layer);
+            }
+        }
+        Ok(())
+    }
+}
+
+/// The layers of the nodes of a graph.
+pub(crate) fn layers_of(alloc: Global, graph: Graph<'_>, groups: &Groups) -> Made<Layers> {
+    let count = graph.nodes.len();
+    let mut layers = Layers {
+        of: filled(alloc, count, 0)?,
+        counts: filled(alloc, groups.nodes.len(), 0)?,
+        widths: filled(alloc, groups.nodes.len(), 0)?,
+        before: filled(alloc, count, 0)?,
+        leasts: filled(alloc, count, 0)?,
+        is_done: filled(alloc, count, 0)?,
+    };
+    for arrow in graph.arrows {
+        if graph.is_inside(*arrow) {
+            add_at(&mut layers.before, arrow.1, 1);
+        }
+    }
+    for group in 0..groups.nodes.len() {
+        layers.put_all(alloc, graph, groups, group)?;
+    }
+    Ok(layers)
+}
 
 /// The height of a row: a box and the space above it.
-pub(crate) const ROW: usize = 86;
+const ROW: usize = 86;
 /// Half the height of a box of a node.
 pub(crate) const HALF: usize = 17;
 /// The space in a group's box above its uppermost boxes, where its title is.
@@ -32,17 +149,13 @@ pub(crate) struct Frame {
     pub(crate) high: usize,
 }
 
-/// The number of rows of each level.
-fn level_rows(alloc: Global, groups: &Groups, layers: &Layers) -> Result<Vec<usize>, AllocError> {
-    let mut rows = filled(alloc, greatest(&groups.levels).saturating_add(1), 1)?;
-    for group in 0..groups.nodes.len() {
-        raise_at(
-            &mut rows,
-            at(&groups.levels, group),
-            at(&layers.counts, group),
-        );
-    }
-    Ok(rows)
+/// The graph, its groups and the layers of its nodes.
+#[derive(Clone, Copy)]
+struct Plan<'a> {
+    alloc: Global,
+    graph: Graph<'a>,
+    groups: &'a Groups,
+    layers: &'a Layers,
 }
 
 /// The sum of the numbers before an index.
@@ -54,162 +167,137 @@ fn sum_before(list: &[usize], place: usize) -> usize {
     sum
 }
 
-/// The width that a group's box needs.
-fn needed(graph: Graph<'_>, layers: &Layers, group: usize) -> usize {
-    at(&layers.widths, group)
-        .saturating_sub(GAP)
-        .max(at(graph.titles, group))
-        .saturating_add(2 * SIDE)
+/// The left edge of a column, without the margin.
+fn column_left(widths: &[usize], column: usize) -> usize {
+    sum_before(widths, column).saturating_add(column.saturating_mul(BETWEEN))
 }
 
 /// The width of the columns from one to another, with the spaces between them.
 fn columns_width(widths: &[usize], first: usize, last: usize) -> usize {
-    sum_before(widths, last.saturating_add(1))
-        .saturating_sub(sum_before(widths, first))
-        .saturating_add(last.saturating_sub(first).saturating_mul(BETWEEN))
-}
-
-/// Widens the columns of a group until its box is wide enough.
-fn widen(
-    graph: Graph<'_>,
-    groups: &Groups,
-    layers: &Layers,
-    widths: &mut Vec<usize>,
-    group: usize,
-) {
-    let first = at(&groups.firsts, group);
-    let last = at(&groups.lasts, group);
-    let count = last.saturating_add(1).saturating_sub(first);
-    let lacks = needed(graph, layers, group).saturating_sub(columns_width(widths, first, last));
-    if count == 0 || lacks == 0 {
-        return;
-    }
-    let more = (lacks / count).saturating_add(1);
-    for column in first..last.saturating_add(1) {
-        let wide = at(widths, column).saturating_add(more);
-        write_at(widths, column, wide);
-    }
-}
-
-/// The widths of the columns: those of the groups with one column first.
-fn column_widths(
-    alloc: Global,
-    graph: Graph<'_>,
-    groups: &Groups,
-    layers: &Layers,
-) -> Result<Vec<usize>, AllocError> {
-    let mut widths = filled(alloc, groups.count, 0)?;
-    for columns in 1..groups.count.saturating_add(1) {
-        for group in 0..groups.nodes.len() {
-            let last = at(&groups.lasts, group).saturating_add(1);
-            let is_next = last.saturating_sub(at(&groups.firsts, group)) == columns;
-            if is_next && at(&groups.nodes, group) > 0 {
-                widen(graph, groups, layers, &mut widths, group);
-            }
-        }
-    }
-    Ok(widths)
+    column_left(widths, last)
+        .saturating_add(at(widths, last))
+        .saturating_sub(column_left(widths, first))
 }
 
 /// The height of the bottom of a level above the bottom of the drawing.
 fn level_foot(rows: &[usize], level: usize) -> usize {
-    sum_before(rows, level).saturating_mul(ROW).saturating_add(level.saturating_mul(
-        HEAD + FOOT + BETWEEN + 2 * HALF - ROW,
-    ))
+    let spaces = level.saturating_mul(HEAD + FOOT + BETWEEN + 2 * HALF - ROW);
+    sum_before(rows, level)
+        .saturating_mul(ROW)
+        .saturating_add(spaces)
 }
 
 /// The height of a level's boxes.
 fn level_height(rows: &[usize], level: usize) -> usize {
-    at(rows, level)
-        .saturating_sub(1)
-        .saturating_mul(ROW)
-        .saturating_add(HEAD + FOOT + 2 * HALF)
-}
-
-/// The box of a group.
-fn box_of(groups: &Groups, rows: &[usize], widths: &[usize], high: usize, group: usize) -> Place {
-    if at(&groups.nodes, group) == 0 {
-        return Place {
-            left: 0,
-            top: 0,
-            wide: 0,
-            high: 0,
-        };
-    }
-    let first = at(&groups.firsts, group);
-    let level = at(&groups.levels, group);
-    let tall = level_height(rows, level);
-    Place {
-        left: sum_before(widths, first)
-            .saturating_add(first.saturating_mul(BETWEEN))
-            .saturating_add(MARGIN),
-        top: high
-            .saturating_sub(MARGIN)
-            .saturating_sub(level_foot(rows, level))
-            .saturating_sub(tall),
-        wide: columns_width(widths, first, at(&groups.lasts, group)),
-        high: tall,
-    }
+    let above = at(rows, level).saturating_sub(1).saturating_mul(ROW);
+    above.saturating_add(HEAD + FOOT + 2 * HALF)
 }
 
 /// The heights of the rows, from below.
-fn row_heights(alloc: Global, rows: &[usize], high: usize) -> Result<Vec<usize>, AllocError> {
+fn row_heights(alloc: Global, rows: &[usize], high: usize) -> Made<Vec<usize>> {
     let mut heights = Vec::new(alloc);
     for level in 0..rows.len() {
         for row in 0..at(rows, level) {
-            let up = level_foot(rows, level)
-                .saturating_add(row.saturating_mul(ROW))
-                .saturating_add(FOOT + HALF + MARGIN);
-            heights.push(high.saturating_sub(up))?;
+            let up = level_foot(rows, level).saturating_add(row.saturating_mul(ROW));
+            heights.push(high.saturating_sub(up.saturating_add(FOOT + HALF + MARGIN)))?;
         }
     }
     Ok(heights)
 }
 
-/// The row of a node: its layer, in the middle of the rows of its level.
-fn row_of(
-    graph: Graph<'_>,
-    groups: &Groups,
-    layers: &Layers,
-    rows: &[usize],
-    node: usize,
-) -> usize {
-    let group = group_of(graph, node);
-    let level = at(&groups.levels, group);
-    let spare = at(rows, level).saturating_sub(at(&layers.counts, group)) / 2;
-    sum_before(rows, level)
-        .saturating_add(spare)
-        .saturating_add(at(&layers.of, node))
-}
-
-/// The rows of the nodes.
-fn rows_of(
-    alloc: Global,
-    graph: Graph<'_>,
-    groups: &Groups,
-    layers: &Layers,
-    rows: &[usize],
-) -> Result<Vec<usize>, AllocError> {
-    let mut list = Vec::new(alloc);
-    for node in 0..graph.nodes.len() {
-        list.push(row_of(graph, groups, layers, rows, node))?;
+impl Plan<'_> {
+    /// The number of rows of each level.
+    fn level_rows(self) -> Made<Vec<usize>> {
+        let levels = &self.groups.levels;
+        let mut rows = filled(self.alloc, greatest(levels).saturating_add(1), 1)?;
+        for group in 0..levels.len() {
+            raise_at(&mut rows, at(levels, group), at(&self.layers.counts, group));
+        }
+        Ok(rows)
     }
-    Ok(list)
-}
 
-/// The boxes of the groups.
-fn boxes_of(
-    alloc: Global,
-    groups: &Groups,
-    rows: &[usize],
-    widths: &[usize],
-    high: usize,
-) -> Result<Vec<Place>, AllocError> {
-    let mut boxes = Vec::new(alloc);
-    for group in 0..groups.nodes.len() {
-        boxes.push(box_of(groups, rows, widths, high, group))?;
+    /// Widens the columns of a group until its box is wide enough.
+    fn widen(self, widths: &mut Vec<usize>, group: usize) {
+        let (first, last) = (
+            at(&self.groups.firsts, group),
+            at(&self.groups.lasts, group),
+        );
+        let count = last.saturating_add(1).saturating_sub(first);
+        let inner = at(&self.layers.widths, group).saturating_sub(GAP);
+        let needed = inner
+            .max(at(self.graph.titles, group))
+            .saturating_add(2 * SIDE);
+        let lacks = needed.saturating_sub(columns_width(widths, first, last));
+        if count == 0 || lacks == 0 {
+            return;
+        }
+        for column in first..last.saturating_add(1) {
+            add_at(widths, column, (lacks / count).saturating_add(1));
+        }
     }
-    Ok(boxes)
+
+    /// The widths of the columns: those of the groups with one column first.
+    fn column_widths(self) -> Made<Vec<usize>> {
+        let groups = self.groups;
+        let mut widths = filled(self.alloc, groups.count, 0)?;
+        for columns in 1..groups.count.saturating_add(1) {
+            for group in 0..groups.nodes.len() {
+                let last = at(&groups.lasts, group).saturating_add(1);
+                let is_next = last.saturating_sub(at(&groups.firsts, group)) == columns;
+                if is_next && at(&groups.nodes, group) > 0 {
+                    self.widen(&mut widths, group);
+                }
+            }
+        }
+        Ok(widths)
+    }
+
+    /// The box of a group.
+    fn box_of(self, rows: &[usize], widths: &[usize], high: usize, group: usize) -> Place {
+        let groups = self.groups;
+        if at(&groups.nodes, group) == 0 {
+            return Place {
+                left: 0,
+                top: 0,
+                wide: 0,
+                high: 0,
+            };
+        }
+        let first = at(&groups.firsts, group);
+        let level = at(&groups.levels, group);
+        let tall = level_height(rows, level);
+        let foot = high
+            .saturating_sub(MARGIN)
+            .saturating_sub(level_foot(rows, level));
+        Place {
+            left: column_left(widths, first).saturating_add(MARGIN),
+            top: foot.saturating_sub(tall),
+            wide: columns_width(widths, first, at(&groups.lasts, group)),
+            high: tall,
+        }
+    }
+
+    /// The boxes of the groups.
+    fn boxes(self, rows: &[usize], widths: &[usize], high: usize) -> Made<Vec<Place>> {
+        let mut boxes = Vec::new(self.alloc);
+        for group in 0..self.groups.nodes.len() {
+            boxes.push(self.box_of(rows, widths, high, group))?;
+        }
+        Ok(boxes)
+    }
+
+    /// The rows of the nodes: their layers, in the middle of the rows of their levels.
+    fn rows(self, rows: &[usize]) -> Made<Vec<usize>> {
+        let mut list = Vec::new(self.alloc);
+        for node in 0..self.graph.nodes.len() {
+            let group = self.graph.group_of(node);
+            let level = at(&self.groups.levels, group);
+            let spare = at(rows, level).saturating_sub(at(&self.layers.counts, group)) / 2;
+            let row = spare.saturating_add(at(&self.layers.of, node));
+            list.push(sum_before(rows, level).saturating_add(row))?;
+        }
+        Ok(list)
+    }
 }
 
 /// The frame of a drawing.
@@ -218,18 +306,23 @@ pub(crate) fn frame_of(
     graph: Graph<'_>,
     groups: &Groups,
     layers: &Layers,
-) -> Result<Frame, AllocError> {
-    let rows = level_rows(alloc, groups, layers)?;
-    let widths = column_widths(alloc, graph, groups, layers)?;
+) -> Made<Frame> {
+    let plan = Plan {
+        alloc,
+        graph,
+        groups,
+        layers,
+    };
+    let rows = plan.level_rows()?;
+    let widths = plan.column_widths()?;
     let top = rows.len().saturating_sub(1);
-    let high = level_foot(&rows, top)
-        .saturating_add(level_height(&rows, top))
-        .saturating_add(2 * MARGIN);
+    let high = level_foot(&rows, top).saturating_add(level_height(&rows, top));
+    let high = high.saturating_add(2 * MARGIN);
     let wide = columns_width(&widths, 0, groups.count.saturating_sub(1));
     Ok(Frame {
-        rows: rows_of(alloc, graph, groups, layers, &rows)?,
+        rows: plan.rows(&rows)?,
         heights: row_heights(alloc, &rows, high)?,
-        boxes: boxes_of(alloc, groups, &rows, &widths, high)?,
+        boxes: plan.boxes(&rows, &widths, high)?,
         wide: wide.saturating_add(2 * MARGIN),
         high,
     })

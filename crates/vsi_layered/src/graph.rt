@@ -1,4 +1,67 @@
-//! Graphs and their drawings.
+//! Graphs and their drawings, and lists of numbers, with sums and distances.
+
+use std::alloc::{AllocError, Global};
+
+/// The result of a function that needs memory.
+pub(crate) type Made<T> = Result<T, AllocError>;
+
+/// A list with the same number at each index.
+pub fn filled(alloc: Global, count: usize, number: usize) -> Result<Vec<usize>, AllocError> {
+    let mut list = Vec::new(alloc);
+    list.resize(count, number)?;
+    Ok(list)
+}
+
+/// The number at an index, or 0 past the end.
+pub fn at(list: &[usize], place: usize) -> usize {
+    list.get(place).copied().unwrap_or(0)
+}
+
+/// Writes a number at an index, if there is one.
+pub fn write_at(list: &mut Vec<usize>, place: usize, number: usize) {
+    if let Some(cell) = list.get_mut(place) {
+        *cell = number;
+    }
+}
+
+/// Adds to the number at an index.
+pub(crate) fn add_at(list: &mut Vec<usize>, place: usize, more: usize) {
+    let sum = at(list, place).saturating_add(more);
+    write_at(list, place, sum);
+}
+
+/// Raises the number at an index to another one.
+pub fn raise_at(list: &mut Vec<usize>, place: usize, least: usize) {
+    let most = at(list, place).max(least);
+    write_at(list, place, most);
+}
+
+/// The distance between two numbers.
+pub fn apart(one: usize, other: usize) -> usize {
+    one.max(other).saturating_sub(one.min(other))
+}
+
+/// The number that is `part` of `whole` on the way from a number to another.
+pub fn between(from: usize, to: usize, part: usize, whole: usize) -> usize {
+    if whole == 0 {
+        return from;
+    }
+    let moved = apart(from, to).saturating_mul(part) / whole;
+    if from <= to {
+        from.saturating_add(moved)
+    } else {
+        from.saturating_sub(moved)
+    }
+}
+
+/// The largest number of a list.
+pub fn greatest(list: &[usize]) -> usize {
+    let mut most: usize = 0;
+    for number in list {
+        most = most.max(*number);
+    }
+    most
+}
 
 /// A node: the width and the height of its box, and the number of its group.
 #[derive(Clone, Copy)]
@@ -16,6 +79,35 @@ pub struct Graph<'a> {
     pub titles: &'a [usize],
     pub above: &'a [u64],
     pub arrows: &'a [(usize, usize)],
+}
+
+impl Graph<'_> {
+    /// The number of a node's group, or the largest number for no node.
+    pub(crate) fn group_of(self, node: usize) -> usize {
+        match self.nodes.get(node) {
+            Some(node) => node.group,
+            None => usize::MAX,
+        }
+    }
+
+    /// The width of a node's box.
+    pub(crate) fn width_of(self, node: usize) -> usize {
+        match self.nodes.get(node) {
+            Some(node) => node.wide,
+            None => 0,
+        }
+    }
+
+    /// Whether a group is at or below another.
+    pub(crate) fn is_below(self, low: usize, high: usize) -> bool {
+        let set = self.above.get(low).copied().unwrap_or(0);
+        set & (1u64 << (high % 64)) != 0
+    }
+
+    /// Whether an arrow joins two nodes of one group.
+    pub(crate) fn is_inside(self, arrow: (usize, usize)) -> bool {
+        arrow.0 != arrow.1 && self.group_of(arrow.0) == self.group_of(arrow.1)
+    }
 }
 
 /// A point: its distances from the left edge and from the upper edge of a drawing.
@@ -43,33 +135,4 @@ pub struct Drawing {
     pub ways: Vec<Vec<Point>>,
     pub wide: usize,
     pub high: usize,
-}
-
-/// The number of a node's group, or the largest number for no node.
-pub(crate) fn group_of(graph: Graph<'_>, node: usize) -> usize {
-    match graph.nodes.get(node) {
-        Some(node) => node.group,
-        None => usize::MAX,
-    }
-}
-
-/// The width of a node's box.
-pub(crate) fn width_of(graph: Graph<'_>, node: usize) -> usize {
-    match graph.nodes.get(node) {
-        Some(node) => node.wide,
-        None => 0,
-    }
-}
-
-/// Whether a group is at or below another.
-pub(crate) fn is_below(graph: Graph<'_>, low: usize, high: usize) -> bool {
-    match graph.above.get(low) {
-        Some(set) => *set & (1u64 << (high % 64)) != 0,
-        None => false,
-    }
-}
-
-/// Whether one of two groups is at or below the other.
-pub(crate) fn are_comparable(graph: Graph<'_>, one: usize, other: usize) -> bool {
-    is_below(graph, one, other) || is_below(graph, other, one)
 }

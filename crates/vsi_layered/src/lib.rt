@@ -2,28 +2,23 @@
 //!
 //! `drawing_of` gives each node a box in the box of its group, and each arrow a line between the
 //! boxes of its ends. No two boxes of nodes overlap, each has the size that its node asks for, and
-//! each is within the box of its group and within the picture (`IsSound` of `specs/Drawing`). A group has its box above those of the groups that are below it
-//! in the order, and arrows go upwards where they can. A search orders the nodes so that few lines
-//! cross; a proved test accepts its answer.
+//! each is within the box of its group and within the picture (`IsSound` of `specs/Drawing`). A
+//! group has its box above those of the groups that are below it in the order, and arrows go upwards
+//! where they can. A search orders the nodes so that few lines cross; a proved test accepts its
+//! answer.
 //!
 //! To be believed: `specs/Drawing`.
 #![tactic(auto)]
 
-mod badges;
 mod columns;
-mod crossing;
 mod drawing;
 mod frame;
 mod graph;
-mod layers;
-mod levels;
-mod lists;
-mod ports;
 mod rows;
-mod sound;
 mod ways;
 
-pub use badges::badges_of;
 pub use drawing::drawing_of;
-pub use graph::{Drawing, Graph, Node, Place, Point};
-pub use lists::{at, filled, write_at};
+pub use graph::{
+    Drawing, Graph, Node, Place, Point, apart, at, between, filled, greatest, raise_at, write_at,
+};
+pub use ways::badges_of;

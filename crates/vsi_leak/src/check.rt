@@ -1,16 +1,22 @@
 //! Whether two stores show a leak: both are run, and their endings compared.
 
-ghost use Rattle.std.specs.Prelude.{◌≡◌, ◌↔◌, IfOk, IfNone, IfSome, IsTrue};
+ghost use Rattle.std.specs.Prelude.{◌≡◌, ◌↔◌, IfOk, IfNone, IfSome, IsTrue, ◌≢◌, true, false, pos, slice_index_or, ◌≤◌};
 ghost use Rattle.vsi_lattice.specs.LatticeView.{class_named, order};
 ghost use Rattle.vsi_lattice.specs.Order.{IsClass};
-ghost use Rattle.vsi_leak.specs.Leaks.{EndsSo, IsLeak, IsOf, ShowNone, TellsApart};
+ghost use Rattle.vsi_leak.specs.Leaks.{EndsSo, IsLeak, IsOf, ShowNone, TellsApart, GoesOn, HasHalted, TakesSome};
+ghost use Rattle.vsi_image.specs.Fields.{globals};
+ghost use Rattle.vsi_compiler.specs.Observation.{AgreeAt};
+ghost use Rattle.vsi_store.specs.View.{is_seen};
+ghost use Rattle.vsi_leak.specs.Agreement.{AgreeIn};
+ghost use Rattle.vsi_image.specs.Meaning.{start};
 
 use crate::found::{Ending, Leak, Run, Sign};
-use crate::observer::agree;
-use crate::runs::ending;
+use crate::propose::word_at;
 use std::alloc::{AllocError, Global};
 use vsi_image::{Image, Verified};
 use vsi_lattice::{Class, Lattice};
+use vsi_machine::{Machine, Outcome};
+use vsi_store::sees;
 
 /// Whether the sign tells two ends apart at the class.
 fn tells_apart(
@@ -105,4 +111,145 @@ pub fn check_leak(
         first: one,
         second: other,
     }))
+}
+
+/// Whether the class sees a global of this class name, and its words differ at this position.
+fn differs(
+    lattice: &Lattice,
+    class: Class,
+    name: &[u8],
+    place: usize,
+    first: &[i64],
+    second: &[i64],
+) -> bool
+    requires { IsClass (order lattice.now) class }
+    ensures seen { IsTrue result →
+        is_seen (class_named lattice.now) (order lattice.now) class name.now ≡ true }
+    ensures apart { IsTrue result →
+        slice_index_or first.now place (pos 0) ≢ slice_index_or second.now place (pos 0) }
+    ensures equal { result ≡ false →
+        is_seen (class_named lattice.now) (order lattice.now) class name.now ≡ true →
+        slice_index_or first.now place (pos 0) ≡ slice_index_or second.now place (pos 0) }
+{
+    if word_at(first, place) == word_at(second, place) {
+        false
+    } else {
+        sees(lattice, class, name)
+    }
+}
+
+/// Whether the words agree in all globals that the class sees.
+fn agree_words(
+    lattice: &Lattice,
+    class: Class,
+    variables: &[(Vec<u8>, Vec<u8>)],
+    first: &[i64],
+    second: &[i64],
+) -> bool
+    requires { IsClass (order lattice.now) class }
+    ensures { IsTrue result ↔ AgreeIn (class_named lattice.now) (order lattice.now)
+        (globals variables.now) class first.now second.now }
+{
+    for (i, variable) in variables.iter().enumerate() {
+        let name = variable.1.as_slice();
+        if differs(lattice, class, name, i, first, second) {
+            return false;
+        }
+    }
+    true
+}
+
+/// Whether two stores of the image agree at and below the class.
+pub(crate) fn agree(
+    lattice: &Lattice,
+    class: Class,
+    image: &Image,
+    first: &[i64],
+    second: &[i64],
+) -> bool
+    requires { IsClass (order lattice.now) class }
+    ensures { IsTrue result ↔ AgreeAt (class_named lattice.now) (order lattice.now)
+        image.now class first.now second.now }
+{
+    agree_words(lattice, class, image.globals.as_slice(), first, second)
+}
+
+/// A machine at the start of the image, with the store's words in the globals.
+pub(crate) fn started<'a>(
+    alloc: Global,
+    verified: &'a Verified,
+    store: &[i64],
+) -> Result<Machine<'a>, AllocError>
+    ensures image { IfOk result (λ m. m.image ≡ verified.now) }
+    ensures state { IfOk result (λ m. m.state ≡ start verified.now store.now) }
+{
+    match Machine::new(alloc, verified, store) {
+        Ok(machine) => Ok(machine),
+        Err(_) => Err(AllocError),
+    }
+}
+
+/// Whether the run has not halted within the budget.
+fn goes_on(
+    alloc: Global,
+    verified: &Verified,
+    store: &[i64],
+    budget: u64,
+) -> Result<bool, AllocError>
+    ensures going { IfOk result (λ b. IsTrue b → GoesOn verified.now store.now budget) }
+    ensures halted { IfOk result (λ b. b ≡ false → HasHalted verified.now store.now budget) }
+{
+    let mut machine = started(alloc, verified, store)?;
+    match machine.run(budget) {
+        Outcome::Halted => Ok(false),
+        Outcome::OutOfBudget => Ok(true),
+    }
+}
+
+/// The number of instructions of a run that halts within the budget. It doubles a lower bound as
+/// long as the run goes on within the double, and then halves the distance to the upper bound.
+fn instructions_of(
+    alloc: Global,
+    verified: &Verified,
+    store: &[i64],
+    budget: u64,
+) -> Result<u64, AllocError>
+    requires { HasHalted verified.now store.now budget }
+    ensures within { IfOk result (λ n. n ≤ budget) }
+    ensures taken { IfOk result (TakesSome verified.now store.now) }
+{
+    let mut few: u64 = 0;
+    let mut enough = budget;
+    while enough - few > 1 {
+        let middle = few + (few + 1).min((enough - few) / 2);
+        if goes_on(alloc, verified, store, middle)? {
+            few = middle;
+        } else {
+            enough = middle;
+        }
+    }
+    Ok(enough)
+}
+
+/// The ending of the run within the budget.
+pub(crate) fn ending(
+    alloc: Global,
+    verified: &Verified,
+    store: &[i64],
+    budget: u64,
+) -> Result<Ending, AllocError>
+    ensures { IfOk result (EndsSo verified.now store.now budget) }
+{
+    let mut machine = started(alloc, verified, store)?;
+    match machine.run(budget) {
+        Outcome::Halted => {
+            let instructions = instructions_of(alloc, verified, store, budget)?;
+            let words = machine.store().to_vec(alloc)?;
+            Ok(Ending::Halted {
+                instructions,
+                words,
+            })
+        }
+        Outcome::OutOfBudget => Ok(Ending::OutOfBudget),
+    }
 }

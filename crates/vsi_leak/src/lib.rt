@@ -13,13 +13,9 @@
 mod check;
 mod found;
 pub mod laws;
-mod observer;
 mod propose;
-mod runs;
 mod search;
-mod shrink;
 mod text;
-mod values;
 mod whole;
 
 pub use check::check_leak;

@@ -1,10 +1,13 @@
-//! Whether two stores seem to show a leak. `check_leak` checks what is proposed here.
+//! Stores that seem to show a leak. `check_leak` checks what is proposed here.
 
 ghost use Rattle.vsi_lattice.specs.LatticeView.{order};
 ghost use Rattle.vsi_lattice.specs.Order.{IsClass};
+ghost use Rattle.std.specs.Prelude.{◌≡◌, pos, slice_index_or};
 
+use crate::check::{ending, started};
 use crate::found::{Ending, Sign};
-use crate::runs::{ending, started};
+use rand_core::Rng;
+use rand_xoshiro::SplitMix64;
 use std::alloc::{AllocError, Global};
 use vsi_image::{Image, Instr, Verified};
 use vsi_lattice::{Class, Lattice};
@@ -118,5 +121,182 @@ impl<'a> Probe<'a> {
             Ending::Halted { instructions, .. } => Ok(instructions),
             Ending::OutOfBudget => Ok(0),
         }
+    }
+}
+
+/// The most rounds over all globals.
+const ROUNDS: u32 = 200;
+
+/// Two stores, made smaller and more alike.
+#[derive(Drop)]
+pub(crate) struct Pair {
+    pub(crate) first: Vec<i64>,
+    pub(crate) second: Vec<i64>,
+}
+
+impl Pair {
+    /// Tries other words at a position, and keeps them if the runs still seem to be
+    /// distinguishable. Returns whether it kept them.
+    fn attempt(
+        &mut self,
+        probe: &Probe<'_>,
+        place: usize,
+        words: (i64, i64),
+    ) -> Result<bool, AllocError> {
+        let before = (word_at(&self.first, place), word_at(&self.second, place));
+        if before == words {
+            return Ok(false);
+        }
+        put(&mut self.first, place, words.0);
+        put(&mut self.second, place, words.1);
+        if probe.distinguishes(&self.first, &self.second)? {
+            return Ok(true);
+        }
+        put(&mut self.first, place, before.0);
+        put(&mut self.second, place, before.1);
+        Ok(false)
+    }
+
+    /// Tries equal words at a position where they differ.
+    fn equalise(&mut self, probe: &Probe<'_>, place: usize) -> Result<bool, AllocError> {
+        let (one, other) = (word_at(&self.first, place), word_at(&self.second, place));
+        if one == other {
+            return Ok(false);
+        }
+        if self.attempt(probe, place, (one, one))? {
+            return Ok(true);
+        }
+        self.attempt(probe, place, (other, other))
+    }
+
+    /// Tries smaller words in the first store at a position: 0 first, then the word less a part of
+    /// it. The second store's word changes too if the two are equal.
+    fn lessen_first(&mut self, probe: &Probe<'_>, place: usize) -> Result<bool, AllocError> {
+        let (one, other) = (word_at(&self.first, place), word_at(&self.second, place));
+        let mut part = one;
+        for _ in 0..64 {
+            if part == 0 {
+                break;
+            }
+            let word = one.wrapping_sub(part);
+            let with = if one == other { word } else { other };
+            if self.attempt(probe, place, (word, with))? {
+                return Ok(true);
+            }
+            part = part / 2;
+        }
+        Ok(false)
+    }
+
+    /// Tries smaller words in the second store at a position, if its word differs from the first
+    /// store's.
+    fn lessen_second(&mut self, probe: &Probe<'_>, place: usize) -> Result<bool, AllocError> {
+        let (one, other) = (word_at(&self.first, place), word_at(&self.second, place));
+        let mut part = other;
+        for _ in 0..64 {
+            if part == 0 || one == other {
+                break;
+            }
+            if self.attempt(probe, place, (one, other.wrapping_sub(part)))? {
+                return Ok(true);
+            }
+            part = part / 2;
+        }
+        Ok(false)
+    }
+
+    /// Tries the absolute values of words below 0.
+    fn take_absolute(&mut self, probe: &Probe<'_>, place: usize) -> Result<bool, AllocError> {
+        let (one, other) = (word_at(&self.first, place), word_at(&self.second, place));
+        if one >= 0 && other >= 0 {
+            return Ok(false);
+        }
+        let words = (one.saturating_abs(), other.saturating_abs());
+        self.attempt(probe, place, words)
+    }
+
+    /// One round over all globals. Returns whether something became smaller.
+    fn round(&mut self, probe: &Probe<'_>) -> Result<bool, AllocError> {
+        let mut changed = false;
+        for place in 0..self.first.len() {
+            if self.equalise(probe, place)? {
+                changed = true;
+            }
+            if self.lessen_first(probe, place)? || self.lessen_second(probe, place)? {
+                changed = true;
+            }
+            if self.take_absolute(probe, place)? {
+                changed = true;
+            }
+        }
+        Ok(changed)
+    }
+
+    /// Repeats rounds until nothing changes.
+    pub(crate) fn shrink(&mut self, probe: &Probe<'_>) -> Result<(), AllocError> {
+        for _ in 0..ROUNDS {
+            if !self.round(probe)? {
+                break;
+            }
+        }
+        Ok(())
+    }
+}
+
+/// The largest number of words taken from a program.
+const MOST_VALUES: usize = 256;
+
+/// Adds a word, unless it is there or the list is full.
+fn add(values: &mut Vec<i64>, word: i64) -> Result<(), AllocError> {
+    if values.len() < MOST_VALUES && !values.contains(&word) {
+        values.push(word)?;
+    }
+    Ok(())
+}
+
+/// 1, -1 and 0, the numbers in the code with their neighbours, and the extremes.
+pub(crate) fn values_of(alloc: Global, image: &Image) -> Result<Vec<i64>, AllocError> {
+    let mut values = Vec::new(alloc);
+    for word in [1, 0, -1, i64::MAX, i64::MIN].iter() {
+        add(&mut values, *word)?;
+    }
+    for instr in image.code.iter() {
+        if let Instr::Push(word) = instr {
+            add(&mut values, *word)?;
+            add(&mut values, word.wrapping_add(1))?;
+            add(&mut values, word.wrapping_sub(1))?;
+        }
+    }
+    Ok(values)
+}
+
+/// A random number below a bound, or 0 if the bound is 0.
+pub(crate) fn random_below(random: &mut SplitMix64, bound: usize) -> usize {
+    match random.next_u64().checked_rem(bound as u64) {
+        Some(number) => number as usize,
+        None => 0,
+    }
+}
+
+/// A random word: usually one of the values, rarely any.
+pub(crate) fn random_word(random: &mut SplitMix64, values: &[i64]) -> i64 {
+    if random_below(random, 8) == 0 {
+        return random.next_u64().cast_signed();
+    }
+    let place = random_below(random, values.len());
+    word_at(values, place)
+}
+
+/// The word at a position, or 0 if there is none.
+pub(crate) fn word_at(words: &[i64], place: usize) -> i64
+    ensures { result ≡ slice_index_or words.now place (pos 0) }
+{
+    if place < words.len() { words[place] } else { 0 }
+}
+
+/// Puts a word at a position, if it exists.
+pub(crate) fn put(words: &mut [i64], place: usize, word: i64) {
+    if place < words.len() {
+        words[place] = word;
     }
 }

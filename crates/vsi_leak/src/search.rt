@@ -9,9 +9,9 @@ ghost use Rattle.vsi_leak.specs.Leaks.{ShowNoneEither, TellsAtMost};
 
 use crate::check::check_leak;
 use crate::found::{Effort, Finding, Leak, Sign};
-use crate::propose::{Probe, hidden_sources, reads, seen_globals};
-use crate::shrink::Pair;
-use crate::values::{put, random_below, random_word, values_of};
+use crate::propose::{
+    Pair, Probe, hidden_sources, put, random_below, random_word, reads, seen_globals, values_of,
+};
 use rand_core::SeedableRng;
 use rand_xoshiro::SplitMix64;
 use std::alloc::{AllocError, Global};

@@ -1,13 +1,12 @@
 //! Open documents, and the errors that are published for them.
 
 use crate::interfaces::interface_errors;
-use crate::replies::notification;
-use serde_json::{Value, json};
+use serde_json::Value;
 use std::alloc::{AllocError, Global};
-use vsi_choices::text_value;
+use vsi_choices::DocumentText;
 use vsi_client::Encoding;
 use vsi_diagnostics::{Fault, fault_diagnostic, fault_text};
-use vsi_errors::{DocumentText, error_object, objects_in, one_error};
+use vsi_errors::{error_object, objects_in, one_error};
 use vsi_lattice::{LatticeError, read_lattice};
 use vsi_names::START;
 use vsi_policy::named_policy;
@@ -49,12 +48,8 @@ pub(crate) struct Document {
 
 /// Whether a line of a TOML text begins with a key.
 fn has_key(text: &[u8], key: &[u8]) -> bool {
-    for line in text.split(|byte| *byte == b'\n') {
-        if line.starts_with(key) {
-            return true;
-        }
-    }
-    false
+    text.split(|byte| *byte == b'\n')
+        .any(|line| line.starts_with(key))
 }
 
 /// Whether a TOML text has a key that an interface file has and a lattice file hasn't.
@@ -69,23 +64,12 @@ fn is_interface(text: &[u8]) -> bool {
 
 impl Document {
     /// The document as it is judged.
-    pub(crate) fn text_in(&self, encoding: Encoding) -> DocumentText<'_> {
+    pub(crate) fn text_in(&self, alloc: Global, encoding: Encoding) -> DocumentText<'_> {
         DocumentText {
+            alloc,
+            encoding,
             uri: &self.uri,
             text: &self.text,
-            encoding,
-        }
-    }
-
-    /// The bytes of the lattice file of the document, if it is a text and the file can be read.
-    pub(crate) fn policy_bytes(&self) -> Option<&[u8]> {
-        if self.kind() != DocumentKind::Source {
-            return None;
-        }
-        match &self.policy {
-            Policy::Two => Some(TWO_CLASSES),
-            Policy::File(bytes) => Some(bytes.as_slice()),
-            Policy::Lost(_) => None,
         }
     }
 
@@ -103,17 +87,54 @@ impl Document {
         }
         DocumentKind::Other
     }
+
+    /// The bytes of the lattice file of the document, if it is a text and the file can be read.
+    pub(crate) fn policy_bytes(&self) -> Option<&[u8]> {
+        if self.kind() != DocumentKind::Source {
+            return None;
+        }
+        match &self.policy {
+            Policy::Two => Some(TWO_CLASSES),
+            Policy::File(bytes) => Some(bytes.as_slice()),
+            Policy::Lost(_) => None,
+        }
+    }
+
+    /// The errors and warnings of the document.
+    pub(crate) fn errors(
+        &self,
+        alloc: Global,
+        encoding: Encoding,
+        profile: Profile,
+    ) -> Result<Vec<Value>, AllocError> {
+        let document = self.text_in(alloc, encoding);
+        match self.kind() {
+            DocumentKind::Other => Ok(Vec::new(alloc)),
+            DocumentKind::Interface => interface_errors(document, &self.policy),
+            DocumentKind::Lattice => match read_lattice(alloc, &self.text) {
+                Ok(_lattice) => Ok(Vec::new(alloc)),
+                Err(error) => refused_errors(document, line_span(&self.text, 0), error),
+            },
+            DocumentKind::Source => {
+                let span = naming_span(&self.text);
+                match &self.policy {
+                    Policy::Two => source_errors(document, profile, span, TWO_CLASSES),
+                    Policy::File(bytes) => source_errors(document, profile, span, bytes),
+                    Policy::Lost(path) => lost_errors(document, span, path),
+                }
+            }
+        }
+    }
 }
 
 /// The part of a text from a byte to the end of its line.
 pub(crate) fn line_span(text: &[u8], start: usize) -> Span {
-    let mut stop = start;
-    for byte in text.get(start..).unwrap_or(b"") {
-        if *byte == b'\n' || *byte == b'\r' {
-            break;
-        }
-        stop = stop.saturating_add(1);
-    }
+    let line = text.get(start..).unwrap_or(b"");
+    let size = line
+        .iter()
+        .take_while(|byte| **byte != b'\n' && **byte != b'\r')
+        .count();
+    let stop = start.saturating_add(size);
     Span { start, stop }
 }
 
@@ -129,126 +150,40 @@ fn naming_span(text: &[u8]) -> Span {
 }
 
 /// The error of a lattice file that can't be read.
-pub(crate) fn lost_error(
-    alloc: Global,
+pub(crate) fn lost_errors(
     document: DocumentText<'_>,
     span: Span,
     path: &[u8],
-) -> Result<Value, AllocError> {
-    let mut message = Vec::from_slice(alloc, b"file fault: ")?;
+) -> Result<Vec<Value>, AllocError> {
+    let mut message = Vec::from_slice(document.alloc, b"file fault: ")?;
     message.extend_from_slice(path)?;
-    error_object(alloc, document, span, 0, &message)
+    one_error(document.alloc, error_object(document, span, 0, &message)?)
 }
 
 /// The error of a lattice file that is refused.
-pub(crate) fn refused_object(
-    alloc: Global,
+pub(crate) fn refused_errors(
     document: DocumentText<'_>,
     span: Span,
     error: LatticeError,
-) -> Result<Value, AllocError> {
+) -> Result<Vec<Value>, AllocError> {
     let fault = Fault::Lattice(error);
     let Some(diagnostic) = fault_diagnostic(&fault) else {
         return Err(AllocError);
     };
-    let text = fault_text(alloc, &fault)?;
-    error_object(
-        alloc,
-        document,
-        span,
-        diagnostic.code,
-        text.trim_ascii_end(),
-    )
+    let text = fault_text(document.alloc, &fault)?;
+    let error = error_object(document, span, diagnostic.code, text.trim_ascii_end())?;
+    one_error(document.alloc, error)
 }
 
-/// The errors of a lattice file that is open.
-fn lattice_errors(alloc: Global, document: DocumentText<'_>) -> Result<Vec<Value>, AllocError> {
-    let Err(error) = read_lattice(alloc, document.text) else {
-        return Ok(Vec::new(alloc));
-    };
-    let span = line_span(document.text, 0);
-    one_error(alloc, refused_object(alloc, document, span, error)?)
-}
-
-/// The errors and warnings of a source text under a lattice file.
+/// The errors and warnings of a source text under a lattice file, which a part of the text names.
 fn source_errors(
-    alloc: Global,
-    profile: Profile,
     document: DocumentText<'_>,
+    profile: Profile,
+    span: Span,
     bytes: &[u8],
 ) -> Result<Vec<Value>, AllocError> {
-    match read_lattice(alloc, bytes) {
-        Ok(lattice) => {
-            let (uri, text) = (document.uri, document.text);
-            objects_in(alloc, document.encoding, profile, &lattice, uri, text)
-        }
-        Err(error) => {
-            let span = naming_span(document.text);
-            one_error(alloc, refused_object(alloc, document, span, error)?)
-        }
+    match read_lattice(document.alloc, bytes) {
+        Ok(lattice) => objects_in(document, profile, &lattice),
+        Err(error) => refused_errors(document, span, error),
     }
-}
-
-/// The errors and warnings of a document.
-fn document_errors(
-    alloc: Global,
-    encoding: Encoding,
-    profile: Profile,
-    document: &Document,
-) -> Result<Vec<Value>, AllocError> {
-    let judged = document.text_in(encoding);
-    match document.kind() {
-        DocumentKind::Lattice => lattice_errors(alloc, judged),
-        DocumentKind::Interface => interface_errors(alloc, judged, &document.policy),
-        DocumentKind::Other => Ok(Vec::new(alloc)),
-        DocumentKind::Source => match &document.policy {
-            Policy::Two => source_errors(alloc, profile, judged, TWO_CLASSES),
-            Policy::File(bytes) => source_errors(alloc, profile, judged, bytes),
-            Policy::Lost(path) => {
-                let span = naming_span(judged.text);
-                one_error(alloc, lost_error(alloc, judged, span, path)?)
-            }
-        },
-    }
-}
-
-/// The message with these errors.
-fn publication(
-    alloc: Global,
-    uri: &[u8],
-    version: Option<i64>,
-    errors: Vec<Value>,
-) -> Result<Value, AllocError> {
-    let uri = text_value(alloc, uri)?;
-    let errors = Value::Array(errors);
-    let parameters = match version {
-        Some(version) => {
-            json!(in alloc; {"uri": uri, "version": version, "diagnostics": errors})?
-        }
-        None => json!(in alloc; {"uri": uri, "diagnostics": errors})?,
-    };
-    notification(alloc, "textDocument/publishDiagnostics", parameters)
-}
-
-/// The message with the errors of a document.
-pub(crate) fn published(
-    alloc: Global,
-    encoding: Encoding,
-    profile: Profile,
-    document: &Document,
-) -> Result<Value, AllocError> {
-    let errors = document_errors(alloc, encoding, profile, document)?;
-    publication(alloc, &document.uri, document.version, errors)
-}
-
-/// The message that a document that is closed has no errors.
-pub(crate) fn cleared(alloc: Global, uri: &[u8]) -> Result<Value, AllocError> {
-    publication(alloc, uri, None, Vec::new(alloc))
-}
-
-/// A message for the log of the client.
-pub(crate) fn said(alloc: Global, line: &[u8]) -> Result<Value, AllocError> {
-    let line = text_value(alloc, line)?;
-    let parameters = json!(in alloc; {"type": 3, "message": line})?;
-    notification(alloc, "window/logMessage", parameters)
 }

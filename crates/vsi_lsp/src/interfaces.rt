@@ -1,14 +1,15 @@
-//! Errors of interface files.
+//! Interface files that are open.
 
-use crate::documents::{Policy, line_span, lost_error, refused_object};
+use crate::documents::{Policy, line_span, lost_errors, refused_errors};
 use serde_json::Value;
 use std::alloc::{AllocError, Global};
+use vsi_choices::DocumentText;
 use vsi_client::path_beside;
 use vsi_conform::{
     InterfaceError, InterfaceFile, Policy as Place, interface_text, read_interface, unknown_class,
     unknown_cycle,
 };
-use vsi_errors::{DocumentText, error_object, one_error};
+use vsi_errors::{error_object, one_error};
 use vsi_lattice::{Lattice, read_lattice};
 
 /// The path of the lattice file that an interface names, if it does.
@@ -28,74 +29,47 @@ pub(crate) fn interface_path(
 }
 
 /// The errors of an interface file that is open, with the lattice file that was read for it.
+/// Without such a file only the interface itself is judged.
 pub(crate) fn interface_errors(
-    alloc: Global,
     document: DocumentText<'_>,
     policy: &Policy,
 ) -> Result<Vec<Value>, AllocError> {
-    match read_interface(alloc, document.text) {
-        Ok(asked) => asked_errors(alloc, document, &asked, policy),
-        Err(error) => refused(alloc, document, &error),
+    let asked = match read_interface(document.alloc, document.text) {
+        Ok(asked) => asked,
+        Err(error) => return refused(document, &error),
+    };
+    let span = line_span(document.text, 0);
+    match (&asked.policy, policy) {
+        (Place::Tables(text), _) => errors_under(document, &asked, text),
+        (Place::File(_), Policy::File(bytes)) => errors_under(document, &asked, bytes),
+        (Place::File(_), Policy::Lost(path)) => lost_errors(document, span, path),
+        (Place::File(_), Policy::Two) => Ok(Vec::new(document.alloc)),
     }
 }
 
 /// The error of an interface that is refused.
-fn refused(
-    alloc: Global,
-    document: DocumentText<'_>,
-    error: &InterfaceError,
-) -> Result<Vec<Value>, AllocError> {
+fn refused(document: DocumentText<'_>, error: &InterfaceError) -> Result<Vec<Value>, AllocError> {
     if let InterfaceError::Memory = error {
         return Err(AllocError);
     }
-    let text = interface_text(alloc, error)?;
-    let line = match text.as_slice() {
-        [line @ .., b'\n'] => line,
-        line => line,
-    };
-    one_error(
-        alloc,
-        error_object(alloc, document, line_span(document.text, 0), 0, line)?,
-    )
-}
-
-/// The errors of an interface with the lattice file that was read for it. Without such a file only
-/// the interface itself is judged.
-fn asked_errors(
-    alloc: Global,
-    document: DocumentText<'_>,
-    asked: &InterfaceFile,
-    policy: &Policy,
-) -> Result<Vec<Value>, AllocError> {
-    match &asked.policy {
-        Place::Tables(text) => errors_under(alloc, document, asked, text),
-        Place::File(_) => match policy {
-            Policy::File(bytes) => errors_under(alloc, document, asked, bytes),
-            Policy::Lost(path) => one_error(
-                alloc,
-                lost_error(alloc, document, line_span(document.text, 0), path)?,
-            ),
-            Policy::Two => Ok(Vec::new(alloc)),
-        },
-    }
+    let text = interface_text(document.alloc, error)?;
+    let line = text.strip_suffix(b"\n").unwrap_or(&text);
+    let span = line_span(document.text, 0);
+    one_error(document.alloc, error_object(document, span, 0, line)?)
 }
 
 /// The errors of an interface under a lattice file.
 fn errors_under(
-    alloc: Global,
     document: DocumentText<'_>,
     asked: &InterfaceFile,
     bytes: &[u8],
 ) -> Result<Vec<Value>, AllocError> {
-    match read_lattice(alloc, bytes) {
-        Ok(lattice) => match unknown_name(alloc, &lattice, asked)? {
-            Some(error) => refused(alloc, document, &error),
-            None => Ok(Vec::new(alloc)),
+    match read_lattice(document.alloc, bytes) {
+        Ok(lattice) => match unknown_name(document.alloc, &lattice, asked)? {
+            Some(error) => refused(document, &error),
+            None => Ok(Vec::new(document.alloc)),
         },
-        Err(error) => {
-            let span = line_span(document.text, 0);
-            one_error(alloc, refused_object(alloc, document, span, error)?)
-        }
+        Err(error) => refused_errors(document, line_span(document.text, 0), error),
     }
 }
 

@@ -9,16 +9,11 @@
 #![tactic(auto)]
 
 mod asking;
-mod cursor;
 mod documents;
-mod frames;
 mod interfaces;
-mod objects;
 mod reading;
-mod relations;
 mod replies;
 mod server;
-mod starting;
 
-pub use frames::framed;
+pub use replies::framed;
 pub use server::{Server, TWO_SAID, Wanted};

@@ -4,24 +4,25 @@ ghost use Rattle.std.specs.List.{All};
 ghost use Rattle.vsi_lattice.specs.LatticeView.{order};
 ghost use Rattle.vsi_lattice.specs.Order.{IsClass};
 
-use crate::objects::place_at;
 use serde_json::Value;
 use std::alloc::{AllocError, Global};
+use vsi_choices::{DocumentText, place_at};
 use vsi_client::offset_of;
 use vsi_compiler::{CompileError, Source, judge};
-use vsi_errors::DocumentText;
+use vsi_errors::Marked;
 use vsi_lattice::{Class, Lattice};
 use vsi_names::{Mention, mention_at, mentions_of};
 use vsi_syntax::Span;
 use vsi_types::Profile;
 
-/// A document whose text has a program, the names in it, and the names of the classes of its
-/// letvars, which are none if a flow is refused.
+/// A document whose text has a program: its positions, the names in it, and the names of the
+/// classes of its letvars, which are none if a flow is refused.
 #[derive(Drop)]
 pub(crate) struct Reading<'a> {
     pub(crate) document: DocumentText<'a>,
     pub(crate) profile: Profile,
     pub(crate) source: Source<'a>,
+    pub(crate) marked: Marked<'a>,
     pub(crate) mentions: Vec<Mention>,
     classes: Vec<&'a [u8]>,
 }
@@ -54,32 +55,30 @@ fn classes_of<'a>(
     }
 }
 
-/// A document as requests read it.
-pub(crate) fn reading_of<'a>(
-    alloc: Global,
-    profile: Profile,
-    document: DocumentText<'a>,
-    source: Source<'a>,
-) -> Result<Reading<'a>, AllocError> {
-    let mentions = mentions_of(alloc, &source)?;
-    let classes = classes_of(alloc, profile, &source)?;
-    Ok(Reading {
-        document,
-        profile,
-        source,
-        mentions,
-        classes,
-    })
-}
+impl<'a> Reading<'a> {
+    /// A document as requests read it.
+    pub(crate) fn of(
+        document: DocumentText<'a>,
+        profile: Profile,
+        source: Source<'a>,
+    ) -> Result<Self, AllocError> {
+        let mentions = mentions_of(document.alloc, &source)?;
+        let classes = classes_of(document.alloc, profile, &source)?;
+        Ok(Reading {
+            document,
+            profile,
+            source,
+            marked: Marked::of(document)?,
+            mentions,
+            classes,
+        })
+    }
 
-impl Reading<'_> {
     /// The name to which a message points.
     pub(crate) fn pointed(&self, value: &Value) -> Option<Mention> {
         let place = place_at(value, "/params/position")?;
-        mention_at(
-            &self.mentions,
-            offset_of(self.document.encoding, self.document.text, place),
-        )
+        let at = offset_of(self.document.encoding, self.document.text, place);
+        mention_at(&self.mentions, at)
     }
 
     /// The text of a part.
@@ -111,9 +110,6 @@ impl Reading<'_> {
         if let Some(global) = self.source.globals().get(variable) {
             return Some(global.class.text);
         }
-        match self.classes.get(self.letvar_of(variable)?) {
-            Some(name) => Some(*name),
-            None => None,
-        }
+        self.classes.get(self.letvar_of(variable)?).copied()
     }
 }

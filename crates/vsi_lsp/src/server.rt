@@ -3,15 +3,13 @@
 ghost use Rattle.std.specs.Prelude.{IfOk};
 ghost use Rattle.vsi_lsp.specs.Frames.{AreFrames};
 
-use crate::asking::{is_of_lattice, is_of_text, lattice_answer, text_answer};
-use crate::documents::{Document, DocumentKind, Policy, cleared, published, said};
-use crate::frames::framed;
+use crate::asking::{is_topic, lattice_answer};
+use crate::documents::{Document, DocumentKind, Policy};
 use crate::interfaces::interface_path;
-use crate::objects::{range_at, text_at};
-use crate::replies::{Fault, failure, response};
-use crate::starting::{encoding_for, welcome};
-use serde_json::Value;
+use crate::replies::{Fault, encoding_for, framed, published, said, text_at, welcome};
+use serde_json::{Value, json};
 use std::alloc::{AllocError, Global};
+use vsi_choices::{folds, layout_edits, place_at};
 use vsi_client::{Change, Encoding, Piece, changed_by, next_piece, path_beside};
 use vsi_lattice::{LatticeError, read_lattice};
 use vsi_policy::named_policy;
@@ -114,8 +112,10 @@ impl Server {
             Piece::Unfinished => Ok(None),
             Piece::Message(header, size) => {
                 let stop = header.saturating_add(size);
-                let message = copied(self.alloc, self.stream.get(header..stop))?;
-                self.stream = copied(self.alloc, self.stream.get(stop..))?;
+                let message = self.stream.get(header..stop).unwrap_or(b"");
+                let message = Vec::from_slice(self.alloc, message)?;
+                let rest = self.stream.get(stop..).unwrap_or(b"");
+                self.stream = Vec::from_slice(self.alloc, rest)?;
                 Ok(Some(message))
             }
             Piece::Faulty => {
@@ -151,8 +151,12 @@ impl Server {
         let Some(id) = value.get("id") else {
             return self.note(method, value);
         };
-        match self.reply(method, value)? {
-            Ok(answer) => self.respond(id, answer)?,
+        match self.reply(method, value) {
+            Ok(answer) => {
+                let message = json!(in self.alloc; {"jsonrpc": "2.0", "id": id, "result": answer})?;
+                self.messages.push(message)?;
+            }
+            Err(Fault::Memory) => return Err(AllocError),
             Err(fault) => self.fail(id, fault)?,
         }
         Ok(None)
@@ -160,103 +164,71 @@ impl Server {
 
     /// Adds the answer to a request that isn't obeyed.
     fn fail(&mut self, id: &Value, fault: Fault) -> Result<(), AllocError> {
-        let message = failure(self.alloc, id.clone()?, fault)?;
+        let (code, text) = fault.said();
+        let message = json!(in self.alloc; {
+            "jsonrpc": "2.0", "id": id, "error": {"code": code, "message": text}
+        })?;
         Ok(self.messages.push(message)?)
     }
 
-    /// Adds the answer to a request.
-    fn respond(&mut self, id: &Value, answer: Value) -> Result<(), AllocError> {
-        let message = response(self.alloc, id.clone()?, answer)?;
-        Ok(self.messages.push(message)?)
-    }
-
-    /// The answer to a request.
-    fn reply(&mut self, method: &str, value: &Value) -> Result<Result<Value, Fault>, AllocError> {
-        match self.phase {
-            Phase::New => self.start(method, value),
-            Phase::Running => self.serve(method, value),
-            _ => Ok(Err(Fault::Request)),
-        }
-    }
-
-    /// The answer to the first request.
-    fn start(&mut self, method: &str, value: &Value) -> Result<Result<Value, Fault>, AllocError> {
-        if method != "initialize" {
-            return Ok(Err(Fault::Uninitialized));
-        }
-        self.encoding = encoding_for(value);
-        self.phase = Phase::Running;
-        Ok(Ok(welcome(self.alloc, self.encoding)?))
-    }
-
-    /// The answer to a request between `initialize` and `shutdown`.
-    fn serve(&mut self, method: &str, value: &Value) -> Result<Result<Value, Fault>, AllocError> {
-        match method {
-            "initialize" => Ok(Err(Fault::Request)),
-            "shutdown" => {
+    /// The answer to a request. The first one is `initialize`.
+    fn reply(&mut self, method: &str, value: &Value) -> Result<Value, Fault> {
+        match (self.phase, method) {
+            (Phase::New, "initialize") => {
+                self.encoding = encoding_for(value);
+                self.phase = Phase::Running;
+                Ok(welcome(self.alloc, self.encoding)?)
+            }
+            (Phase::New, _) => Err(Fault::Uninitialized),
+            (Phase::Running, "initialize") => Err(Fault::Request),
+            (Phase::Running, "shutdown") => {
                 self.phase = Phase::ShutDown;
-                Ok(Ok(Value::Null))
+                Ok(Value::Null)
             }
-            _ => {
-                if is_of_text(method) || is_of_lattice(method) {
-                    return self.tell(method, value);
-                }
-                Ok(Err(Fault::Method))
-            }
+            (Phase::Running, _) => match method.strip_prefix("textDocument/") {
+                Some(topic) if is_topic(topic) => self.tell(topic, value),
+                _ => Err(Fault::Method),
+            },
+            _ => Err(Fault::Request),
         }
     }
 
     /// The answer to a request about a document.
-    fn tell(&self, method: &str, value: &Value) -> Result<Result<Value, Fault>, AllocError> {
-        let Some(place) = self.place_of(value) else {
-            return Ok(Err(Fault::Parameters));
-        };
-        let Some(document) = self.documents.get(place) else {
-            return Ok(Err(Fault::Parameters));
-        };
-        let judged = document.text_in(self.encoding);
-        if is_of_text(method) {
-            return Ok(Ok(text_answer(self.alloc, judged, method)?));
+    fn tell(&self, topic: &str, value: &Value) -> Result<Value, Fault> {
+        let place = self.place_of(value).ok_or(Fault::Parameters)?;
+        let document = self.documents.get(place).ok_or(Fault::Parameters)?;
+        let judged = document.text_in(self.alloc, self.encoding);
+        match topic {
+            "formatting" => return Ok(layout_edits(judged)?),
+            "foldingRange" => return Ok(folds(self.alloc, judged.text)?),
+            _ => {}
         }
         let Some(bytes) = document.policy_bytes() else {
-            return Ok(Ok(Value::Null));
+            return Ok(Value::Null);
         };
         match read_lattice(self.alloc, bytes) {
-            Ok(lattice) => lattice_answer(
-                self.alloc,
-                self.profile,
-                &lattice,
-                judged,
-                method,
-                value,
-            ),
-            Err(LatticeError::Memory) => Err(AllocError),
-            Err(_) => Ok(Ok(Value::Null)),
+            Ok(lattice) => lattice_answer(judged, self.profile, &lattice, topic, value),
+            Err(LatticeError::Memory) => Err(Fault::Memory),
+            Err(_) => Ok(Value::Null),
         }
     }
 
     /// Does what a notification asks.
     fn note(&mut self, method: &str, value: &Value) -> Result<Option<Wanted>, AllocError> {
-        if method == "exit" {
-            self.phase = match self.phase {
-                Phase::ShutDown => Phase::Exited,
-                _ => Phase::Failed,
-            };
-            return Ok(None);
-        }
-        if self.phase != Phase::Running {
-            return Ok(None);
-        }
-        match method {
-            "textDocument/didOpen" => self.open(value),
-            "textDocument/didChange" => self.change(value),
-            "textDocument/didSave" => self.renew(value),
-            "textDocument/didClose" => {
-                self.close(value)?;
-                Ok(None)
+        match (self.phase, method) {
+            (Phase::ShutDown, "exit") => self.phase = Phase::Exited,
+            (_, "exit") => self.phase = Phase::Failed,
+            (Phase::Running, "textDocument/didOpen") => return self.open(value),
+            (Phase::Running, "textDocument/didChange") => return self.change(value),
+            (Phase::Running, "textDocument/didClose") => self.close(value)?,
+            (Phase::Running, "textDocument/didSave") => {
+                if let Some(place) = self.place_of(value) {
+                    return self.want(place);
+                }
             }
-            _ => Ok(None),
+            _ => {}
         }
+        Ok(None)
     }
 
     /// The number of the document that a message names.
@@ -267,12 +239,8 @@ impl Server {
 
     /// The number of the document of this name.
     fn place_named(&self, uri: &[u8]) -> Option<usize> {
-        for (place, document) in self.documents.iter().enumerate() {
-            if document.uri.as_slice() == uri {
-                return Some(place);
-            }
-        }
-        None
+        let mut documents = self.documents.iter();
+        documents.position(|document| document.uri.as_slice() == uri)
     }
 
     /// Opens a document.
@@ -304,13 +272,13 @@ impl Server {
         }
     }
 
-    /// Closes a document.
+    /// Closes a document, which has no errors then.
     fn close(&mut self, value: &Value) -> Result<(), AllocError> {
         let Some(uri) = text_at(value, "/params/textDocument/uri") else {
             return Ok(());
         };
         self.forget(uri.as_bytes());
-        let message = cleared(self.alloc, uri.as_bytes())?;
+        let message = published(self.alloc, uri.as_bytes(), None, Vec::new(self.alloc))?;
         Ok(self.messages.push(message)?)
     }
 
@@ -319,10 +287,7 @@ impl Server {
         let Some(place) = self.place_of(value) else {
             return Ok(None);
         };
-        let Some(list) = value.pointer("/params/contentChanges") else {
-            return Ok(None);
-        };
-        let Some(list) = list.as_array() else {
+        let Some(Value::Array(list)) = value.pointer("/params/contentChanges") else {
             return Ok(None);
         };
         let changes = changes_in(self.alloc, list)?;
@@ -333,27 +298,15 @@ impl Server {
         self.want(place)
     }
 
-    /// Judges a document again.
-    fn renew(&mut self, value: &Value) -> Result<Option<Wanted>, AllocError> {
-        match self.place_of(value) {
-            Some(place) => self.want(place),
-            None => Ok(None),
-        }
-    }
-
     /// The path of the lattice file of a document, if it has one.
     fn policy_path(&self, document: &Document) -> Result<Option<String>, AllocError> {
-        if document.kind() == DocumentKind::Interface {
-            return interface_path(self.alloc, &document.uri, &document.text);
-        }
-        if document.kind() != DocumentKind::Source {
-            return Ok(None);
-        }
-        match named_policy(&document.text) {
-            Some(name) => Ok(Some(path_beside(self.alloc, &document.uri, name)?)),
-            None => match &self.lattice {
-                Some(path) => Ok(Some(path.clone()?)),
-                None => Ok(None),
+        match document.kind() {
+            DocumentKind::Interface => interface_path(self.alloc, &document.uri, &document.text),
+            DocumentKind::Lattice | DocumentKind::Other => Ok(None),
+            DocumentKind::Source => match (named_policy(&document.text), &self.lattice) {
+                (Some(name), _) => Ok(Some(path_beside(self.alloc, &document.uri, name)?)),
+                (None, Some(path)) => Ok(Some(path.clone()?)),
+                (None, None) => Ok(None),
             },
         }
     }
@@ -368,39 +321,24 @@ impl Server {
             let uri = document.uri.clone()?;
             return Ok(Some(Wanted { path, uri }));
         }
-        self.say_two(place)?;
-        self.put_policy(place, Policy::Two);
-        self.publish(place)?;
+        self.publish(place, Policy::Two)?;
         Ok(None)
     }
 
-    /// Says once that a text is judged with two classes.
-    fn say_two(&mut self, place: usize) -> Result<(), AllocError> {
-        let is_text = match self.documents.get(place) {
-            Some(document) => document.kind() == DocumentKind::Source,
-            None => false,
-        };
-        if self.has_said || !is_text {
-            return Ok(());
-        }
-        self.has_said = true;
-        let message = said(self.alloc, TWO_SAID)?;
-        Ok(self.messages.push(message)?)
-    }
-
-    /// Gives a document its lattice file.
-    fn put_policy(&mut self, place: usize, policy: Policy) {
-        if let Some(document) = self.documents.get_mut(place) {
-            document.policy = policy;
-        }
-    }
-
-    /// Adds the message with the errors of a document.
-    fn publish(&mut self, place: usize) -> Result<(), AllocError> {
-        let Some(document) = self.documents.get(place) else {
+    /// Gives a document its lattice file, and adds the message with its errors. A message before it
+    /// says once that texts are judged with two classes.
+    fn publish(&mut self, place: usize, policy: Policy) -> Result<(), AllocError> {
+        let Some(document) = self.documents.get_mut(place) else {
             return Ok(());
         };
-        let message = published(self.alloc, self.encoding, self.profile, document)?;
+        let is_by_two = matches!(&policy, Policy::Two);
+        document.policy = policy;
+        if is_by_two && document.kind() == DocumentKind::Source && !self.has_said {
+            self.has_said = true;
+            self.messages.push(said(self.alloc, TWO_SAID)?)?;
+        }
+        let errors = document.errors(self.alloc, self.encoding, self.profile)?;
+        let message = published(self.alloc, &document.uri, document.version, errors)?;
         Ok(self.messages.push(message)?)
     }
 
@@ -414,16 +352,7 @@ impl Server {
             Some(bytes) => Policy::File(bytes),
             None => Policy::Lost(Vec::from_slice(self.alloc, wanted.path.as_bytes())?),
         };
-        self.put_policy(place, policy);
-        self.publish(place)
-    }
-}
-
-/// A copy of these bytes, if there are any.
-fn copied(alloc: Global, bytes: Option<&[u8]>) -> Result<Vec<u8>, AllocError> {
-    match bytes {
-        Some(bytes) => Vec::from_slice(alloc, bytes),
-        None => Ok(Vec::new(alloc)),
+        self.publish(place, policy)
     }
 }
 
@@ -439,14 +368,16 @@ fn changes_in<'v>(alloc: Global, list: &'v [Value]) -> Result<Vec<Change<'v>>, A
         let Some(text) = text_at(value, "/text") else {
             return Ok(changes);
         };
-        let range = range_at(value, "range");
-        if range.is_none() && value.get("range").is_some() {
-            return Ok(changes);
+        let mut range = None;
+        if let Some(part) = value.get("range") {
+            let (Some(start), Some(stop)) = (place_at(part, "/start"), place_at(part, "/end"))
+            else {
+                return Ok(changes);
+            };
+            range = Some((start, stop));
         }
-        changes.push(Change {
-            range,
-            text: text.as_bytes(),
-        })?;
+        let text = text.as_bytes();
+        changes.push(Change { range, text })?;
     }
     Ok(changes)
 }

@@ -11,10 +11,7 @@
 #![tactic(auto)]
 
 mod mentions;
-mod refusals;
 mod renaming;
-mod spelling;
 
-pub use mentions::{Mention, mention_at, mentions_of};
-pub use refusals::{START, refused_span};
+pub use mentions::{Mention, START, mention_at, mentions_of, refused_span};
 pub use renaming::rename;

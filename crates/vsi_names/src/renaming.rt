@@ -7,10 +7,9 @@ ghost use Rattle.vsi_names.specs.Names.{after_first, with_name};
 ghost use Rattle.vsi_names.specs.Renamed as spec;
 ghost use Rattle.vsi_names.specs.Respelled.{AreInOrder, parts_of, respelled};
 
-use crate::mentions::Mention;
-use crate::spelling::{parts_of, respelled};
+use crate::mentions::{Mention, parts_of, respelled};
 use std::alloc::{AllocError, Global};
-use vsi_client::{Change, Encoding, changed_by, range_of};
+use vsi_client::{Change, Encoding, Place, Range, changed_by, offset_of, range_of};
 use vsi_code::generate;
 use vsi_compiler::{CompileError, Source, read_source};
 use vsi_image::Instr;
@@ -156,7 +155,8 @@ fn keeps_program(
     }
 }
 
-/// The changes of a text that put a name at each of these parts, the last first.
+/// The changes of a text that put a name at each of these parts, which follow one another: the last
+/// first. The positions of each are counted from the line of the one before it.
 fn proposed<'a>(
     alloc: Global,
     encoding: Encoding,
@@ -165,14 +165,34 @@ fn proposed<'a>(
     name: &'a [u8],
 ) -> Result<Vec<Change<'a>>, AllocError> {
     let mut changes = Vec::new(alloc);
-    for part in parts.iter().rev() {
-        let range = range_of(encoding, text, part.start, part.stop);
-        let change = Change {
-            range: Some((range.start, range.stop)),
-            text: name,
-        };
-        changes.push(change)?;
+    let mut rest = text;
+    let mut before: usize = 0;
+    let mut lines: usize = 0;
+    for part in parts {
+        let start = part.start.saturating_sub(before);
+        let stop = part.stop.saturating_sub(before);
+        let Range {
+            mut start,
+            mut stop,
+        } = range_of(encoding, rest, start, stop);
+        let line = offset_of(
+            encoding,
+            rest,
+            Place {
+                character: 0,
+                ..start
+            },
+        );
+        rest = rest.get(line..).unwrap_or(b"");
+        before = before.saturating_add(line);
+        let passed = start.line;
+        start.line = start.line.saturating_add(lines);
+        stop.line = stop.line.saturating_add(lines);
+        lines = lines.saturating_add(passed);
+        let range = Some((start, stop));
+        changes.push(Change { range, text: name })?;
     }
+    changes.reverse();
     Ok(changes)
 }
 

@@ -7,17 +7,12 @@
 //! To be believed: all files of `specs/`.
 #![tactic(auto)]
 
-mod fault;
 mod making;
-mod naming;
-mod order;
 mod seen;
 mod shape;
 mod warnings;
 
-pub use fault::ShapeError;
-pub use making::lattice_text;
-pub use naming::named_policy;
+pub use making::{ShapeError, lattice_text};
 pub use seen::{seen_changes, seen_table};
-pub use shape::Shape;
+pub use shape::{Shape, named_policy};
 pub use warnings::policy_warnings;

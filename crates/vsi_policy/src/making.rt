@@ -1,16 +1,16 @@
 //! Makes lattice files. The text is proposed, and the reader of lattice files determines what it
 //! declares.
 
-ghost use Rattle.std.specs.Prelude.{IfOk, IsTrue, length};
+ghost use Rattle.std.specs.Prelude.{IfOk, IsTrue, length, ◌≡◌};
 ghost use Rattle.vsi_lattice.specs.FileFaults.{IsRead};
 ghost use Rattle.vsi_lattice.specs.LatticeView.{names, order};
 ghost use Rattle.vsi_lattice.specs.NamePlaces.{texts};
 ghost use Rattle.vsi_policy.specs.Shapes.{HasClasses, HasOrder, IsShaped, IsShapedText};
+ghost use Rattle.vsi_policy.specs.declared.making.ShapeError.TheVariants.{Memory};
 
-use crate::fault::ShapeError;
-use crate::order::{has_classes, has_order, is_below};
-use crate::shape::Shape;
-use std::alloc::{AllocError, Global};
+use crate::shape::{Shape, has_classes, has_order, is_below};
+use std::alloc::{AllocError, AllocFailed, Global};
+use thiserror::Error;
 use vsi_lattice::{Classes, Lattice, LatticeError, read_lattice};
 use vsi_syntax::is_name;
 
@@ -169,4 +169,40 @@ fn put_quoted(text: &mut Vec<u8>, name: &[u8]) -> Result<(), AllocError> {
     text.extend_from_slice(b"\"")?;
     text.extend_from_slice(name)?;
     text.extend_from_slice(b"\"")
+}
+
+/// Why arguments make no lattice.
+#[derive(Debug, Drop, Error)]
+pub enum ShapeError {
+    /// No shape has this name.
+    #[error("no shape has this name")]
+    NoShape,
+    /// The shape doesn't take this number of names.
+    #[error("the shape takes another number of names")]
+    WrongCount(Shape),
+    /// A class would have this name, which isn't a valid name.
+    #[error("a class would have a name that isn't one")]
+    NoName(Vec<u8>),
+    /// Two classes would have this name.
+    #[error("two classes would have one name")]
+    Twice(Vec<u8>),
+    /// There was too little memory.
+    #[error("out of memory")]
+    Memory,
+}
+
+impl From<AllocError> for ShapeError {
+    ghost from_gives = { λ _ e. e ≡ Memory };
+
+    fn from(_error: AllocError) -> Self {
+        ShapeError::Memory
+    }
+}
+
+impl<T: Drop> From<AllocFailed<T>> for ShapeError {
+    ghost from_gives = { λ _ e. e ≡ Memory };
+
+    fn from(_error: AllocFailed<T>) -> Self {
+        ShapeError::Memory
+    }
 }

@@ -11,14 +11,14 @@ use Rattle.vsi_types.specs.declared.rules.Step.{Step}
 use Rattle.vsi_types.specs.Security.{program}
 use Rattle.vsi_compiler.specs.Refusal.{HasShortestBadWalk}
 use Rattle.vsi_compiler.specs.Stands.{Stands}
-use Rattle.vsi_flows.specs.declared.pair.Pair.{Pair}
+use Rattle.vsi_flows.specs.declared.table.Pair.{Pair}
 use Rattle.vsi_flows.specs.Table.{IsTable}
 use Rattle.vsi_report.specs.Banner.{HasBanner, HasLead, beginning}
 use Rattle.vsi_report.specs.Lead.{HasTrueLead, IsLead, allowed_words, lead_words}
 use Rattle.vsi_report.specs.Verdict.{HasVerdict, IsVerdict, Tells}
-use Rattle.vsi_report.specs.declared.lead.Lead.{Lead}
-use Rattle.vsi_report.specs.declared.verdict.Verdict.{Verdict}
-use Rattle.vsi_report.specs.declared.verdict.Verdict.TheVariants.{Accepted, Refused, NoProgram}
+use Rattle.vsi_report.specs.declared.banner.Lead.{Lead}
+use Rattle.vsi_report.specs.declared.page.Verdict.{Verdict}
+use Rattle.vsi_report.specs.declared.page.Verdict.TheVariants.{Accepted, Refused, NoProgram}
 use Rattle.vsi_report.proofs.EscapeLemmas.{parts_so}
 
 -- The pairs are the table of flows of the text's program.

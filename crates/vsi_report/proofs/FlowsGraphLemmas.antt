@@ -8,7 +8,7 @@ use Rattle.vsi_types.specs.declared.rules.Rule.TheVariants.{Assign, If, While, L
 use Rattle.vsi_types.specs.Security.{Program, program, count_from}
 use Rattle.vsi_types.proofs.Tables.{count_more}
 use Rattle.vsi_infer.specs.Flowing.{size_of}
-use Rattle.vsi_report.specs.declared.by_rule.Flows.{Flows}
+use Rattle.vsi_report.specs.declared.facts.Flows.{Flows}
 use Rattle.vsi_report.specs.ByRule.{flows_in_rows, HasFlows}
 use Rattle.vsi_lattice.specs.declared.lattice.Lattice.{Lattice as Declared}
 use Rattle.vsi_lattice.specs.LatticeView.{names, order}

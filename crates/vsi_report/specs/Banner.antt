@@ -2,8 +2,8 @@
 use Rattle.std.specs.Prelude.{◌≡◌, ℕ, ◌==◌, if◌then◌else◌, List, [], ◌∷◌, ◌++◌, codes}
 use Rattle.std.specs.List.{flat_map}
 use Rattle.vsi_report.specs.Escape.{escaped}
-use Rattle.vsi_report.specs.declared.verdict.Verdict.{Verdict}
-use Rattle.vsi_report.specs.declared.verdict.Verdict.TheVariants.{Accepted, Refused, NoProgram}
+use Rattle.vsi_report.specs.declared.page.Verdict.{Verdict}
+use Rattle.vsi_report.specs.declared.page.Verdict.TheVariants.{Accepted, Refused, NoProgram}
 
 -- The first lines of a page.
 abbrev pub first_lines : List ℕ

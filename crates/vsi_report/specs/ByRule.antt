@@ -7,7 +7,7 @@ use Rattle.vsi_types.specs.Security.{Program}
 use Rattle.vsi_infer.specs.declared.flows.FlowRows.{FlowRows}
 use Rattle.vsi_infer.specs.Flowing.{AreFlowsBy}
 use Rattle.vsi_infer.specs.FlowRows.{flow_has}
-use Rattle.vsi_report.specs.declared.by_rule.Flows.{Flows}
+use Rattle.vsi_report.specs.declared.facts.Flows.{Flows}
 
 -- The rows of a rule.
 abbrev pub rows_of : Flows → Rule → FlowRows

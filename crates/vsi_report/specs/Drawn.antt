@@ -1,6 +1,6 @@
 -- The contents of a graph of flows, in the code.
 use Rattle.vsi_lattice.specs.LatticeView.{order}
-use Rattle.vsi_report.specs.declared.drawn.Drawn.{Drawn}
+use Rattle.vsi_report.specs.declared.dot.Drawn.{Drawn}
 use Rattle.vsi_report.specs.Graph.{texts}
 use Rattle.vsi_report.specs.FlowsGraph.{Shown}
 

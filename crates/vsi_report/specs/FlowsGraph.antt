@@ -17,8 +17,8 @@ use Rattle.vsi_infer.specs.Flowing.{size_of, variable_at}
 use Rattle.vsi_infer.specs.Inference.{IsLeast, IsShortest}
 use Rattle.vsi_infer.specs.StepsBetween.{has_step_by, leads_by}
 use Rattle.vsi_compiler.specs.Stands.{Stands}
-use Rattle.vsi_report.specs.declared.drawn.Course.{Course}
-use Rattle.vsi_report.specs.declared.drawn.Course.TheVariants.{Upward, Against, Unclear}
+use Rattle.vsi_report.specs.declared.dot.Course.{Course}
+use Rattle.vsi_report.specs.declared.dot.Course.TheVariants.{Upward, Against, Unclear}
 use Rattle.vsi_report.specs.Covering.{HasJust, IsCoveringPair}
 use Rattle.vsi_report.specs.Graph.{AreLatticeLines, graph, name_at, paint}
 

@@ -25,9 +25,9 @@ graph name lines = head_lines name ++ lines ++ codes "}\n"
 -- The colour of one of eight kinds of class.
 abbrev pub kind_colour : ℕ → List ℕ
 kind_colour n =
-    if n == 0 then codes "#2e23a9" else if n == 1 then codes "#a1529b" else if n == 2 then codes "#627039"
-    else if n == 3 then codes "#5760e7" else if n == 4 then codes "#490359" else if n == 5 then codes "#10370f"
-    else if n == 6 then codes "#764565" else codes "#1f1821"
+    if n == 0 then codes "#2e23a9" else if n == 1 then codes "#984a92" else if n == 2 then codes "#627039"
+    else if n == 3 then codes "#5058de" else if n == 4 then codes "#490359" else if n == 5 then codes "#10370f"
+    else if n == 6 then codes "#763b63" else codes "#1f1821"
 
 -- The colour of a class.
 abbrev pub colour : ℕ → List ℕ

@@ -11,11 +11,11 @@ use Rattle.vsi_types.specs.Walks.{declared_class, last_target}
 use Rattle.vsi_infer.specs.Explanation.{name_of}
 use Rattle.vsi_compiler.specs.Refusal.{HasShortestBadWalk}
 use Rattle.vsi_compiler.specs.Stands.{Stands}
-use Rattle.vsi_flows.specs.declared.pair.Pair.{Pair}
+use Rattle.vsi_flows.specs.declared.table.Pair.{Pair}
 use Rattle.vsi_flows.specs.Table.{IsTable}
-use Rattle.vsi_report.specs.declared.lead.End.{End}
-use Rattle.vsi_report.specs.declared.lead.Lead.{Lead}
-use Rattle.vsi_report.specs.declared.verdict.Verdict.TheVariants as verdicts
+use Rattle.vsi_report.specs.declared.banner.End.{End}
+use Rattle.vsi_report.specs.declared.banner.Lead.{Lead}
+use Rattle.vsi_report.specs.declared.page.Verdict.TheVariants as verdicts
 use Rattle.vsi_report.specs.Banner.{HasLead}
 use Rattle.vsi_report.specs.Escape.{escaped}
 use Rattle.vsi_report.specs.Graph.{name_at}

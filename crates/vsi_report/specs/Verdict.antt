@@ -10,8 +10,8 @@ use Rattle.vsi_compiler.specs.declared.error.CompileError.{CompileError}
 use Rattle.vsi_compiler.specs.declared.error.CompileError.TheVariants.{Memory}
 use Rattle.vsi_report.specs.Banner.{HasBanner}
 use Rattle.vsi_report.specs.Lead.{TellsAllowed, TellsRefusal}
-use Rattle.vsi_report.specs.declared.verdict.Verdict.{Verdict}
-use Rattle.vsi_report.specs.declared.verdict.Verdict.TheVariants.{Accepted, Refused, NoProgram}
+use Rattle.vsi_report.specs.declared.page.Verdict.{Verdict}
+use Rattle.vsi_report.specs.declared.page.Verdict.TheVariants.{Accepted, Refused, NoProgram}
 
 -- The steps of a walk for which the text is refused, such that no such walk has fewer steps.
 pub record HasRefusal (l : Lattice) (P : Profile) (text : List ℕ) : Type 0 where

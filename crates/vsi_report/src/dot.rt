@@ -1,22 +1,29 @@
-//! The lattice in the language of Graphviz.
+//! The lattice in the language of Graphviz, and the parts of a graph of flows: its contents, the
+//! looks of its edges, and the places of its nodes, where higher classes are above lower ones.
 
-ghost use Rattle.std.specs.Prelude.{◌≡◌, ◌++◌, IfOk, OnOk, length};
+ghost use Rattle.std.specs.Prelude.{◌≡◌, ◌++◌, IfOk, OnOk, length, ◌≤◌, decimal};
 ghost use Rattle.std.specs.List.{flat_map};
-ghost use Rattle.vsi_types.specs.Security.{count_from};
-ghost use Rattle.vsi_report.specs.Graph as spec;
+ghost use Rattle.vsi_types.specs.Security.{count_from, program as program_of};
+ghost use Rattle.vsi_lattice.specs.LatticeView.{order as order_of_lattice};
+ghost use Rattle.vsi_infer.specs.Flowing.{variable_at as variable_at_of};
+ghost use Rattle.vsi_infer.specs.StepsBetween.{leads_by};
 ghost use Rattle.vsi_report.specs.Graph.{texts};
+ghost use Rattle.vsi_report.specs.Drawn.{shown};
+ghost use Rattle.vsi_report.specs.Graph as classes_spec;
+ghost use Rattle.vsi_report.specs.FlowsGraph as spec;
 
 use crate::order::{Order, name_of, order_of};
+use crate::page::{Added, Made};
 use std::alloc::{AllocError, Global};
-use vsi_lattice::Lattice;
+use vsi_flows::declarations;
+use vsi_infer::{declared_class, same_rule};
+use vsi_lattice::{Class, Classes, Lattice};
+use vsi_scope::{Resolved, Var};
+use vsi_syntax::put_number;
+use vsi_types::{LOOP, Profile, Rule, Step};
 
 /// Adds a text between two others.
-pub(crate) fn put_between(
-    text: &mut Vec<u8>,
-    before: &[u8],
-    middle: &[u8],
-    after: &[u8],
-) -> Result<(), AllocError>
+pub(crate) fn put_between(text: &mut Vec<u8>, before: &[u8], middle: &[u8], after: &[u8]) -> Added
     ensures { OnOk result
         (text.new.items ≡ text.old.items ++ (before.now ++ (middle.now ++ after.now))) }
 {
@@ -26,8 +33,8 @@ pub(crate) fn put_between(
 }
 
 /// Adds the first lines of a graph.
-fn put_head(text: &mut Vec<u8>, name: &[u8]) -> Result<(), AllocError>
-    ensures { OnOk result (text.new.items ≡ text.old.items ++ spec.head_lines name.now) }
+fn put_head(text: &mut Vec<u8>, name: &[u8]) -> Added
+    ensures { OnOk result (text.new.items ≡ text.old.items ++ classes_spec.head_lines name.now) }
 {
     put_between(text, b"digraph ", name, b" {\n")?;
     put_between(
@@ -40,8 +47,8 @@ fn put_head(text: &mut Vec<u8>, name: &[u8]) -> Result<(), AllocError>
 }
 
 /// The graph with a name and the lines of its body.
-pub(crate) fn graph_text(alloc: Global, name: &[u8], lines: &[u8]) -> Result<Vec<u8>, AllocError>
-    ensures { IfOk result (λ text. text.items ≡ spec.graph name.now lines.now) }
+pub(crate) fn graph_text(alloc: Global, name: &[u8], lines: &[u8]) -> Made<Vec<u8>>
+    ensures { IfOk result (λ text. text.items ≡ classes_spec.graph name.now lines.now) }
 {
     let mut text = Vec::new(alloc);
     put_head(&mut text, name)?;
@@ -51,32 +58,32 @@ pub(crate) fn graph_text(alloc: Global, name: &[u8], lines: &[u8]) -> Result<Vec
 
 /// The colour of a class, that of the pages in light.
 fn colour(class: usize) -> &'static [u8]
-    ensures { result.now ≡ spec.colour class }
+    ensures { result.now ≡ classes_spec.colour class }
 {
     match class % 8 {
         0 => b"#2e23a9",
-        1 => b"#a1529b",
+        1 => b"#984a92",
         2 => b"#627039",
-        3 => b"#5760e7",
+        3 => b"#5058de",
         4 => b"#490359",
         5 => b"#10370f",
-        6 => b"#764565",
+        6 => b"#763b63",
         _ => b"#1f1821",
     }
 }
 
 /// Adds the attributes that give a node the colour of a class.
-pub(crate) fn put_paint(text: &mut Vec<u8>, class: usize) -> Result<(), AllocError>
-    ensures { OnOk result (text.new.items ≡ text.old.items ++ spec.paint class) }
+pub(crate) fn put_paint(text: &mut Vec<u8>, class: usize) -> Added
+    ensures { OnOk result (text.new.items ≡ text.old.items ++ classes_spec.paint class) }
 {
     put_between(text, b"color=\"", colour(class), b"\", fontcolor=\"")?;
     put_between(text, b"", colour(class), b"\"")
 }
 
 /// Adds the node of a class.
-fn put_class(text: &mut Vec<u8>, order: &Order, class: usize) -> Result<(), AllocError>
+fn put_class(text: &mut Vec<u8>, order: &Order, class: usize) -> Added
     ensures { OnOk result (text.new.items ≡ text.old.items
-        ++ spec.node_line (texts order.now.names.items) class) }
+        ++ classes_spec.node_line (texts order.now.names.items) class) }
 {
     put_between(text, b"  \"", name_of(order, class), b"\" [")?;
     put_paint(text, class)?;
@@ -84,9 +91,9 @@ fn put_class(text: &mut Vec<u8>, order: &Order, class: usize) -> Result<(), Allo
 }
 
 /// Adds the nodes of the classes.
-fn put_classes(text: &mut Vec<u8>, order: &Order) -> Result<(), AllocError>
+fn put_classes(text: &mut Vec<u8>, order: &Order) -> Added
     ensures { OnOk result (text.new.items ≡ text.old.items
-        ++ flat_map (spec.node_line (texts order.now.names.items))
+        ++ flat_map (classes_spec.node_line (texts order.now.names.items))
         (count_from 0 (length (texts order.now.names.items)))) }
 {
     for class in 0..order.names.len() {
@@ -96,18 +103,18 @@ fn put_classes(text: &mut Vec<u8>, order: &Order) -> Result<(), AllocError>
 }
 
 /// Adds the edge of a covering pair.
-fn put_cover(text: &mut Vec<u8>, order: &Order, pair: (usize, usize)) -> Result<(), AllocError>
+fn put_cover(text: &mut Vec<u8>, order: &Order, pair: (usize, usize)) -> Added
     ensures { OnOk result (text.new.items ≡ text.old.items
-        ++ spec.edge_line (texts order.now.names.items) pair) }
+        ++ classes_spec.edge_line (texts order.now.names.items) pair) }
 {
     put_between(text, b"  \"", name_of(order, pair.0), b"\" -> \"")?;
     put_between(text, b"", name_of(order, pair.1), b"\";\n")
 }
 
 /// Adds the edges of the covering pairs.
-fn put_covering(text: &mut Vec<u8>, order: &Order) -> Result<(), AllocError>
+fn put_covering(text: &mut Vec<u8>, order: &Order) -> Added
     ensures { OnOk result (text.new.items ≡ text.old.items
-        ++ flat_map (spec.edge_line (texts order.now.names.items)) order.now.covers.items) }
+        ++ flat_map (classes_spec.edge_line (texts order.now.names.items)) order.now.covers.items) }
 {
     for pair in &order.covers {
         put_cover(text, order, *pair)?;
@@ -117,8 +124,8 @@ fn put_covering(text: &mut Vec<u8>, order: &Order) -> Result<(), AllocError>
 
 /// The lines of a lattice: a node for each class, and an edge from each class to each one that
 /// covers it.
-pub(crate) fn lattice_lines(alloc: Global, lattice: &Lattice) -> Result<Vec<u8>, AllocError>
-    ensures { IfOk result (λ lines. spec.AreLatticeLines lattice.now lines.items) }
+pub(crate) fn lattice_lines(alloc: Global, lattice: &Lattice) -> Made<Vec<u8>>
+    ensures { IfOk result (λ lines. classes_spec.AreLatticeLines lattice.now lines.items) }
 {
     let order = order_of(alloc, lattice)?;
     let mut lines = Vec::new(alloc);
@@ -133,8 +140,281 @@ pub(crate) fn lattice_lines(alloc: Global, lattice: &Lattice) -> Result<Vec<u8>,
 ///
 /// Only if memory runs out.
 pub fn lattice_dot(alloc: Global, lattice: &Lattice) -> Result<Vec<u8>, AllocError>
-    ensures graph { IfOk result (λ text. spec.IsLatticeGraph lattice.now text.items) }
+    ensures graph { IfOk result (λ text. classes_spec.IsLatticeGraph lattice.now text.items) }
 {
     let lines = lattice_lines(alloc, lattice)?;
     graph_text(alloc, b"lattice", &lines)
+}
+
+/// The contents of a graph of flows: a program over a lattice, the chosen classes of its letvars,
+/// and the steps of a refused walk.
+#[derive(Clone, Copy)]
+pub(crate) struct Drawn<'a> {
+    pub(crate) lattice: &'a Lattice,
+    pub(crate) order: &'a Order,
+    pub(crate) program: &'a Resolved<'a>,
+    pub(crate) chosen: &'a [Class],
+    pub(crate) walk: &'a [Step],
+}
+
+/// The course of a flow from one class to another.
+#[derive(Clone, Copy)]
+pub(crate) enum Course {
+    /// The first class is at or below the second.
+    Upward,
+    /// It isn't.
+    Against,
+    /// One of them isn't known.
+    Unclear,
+}
+
+/// The variable with a number; the last number belongs to the ending of loops.
+pub(crate) fn variable_at(drawn: &Drawn<'_>, number: u16) -> Var
+    ensures { result ≡ variable_at_of (spec.size (shown drawn.now)) number }
+{
+    if number == declarations(drawn.program) {
+        LOOP
+    } else {
+        Var(number)
+    }
+}
+
+/// The class of a variable: the declared one, otherwise the chosen one.
+pub(crate) fn class_shown(drawn: &Drawn<'_>, variable: Var) -> Option<Class>
+    ensures { result ≡ spec.class_shown (shown drawn.now) variable }
+{
+    if let Some(class) = declared_class(drawn.lattice, drawn.program, variable) {
+        return Some(class);
+    }
+    let place = (variable.0 as usize).saturating_sub(drawn.program.globals().len());
+    match drawn.chosen.get(place) {
+        Some(class) => Some(*class),
+        None => None,
+    }
+}
+
+/// Whether both are classes of the lattice, and the first is at or below the second.
+fn is_ordered(lattice: &Lattice, low: Class, high: Class) -> bool
+    ensures { result ≡ spec.is_ordered (order_of_lattice lattice.now) low high }
+{
+    if low.index() >= lattice.count() || high.index() >= lattice.count() {
+        return false;
+    }
+    lattice.leq(low, high)
+}
+
+/// The course of a flow from one class to another.
+fn course_between(lattice: &Lattice, low: Option<Class>, high: Option<Class>) -> Course
+    ensures { result ≡ spec.course_between (order_of_lattice lattice.now) low high }
+{
+    match (low, high) {
+        (Some(low), Some(high)) => {
+            if is_ordered(lattice, low, high) {
+                Course::Upward
+            } else {
+                Course::Against
+            }
+        }
+        _ => Course::Unclear,
+    }
+}
+
+/// The course of the flow from a number to another.
+pub(crate) fn flow_course(drawn: &Drawn<'_>, source: u16, target: u16) -> Course
+    ensures { result ≡ spec.flow_course (shown drawn.now) source target }
+{
+    let low = class_shown(drawn, variable_at(drawn, source));
+    let high = class_shown(drawn, variable_at(drawn, target));
+    course_between(drawn.lattice, low, high)
+}
+
+/// Whether a step goes from a variable to another by a rule.
+fn leads(step: &Step, rule: Rule, source: Var, target: Var) -> bool
+    ensures { result ≡ leads_by rule source target step.now }
+{
+    same_rule(rule, step.rule) && step.source.0 == source.0 && step.target.0 == target.0
+}
+
+/// The number of the first step of a walk from a variable to another by a rule.
+fn number_in(walk: &[Step], rule: Rule, source: Var, target: Var) -> Option<usize>
+    ensures { result ≡ spec.number_from 1 walk.now rule source target }
+{
+    let mut rest = walk;
+    let mut number: usize = 1;
+    while let [step, behind @ ..] = rest {
+        if leads(step, rule, source, target) {
+            return Some(number);
+        }
+        rest = behind;
+        number += 1;
+    }
+    None
+}
+
+/// The number of the step of the refused walk from a number to another by a rule.
+pub(crate) fn step_number(drawn: &Drawn<'_>, rule: Rule, source: u16, target: u16) -> Option<usize>
+    ensures { result ≡ spec.step_number (shown drawn.now) rule source target }
+{
+    let source = variable_at(drawn, source);
+    number_in(drawn.walk, rule, source, variable_at(drawn, target))
+}
+
+/// The attributes of an edge.
+pub(crate) fn edge_words(number: Option<usize>, course: Course) -> &'static [u8]
+    ensures { result.now ≡ spec.edge_words number course }
+{
+    match (number, course) {
+        (None, Course::Upward) => b"",
+        (None, Course::Against) => {
+            b", color=\"#b01e1e\", fontcolor=\"#b01e1e\", constraint=false"
+        }
+        (None, Course::Unclear) => b", constraint=false",
+        (Some(_), Course::Upward) => { b", color=\"#b01e1e\", fontcolor=\"#b01e1e\", penwidth=4" }
+        (Some(_), _) => {
+            b", color=\"#b01e1e\", fontcolor=\"#b01e1e\", penwidth=4, constraint=false"
+        }
+    }
+}
+
+/// Adds a number between two texts.
+pub(crate) fn put_numbered(text: &mut Vec<u8>, before: &[u8], number: usize, after: &[u8]) -> Added
+    ensures { OnOk result (text.new.items
+        ≡ text.old.items ++ (before.now ++ (decimal number ++ after.now))) }
+{
+    text.extend_from_slice(before)?;
+    put_number(text, number)?;
+    text.extend_from_slice(after)
+}
+
+/// Adds the name of the node with a number.
+pub(crate) fn put_node(text: &mut Vec<u8>, number: u16) -> Added
+    ensures { OnOk result (text.new.items ≡ text.old.items ++ spec.node number) }
+{
+    put_numbered(text, b"\"v.", number as usize, b"\"")
+}
+
+/// The number of nodes; the ending of loops has one under the strict profile only.
+pub(crate) fn nodes_shown(profile: Profile, last: u16) -> u16
+    requires { last ≤ 1024 }
+    ensures { result ≡ spec.nodes_shown profile last }
+{
+    match profile {
+        Profile::Base => last,
+        Profile::Strict => last + 1,
+    }
+}
+
+/// Adds the invisible point below the variables of a class.
+fn put_foot(text: &mut Vec<u8>, class: usize) -> Added
+    ensures { OnOk result (text.new.items ≡ text.old.items ++ spec.foot class) }
+{
+    put_numbered(text, b"\"below.", class, b"\"")
+}
+
+/// Adds the invisible point above the variables of a class.
+fn put_top(text: &mut Vec<u8>, class: usize) -> Added
+    ensures { OnOk result (text.new.items ≡ text.old.items ++ spec.top class) }
+{
+    put_numbered(text, b"\"above.", class, b"\"")
+}
+
+/// Adds the line of a class's two points.
+fn put_points(text: &mut Vec<u8>, class: usize) -> Added
+    ensures { OnOk result (text.new.items ≡ text.old.items ++ spec.points_line class) }
+{
+    text.extend_from_slice(b"  ")?;
+    put_foot(text, class)?;
+    text.extend_from_slice(b" -> ")?;
+    put_top(text, class)?;
+    text.extend_from_slice(b";\n")
+}
+
+/// Adds the lines of the points of all classes.
+fn put_all_points(text: &mut Vec<u8>, order: &Order) -> Added
+    ensures { OnOk result (text.new.items ≡ text.old.items
+        ++ flat_map spec.points_line (count_from 0 (length (texts order.now.names.items)))) }
+{
+    for class in 0..order.names.len() {
+        put_points(text, class)?;
+    }
+    Ok(())
+}
+
+/// Adds the line that keeps a class above another one.
+fn put_above(text: &mut Vec<u8>, pair: (usize, usize)) -> Added
+    ensures { OnOk result (text.new.items ≡ text.old.items ++ spec.above_line pair) }
+{
+    text.extend_from_slice(b"  ")?;
+    put_top(text, pair.0)?;
+    text.extend_from_slice(b" -> ")?;
+    put_foot(text, pair.1)?;
+    text.extend_from_slice(b" [minlen=0];\n")
+}
+
+/// Adds the lines that keep each class above those that it covers.
+fn put_all_above(text: &mut Vec<u8>, order: &Order) -> Added
+    ensures { OnOk result (text.new.items ≡ text.old.items
+        ++ flat_map spec.above_line order.now.covers.items) }
+{
+    for pair in &order.covers {
+        put_above(text, *pair)?;
+    }
+    Ok(())
+}
+
+/// Adds the line that keeps a numbered node between the points of a class.
+fn put_between_points(text: &mut Vec<u8>, class: Option<Class>, number: u16) -> Added
+    ensures { OnOk result (text.new.items ≡ text.old.items ++ spec.between_line class number) }
+{
+    let Some(class) = class else {
+        return Ok(());
+    };
+    text.extend_from_slice(b"  ")?;
+    put_foot(text, class.index())?;
+    text.extend_from_slice(b" -> ")?;
+    put_node(text, number)?;
+    text.extend_from_slice(b" -> ")?;
+    put_top(text, class.index())?;
+    text.extend_from_slice(b";\n")
+}
+
+/// Adds the line that keeps a numbered node above the lower classes and below the higher ones.
+fn put_kept(text: &mut Vec<u8>, drawn: &Drawn<'_>, number: u16) -> Added
+    ensures { OnOk result
+        (text.new.items ≡ text.old.items ++ spec.kept_line (shown drawn.now) number) }
+{
+    put_between_points(text, class_shown(drawn, variable_at(drawn, number)), number)
+}
+
+/// Adds the lines that keep the first nodes between the points of their classes.
+fn put_all_kept(text: &mut Vec<u8>, drawn: &Drawn<'_>, count: u16) -> Added
+    ensures { OnOk result (text.new.items ≡ text.old.items
+        ++ flat_map (spec.kept_line (shown drawn.now)) (count_from 0 count)) }
+{
+    for number in 0..count {
+        put_kept(text, drawn, number)?;
+    }
+    Ok(())
+}
+
+/// Adds the lines that keep all nodes between the points of their classes.
+fn put_held(text: &mut Vec<u8>, profile: Profile, drawn: &Drawn<'_>) -> Added
+    ensures { OnOk result (text.new.items ≡ text.old.items
+        ++ spec.held_lines profile (shown drawn.now)) }
+{
+    let count = nodes_shown(profile, declarations(drawn.program));
+    put_all_kept(text, drawn, count)
+}
+
+/// Adds the invisible lines that keep the variables of higher classes above those of lower ones.
+pub(crate) fn put_frame(text: &mut Vec<u8>, profile: Profile, drawn: &Drawn<'_>) -> Added
+    ensures { OnOk result (text.new.items ≡ text.old.items
+        ++ spec.frame_lines profile (shown drawn.now) drawn.now.order.now.covers.items) }
+{
+    text.extend_from_slice(b"  {\n  node [shape=point, style=invis];\n  edge [style=invis];\n")?;
+    put_all_points(text, drawn.order)?;
+    put_all_above(text, drawn.order)?;
+    put_held(text, profile, drawn)?;
+    text.extend_from_slice(b"  }\n")?;
+    Ok(())
 }

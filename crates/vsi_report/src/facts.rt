@@ -1,27 +1,217 @@
-//! The facts of a program that a page or a picture shows.
+//! The facts of a program that a page or a picture shows: its variables, their classes and its
+//! flows.
+//!
+//! A refused program has no typable choice of classes. Its letvars are shown with the least class
+//! at or above all that reaches them. In an accepted program that is the class of the least choice.
 
-ghost use Rattle.std.specs.Prelude.{◌≡◌, IfOk};
+ghost use Rattle.std.specs.Prelude.{◌≡◌, IfOk, ◌≤◌, ◌<◌, length};
 ghost use Rattle.std.specs.List.{All};
-ghost use Rattle.vsi_lattice.specs.Order.{IsClass};
-ghost use Rattle.vsi_lattice.specs.LatticeView.{order as order_of_lattice};
 ghost use Rattle.vsi_types.specs.Security.{program as program_of};
+ghost use Rattle.vsi_lattice.specs.Order.{IsClass};
+ghost use Rattle.vsi_lattice.specs.LatticeView.{order as order_of};
 ghost use Rattle.vsi_infer.specs.Inference.{AreClasses};
+ghost use Rattle.vsi_infer.specs.Flowing.{size_of, AreFlowsOf};
+ghost use Rattle.vsi_flows.specs.Reaching.{floor, AreFloors, IsJoined, IsReached};
 ghost use Rattle.vsi_flows.specs.Table.{IsTable};
+ghost use Rattle.vsi_report.specs.ByRule.{flows_in_rows, HasFlows};
+ghost use Rattle.vsi_report.specs.FlowsGraph.{AreShown};
+ghost use Rattle.vsi_report.specs.Reached.{AreReached};
 
-use crate::by_rule::{Flows, flows_of, has_flow};
 use crate::order::{Order, name_of};
+use crate::page::Made;
 use std::alloc::{AllocError, Global};
-use vsi_flows::{FlowsError, Pair, flows_in};
+use vsi_flows::{FlowsError, Pair, declarations, flows_in};
+use vsi_infer::{
+    Flow, FlowRows, InferError, declared_class, fewest_flows, flow_rows, flow_rows_by, infer_in,
+};
 use vsi_lattice::{Class, Classes, Lattice};
 use vsi_names::Mention;
 use vsi_scope::{Resolved, Var};
-use vsi_types::{Profile, Rule};
+use vsi_types::{Profile, Rule, Step};
+
+/// The rules, in their order.
+pub(crate) const RULES: [Rule; 5] = [
+    Rule::Assign,
+    Rule::If,
+    Rule::While,
+    Rule::Letvar,
+    Rule::Loop,
+];
+
+/// The flows of a program by each of the rules.
+#[derive(Drop)]
+pub(crate) struct Flows {
+    assignments: FlowRows,
+    choices: FlowRows,
+    loops: FlowRows,
+    letvars: FlowRows,
+    endings: FlowRows,
+}
+
+/// The flows of a program.
+pub(crate) fn flows_of(alloc: Global, profile: Profile, program: &Resolved<'_>) -> Made<Flows>
+    ensures { IfOk result (HasFlows profile (program_of program.now)) }
+{
+    Ok(Flows {
+        assignments: flow_rows_by(alloc, Rule::Assign, profile, program)?,
+        choices: flow_rows_by(alloc, Rule::If, profile, program)?,
+        loops: flow_rows_by(alloc, Rule::While, profile, program)?,
+        letvars: flow_rows_by(alloc, Rule::Letvar, profile, program)?,
+        endings: flow_rows_by(alloc, Rule::Loop, profile, program)?,
+    })
+}
+
+/// Whether a variable flows to another by a rule in one step.
+pub(crate) fn has_flow(flows: &Flows, rule: Rule, source: usize, target: usize) -> bool
+    ensures { result ≡ flows_in_rows flows.now rule source target }
+{
+    let rows = match rule {
+        Rule::Assign => &flows.assignments,
+        Rule::If => &flows.choices,
+        Rule::While => &flows.loops,
+        Rule::Letvar => &flows.letvars,
+        Rule::Loop => &flows.endings,
+    };
+    rows.has(source, target)
+}
+
+/// The classes of the letvars of an accepted program, or the steps of a refused walk.
+#[derive(Drop)]
+pub(crate) struct Judged {
+    pub(crate) chosen: Vec<Class>,
+    pub(crate) walk: Vec<Step>,
+}
+
+/// The classes of the letvars, or the walk for which the program is refused.
+pub(crate) fn judged_classes(
+    alloc: Global,
+    profile: Profile,
+    lattice: &Lattice,
+    program: &Resolved<'_>,
+) -> Made<Judged>
+    requires globals { All (IsClass (order_of lattice.now)) (program_of program.now).globals }
+    requires declared { AreClasses (order_of lattice.now) (program_of program.now).declared }
+    ensures { IfOk result (λ judged. AreShown (order_of lattice.now) profile
+        (program_of program.now) judged.chosen.items judged.walk.items) }
+{
+    match infer_in(alloc, profile, lattice, program) {
+        Ok(chosen) => Ok(Judged {
+            chosen,
+            walk: Vec::new(alloc),
+        }),
+        Err(InferError::Refused(walk)) => Ok(Judged {
+            chosen: Vec::new(alloc),
+            walk: walk.steps,
+        }),
+        Err(InferError::Memory) => Err(AllocError),
+    }
+}
+
+/// The declared class of a variable, or the bottom if none is declared.
+fn floor_of(lattice: &Lattice, program: &Resolved<'_>, variable: Var) -> Class
+    ensures { result ≡ floor (order_of lattice.now) (program_of program.now) variable }
+{
+    match declared_class(lattice, program, variable) {
+        Some(class) => class,
+        None => lattice.bottom(),
+    }
+}
+
+/// The floors of all declarations, in order.
+fn floors_of(alloc: Global, lattice: &Lattice, program: &Resolved<'_>) -> Made<Vec<Class>>
+    requires globals { All (IsClass (order_of lattice.now)) (program_of program.now).globals }
+    requires declared { AreClasses (order_of lattice.now) (program_of program.now).declared }
+    ensures floors { IfOk result
+        (λ f. AreFloors (order_of lattice.now) (program_of program.now) f.items) }
+    ensures classes { IfOk result (λ f. All (IsClass (order_of lattice.now)) f.items) }
+{
+    let count = declarations(program);
+    let mut floors = Vec::new(alloc);
+    for v in 0..count {
+        floors.push(floor_of(lattice, program, Var(v)))?;
+    }
+    Ok(floors)
+}
+
+/// The least class at or above the floors of all positions with a distance in the row.
+fn joined<C: Classes>(lattice: &C, floors: &[Class], row: &[u16]) -> Class
+    requires classes { All (IsClass (C.lattice lattice.now)) floors.now }
+    requires room { length floors.now ≤ length row.now }
+    ensures { IsJoined (C.lattice lattice.now) floors.now row.now (length floors.now) result }
+{
+    let mut class = lattice.bottom();
+    for a in 0..floors.len() {
+        if row[a] < 65535 {
+            class = lattice.join(class, floors[a]);
+        }
+    }
+    class
+}
+
+/// The class that reaches a variable.
+fn reached_class(
+    alloc: Global,
+    profile: Profile,
+    lattice: &Lattice,
+    program: &Resolved<'_>,
+    flow: &FlowRows,
+    floors: &[Class],
+    variable: u16,
+) -> Made<Class>
+    requires globals { All (IsClass (order_of lattice.now)) (program_of program.now).globals }
+    requires declared { AreClasses (order_of lattice.now) (program_of program.now).declared }
+    requires flows { AreFlowsOf profile (program_of program.now)
+        (⟦<FlowRows as Flow>⟧.flows flow.now) }
+    requires floors { AreFloors (order_of lattice.now) (program_of program.now) floors.now }
+    requires classes { All (IsClass (order_of lattice.now)) floors.now }
+    requires variable { variable < size_of (program_of program.now) }
+    ensures { IfOk result
+        (IsReached (order_of lattice.now) profile (program_of program.now) variable) }
+{
+    // `body` ensures that the program is resolved, which the proofs need.
+    let _body = program.body();
+    let row = fewest_flows(alloc, flow, floors.len() + 1, variable as usize)?;
+    Ok(joined(lattice, floors, &row))
+}
+
+/// The number of the first letvar.
+fn first_letvar(program: &Resolved<'_>) -> u16
+    ensures first { result ≡ length (program_of program.now).globals }
+    ensures within { result ≤ size_of (program_of program.now) }
+{
+    // `body` ensures that the program is resolved, so its number of declarations is limited.
+    let _body = program.body();
+    program.globals().len() as u16
+}
+
+/// The classes that reach the letvars.
+pub(crate) fn reached_classes(
+    alloc: Global,
+    profile: Profile,
+    lattice: &Lattice,
+    program: &Resolved<'_>,
+) -> Made<Vec<Class>>
+    requires globals { All (IsClass (order_of lattice.now)) (program_of program.now).globals }
+    requires declared { AreClasses (order_of lattice.now) (program_of program.now).declared }
+    ensures { IfOk result (λ classes.
+        AreReached (order_of lattice.now) profile (program_of program.now) classes.items) }
+{
+    let flow = flow_rows(alloc, profile, program)?;
+    let floors = floors_of(alloc, lattice, program)?;
+    let count = declarations(program);
+    let first = first_letvar(program);
+    let mut classes = Vec::new(alloc);
+    for variable in first..count {
+        let class = reached_class(alloc, profile, lattice, program, &flow, &floors, variable)?;
+        classes.push(class)?;
+    }
+    Ok(classes)
+}
 
 /// The most variables of a program whose flows are drawn.
 pub(crate) const MOST_DRAWN: usize = 200;
 
-/// A variable: its name, its class if it has one, whether the text declares the class, and its
-/// label in the panel of the source text.
+/// A variable: its name, its label in the panel, its class, and whether the text declares that.
 #[derive(Drop)]
 pub(crate) struct Variable {
     pub(crate) name: Vec<u8>,
@@ -40,66 +230,45 @@ pub(crate) struct Facts {
     pub(crate) pairs: Vec<Pair>,
 }
 
-/// The label for a class: its name, with a star after it if the text doesn't declare it.
-fn label_of(
-    alloc: Global,
-    order: &Order,
-    class: Option<usize>,
-    is_declared: bool,
-) -> Result<Vec<u8>, AllocError> {
-    let Some(class) = class else {
-        return Ok(Vec::new(alloc));
-    };
-    let mut label = name_of(order, class).to_vec(alloc)?;
-    if !is_declared {
-        label.extend_from_slice(b"*")?;
-    }
-    Ok(label)
-}
-
-/// A variable with a name.
+/// A variable; its label is the name of its class, with a star if the text doesn't declare that.
 fn variable_of(
     alloc: Global,
     order: &Order,
     name: &[u8],
-    class: Option<usize>,
+    class: Option<Class>,
     is_declared: bool,
-) -> Result<Variable, AllocError> {
-    let label = label_of(alloc, order, class, is_declared)?;
+) -> Made<Variable> {
+    let mut label = Vec::new(alloc);
+    let mut number = None;
+    if let Some(class) = class {
+        label.extend_from_slice(name_of(order, class.index()))?;
+        label.extend_from_slice(if is_declared { b"" } else { b"*" })?;
+        number = Some(class.index());
+    }
+    let name = name.to_vec(alloc)?;
     Ok(Variable {
-        name: name.to_vec(alloc)?,
+        name,
         label,
-        class,
+        class: number,
         is_declared,
     })
 }
 
-/// The class of a letvar: the declared one, otherwise the inferred one.
-fn class_of(declared: Option<Class>, inferred: &[Class], number: usize) -> Option<usize> {
-    match (declared, inferred.get(number)) {
-        (Some(class), _) => Some(class.index()),
-        (None, Some(class)) => Some(class.index()),
-        (None, None) => None,
-    }
-}
-
-/// The variables of a program, with the ending of loops last.
+/// The variables of a program, with their declared or inferred classes, the ending of loops last.
 fn variables_of(
     alloc: Global,
     order: &Order,
     program: &Resolved<'_>,
     inferred: &[Class],
-    bottom: usize,
-) -> Result<Vec<Variable>, AllocError> {
+    bottom: Class,
+) -> Made<Vec<Variable>> {
     let mut variables = Vec::new(alloc);
     for global in program.globals() {
-        let class = Some(global.class.index());
-        variables.push(variable_of(alloc, order, global.name, class, true)?)?;
+        variables.push(variable_of(alloc, order, global.name, Some(global.class), true)?)?;
     }
     for (number, entry) in program.letvars().iter().enumerate() {
-        let class = class_of(entry.class, inferred, number);
-        let is_declared = entry.class.is_some();
-        variables.push(variable_of(alloc, order, entry.name, class, is_declared)?)?;
+        let class = entry.class.or(inferred.get(number).copied());
+        variables.push(variable_of(alloc, order, entry.name, class, entry.class.is_some())?)?;
     }
     variables.push(variable_of(alloc, order, b"(loop)", Some(bottom), true)?)?;
     Ok(variables)
@@ -111,13 +280,11 @@ fn pairs_of(
     profile: Profile,
     lattice: &Lattice,
     program: &Resolved<'_>,
-) -> Result<Vec<Pair>, AllocError>
-    requires globals { All (IsClass (order_of_lattice lattice.now))
-        (program_of program.now).globals }
-    requires declared { AreClasses (order_of_lattice lattice.now)
-        (program_of program.now).declared }
+) -> Made<Vec<Pair>>
+    requires globals { All (IsClass (order_of lattice.now)) (program_of program.now).globals }
+    requires declared { AreClasses (order_of lattice.now) (program_of program.now).declared }
     ensures { IfOk result (λ pairs.
-        IsTable (order_of_lattice lattice.now) profile (program_of program.now) pairs.items) }
+        IsTable (order_of lattice.now) profile (program_of program.now) pairs.items) }
 {
     match flows_in(alloc, profile, lattice, program) {
         Ok(pairs) => Ok(pairs),
@@ -133,19 +300,6 @@ pub(crate) fn is_strict(profile: Profile) -> bool {
     }
 }
 
-/// The flows of one step of a program, if they are few enough for a picture.
-fn drawn_flows(
-    alloc: Global,
-    profile: Profile,
-    program: &Resolved<'_>,
-    variables: usize,
-) -> Result<Option<Flows>, AllocError> {
-    if variables > MOST_DRAWN + 1 {
-        return Ok(None);
-    }
-    Ok(Some(flows_of(alloc, profile, program)?))
-}
-
 /// The facts of a program, with these classes of its letvars, and these names in its text.
 pub(crate) fn facts_of(
     alloc: Global,
@@ -155,17 +309,18 @@ pub(crate) fn facts_of(
     program: &Resolved<'_>,
     chosen: &[Class],
     mentions: Vec<Mention>,
-) -> Result<Facts, AllocError>
-    requires globals { All (IsClass (order_of_lattice lattice.now))
-        (program_of program.now).globals }
-    requires declared { AreClasses (order_of_lattice lattice.now)
-        (program_of program.now).declared }
-    ensures { IfOk result (λ facts. IsTable (order_of_lattice lattice.now) profile
-        (program_of program.now) facts.pairs.items) }
+) -> Made<Facts>
+    requires globals { All (IsClass (order_of lattice.now)) (program_of program.now).globals }
+    requires declared { AreClasses (order_of lattice.now) (program_of program.now).declared }
+    ensures { IfOk result (λ facts.
+        IsTable (order_of lattice.now) profile (program_of program.now) facts.pairs.items) }
 {
+    let variables = variables_of(alloc, order, program, chosen, lattice.bottom())?;
+    let mut flows = None;
+    if variables.len() <= MOST_DRAWN + 1 {
+        flows = Some(flows_of(alloc, profile, program)?);
+    }
     let pairs = pairs_of(alloc, profile, lattice, program)?;
-    let variables = variables_of(alloc, order, program, chosen, lattice.bottom().index())?;
-    let flows = drawn_flows(alloc, profile, program, variables.len())?;
     Ok(Facts {
         variables,
         mentions,
@@ -174,74 +329,64 @@ pub(crate) fn facts_of(
     })
 }
 
-/// The number of a variable; the ending of loops has the last number.
-pub(crate) fn number_of(facts: &Facts, variable: Var) -> usize {
-    let number = variable.0 as usize;
-    number.min(facts.variables.len().saturating_sub(1))
-}
+impl Facts {
+    /// The number of a variable; the ending of loops has the last number.
+    pub(crate) fn number(&self, variable: Var) -> usize {
+        (variable.0 as usize).min(self.variables.len().saturating_sub(1))
+    }
 
-/// The name of a variable.
-pub(crate) fn variable_name(facts: &Facts, number: usize) -> &[u8] {
-    match facts.variables.get(number) {
-        Some(variable) => variable.name.as_slice(),
-        None => b"",
+    /// The name of a variable.
+    pub(crate) fn name(&self, number: usize) -> &[u8] {
+        match self.variables.get(number) {
+            Some(variable) => variable.name.as_slice(),
+            None => b"",
+        }
+    }
+
+    /// The label of a variable in the panel of the source text.
+    pub(crate) fn label(&self, number: usize) -> &[u8] {
+        match self.variables.get(number) {
+            Some(variable) => variable.label.as_slice(),
+            None => b"",
+        }
+    }
+
+    /// The class of a variable.
+    pub(crate) fn class(&self, number: usize) -> Option<usize> {
+        self.variables.get(number)?.class
+    }
+
+    /// Whether the class of a variable was inferred.
+    pub(crate) fn is_inferred(&self, number: usize) -> bool {
+        match self.variables.get(number) {
+            Some(variable) => !variable.is_declared,
+            None => false,
+        }
+    }
+
+    /// Whether a variable flows to another by a rule in one step.
+    pub(crate) fn flows_between(&self, source: usize, target: usize, rule: Rule) -> bool {
+        match &self.flows {
+            Some(flows) => target <= MOST_DRAWN && has_flow(flows, rule, source, target),
+            None => false,
+        }
     }
 }
 
-/// The label of a variable in the panel of the source text.
-pub(crate) fn label_at(facts: &Facts, number: usize) -> &[u8] {
-    match facts.variables.get(number) {
-        Some(variable) => variable.label.as_slice(),
-        None => b"",
+/// The kinds of names in the panel of a source text, each with the name of a class's colour.
+const KINDS: [&[u8]; 8] = [
+    b"name k0", b"name k1", b"name k2", b"name k3", b"name k4", b"name k5", b"name k6", b"name k7",
+];
+
+/// The kind of a name of a class.
+pub(crate) fn name_kind(class: Option<usize>) -> &'static [u8] {
+    match class {
+        Some(class) => KINDS[class % 8],
+        None => b"name kn",
     }
 }
-
-/// The class of a variable.
-pub(crate) fn variable_class(facts: &Facts, number: usize) -> Option<usize> {
-    match facts.variables.get(number) {
-        Some(variable) => variable.class,
-        None => None,
-    }
-}
-
-/// Whether the class of a variable was inferred.
-pub(crate) fn is_inferred(facts: &Facts, number: usize) -> bool {
-    match facts.variables.get(number) {
-        Some(variable) => !variable.is_declared,
-        None => false,
-    }
-}
-
-/// Whether a variable flows to another by a rule in one step.
-pub(crate) fn flows_between(facts: &Facts, source: usize, target: usize, rule: Rule) -> bool {
-    match &facts.flows {
-        Some(flows) => target <= MOST_DRAWN && has_flow(flows, rule, source, target),
-        None => false,
-    }
-}
-
-/// Whether the flows of the program are few enough for a picture.
-pub(crate) fn is_drawn(facts: &Facts) -> bool {
-    facts.flows.is_some()
-}
-
-/// The names of the colours of classes.
-const COLOURS: [&[u8]; 8] = [b"k0", b"k1", b"k2", b"k3", b"k4", b"k5", b"k6", b"k7"];
 
 /// The name of the colour of a class.
 pub(crate) fn colour(class: Option<usize>) -> &'static [u8] {
-    match class {
-        Some(class) => COLOURS[class % 8],
-        None => b"kn",
-    }
-}
-
-/// The facts of a text that has no program.
-pub(crate) fn no_facts(alloc: Global) -> Facts {
-    Facts {
-        variables: Vec::new(alloc),
-        mentions: Vec::new(alloc),
-        flows: None,
-        pairs: Vec::new(alloc),
-    }
+    name_kind(class).get(5..).unwrap_or(b"")
 }

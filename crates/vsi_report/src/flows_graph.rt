@@ -16,25 +16,23 @@ ghost use Rattle.vsi_report.specs.ByRule.{flows_in_rows};
 ghost use Rattle.vsi_report.specs.Drawn.{shown};
 ghost use Rattle.vsi_report.specs.FlowsGraph as spec;
 
-use crate::by_rule::{Flows, flows_of, has_flow};
-use crate::dot::{graph_text, lattice_lines, put_between, put_paint};
-use crate::drawn::{
-    Drawn, class_declared, class_shown, edge_words, flow_course, step_number, variable_at,
+use crate::dot::{
+    Drawn, class_shown, edge_words, flow_course, graph_text, lattice_lines, nodes_shown,
+    put_between, put_frame, put_node, put_numbered, put_paint, step_number, variable_at,
 };
-use crate::facts::MOST_DRAWN;
-use crate::judged::judged_classes;
+use crate::facts::{Flows, MOST_DRAWN, flows_of, has_flow, judged_classes};
 use crate::order::{name_of, order_of};
-use crate::placing::{nodes_shown, put_frame, put_node, put_numbered};
-use std::alloc::{AllocError, Global};
+use crate::page::{Added, Made};
+use std::alloc::Global;
 use vsi_compiler::{CompileError, resolved_program};
 use vsi_flows::declarations;
-use vsi_infer::{rule_text, variable_name};
+use vsi_infer::{declared_class, rule_text, variable_name};
 use vsi_lattice::{Class, Lattice};
 use vsi_scope::{Resolved, Var};
 use vsi_types::{Profile, Rule};
 
 /// Adds a class after a name.
-fn put_class(text: &mut Vec<u8>, drawn: &Drawn<'_>, class: Option<Class>) -> Result<(), AllocError>
+fn put_class(text: &mut Vec<u8>, drawn: &Drawn<'_>, class: Option<Class>) -> Added
     ensures { OnOk result (text.new.items ≡ text.old.items
         ++ spec.class_words (shown drawn.now).names class) }
 {
@@ -45,7 +43,7 @@ fn put_class(text: &mut Vec<u8>, drawn: &Drawn<'_>, class: Option<Class>) -> Res
 }
 
 /// Adds the attributes of a node whose variable has this class.
-fn put_colour(text: &mut Vec<u8>, class: Option<Class>) -> Result<(), AllocError>
+fn put_colour(text: &mut Vec<u8>, class: Option<Class>) -> Added
     ensures { OnOk result (text.new.items ≡ text.old.items ++ spec.paint_words class) }
 {
     match class {
@@ -68,7 +66,7 @@ fn box_words(declared: Option<Class>) -> &'static [u8]
 }
 
 /// Adds the label of a variable: its name and, if it has one, its class.
-fn put_label(text: &mut Vec<u8>, drawn: &Drawn<'_>, variable: Var) -> Result<(), AllocError>
+fn put_label(text: &mut Vec<u8>, drawn: &Drawn<'_>, variable: Var) -> Added
     ensures { OnOk result
         (text.new.items ≡ text.old.items ++ spec.label (shown drawn.now) variable) }
 {
@@ -77,16 +75,16 @@ fn put_label(text: &mut Vec<u8>, drawn: &Drawn<'_>, variable: Var) -> Result<(),
 }
 
 /// Adds the attributes of the node of a variable after its label.
-fn put_attributes(text: &mut Vec<u8>, drawn: &Drawn<'_>, variable: Var) -> Result<(), AllocError>
+fn put_attributes(text: &mut Vec<u8>, drawn: &Drawn<'_>, variable: Var) -> Added
     ensures { OnOk result
         (text.new.items ≡ text.old.items ++ spec.attributes (shown drawn.now) variable) }
 {
     put_colour(text, class_shown(drawn, variable))?;
-    text.extend_from_slice(box_words(class_declared(drawn, variable)))
+    text.extend_from_slice(box_words(declared_class(drawn.lattice, drawn.program, variable)))
 }
 
 /// Adds the line of a numbered node.
-fn put_variable(text: &mut Vec<u8>, drawn: &Drawn<'_>, number: u16) -> Result<(), AllocError>
+fn put_variable(text: &mut Vec<u8>, drawn: &Drawn<'_>, number: u16) -> Added
     ensures { OnOk result
         (text.new.items ≡ text.old.items ++ spec.variable_line (shown drawn.now) number) }
 {
@@ -101,7 +99,7 @@ fn put_variable(text: &mut Vec<u8>, drawn: &Drawn<'_>, number: u16) -> Result<()
 }
 
 /// Adds the first nodes.
-fn put_variables(text: &mut Vec<u8>, drawn: &Drawn<'_>, count: u16) -> Result<(), AllocError>
+fn put_variables(text: &mut Vec<u8>, drawn: &Drawn<'_>, count: u16) -> Added
     ensures { OnOk result (text.new.items ≡ text.old.items
         ++ flat_map (spec.variable_line (shown drawn.now)) (count_from 0 count)) }
 {
@@ -125,7 +123,7 @@ fn style(rule: Rule) -> &'static [u8]
 }
 
 /// Adds the beginning of a label: blanks and, for a step of the refused walk, its number.
-fn put_step_number(text: &mut Vec<u8>, number: Option<usize>) -> Result<(), AllocError>
+fn put_step_number(text: &mut Vec<u8>, number: Option<usize>) -> Added
     ensures { OnOk result (text.new.items ≡ text.old.items ++ spec.number_words number) }
 {
     match number {
@@ -135,13 +133,7 @@ fn put_step_number(text: &mut Vec<u8>, number: Option<usize>) -> Result<(), Allo
 }
 
 /// Adds the attributes of an edge.
-fn put_looks(
-    text: &mut Vec<u8>,
-    drawn: &Drawn<'_>,
-    source: u16,
-    target: u16,
-    rule: Rule,
-) -> Result<(), AllocError>
+fn put_looks(text: &mut Vec<u8>, drawn: &Drawn<'_>, source: u16, target: u16, rule: Rule) -> Added
     ensures { OnOk result (text.new.items ≡ text.old.items
         ++ spec.looks (shown drawn.now) source target rule) }
 {
@@ -152,13 +144,7 @@ fn put_looks(
 }
 
 /// Adds an edge.
-fn put_edge(
-    text: &mut Vec<u8>,
-    drawn: &Drawn<'_>,
-    source: u16,
-    target: u16,
-    rule: Rule,
-) -> Result<(), AllocError>
+fn put_edge(text: &mut Vec<u8>, drawn: &Drawn<'_>, source: u16, target: u16, rule: Rule) -> Added
     ensures { OnOk result (text.new.items ≡ text.old.items
         ++ spec.flow_line (shown drawn.now) source target rule) }
 {
@@ -179,7 +165,7 @@ fn put_edge_by(
     source: u16,
     target: u16,
     rule: Rule,
-) -> Result<(), AllocError>
+) -> Added
     ensures { OnOk result (text.new.items ≡ text.old.items
         ++ spec.line_by (shown drawn.now) (flows_in_rows flows.now) source target rule) }
 {
@@ -197,7 +183,7 @@ fn put_edges(
     flows: &Flows,
     source: u16,
     target: u16,
-) -> Result<(), AllocError>
+) -> Added
     ensures { OnOk result (text.new.items ≡ text.old.items
         ++ spec.lines_between (shown drawn.now) (flows_in_rows flows.now) source target) }
 {
@@ -216,7 +202,7 @@ fn put_edges_from(
     flows: &Flows,
     source: u16,
     count: u16,
-) -> Result<(), AllocError>
+) -> Added
     ensures { OnOk result (text.new.items ≡ text.old.items
         ++ flat_map (spec.lines_between (shown drawn.now) (flows_in_rows flows.now) source)
         (count_from 0 count)) }
@@ -228,12 +214,7 @@ fn put_edges_from(
 }
 
 /// Adds the edges between the first variables.
-fn put_all_edges(
-    text: &mut Vec<u8>,
-    drawn: &Drawn<'_>,
-    flows: &Flows,
-    count: u16,
-) -> Result<(), AllocError>
+fn put_all_edges(text: &mut Vec<u8>, drawn: &Drawn<'_>, flows: &Flows, count: u16) -> Added
     ensures { OnOk result (text.new.items ≡ text.old.items
         ++ spec.edge_lines (shown drawn.now) (flows_in_rows flows.now) count) }
 {
@@ -250,7 +231,7 @@ fn put_flows(
     profile: Profile,
     drawn: &Drawn<'_>,
     last: u16,
-) -> Result<(), AllocError>
+) -> Added
     requires count { last ≡ spec.size (shown drawn.now) }
     requires small { last ≤ 1024 }
     ensures { OnOk result (text.new.items ≡ text.old.items ++ spec.edge_lines (shown drawn.now)
@@ -265,7 +246,7 @@ fn put_flows(
 }
 
 /// The lines of a graph of flows.
-fn drawn_lines(alloc: Global, profile: Profile, drawn: &Drawn<'_>) -> Result<Vec<u8>, AllocError>
+fn drawn_lines(alloc: Global, profile: Profile, drawn: &Drawn<'_>) -> Made<Vec<u8>>
     ensures { IfOk result (λ lines. lines.items
         ≡ spec.flows_lines profile (shown drawn.now) drawn.now.order.now.covers.items) }
 {
@@ -285,7 +266,7 @@ fn program_lines(
     profile: Profile,
     lattice: &Lattice,
     program: &Resolved<'_>,
-) -> Result<Vec<u8>, AllocError>
+) -> Made<Vec<u8>>
     requires globals { All (IsClass (order_of_lattice lattice.now))
         (program_of program.now).globals }
     requires declared { AreClasses (order_of_lattice lattice.now)
@@ -348,7 +329,7 @@ pub fn flows_dot(
 }
 
 /// Adds a part of a graph, drawn in a box of its own under its name.
-fn put_cluster(text: &mut Vec<u8>, name: &[u8], lines: &[u8]) -> Result<(), AllocError>
+fn put_cluster(text: &mut Vec<u8>, name: &[u8], lines: &[u8]) -> Added
     ensures { OnOk result (text.new.items ≡ text.old.items ++ spec.cluster name.now lines.now) }
 {
     put_between(text, b"subgraph cluster_", name, b" {\n")?;
@@ -363,7 +344,7 @@ fn put_cluster(text: &mut Vec<u8>, name: &[u8], lines: &[u8]) -> Result<(), Allo
 }
 
 /// The graph of a lattice's lines and those of a text's flows.
-fn joined(alloc: Global, classes: &[u8], flows: &[u8]) -> Result<Vec<u8>, AllocError>
+fn joined(alloc: Global, classes: &[u8], flows: &[u8]) -> Made<Vec<u8>>
     ensures { IfOk result (λ text. text.items ≡ spec.joined classes.now flows.now) }
 {
     let mut both = Vec::new(alloc);

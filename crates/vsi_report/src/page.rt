@@ -1,21 +1,84 @@
-//! The parts of a page and the writer that appends them.
+//! The parts of a page, the writer that appends them, and the beginning of a page.
 
-ghost use Rattle.std.specs.Prelude.{◌≡◌, ◌++◌, ℕ, List, [], IfOk, OnOk, decimal};
-ghost use Rattle.vsi_report.specs.Escape.{escaped};
+ghost use Rattle.std.specs.Prelude.{◌≡◌, ◌++◌, OnOk, decimal, ℕ, List, [], IfOk};
+ghost use Rattle.vsi_report.specs.Escape.{escape, escaped};
+ghost use Rattle.vsi_report.specs.Banner.{untagged_byte, untagged, HasLead};
 ghost use Rattle.vsi_report.specs.Page.{HasPanel};
 ghost use Rattle.vsi_report.specs.Reading.{Shows};
-ghost use Rattle.vsi_report.specs.Banner.{untagged, HasLead};
-ghost use Rattle.vsi_report.specs.declared.verdict.Verdict.{Verdict};
+ghost use Rattle.vsi_report.specs.declared.page.Verdict.{Verdict as Shown};
+ghost use Rattle.vsi_report.specs.Banner as spec;
 
-use crate::escape::{put_escaped, put_number, put_untagged, put_word};
-use crate::facts::{Facts, colour, is_inferred, variable_class, variable_name};
+use crate::facts::{Facts, colour};
 use crate::order::name_of;
-use crate::view::View;
+use crate::report::View;
+use itoa::Buffer;
 use std::alloc::{AllocError, Global};
 use vsi_syntax::line_column;
 
 /// The result of an addition to a page or a picture.
 pub(crate) type Added = Result<(), AllocError>;
+
+/// The result of a function that needs memory.
+pub(crate) type Made<T> = Result<T, AllocError>;
+
+/// Adds an escaped byte.
+pub(crate) fn put_byte(page: &mut Vec<u8>, byte: u8) -> Added
+    ensures { OnOk result (page.new.items ≡ page.old.items ++ escape byte) }
+{
+    match byte {
+        b'<' => page.extend_from_slice(b"&#60;"),
+        b'>' => page.extend_from_slice(b"&#62;"),
+        b'&' => page.extend_from_slice(b"&#38;"),
+        b'"' => page.extend_from_slice(b"&#34;"),
+        b'\'' => page.extend_from_slice(b"&#39;"),
+        other => page.extend_from_slice(&[other]),
+    }
+}
+
+/// Adds an escaped text. None of its bytes begins or ends a tag or a quoted value, and a reader
+/// sees the text.
+pub fn put_escaped(page: &mut Vec<u8>, text: &[u8]) -> Result<(), AllocError>
+    ensures { OnOk result (page.new.items ≡ page.old.items ++ escaped text.now) }
+{
+    for byte in text {
+        put_byte(page, *byte)?;
+    }
+    Ok(())
+}
+
+/// Adds a number in decimal.
+pub(crate) fn put_number(page: &mut Vec<u8>, number: usize) -> Added
+    ensures { OnOk result (page.new.items ≡ page.old.items ++ escaped (decimal number)) }
+{
+    let mut buffer = Buffer::new();
+    put_escaped(page, buffer.format(number).as_bytes())
+}
+
+/// Adds a word of the machine in decimal.
+pub(crate) fn put_word(page: &mut Vec<u8>, word: i64) -> Added {
+    let mut buffer = Buffer::new();
+    put_escaped(page, buffer.format(word).as_bytes())
+}
+
+/// Adds a byte of a style sheet, unless it could begin a tag.
+fn put_untagged_byte(page: &mut Vec<u8>, byte: u8) -> Added
+    ensures { OnOk result (page.new.items ≡ page.old.items ++ untagged_byte byte) }
+{
+    match byte {
+        b'<' => page.extend_from_slice(b""),
+        other => page.extend_from_slice(&[other]),
+    }
+}
+
+/// Adds a style sheet, without the bytes that could begin a tag.
+pub(crate) fn put_untagged(page: &mut Vec<u8>, style: &[u8]) -> Added
+    ensures { OnOk result (page.new.items ≡ page.old.items ++ untagged style.now) }
+{
+    for byte in style {
+        put_untagged_byte(page, *byte)?;
+    }
+    Ok(())
+}
 
 /// A part of a page, for a hole of its markup.
 #[derive(Clone, Copy)]
@@ -58,21 +121,21 @@ impl Page {
     }
 
     /// Adds a piece of markup from the code.
-    pub(crate) fn put(&mut self, piece: &'static [u8]) -> Result<(), AllocError>
+    pub(crate) fn put(&mut self, piece: &'static [u8]) -> Added
         ensures { OnOk result (self.new.text.items ≡ self.old.text.items ++ piece.now) }
     {
         self.text.extend_from_slice(piece)
     }
 
     /// Adds a text, escaped.
-    pub(crate) fn tell(&mut self, text: &[u8]) -> Result<(), AllocError>
+    pub(crate) fn tell(&mut self, text: &[u8]) -> Added
         ensures { OnOk result (self.new.text.items ≡ self.old.text.items ++ escaped text.now) }
     {
         put_escaped(&mut self.text, text)
     }
 
     /// Adds a part of a page.
-    pub(crate) fn put_page(&mut self, part: &Page) -> Result<(), AllocError>
+    pub(crate) fn put_page(&mut self, part: &Page) -> Added
         ensures { OnOk result
             (self.new.text.items ≡ self.old.text.items ++ part.now.text.items) }
     {
@@ -80,14 +143,14 @@ impl Page {
     }
 
     /// Adds a style sheet, without the bytes that could begin a tag.
-    pub(crate) fn put_style(&mut self, style: &[u8]) -> Result<(), AllocError>
+    pub(crate) fn put_style(&mut self, style: &[u8]) -> Added
         ensures { OnOk result (self.new.text.items ≡ self.old.text.items ++ untagged style.now) }
     {
         put_untagged(&mut self.text, style)
     }
 
     /// Adds a number, escaped.
-    pub(crate) fn number(&mut self, number: usize) -> Result<(), AllocError>
+    pub(crate) fn number(&mut self, number: usize) -> Added
         ensures { OnOk result
             (self.new.text.items ≡ self.old.text.items ++ escaped (decimal number)) }
     {
@@ -108,22 +171,22 @@ impl Page {
     /// Adds the name of a variable.
     fn put_name(&mut self, facts: &Facts, number: usize) -> Added {
         self.put(b"<b class=\"")?;
-        self.put(colour(variable_class(facts, number)))?;
+        self.put(colour(facts.class(number)))?;
         self.put(b"\">")?;
-        self.tell(variable_name(facts, number))?;
+        self.tell(facts.name(number))?;
         self.put(b"</b>")
     }
 
     /// Adds the class of a variable, and whether it was inferred.
     fn put_chip(&mut self, view: &View<'_>, number: usize) -> Added {
-        let Some(class) = variable_class(view.facts, number) else {
+        let Some(class) = view.facts.class(number) else {
             return self.put(b"<span class=\"chip kn\">no class</span>");
         };
         self.put(b"<span class=\"chip ")?;
         self.put(colour(Some(class)))?;
         self.put(b"\">")?;
         self.tell(name_of(view.order, class))?;
-        self.put(if is_inferred(view.facts, number) {
+        self.put(if view.facts.is_inferred(number) {
             b"</span> <small>inferred</small>"
         } else {
             b"</span>"
@@ -133,13 +196,7 @@ impl Page {
     /// Adds a position in a source text, as a link to its line.
     fn put_place(&mut self, source: &[u8], at: usize) -> Added {
         let (line, column) = line_column(source, at);
-        self.put(b"<a href=\"#L")?;
-        self.number(line)?;
-        self.put(b"\">line ")?;
-        self.number(line)?;
-        self.put(b", column ")?;
-        self.number(column)?;
-        self.put(b"</a>")
+        self.draw(b"<a href=\"#L%0\">line %0, column %1</a>", &[line, column])
     }
 
     /// Adds a part.
@@ -157,21 +214,14 @@ impl Page {
         }
     }
 
-    /// Adds the part for a hole, if there is one.
-    fn put_hole(&mut self, parts: &[Part<'_>], digit: u8) -> Added {
-        match parts.get(digit.saturating_sub(b'0') as usize) {
-            Some(part) => self.put_part(*part),
-            None => Ok(()),
-        }
-    }
-
-    /// Adds a piece of markup from the code, in which each `%` with a digit is a hole for the part
-    /// with this number.
+    /// Adds a piece of markup from the code, in which `%0` is a hole for the first part, and so on.
     pub(crate) fn fill(&mut self, markup: &'static [u8], parts: &[Part<'_>]) -> Added {
         let mut is_hole = false;
         for byte in markup {
             if is_hole {
-                self.put_hole(parts, *byte)?;
+                if let Some(part) = parts.get(byte.saturating_sub(b'0') as usize) {
+                    self.put_part(*part)?;
+                }
             } else if *byte != b'%' {
                 self.text.extend_from_slice(&[*byte])?;
             }
@@ -180,17 +230,26 @@ impl Page {
         Ok(())
     }
 
-    /// The bytes of this part and of the next one, then the panel of a source text, and then the
-    /// bytes of the last part.
-    pub(crate) fn with_panel(
-        self,
-        before: &Page,
-        panel: &Vec<u8>,
-        after: &Page,
-    ) -> Result<Vec<u8>, AllocError>
+    /// Adds a piece of markup from the code, in which `%0` is a hole for the first number.
+    pub(crate) fn draw(&mut self, markup: &'static [u8], numbers: &[usize]) -> Added {
+        let mut is_hole = false;
+        for byte in markup {
+            if is_hole {
+                let index = byte.saturating_sub(b'0') as usize;
+                self.number(numbers.get(index).copied().unwrap_or(0))?;
+            } else if *byte != b'%' {
+                self.text.extend_from_slice(&[*byte])?;
+            }
+            is_hole = !is_hole && *byte == b'%';
+        }
+        Ok(())
+    }
+
+    /// This part and the next one, then the panel of a source text, and then the last part.
+    pub(crate) fn with_panel(self, before: &Page, panel: &Vec<u8>, after: &Page) -> Made<Vec<u8>>
         ensures panel { (source : List ℕ) → Shows panel.now.items source
             → IfOk result (λ page. HasPanel page.items source) }
-        ensures led { (v : Verdict) (lead : List ℕ) → HasLead v lead self.text.items
+        ensures led { (v : Shown) (lead : List ℕ) → HasLead v lead self.text.items
             → IfOk result (λ page. HasLead v lead page.items) }
     {
         let Page { mut text } = self;
@@ -201,4 +260,66 @@ impl Page {
         text.extend_from_slice(&after.text)?;
         Ok(text)
     }
+}
+
+/// The verdict about a text.
+#[derive(Clone, Copy)]
+pub(crate) enum Verdict {
+    /// The text is accepted.
+    Accepted,
+    /// A flow of the text is refused.
+    Refused,
+    /// The text isn't a program over the lattice.
+    NoProgram,
+}
+
+/// The beginning of the title of a page.
+fn title(verdict: Verdict) -> &'static [u8]
+    ensures { result.now ≡ spec.title verdict }
+{
+    match verdict {
+        Verdict::Accepted => b"<title>Accepted: a report of its flows",
+        Verdict::Refused => b"<title>Refused: a report of its flows",
+        Verdict::NoProgram => b"<title>Not a program",
+    }
+}
+
+/// The beginning of the banner of a page, with its heading.
+fn banner(verdict: Verdict) -> &'static [u8]
+    ensures { result.now ≡ spec.banner verdict }
+{
+    match verdict {
+        Verdict::Accepted => b"<header class=\"good\"><h1>&#10003; Accepted</h1>\n",
+        Verdict::Refused => b"<header class=\"bad\"><h1>&#10007; Refused</h1>\n",
+        Verdict::NoProgram => b"<header class=\"bad\"><h1>&#10007; Not a program</h1>\n",
+    }
+}
+
+/// The first lines of a page.
+const FIRST: &[u8] = b"<!DOCTYPE html>\n<html lang=\"en\">\n<head>\n<meta charset=\"utf-8\">\n\
+<meta name=\"viewport\" content=\"width=device-width, initial-scale=1\">\n\
+<meta http-equiv=\"Content-Security-Policy\" \
+content=\"default-src 'none'; style-src 'unsafe-inline'\">\n\
+<meta name=\"color-scheme\" content=\"light dark\">\n";
+
+/// The beginning of a page, up to the first sentences of its banner.
+pub(crate) fn begun_page(
+    alloc: Global,
+    verdict: Verdict,
+    name: &[u8],
+    style: &[u8],
+    lead: &Page,
+) -> Made<Page>
+    ensures { IfOk result (λ page. spec.HasLead verdict lead.now.text.items page.text.items) }
+{
+    let mut page = Page::new(alloc);
+    page.put(FIRST)?;
+    page.put(title(verdict))?;
+    page.tell(name)?;
+    page.put(b"</title>\n<style>\n")?;
+    page.put_style(style)?;
+    page.put(b"</style>\n</head>\n<body>\n<main>\n")?;
+    page.put(banner(verdict))?;
+    page.put_page(lead)?;
+    Ok(page)
 }

@@ -1,15 +1,136 @@
-//! A source text in a page.
+//! The source text in a page, with the class of each name and the steps of a walk. Comments, and
+//! characters that aren't visible or change the direction of a line, are set apart.
 
-ghost use Rattle.std.specs.Prelude.{◌≡◌, ◌<◌, ◌++◌, ◌∷◌, ℕ, List, [], length, slice_index};
-ghost use Rattle.std.specs.Prelude.{OnOk, IfOk};
+ghost use Rattle.std.specs.Prelude.{◌≡◌, ◌<◌, ◌++◌, ◌∷◌, ℕ, List, [], length, slice_index, OnOk};
+ghost use Rattle.std.specs.Prelude.{IfOk};
 ghost use Rattle.vsi_report.specs.Reading.{Shows};
 ghost use Rattle.vsi_report.specs.Panel.{line_tag, next_tag, open_tag};
 
-use crate::escape::{put_byte, put_escaped, put_number};
+use crate::facts::name_kind;
+use crate::page::{Added, Made, put_byte, put_escaped, put_number};
+use crate::report::View;
 use std::alloc::{AllocError, Global};
+use vsi_names::Mention;
+use vsi_syntax::{Kind, LexError, Token, lex};
 
-/// A part of a source text that its panel sets apart: its first byte, the byte after it, its kind,
-/// its label, and the label of the steps of a walk there.
+/// A part of a source text: the byte after it; its kind, empty if it is plain; and its label.
+#[derive(Clone, Copy)]
+pub(crate) struct Mark {
+    pub(crate) stop: usize,
+    pub(crate) kind: &'static [u8],
+    pub(crate) label: &'static [u8],
+}
+
+/// The part with this end, kind and label.
+fn part(stop: usize, kind: &'static [u8], label: &'static [u8]) -> Mark {
+    Mark { stop, kind, label }
+}
+
+/// The names of the control characters below the space.
+const CONTROLS: [&[u8]; 32] = [
+    b"NUL", b"SOH", b"STX", b"ETX", b"EOT", b"ENQ", b"ACK", b"BEL", b"BS", b"TAB", b"LF", b"VT",
+    b"FF", b"CR", b"SO", b"SI", b"DLE", b"DC1", b"DC2", b"DC3", b"DC4", b"NAK", b"SYN", b"ETB",
+    b"CAN", b"EM", b"SUB", b"ESC", b"FS", b"GS", b"RS", b"US",
+];
+
+/// The characters of several bytes that are invisible or turn a line around, with their labels.
+const UNSEEN: [(&[u8], &[u8]); 18] = [
+    (b"\xd8\x9c", b"U+061C"),
+    (b"\xe2\x80\x8b", b"U+200B"),
+    (b"\xe2\x80\x8c", b"U+200C"),
+    (b"\xe2\x80\x8d", b"U+200D"),
+    (b"\xe2\x80\x8e", b"U+200E"),
+    (b"\xe2\x80\x8f", b"U+200F"),
+    (b"\xe2\x80\xa8", b"U+2028"),
+    (b"\xe2\x80\xa9", b"U+2029"),
+    (b"\xe2\x80\xaa", b"U+202A"),
+    (b"\xe2\x80\xab", b"U+202B"),
+    (b"\xe2\x80\xac", b"U+202C"),
+    (b"\xe2\x80\xad", b"U+202D"),
+    (b"\xe2\x80\xae", b"U+202E"),
+    (b"\xe2\x81\xa6", b"U+2066"),
+    (b"\xe2\x81\xa7", b"U+2067"),
+    (b"\xe2\x81\xa8", b"U+2068"),
+    (b"\xe2\x81\xa9", b"U+2069"),
+    (b"\xef\xbb\xbf", b"U+FEFF"),
+];
+
+/// The byte of a text at a position; a line feed past the end.
+fn byte_at(source: &[u8], at: usize) -> u8 {
+    source.get(at).copied().unwrap_or(b'\n')
+}
+
+/// Whether a line ends at a position: at its line feed, or at the carriage return before that.
+fn ends_at(source: &[u8], at: usize) -> bool {
+    match byte_at(source, at) {
+        b'\n' => true,
+        b'\r' => byte_at(source, at.saturating_add(1)) == b'\n',
+        _ => false,
+    }
+}
+
+/// Whether a byte is a control character other than a tab or the end of a line.
+fn is_control(source: &[u8], at: usize) -> bool {
+    let byte = byte_at(source, at);
+    (byte < 32 || byte == 127) && byte != b'\t' && !ends_at(source, at)
+}
+
+/// The invisible character of several bytes at a position, if any: its length and its label.
+fn unseen_at(source: &[u8], at: usize) -> Option<(usize, &'static [u8])> {
+    let rest = source.get(at..)?;
+    for (bytes, label) in UNSEEN {
+        if rest.starts_with(bytes) {
+            return Some((bytes.len(), label));
+        }
+    }
+    None
+}
+
+/// The character at a position, if it isn't visible: its length and its label.
+fn hidden_at(source: &[u8], at: usize) -> Option<(usize, &'static [u8])> {
+    let byte = byte_at(source, at);
+    if 32 <= byte && byte < 127 {
+        return None;
+    }
+    if is_control(source, at) {
+        return Some((1, CONTROLS.get(byte as usize).copied().unwrap_or(b"DEL")));
+    }
+    if byte < 128 {
+        return None;
+    }
+    unseen_at(source, at)
+}
+
+/// The first position from `at` on, and before `stop`, at which a line ends, a comment begins
+/// unless this is one, or a character isn't visible.
+fn end_from(source: &[u8], at: usize, stop: usize, is_comment: bool) -> usize {
+    for place in at..stop {
+        let is_start = byte_at(source, place) == b'#' && !is_comment;
+        if is_start || ends_at(source, place) || hidden_at(source, place).is_some() {
+            return place;
+        }
+    }
+    stop
+}
+
+/// The mark at a position before `stop`, or the plain part there, and whether a comment goes on
+/// after it.
+pub(crate) fn mark_at(source: &[u8], at: usize, stop: usize, is_comment: bool) -> (Mark, bool) {
+    if let Some((length, label)) = hidden_at(source, at) {
+        return (
+            part(at.saturating_add(length).min(stop), b"mark", label),
+            is_comment,
+        );
+    }
+    if ends_at(source, at) {
+        return (part(at.saturating_add(1).min(stop), b"", b""), false);
+    }
+    let is_note = is_comment || byte_at(source, at) == b'#';
+    let end = end_from(source, at, stop, is_note);
+    (part(end, if is_note { b"note" } else { b"" }, b""), is_note)
+}
+
+/// A part of a source text: its first byte, the byte after it, its kind, and its two labels.
 #[derive(Drop)]
 pub(crate) struct Tagged<'a> {
     pub(crate) start: usize,
@@ -20,7 +141,7 @@ pub(crate) struct Tagged<'a> {
 }
 
 /// Adds the beginning of a line.
-fn put_line(page: &mut Vec<u8>, number: usize) -> Result<(), AllocError>
+fn put_line(page: &mut Vec<u8>, number: usize) -> Added
     ensures { OnOk result (page.new.items ≡ page.old.items ++ line_tag number) }
 {
     page.extend_from_slice(b"<span class=\"line\" id=\"L")?;
@@ -29,7 +150,7 @@ fn put_line(page: &mut Vec<u8>, number: usize) -> Result<(), AllocError>
 }
 
 /// Adds the end of a line and the beginning of the next one.
-fn put_next(page: &mut Vec<u8>, number: usize) -> Result<(), AllocError>
+fn put_next(page: &mut Vec<u8>, number: usize) -> Added
     ensures { OnOk result (page.new.items ≡ page.old.items ++ next_tag number) }
 {
     page.extend_from_slice(b"</span>")?;
@@ -37,7 +158,7 @@ fn put_next(page: &mut Vec<u8>, number: usize) -> Result<(), AllocError>
 }
 
 /// Adds the beginning of a part.
-fn put_open(page: &mut Vec<u8>, kind: &[u8], class: &[u8], step: &[u8]) -> Result<(), AllocError>
+fn put_open(page: &mut Vec<u8>, kind: &[u8], class: &[u8], step: &[u8]) -> Added
     ensures { OnOk result
         (page.new.items ≡ page.old.items ++ open_tag kind.now class.now step.now) }
 {
@@ -50,14 +171,8 @@ fn put_open(page: &mut Vec<u8>, kind: &[u8], class: &[u8], step: &[u8]) -> Resul
     page.extend_from_slice(b"\">")
 }
 
-/// Adds the end of the part with a number, if it ends at a position, and answers the number of the
-/// part that begins or ends next.
-fn put_end(
-    page: &mut Vec<u8>,
-    parts: &[Tagged<'_>],
-    number: usize,
-    at: usize,
-) -> Result<usize, AllocError>
+/// Ends the part with a number, if it ends at a position, and answers which part comes next.
+fn put_end(page: &mut Vec<u8>, parts: &[Tagged<'_>], number: usize, at: usize) -> Made<usize>
     ensures { (t : List ℕ) → Shows page.old.items t → OnOk result (Shows page.new.items t) }
 {
     let Some(part) = parts.get(number) else {
@@ -71,7 +186,7 @@ fn put_end(
 }
 
 /// Adds the beginning of a part.
-fn put_tag(page: &mut Vec<u8>, part: &Tagged<'_>) -> Result<(), AllocError>
+fn put_tag(page: &mut Vec<u8>, part: &Tagged<'_>) -> Added
     ensures { (t : List ℕ) → Shows page.old.items t → OnOk result (Shows page.new.items t) }
 {
     put_open(page, part.kind, part.label, &part.steps)?;
@@ -79,12 +194,7 @@ fn put_tag(page: &mut Vec<u8>, part: &Tagged<'_>) -> Result<(), AllocError>
 }
 
 /// Adds the beginning of the part with a number, if it begins at a position.
-fn put_begin(
-    page: &mut Vec<u8>,
-    parts: &[Tagged<'_>],
-    number: usize,
-    at: usize,
-) -> Result<(), AllocError>
+fn put_begin(page: &mut Vec<u8>, parts: &[Tagged<'_>], number: usize, at: usize) -> Added
     ensures { (t : List ℕ) → Shows page.old.items t → OnOk result (Shows page.new.items t) }
 {
     let Some(part) = parts.get(number) else {
@@ -96,14 +206,8 @@ fn put_begin(
     put_tag(page, part)
 }
 
-/// Adds a byte of a source text. After the last byte of a line it also adds the beginning of the
-/// next line, which has this number, unless the line is the last one.
-fn put_source_byte(
-    page: &mut Vec<u8>,
-    byte: u8,
-    is_ending: bool,
-    next: usize,
-) -> Result<(), AllocError>
+/// Adds a byte of a source text and, if it ends a line, the beginning of the line with a number.
+fn put_source_byte(page: &mut Vec<u8>, byte: u8, is_ending: bool, next: usize) -> Added
     ensures { (t : List ℕ) → Shows page.old.items t
         → OnOk result (Shows page.new.items (t ++ byte ∷ [])) }
 {
@@ -140,7 +244,7 @@ fn put_at(
     parts: &[Tagged<'_>],
     at: usize,
     place: Place,
-) -> Result<Place, AllocError>
+) -> Made<Place>
     requires { at < length source.now }
     ensures { (t : List ℕ) → Shows page.old.items t
         → OnOk result (Shows page.new.items (t ++ slice_index source.now at ∷ [])) }
@@ -157,11 +261,7 @@ fn put_at(
 }
 
 /// The panel of a text, with these parts set apart, which are in order.
-pub(crate) fn panel_of(
-    alloc: Global,
-    source: &[u8],
-    parts: &[Tagged<'_>],
-) -> Result<Vec<u8>, AllocError>
+pub(crate) fn panel_of(alloc: Global, source: &[u8], parts: &[Tagged<'_>]) -> Made<Vec<u8>>
     ensures { IfOk result (λ page. Shows page.items source.now) }
 {
     let mut page = Vec::new(alloc);
@@ -173,4 +273,148 @@ pub(crate) fn panel_of(
     put_end(&mut page, parts, place.part, source.len())?;
     page.extend_from_slice(b"</span>")?;
     Ok(page)
+}
+
+/// A part without steps.
+fn plain<'a>(
+    alloc: Global,
+    start: usize,
+    stop: usize,
+    kind: &'static [u8],
+    label: &'a [u8],
+) -> Tagged<'a> {
+    let steps = Vec::new(alloc);
+    Tagged {
+        start,
+        stop,
+        kind,
+        label,
+        steps,
+    }
+}
+
+/// Adds the number of a step and a preposition, after a comma unless it is the first.
+fn put_word(label: &mut Vec<u8>, number: usize, word: &[u8]) -> Added {
+    if !label.is_empty() {
+        label.extend_from_slice(b", ")?;
+    }
+    put_number(label, number)?;
+    label.extend_from_slice(word)
+}
+
+/// The label of the steps of the walk that read or write at a position.
+fn steps_at(view: &View<'_>, start: usize) -> Made<Vec<u8>> {
+    let mut label = Vec::new(view.alloc);
+    for (place, step) in view.walk.iter().enumerate() {
+        let number = place.saturating_add(1);
+        if step.read.start == start {
+            put_word(&mut label, number, b" from")?;
+        } else if step.written.start == start {
+            put_word(&mut label, number, b" to")?;
+        }
+    }
+    Ok(label)
+}
+
+/// The variable whose name starts at a position; `next` is the first name that can match.
+fn variable_at(mentions: &[Mention], next: usize, start: usize) -> Option<usize> {
+    let found = mentions.get(next)?;
+    if found.span.start == start {
+        Some(found.variable)
+    } else {
+        None
+    }
+}
+
+/// Adds the comments from a position up to another, and the characters that aren't visible.
+fn put_marks<'a>(parts: &mut Vec<Tagged<'a>>, view: &View<'a>, from: usize, stop: usize) -> Added {
+    let mut at = from;
+    let mut is_comment = false;
+    for _ in from..stop {
+        if at >= stop {
+            return Ok(());
+        }
+        let (mark, goes_on) = mark_at(view.source, at, stop, is_comment);
+        is_comment = goes_on;
+        if !mark.kind.is_empty() {
+            parts.push(plain(view.alloc, at, mark.stop, mark.kind, mark.label))?;
+        }
+        at = mark.stop;
+    }
+    Ok(())
+}
+
+/// Whether a token is a keyword.
+fn is_keyword(kind: Kind) -> bool {
+    match kind {
+        Kind::Var | Kind::Letvar | Kind::In | Kind::If => true,
+        Kind::Then | Kind::Else | Kind::While | Kind::Do => true,
+        _ => false,
+    }
+}
+
+/// The part with a token that is a keyword, or the name of this variable.
+fn part_of<'a>(
+    view: &View<'a>,
+    variable: Option<usize>,
+    token: &Token<'_>,
+) -> Made<Option<Tagged<'a>>> {
+    let (start, stop) = (token.span.start, token.span.stop);
+    if let Some(variable) = variable {
+        let facts = view.facts;
+        let kind = name_kind(facts.class(variable));
+        let mut part = plain(view.alloc, start, stop, kind, facts.label(variable));
+        part.steps = steps_at(view, start)?;
+        return Ok(Some(part));
+    }
+    if is_keyword(token.kind) {
+        return Ok(Some(plain(view.alloc, start, stop, b"word", b"")));
+    }
+    Ok(None)
+}
+
+/// Adds the parts of a text with these tokens.
+fn put_parts<'a>(parts: &mut Vec<Tagged<'a>>, view: &View<'a>, tokens: &[Token<'_>]) -> Added {
+    let mut at: usize = 0;
+    let mut next: usize = 0;
+    for token in tokens {
+        put_marks(parts, view, at, token.span.start)?;
+        at = token.span.start;
+        let variable = variable_at(&view.facts.mentions, next, at);
+        if variable.is_some() {
+            next = next.saturating_add(1);
+        }
+        if let Some(part) = part_of(view, variable, token)? {
+            at = part.stop;
+            parts.push(part)?;
+        }
+    }
+    put_marks(parts, view, at, view.source.len())
+}
+
+/// The panel of a text with these tokens.
+fn token_panel(view: &View<'_>, tokens: &[Token<'_>]) -> Made<Vec<u8>>
+    ensures { IfOk result (λ page. Shows page.items view.now.source.now) }
+{
+    let mut parts = Vec::new(view.alloc);
+    put_parts(&mut parts, view, tokens)?;
+    panel_of(view.alloc, view.source, &parts)
+}
+
+/// The panel of a text that has a program.
+pub(crate) fn source_panel(view: &View<'_>) -> Made<Vec<u8>>
+    ensures { IfOk result (λ page. Shows page.items view.now.source.now) }
+{
+    match lex(view.alloc, view.source) {
+        Ok(tokens) => token_panel(view, &tokens),
+        Err(LexError::Memory) => Err(AllocError),
+        Err(_) => plain_panel(view),
+    }
+}
+
+/// The panel of a text without known facts.
+pub(crate) fn plain_panel(view: &View<'_>) -> Made<Vec<u8>>
+    ensures { IfOk result (λ page. Shows page.items view.now.source.now) }
+{
+    token_panel(view, &[])
 }

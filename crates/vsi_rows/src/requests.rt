@@ -2,8 +2,7 @@
 
 use crate::row::{Row, Wrong};
 use std::alloc::{AllocError, Global};
-use vsi_arguments::{ArgumentsError, Request, manner_of};
-use vsi_asked::{asks_help, request_of};
+use vsi_arguments::{ArgumentsError, Request, asks_help, manner_of, request_of};
 use vsi_explain::page;
 
 /// The arguments in a line, each after a single space; an empty line has none.

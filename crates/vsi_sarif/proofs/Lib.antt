@@ -1,4 +1,3 @@
 pub mod Kept
-pub mod Plain
 pub mod Lines
 pub mod Written

@@ -2,8 +2,8 @@
 use Rattle.std.proofs.Common.{◌≡◌, ℕ, List, None, refl, append_assoc}
 use Rattle.vsi_image.specs.declared.instr.Image.{Image}
 use Rattle.vsi_conform.specs.declared.interface.Interface.{Interface}
-use Rattle.vsi_conform.specs.declared.point.Point.{Point}
-use Rattle.vsi_conform.specs.declared.point.Point.TheVariants.{Missing, Unexpected, WrongClass, WrongOrder, OutOfBudget, WrongWord, NoWord}
+use Rattle.vsi_conform.specs.declared.interface.Point.{Point}
+use Rattle.vsi_conform.specs.declared.interface.Point.TheVariants.{Missing, Unexpected, WrongClass, WrongOrder, OutOfBudget, WrongWord, NoWord}
 use Rattle.vsi_conform.specs.Lines as source
 use Rattle.vsi_conform.specs.Shown.{Page, Shown, asked, by_class, by_name}
 use Rattle.vsi_conform_image.specs.Lines as supplied

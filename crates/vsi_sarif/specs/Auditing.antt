@@ -10,7 +10,7 @@ use Rattle.vsi_steady.specs.Telling.{IsUnsteadyText}
 use Rattle.vsi_steady.specs.declared.error.SteadyError.{SteadyError}
 use Rattle.vsi_audit.specs.Refusal as audit
 use Rattle.vsi_audit.specs.Telling.{IsAuditText}
-use Rattle.vsi_audit.specs.declared.error.AuditError.{AuditError}
+use Rattle.vsi_audit.specs.declared.flow.AuditError.{AuditError}
 use Rattle.vsi_diagnostics.specs.Diagnostic.{Diagnostic}
 use Rattle.vsi_conform.specs.Checking.{audit_diagnostic, steady_diagnostic}
 use Rattle.vsi_conform_image.specs.Conforms.{IsAudited}

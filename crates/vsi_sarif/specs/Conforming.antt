@@ -5,11 +5,11 @@ use Rattle.vsi_syntax.specs.Tree.{Declared}
 use Rattle.vsi_lattice.specs.declared.lattice.Lattice.{Lattice}
 use Rattle.vsi_image.specs.declared.instr.Image.{Image}
 use Rattle.vsi_conform.specs.declared.interface.Interface.{Interface}
-use Rattle.vsi_conform.specs.declared.point.Answer.{Answer}
+use Rattle.vsi_conform.specs.declared.interface.Answer.{Answer}
 use Rattle.vsi_conform.specs.Lines.{AreFirst, page_of}
 use Rattle.vsi_conform.specs.Shown.{Declares}
 use Rattle.vsi_conform_image.specs.Lines as supplied
-use Rattle.vsi_conform_image.specs.declared.answer.Answer as image
+use Rattle.vsi_conform_image.specs.declared.conforming.Answer as image
 use Rattle.vsi_sarif.specs.Document.{document_text}
 use Rattle.vsi_sarif.specs.Findings.{bound_results, image_results, refusal_results, text_results}
 use Rattle.vsi_sarif.specs.Kinds.{kinds, rules_of}

@@ -4,8 +4,8 @@ use Rattle.std.specs.Global.{Vec}
 use Rattle.serde_json.specs.Data.{Data, object, Members}
 use Rattle.vsi_image.specs.declared.instr.Image.{Image}
 use Rattle.vsi_conform.specs.declared.interface.Interface.{Interface}
-use Rattle.vsi_conform.specs.declared.point.Point.{Point}
-use Rattle.vsi_conform.specs.declared.point.Point.TheVariants.{Missing, Unexpected, WrongClass, WrongOrder, OutOfBudget, WrongWord, NoWord}
+use Rattle.vsi_conform.specs.declared.interface.Point.{Point}
+use Rattle.vsi_conform.specs.declared.interface.Point.TheVariants.{Missing, Unexpected, WrongClass, WrongOrder, OutOfBudget, WrongWord, NoWord}
 use Rattle.vsi_conform.specs.Lines as source
 use Rattle.vsi_conform.specs.Shown.{Page, asked, expected}
 use Rattle.vsi_conform_image.specs.Lines as supplied
@@ -13,8 +13,8 @@ use Rattle.vsi_sarif.specs.Held.{Held, text_held}
 use Rattle.vsi_sarif.specs.Kinds.{index_of, kind_of, name_of}
 use Rattle.vsi_sarif.specs.Location.{location_members}
 use Rattle.vsi_sarif.specs.Refusals.{result_members}
-use Rattle.vsi_sarif.specs.declared.kinds.PointKind.{PointKind}
-use Rattle.vsi_sarif.specs.declared.kinds.PointKind.TheVariants as kind
+use Rattle.vsi_sarif.specs.declared.findings.PointKind.{PointKind}
+use Rattle.vsi_sarif.specs.declared.findings.PointKind.TheVariants as kind
 
 -- The members of a result of this kind in the file with this URI: its position, if there is one, and its lines.
 abbrev pub finding : List ℕ → PointKind → Option (ℕ × ℕ) → List ℕ → Members

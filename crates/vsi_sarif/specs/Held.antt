@@ -3,12 +3,12 @@ use Rattle.std.specs.Prelude.{ℕ, [], map, Option, Some, None}
 use Rattle.vsi_syntax.specs.CommandView.{declared}
 use Rattle.vsi_image.specs.declared.instr.Image.{Image}
 use Rattle.vsi_image.specs.Fields.{Global}
-use Rattle.vsi_conform.specs.declared.point.Point.{Point}
-use Rattle.vsi_conform.specs.declared.point.Point.TheVariants.{Missing, Unexpected, WrongClass, WrongOrder, OutOfBudget, WrongWord, NoWord}
+use Rattle.vsi_conform.specs.declared.interface.Point.{Point}
+use Rattle.vsi_conform.specs.declared.interface.Point.TheVariants.{Missing, Unexpected, WrongClass, WrongOrder, OutOfBudget, WrongWord, NoWord}
 use Rattle.vsi_conform.specs.Shown.{Page, Shown, by_class, by_name}
 use Rattle.vsi_conform_image.specs.Lines as image
-use Rattle.vsi_sarif.specs.declared.held.Held as code
-use Rattle.vsi_sarif.specs.declared.held.Pages.{Pages}
+use Rattle.vsi_sarif.specs.declared.findings.Held as code
+use Rattle.vsi_sarif.specs.declared.findings.Pages.{Pages}
 
 -- A global and, if it is one of a text, the line and the column, from 1, of its name or its class name.
 pub record Held : Type 0 where

@@ -1,11 +1,11 @@
 -- The kinds of points in which a text or an image differs from an interface, and the rules of their documents.
 use Rattle.std.specs.Prelude.{ℕ, List, [], ◌∷◌, map, codes}
 use Rattle.serde_json.specs.Data.{Data, object, Members}
-use Rattle.vsi_conform.specs.declared.point.Point.{Point}
-use Rattle.vsi_conform.specs.declared.point.Point.TheVariants as point
+use Rattle.vsi_conform.specs.declared.interface.Point.{Point}
+use Rattle.vsi_conform.specs.declared.interface.Point.TheVariants as point
 use Rattle.vsi_sarif.specs.Objects.{text_members}
-use Rattle.vsi_sarif.specs.declared.kinds.PointKind.{PointKind}
-use Rattle.vsi_sarif.specs.declared.kinds.PointKind.TheVariants.{Refused, Missing, Unexpected, Class, Order, Budget, Word, Bound}
+use Rattle.vsi_sarif.specs.declared.findings.PointKind.{PointKind}
+use Rattle.vsi_sarif.specs.declared.findings.PointKind.TheVariants.{Refused, Missing, Unexpected, Class, Order, Budget, Word, Bound}
 
 -- The name of a kind, which is the identifier of its rule.
 abbrev pub name_of : PointKind → List ℕ

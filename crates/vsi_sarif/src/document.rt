@@ -1,62 +1,34 @@
-//! A document, from its rules and results.
+//! Documents, and the answers of checks as documents.
 
-ghost use Rattle.std.specs.Prelude.{◌≡◌, false, map, IfOk};
+ghost use Rattle.std.specs.Prelude.{◌≡◌, false, map, IfOk, []};
 ghost use Rattle.serde_json.specs.View.{members_view, view};
-ghost use Rattle.serde_json.specs.Written.{members_have_float};
+ghost use Rattle.vsi_steady.specs.Telling.{IsUnsteadyText};
+ghost use Rattle.vsi_audit.specs.Telling.{IsAuditText};
+ghost use Rattle.vsi_conform.specs.Checking.{audit_diagnostic as audit_of, steady_diagnostic as steady_of};
+ghost use Rattle.vsi_conform.specs.Lines.{is_steady as is_steady_of};
+ghost use Rattle.vsi_sarif.specs.Document.{document_text};
 ghost use Rattle.vsi_sarif.specs.Document as spec;
+ghost use Rattle.vsi_sarif.specs.Auditing as auditing_spec;
+ghost use Rattle.vsi_sarif.specs.Checking as checking_spec;
+ghost use Rattle.vsi_sarif.specs.Conforming as conforming_spec;
 
-use crate::objects::{array_object, only, put_array, put_object};
-use serde_json::{Map, Value};
+use crate::findings::{
+    Pages, kind_rules, put_bound_result, put_image_results, put_text_results, refusal_results,
+};
+use crate::location::uri_of;
+use crate::refusal::{refusal_document, refusal_document_of};
 use std::alloc::{AllocError, Global};
-use vsi_diagnostics::members::{object_line, put_text};
-
-/// The object of the tool, with its rules.
-fn tool(alloc: Global, rules: Vec<Value>) -> Result<Map<String, Value>, AllocError>
-    ensures { IfOk result
-        (λ made. members_view made.entries ≡ spec.tool_members (map view rules.items)) }
-{
-    let mut driver = Map::new(alloc);
-    put_text(alloc, &mut driver, "name", b"vsi")?;
-    put_array(alloc, &mut driver, "rules", rules)?;
-    put_text(alloc, &mut driver, "version", b"0.1.0")?;
-    let mut made = Map::new(alloc);
-    put_object(alloc, &mut made, "driver", driver)?;
-    Ok(made)
-}
-
-/// The object of a run of the tool.
-fn run(
-    alloc: Global,
-    rules: Vec<Value>,
-    results: Vec<Value>,
-) -> Result<Map<String, Value>, AllocError>
-    ensures { IfOk result (λ made. members_view made.entries
-        ≡ spec.run_members (map view rules.items) (map view results.items)) }
-{
-    let tool = tool(alloc, rules)?;
-    let mut made = Map::new(alloc);
-    put_text(alloc, &mut made, "columnKind", b"unicodeCodePoints")?;
-    put_array(alloc, &mut made, "results", results)?;
-    put_object(alloc, &mut made, "tool", tool)?;
-    Ok(made)
-}
-
-/// The object of the document.
-fn whole(
-    alloc: Global,
-    rules: Vec<Value>,
-    results: Vec<Value>,
-) -> Result<Map<String, Value>, AllocError>
-    ensures { IfOk result (λ made. members_view made.entries
-        ≡ spec.document_members (map view rules.items) (map view results.items)) }
-{
-    let run = run(alloc, rules, results)?;
-    let runs = only(alloc, run)?;
-    let mut made = array_object(alloc, "runs", runs)?;
-    put_text(alloc, &mut made, "$schema", schema())?;
-    put_text(alloc, &mut made, "version", b"2.1.0")?;
-    Ok(made)
-}
+use vsi_audit::{AuditError, audit_in, audit_text};
+use vsi_compiler::{CompileError, Source, read_source};
+use vsi_conform::{
+    Answer, Interface, Judgement, audit_diagnostic, declarations, judged_of, refusal_lines,
+    refusal_lines_of, steady_diagnostic, unsteady_diagnostic,
+};
+use vsi_diagnostics::{Object, Objects};
+use vsi_image::{Image, Verified};
+use vsi_lattice::Lattice;
+use vsi_steady::{SteadyError, UnsteadyError, steady_in, steady_text};
+use vsi_types::Profile;
 
 /// The URI of the schema of SARIF 2.1.0.
 fn schema() -> &'static [u8]
@@ -65,17 +37,311 @@ fn schema() -> &'static [u8]
     b"https://json.schemastore.org/sarif-2.1.0.json"
 }
 
+/// The object of a run of the tool, with its rules.
+fn run(alloc: Global, rules: Objects, results: Objects) -> Result<Object, AllocError>
+    ensures { IfOk result
+        (λ made. members_view made ≡ spec.run_members (map view rules) (map view results)) }
+{
+    let driver = Object::new(alloc)
+        .text("name", b"vsi")?
+        .array("rules", rules)?
+        .text("version", b"0.1.0")?;
+    let tool = Object::new(alloc).object("driver", driver)?;
+    Object::new(alloc)
+        .text("columnKind", b"unicodeCodePoints")?
+        .array("results", results)?
+        .object("tool", tool)
+}
+
 /// The text of the document of these rules and results, a line.
 pub(crate) fn document(
     alloc: Global,
-    rules: Vec<Value>,
-    results: Vec<Value>,
+    rules: Objects,
+    results: Objects,
 ) -> Result<Vec<u8>, AllocError>
-    ensures { IfOk result (λ line. members_have_float
-        (spec.document_members (map view rules.items) (map view results.items)) ≡ false
-        → line.items ≡ spec.document_text (map view rules.items) (map view results.items)) }
+    ensures { IfOk result (λ line.
+        line.items ≡ spec.document_text (map view rules) (map view results)) }
 {
-    let made = whole(alloc, rules, results)?;
-    let line = object_line(alloc, made)?;
+    let runs = Objects::of(alloc, run(alloc, rules, results)?)?;
+    Object::new(alloc)
+        .array("runs", runs)?
+        .text("$schema", schema())?
+        .text("version", b"2.1.0")?
+        .line()
+}
+
+/// The document of an image that an audit refuses.
+fn unaudited(
+    alloc: Global,
+    lattice: &Lattice,
+    path: &str,
+    image: &Image,
+    error: &AuditError,
+) -> Result<Vec<u8>, AllocError>
+    ensures { IfOk result (λ out. auditing_spec.WritesRefusal lattice.now path.now
+        (audit_of error.now) (IsAuditText lattice.now image.now error.now) out.items) }
+{
+    let Some(diagnostic) = audit_diagnostic(error) else {
+        return Err(AllocError);
+    };
+    let lines = audit_text(alloc, lattice, image, error)?;
+    let uri = uri_of(alloc, path)?;
+    refusal_document(alloc, lattice, uri.as_bytes(), &[], &diagnostic, &lines)
+}
+
+/// The document of an image that isn't steady.
+fn unsteady(
+    alloc: Global,
+    lattice: &Lattice,
+    path: &str,
+    image: &Image,
+    error: &SteadyError,
+) -> Result<Vec<u8>, AllocError>
+    ensures { IfOk result (λ out. auditing_spec.WritesRefusal lattice.now path.now (steady_of error.now)
+        (IsUnsteadyText lattice.now image.now error.now) out.items) }
+{
+    let Some(diagnostic) = steady_diagnostic(error) else {
+        return Err(AllocError);
+    };
+    let lines = steady_text(alloc, lattice, image, error)?;
+    let uri = uri_of(alloc, path)?;
+    refusal_document(alloc, lattice, uri.as_bytes(), &[], &diagnostic, &lines)
+}
+
+/// The answer of `vsi audit` to the image of the file at a path as a document of SARIF 2.1.0. An error
+/// means that memory ran out.
+pub fn audit_sarif(
+    alloc: Global,
+    profile: Profile,
+    lattice: &Lattice,
+    path: &str,
+    image: &Verified,
+) -> Result<Documented, AllocError>
+    ensures answer { IfOk result (λ told. auditing_spec.TellsAudit lattice.now profile path.now image.now
+        told.is_accepted told.line.items) }
+{
+    match audit_in(alloc, profile, lattice, image) {
+        Ok(()) => {
+            let line = accepted(alloc)?;
+            Ok(Documented {
+                is_accepted: true,
+                line,
+            })
+        }
+        Err(error) => {
+            let line = unaudited(alloc, lattice, path, image.image(), &error)?;
+            Ok(Documented {
+                is_accepted: false,
+                line,
+            })
+        }
+    }
+}
+
+/// The answer of `vsi audit --steady` to the image of the file at a path as such a document.
+pub fn steady_sarif(
+    alloc: Global,
+    lattice: &Lattice,
+    path: &str,
+    image: &Verified,
+) -> Result<Documented, AllocError>
+    ensures answer { IfOk result (λ told. auditing_spec.TellsSteadiness lattice.now path.now image.now
+        told.is_accepted told.line.items) }
+{
+    match steady_in(alloc, lattice, image) {
+        Ok(()) => {
+            let line = accepted(alloc)?;
+            Ok(Documented {
+                is_accepted: true,
+                line,
+            })
+        }
+        Err(error) => {
+            let line = unsteady(alloc, lattice, path, image.image(), &error)?;
+            Ok(Documented {
+                is_accepted: false,
+                line,
+            })
+        }
+    }
+}
+
+/// The answer of a check: whether the text is accepted, and the document that says so.
+#[derive(Debug, Drop)]
+pub struct Documented {
+    /// Whether the text is accepted.
+    pub is_accepted: bool,
+    /// The document, a line.
+    pub line: Vec<u8>,
+}
+
+/// Whether a judgement demands a steady image.
+pub(crate) fn is_steady(judgement: Judgement) -> bool
+    ensures { result ≡ is_steady_of judgement }
+{
+    match judgement {
+        Judgement::Base | Judgement::Strict => false,
+        Judgement::Steady => true,
+    }
+}
+
+/// The document of an accepted text or image, which has no result.
+pub(crate) fn accepted(alloc: Global) -> Result<Vec<u8>, AllocError>
+    ensures { IfOk result (λ out. out.items ≡ document_text [] []) }
+{
+    document(alloc, Objects::new(alloc), Objects::new(alloc))
+}
+
+/// The document of a refused text, which has no program.
+fn refused(
+    alloc: Global,
+    judgement: Judgement,
+    lattice: &Lattice,
+    path: &str,
+    text: &[u8],
+    error: &UnsteadyError,
+) -> Result<Vec<u8>, AllocError>
+    ensures { IfOk result (λ out.
+        checking_spec.WritesRefusal lattice.now judgement path.now text.now error.now out.items) }
+{
+    let Some(diagnostic) = unsteady_diagnostic(text, error) else {
+        return Err(AllocError);
+    };
+    let lines = refusal_lines(alloc, lattice, text, error, is_steady(judgement))?;
+    let uri = uri_of(alloc, path)?;
+    refusal_document(alloc, lattice, uri.as_bytes(), text, &diagnostic, &lines)
+}
+
+/// The document of a source text that was read and is refused.
+fn source_refused(
+    alloc: Global,
+    judgement: Judgement,
+    path: &str,
+    source: &Source<'_>,
+    error: &UnsteadyError,
+) -> Result<Vec<u8>, AllocError>
+    ensures { IfOk result (λ out. checking_spec.WritesRefusal source.now.lattice judgement path.now
+        source.now.text error.now out.items) }
+{
+    let Some(diagnostic) = unsteady_diagnostic(source.text(), error) else {
+        return Err(AllocError);
+    };
+    let lines = refusal_lines_of(alloc, source, error, is_steady(judgement))?;
+    let name = uri_of(alloc, path)?;
+    refusal_document_of(alloc, name.as_bytes(), source, &diagnostic, &lines)
+}
+
+/// The answer for a source text that was read.
+fn source_sarif(
+    alloc: Global,
+    judgement: Judgement,
+    path: &str,
+    source: &Source<'_>,
+) -> Result<Documented, AllocError>
+    ensures { IfOk result (λ told. checking_spec.TellsDocument source.now.lattice judgement path.now
+        source.now.text told.is_accepted told.line.items) }
+{
+    match judged_of(alloc, judgement, source)? {
+        Ok(_verified) => {
+            let line = accepted(alloc)?;
+            Ok(Documented {
+                is_accepted: true,
+                line,
+            })
+        }
+        Err(error) => {
+            let line = source_refused(alloc, judgement, path, source, &error)?;
+            Ok(Documented {
+                is_accepted: false,
+                line,
+            })
+        }
+    }
+}
+
+/// The answer of `vsi check` to the text of the file at a path as a document of SARIF 2.1.0. The
+/// text is read once. An error means that memory ran out.
+pub fn check_sarif(
+    alloc: Global,
+    judgement: Judgement,
+    lattice: &Lattice,
+    path: &str,
+    text: &[u8],
+) -> Result<Documented, AllocError>
+    ensures answer { IfOk result (λ told. checking_spec.TellsDocument lattice.now judgement path.now
+        text.now told.is_accepted told.line.items) }
+{
+    match read_source(alloc, lattice, text) {
+        Ok(source) => source_sarif(alloc, judgement, path, &source),
+        Err(CompileError::Memory) => Err(AllocError),
+        Err(error) => {
+            let error = UnsteadyError::Compile(error);
+            let line = refused(alloc, judgement, lattice, path, text, &error)?;
+            Ok(Documented {
+                is_accepted: false,
+                line,
+            })
+        }
+    }
+}
+
+/// The document with these results, whose rules are all kinds of points.
+fn findings_document(alloc: Global, results: Objects) -> Result<Vec<u8>, AllocError>
+    ensures { IfOk result
+        (λ out. out.items ≡ conforming_spec.findings_text (map view results)) }
+{
+    document(alloc, kind_rules(alloc)?, results)
+}
+
+/// The answer about the text of the file at a path beside an interface as a document of SARIF 2.1.0,
+/// which has a result for each line, or block of lines, of `points_text`. An error means that memory
+/// ran out.
+pub fn points_sarif(
+    alloc: Global,
+    lattice: &Lattice,
+    path: &str,
+    text: &[u8],
+    interface: &Interface,
+    answer: &Answer,
+) -> Result<Vec<u8>, AllocError>
+    ensures document { IfOk result (λ out. conforming_spec.IsConformSarif lattice.now path.now text.now
+        interface.now answer.now out.items) }
+{
+    let uri = uri_of(alloc, path)?;
+    let bytes = uri.as_bytes();
+    let found = declarations(alloc, text)?;
+    let pages = Pages {
+        text,
+        found: &found,
+        interface,
+    };
+    let lines = vsi_conform::first_lines(alloc, lattice, text, interface, &answer.refusal)?;
+    let mut results = refusal_results(alloc, bytes, answer.refusal.is_some(), &lines)?;
+    put_text_results(alloc, &mut results, bytes, &pages, &answer.points)?;
+    put_bound_result(alloc, &mut results, bytes, &answer.unbounded)?;
+    let line = findings_document(alloc, results)?;
+    Ok(line)
+}
+
+/// The answer about the image of the file at a path beside an interface as such a document. Its
+/// results have no position.
+pub fn image_sarif(
+    alloc: Global,
+    lattice: &Lattice,
+    path: &str,
+    image: &Image,
+    interface: &Interface,
+    answer: &vsi_conform_image::Answer,
+) -> Result<Vec<u8>, AllocError>
+    ensures document { IfOk result (λ out. conforming_spec.IsImageSarif lattice.now path.now image.now
+        interface.now answer.now out.items) }
+{
+    let uri = uri_of(alloc, path)?;
+    let bytes = uri.as_bytes();
+    let lines = vsi_conform_image::first_lines(alloc, lattice, image, &answer.refusal)?;
+    let mut results = refusal_results(alloc, bytes, answer.refusal.is_some(), &lines)?;
+    put_image_results(alloc, &mut results, bytes, image, interface, &answer.points)?;
+    put_bound_result(alloc, &mut results, bytes, &answer.unbounded)?;
+    let line = findings_document(alloc, results)?;
     Ok(line)
 }

@@ -14,18 +14,9 @@
 //! To be believed: all files of `specs/`.
 #![tactic(auto)]
 
-mod auditing;
-mod checking;
-mod conforming;
 mod document;
 mod findings;
-mod held;
-mod kinds;
 mod location;
-mod objects;
 mod refusal;
-mod steps;
 
-pub use auditing::{audit_sarif, steady_sarif};
-pub use checking::{Documented, check_sarif};
-pub use conforming::{image_sarif, points_sarif};
+pub use document::{Documented, audit_sarif, check_sarif, image_sarif, points_sarif, steady_sarif};

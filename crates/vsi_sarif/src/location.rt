@@ -1,14 +1,19 @@
-//! Locations: files and positions in them.
+//! Locations, and the steps of a refused flow, as members of JSON objects.
 
-ghost use Rattle.std.specs.Prelude.{◌≡◌, IfOk, OnOk, string_bytes};
-ghost use Rattle.serde_json.specs.View.{members_view};
+ghost use Rattle.std.specs.Prelude.{◌≡◌, IfOk, string_bytes, map, option_map};
+ghost use Rattle.serde_json.specs.View.{members_view, view};
 ghost use Rattle.vsi_sarif.specs.Location as spec;
+ghost use Rattle.vsi_sarif.specs.Steps as steps_spec;
 
-use crate::objects::{put_object, text_object};
 use percent_encoding::{AsciiSet, NON_ALPHANUMERIC, ascii_set, percent_encode};
-use serde_json::{Map, Value};
 use std::alloc::{AllocError, Global};
-use vsi_diagnostics::members::put_natural;
+use vsi_compiler::{Source, read_source};
+use vsi_diagnostics::{Object, Objects, wants_memory};
+use vsi_infer::{rule_text, variable_name};
+use vsi_lattice::Lattice;
+use vsi_scope::Resolved;
+use vsi_syntax::line_column;
+use vsi_types::Step;
 
 /// The ASCII bytes that are escaped in a path: all but letters, digits and `-._~/`.
 pub(crate) const ESCAPED: AsciiSet = ascii_set!(
@@ -29,23 +34,22 @@ pub(crate) fn uri_of(alloc: Global, path: &str) -> Result<String, AllocError>
     Ok(uri)
 }
 
-/// Puts the region that begins at a line and a column, if they are known.
-fn put_region(
+/// The object with the region that begins at a line and a column, if they are known.
+fn with_region(
     alloc: Global,
-    members: &mut Map<String, Value>,
+    made: Object,
     place: Option<(usize, usize)>,
-) -> Result<(), AllocError>
-    ensures { OnOk result (members_view members.new.entries
-        ≡ spec.with_region place (members_view members.old.entries)) }
+) -> Result<Object, AllocError>
+    ensures { IfOk result (λ all. members_view all ≡ spec.with_region place (members_view made)) }
 {
     match place {
         Some((line, column)) => {
-            let mut region = Map::new(alloc);
-            put_natural(alloc, &mut region, "startColumn", column)?;
-            put_natural(alloc, &mut region, "startLine", line)?;
-            put_object(alloc, members, "region", region)
+            let region = Object::new(alloc)
+                .natural("startColumn", column)?
+                .natural("startLine", line)?;
+            made.object("region", region)
         }
-        None => Ok(()),
+        None => Ok(made),
     }
 }
 
@@ -54,19 +58,128 @@ pub(crate) fn location(
     alloc: Global,
     uri: &[u8],
     place: Option<(usize, usize)>,
-) -> Result<Map<String, Value>, AllocError>
-    ensures { IfOk result
-        (λ made. members_view made.entries ≡ spec.location_members uri.now place) }
+) -> Result<Object, AllocError>
+    ensures { IfOk result (λ made. members_view made ≡ spec.location_members uri.now place) }
 {
-    let mut physical = Map::new(alloc);
-    put_object(
-        alloc,
-        &mut physical,
-        "artifactLocation",
-        text_object(alloc, "uri", uri)?,
-    )?;
-    put_region(alloc, &mut physical, place)?;
-    let mut made = Map::new(alloc);
-    put_object(alloc, &mut made, "physicalLocation", physical)?;
-    Ok(made)
+    let file = Object::new(alloc).text("uri", uri)?;
+    let physical = Object::new(alloc).object("artifactLocation", file)?;
+    Object::new(alloc).object("physicalLocation", with_region(alloc, physical, place)?)
+}
+
+/// The message of a step: its two variables and its rule.
+fn step_text(alloc: Global, program: &Resolved<'_>, step: &Step) -> Result<Vec<u8>, AllocError>
+    ensures { IfOk result (λ text. text.items ≡ steps_spec.step_text program.now step.now) }
+{
+    let mut text = Vec::from_slice(alloc, variable_name(program, step.source))?;
+    text.extend_from_slice(b" flows to ")?;
+    text.extend_from_slice(variable_name(program, step.target))?;
+    text.extend_from_slice(b" by ")?;
+    text.extend_from_slice(rule_text(step.rule))?;
+    Ok(text)
+}
+
+/// The object of a step: its message, and the position where its source is read.
+fn step_object(
+    alloc: Global,
+    uri: &[u8],
+    source: &[u8],
+    program: &Resolved<'_>,
+    step: &Step,
+) -> Result<Object, AllocError>
+    ensures { IfOk result (λ made. members_view made
+        ≡ steps_spec.step_members uri.now source.now program.now step.now) }
+{
+    let text = step_text(alloc, program, step)?;
+    let (line, column) = line_column(source, step.read.start);
+    let message = Object::new(alloc).text("text", &text)?;
+    let inner = location(alloc, uri, Some((line, column)))?.object("message", message)?;
+    Object::new(alloc).object("location", inner)
+}
+
+/// The objects of steps, in their order.
+fn step_objects(
+    alloc: Global,
+    uri: &[u8],
+    source: &[u8],
+    program: &Resolved<'_>,
+    steps: &[Step],
+) -> Result<Objects, AllocError>
+    ensures { IfOk result (λ found. map view found
+        ≡ steps_spec.step_objects uri.now source.now program.now steps.now) }
+{
+    let mut found = Objects::new(alloc);
+    for step in steps {
+        let made = step_object(alloc, uri, source, program, step)?;
+        found.push(made)?;
+    }
+    Ok(found)
+}
+
+/// The objects of the steps of a walk, by the names of the program of a source text.
+fn source_objects(
+    alloc: Global,
+    uri: &[u8],
+    source: &Source<'_>,
+    steps: &[Step],
+) -> Result<Objects, AllocError>
+    ensures { IfOk result (λ found. steps_spec.LocatesWalk source.now.lattice uri.now source.now.text
+        steps.now (map view found)) }
+{
+    let text = source.text();
+    step_objects(alloc, uri, text, source.resolved(), steps)
+}
+
+/// The same for a text, which may have no program; then there is no object.
+fn walk_objects(
+    alloc: Global,
+    lattice: &Lattice,
+    uri: &[u8],
+    text: &[u8],
+    steps: &[Step],
+) -> Result<Objects, AllocError>
+    ensures { IfOk result (λ found.
+        steps_spec.LocatesWalk lattice.now uri.now text.now steps.now (map view found)) }
+{
+    match read_source(alloc, lattice, text) {
+        Ok(source) => source_objects(alloc, uri, &source, steps),
+        Err(error) => {
+            if wants_memory(&error) {
+                return Err(AllocError);
+            }
+            Ok(Objects::new(alloc))
+        }
+    }
+}
+
+/// The objects of the steps of a flow, or none for any other refusal.
+pub(crate) fn flow_objects(
+    alloc: Global,
+    lattice: &Lattice,
+    uri: &[u8],
+    source: &[u8],
+    steps: Option<&[Step]>,
+) -> Result<Option<Objects>, AllocError>
+    ensures { IfOk result (λ found. steps_spec.LocatesFlow lattice.now uri.now source.now
+        (option_map (λ s. s.now) steps.entry) (option_map (map view) found)) }
+{
+    match steps {
+        Some(steps) => { Ok(Some(walk_objects(alloc, lattice, uri, source, steps)?)) }
+        None => Ok(None),
+    }
+}
+
+/// The objects of the steps of a flow of a source text, or none for any other refusal.
+pub(crate) fn source_flow_objects(
+    alloc: Global,
+    uri: &[u8],
+    source: &Source<'_>,
+    steps: Option<&[Step]>,
+) -> Result<Option<Objects>, AllocError>
+    ensures { IfOk result (λ found. steps_spec.LocatesFlow source.now.lattice uri.now source.now.text
+        (option_map (λ s. s.now) steps.entry) (option_map (map view) found)) }
+{
+    match steps {
+        Some(steps) => { Ok(Some(source_objects(alloc, uri, source, steps)?)) }
+        None => Ok(None),
+    }
 }

@@ -1,21 +1,17 @@
 //! The document of a refusal.
 
-ghost use Rattle.std.specs.Prelude.{◌≡◌, decimal, map, option_map, IfOk, OnOk};
+ghost use Rattle.std.specs.Prelude.{◌≡◌, decimal, map, option_map, IfOk};
 ghost use Rattle.serde_json.specs.View.{members_view, view};
 ghost use Rattle.vsi_lattice.specs.declared.lattice.Lattice.{Lattice as Named};
-ghost use Rattle.vsi_diagnostics.specs.View.{diagnostic_of, field_of};
+ghost use Rattle.vsi_diagnostics.specs.View.{diagnostic_of};
 ghost use Rattle.vsi_sarif.specs.Refusals as spec;
 ghost use Rattle.vsi_sarif.specs.Steps.{LocatesFlow};
 
 use crate::document::document;
-use crate::location::location;
-use crate::objects::{array_object, only, put_array, put_object, text_object};
-use crate::steps::{flow_objects, source_flow_objects};
-use serde_json::{Map, Value};
+use crate::location::{flow_objects, location, source_flow_objects};
 use std::alloc::{AllocError, Global};
 use vsi_compiler::Source;
-use vsi_diagnostics::members::{put_natural, put_text, without_end};
-use vsi_diagnostics::{Diagnostic, Field};
+use vsi_diagnostics::{Diagnostic, Field, Object, Objects, without_end};
 use vsi_lattice::Lattice;
 use vsi_syntax::{line_column, put_number};
 use vsi_types::Step;
@@ -65,33 +61,25 @@ fn rule_id(alloc: Global, diagnostic: &Diagnostic) -> Result<Vec<u8>, AllocError
     Ok(id)
 }
 
-/// The object of a rule: the number and the name of the refusal.
-fn rule(alloc: Global, id: &[u8], diagnostic: &Diagnostic) -> Result<Map<String, Value>, AllocError>
-    ensures { IfOk result (λ made. members_view made.entries
-        ≡ spec.rule_members id.now (diagnostic_of diagnostic.now)) }
+/// The object of the flow whose locations are these.
+fn flow(alloc: Global, locations: Objects) -> Result<Object, AllocError>
+    ensures { IfOk result (λ made. members_view made ≡ spec.flow_members (map view locations)) }
 {
-    let mut made = text_object(alloc, "id", id)?;
-    put_text(alloc, &mut made, "name", diagnostic.name)?;
-    Ok(made)
+    let thread = Object::new(alloc).array("locations", locations)?;
+    Object::new(alloc).array("threadFlows", Objects::of(alloc, thread)?)
 }
 
-/// Puts the flow of the steps, if there is one.
-fn put_flow(
-    alloc: Global,
-    members: &mut Map<String, Value>,
-    steps: Option<Vec<Value>>,
-) -> Result<(), AllocError>
-    ensures { OnOk result (members_view members.new.entries ≡ spec.with_flow
-        (option_map (λ v. map view v.items) steps) (members_view members.old.entries)) }
+/// The object with the flow of the steps, if there is one.
+fn with_flow(alloc: Global, made: Object, steps: Option<Objects>) -> Result<Object, AllocError>
+    ensures { IfOk result (λ all. members_view all
+        ≡ spec.with_flow (option_map (map view) steps) (members_view made)) }
 {
     match steps {
-        Some(objects) => {
-            let locations = array_object(alloc, "locations", objects)?;
-            let thread = only(alloc, locations)?;
-            let threads = array_object(alloc, "threadFlows", thread)?;
-            put_array(alloc, members, "codeFlows", only(alloc, threads)?)
+        Some(steps) => {
+            let flows = Objects::of(alloc, flow(alloc, steps)?)?;
+            made.array("codeFlows", flows)
         }
-        None => Ok(()),
+        None => Ok(made),
     }
 }
 
@@ -100,26 +88,20 @@ pub(crate) fn result_object(
     alloc: Global,
     id: &[u8],
     index: usize,
-    location: Map<String, Value>,
-    steps: Option<Vec<Value>>,
+    location: Object,
+    steps: Option<Objects>,
     lines: &[u8],
-) -> Result<Map<String, Value>, AllocError>
-    ensures { IfOk result (λ made. members_view made.entries ≡ spec.result_members id.now index
-        (members_view location.entries) (option_map (λ v. map view v.items) steps) lines.now) }
+) -> Result<Object, AllocError>
+    ensures { IfOk result (λ made. members_view made ≡ spec.result_members id.now index
+        (members_view location) (option_map (map view) steps) lines.now) }
 {
-    let mut made = Map::new(alloc);
-    put_flow(alloc, &mut made, steps)?;
-    put_text(alloc, &mut made, "level", b"error")?;
-    put_array(alloc, &mut made, "locations", only(alloc, location)?)?;
-    put_object(
-        alloc,
-        &mut made,
-        "message",
-        text_object(alloc, "text", without_end(lines))?,
-    )?;
-    put_text(alloc, &mut made, "ruleId", id)?;
-    put_natural(alloc, &mut made, "ruleIndex", index)?;
-    Ok(made)
+    let message = Object::new(alloc).text("text", without_end(lines))?;
+    with_flow(alloc, Object::new(alloc), steps)?
+        .text("level", b"error")?
+        .array("locations", Objects::of(alloc, location)?)?
+        .object("message", message)?
+        .text("ruleId", id)?
+        .natural("ruleIndex", index)
 }
 
 /// The document of a refusal whose rule has this identifier and whose flow has these objects.
@@ -128,23 +110,22 @@ fn identified(
     uri: &[u8],
     text: &[u8],
     diagnostic: &Diagnostic,
-    steps: Option<Vec<Value>>,
+    steps: Option<Objects>,
     lines: &[u8],
     id: &[u8],
 ) -> Result<Vec<u8>, AllocError>
     ensures { IfOk result (λ out. (l : Named) → id.now ≡ decimal (diagnostic_of diagnostic.now).code
         → LocatesFlow l uri.now text.now (diagnostic_of diagnostic.now).steps
-        (option_map (λ v. map view v.items) steps)
+        (option_map (map view) steps)
         → spec.IsRefusalDocument l uri.now text.now
         (diagnostic_of diagnostic.now) lines.now out.items) }
 {
-    let ruled = rule(alloc, id, diagnostic)?;
-    let rules = only(alloc, ruled)?;
+    let rule = Object::new(alloc)
+        .text("id", id)?
+        .text("name", diagnostic.name)?;
     let place = location(alloc, uri, place_of(text, diagnostic))?;
     let found = result_object(alloc, id, 0, place, steps, lines)?;
-    let results = only(alloc, found)?;
-    let written = document(alloc, rules, results)?;
-    Ok(written)
+    document(alloc, Objects::of(alloc, rule)?, Objects::of(alloc, found)?)
 }
 
 /// The document of a refusal of the text in the file with this URI, with the lines that are printed

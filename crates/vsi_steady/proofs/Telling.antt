@@ -8,7 +8,7 @@ use Rattle.vsi_image.specs.declared.instr.Image.{Image}
 use Rattle.vsi_image.specs.Fields.{Global, globals}
 use Rattle.vsi_lattice.specs.Known.{Known}
 use Rattle.vsi_steady.specs.Telling.{LeadTo, MayNotFlow, IsChain, step_line, ends_line, chain_lines, end_of}
-use Rattle.vsi_steady.specs.declared.step.Step.{Step}
+use Rattle.vsi_steady.specs.declared.chain.Step.{Step}
 
 -- A text that grows by four pieces.
 pub four_added : (out a b c d out1 out2 out3 out4 : List ℕ) → out1 ≡ out ++ a → out2 ≡ out1 ++ b → out3 ≡ out2 ++ c →

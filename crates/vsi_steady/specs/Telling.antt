@@ -10,7 +10,7 @@ use Rattle.vsi_image.specs.declared.instr.Instr.TheVariants.{Push, Load, Store, 
 use Rattle.vsi_image.specs.declared.instr.Image.{Image}
 use Rattle.vsi_image.specs.Fields.{Global, globals}
 use Rattle.vsi_lattice.specs.Known.{Known}
-use Rattle.vsi_steady.specs.declared.step.Step.{Step}
+use Rattle.vsi_steady.specs.declared.chain.Step.{Step}
 use Rattle.vsi_steady.specs.declared.error.SteadyError.{SteadyError}
 use Rattle.vsi_steady.specs.declared.error.SteadyError.TheVariants.{UnknownClass, Flow, Memory}
 

@@ -17,14 +17,10 @@
 
 mod chain;
 mod check;
-mod classes;
 mod error;
-mod held;
 pub mod laws;
-mod looped;
 mod source;
 mod steady;
-mod step;
 mod text;
 mod unsteady;
 

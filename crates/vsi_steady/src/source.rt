@@ -1,20 +1,17 @@
 //! Compiles a text to a steady image.
 
-ghost use Rattle.std.specs.Prelude.{◌≡◌, IfOk, IfErr};
+ghost use Rattle.std.specs.Prelude.{◌≡◌, IfOk, IfErr, OnOk};
 ghost use Rattle.vsi_lattice.specs.LatticeView.{class_named, order};
 ghost use Rattle.vsi_types.specs.declared.rules.Profile.TheVariants.{Strict};
 ghost use Rattle.vsi_compiler.specs.Headline.{IsCompiled};
 ghost use Rattle.vsi_steady.specs.Laws.{RunsAlike, ViewsAlike};
-ghost use Rattle.vsi_steady.specs.Source.{
-  HasSteadyFlows,
-  IsSteadilyAccepted,
-  RefusesSteady,
-  ExplainsLoopedWalk,
-};
+ghost use Rattle.vsi_steady.specs.Source.{HasSteadyFlows, IsSteadilyAccepted, RefusesSteady, ExplainsLoopedWalk};
 ghost use Rattle.vsi_steady.specs.Steady.{IsSteady};
 ghost use Rattle.vsi_steady.specs.declared.unsteady.UnsteadyError.TheVariants.{Memory};
+ghost use Rattle.vsi_scope.specs.View.{expression, command, sequence};
+ghost use Rattle.vsi_opt.specs.Folding.{append};
+ghost use Rattle.vsi_steady.specs.Looped.{looped, IsLooped};
 
-use crate::looped::looped_program;
 use crate::steady::steady_in;
 use crate::unsteady::UnsteadyError;
 use std::alloc::{AllocError, Global};
@@ -22,6 +19,7 @@ use vsi_compiler::{CompileError, Source, image_of, read_source};
 use vsi_image::Verified;
 use vsi_infer::{Walk, check_walk_once, explain, infer_in};
 use vsi_lattice::Lattice;
+use vsi_scope::{Cmd, Ex, Resolved};
 use vsi_types::Profile;
 
 /// The image of a source text that is accepted under the strict profile and in which each guard,
@@ -122,5 +120,90 @@ pub fn steady_explanation(
         Ok(source) => steady_explanation_of(alloc, &source, walk),
         Err(CompileError::Memory) => Err(AllocError),
         Err(_) => Ok(Vec::new(alloc)),
+    }
+}
+
+/// An equal expression.
+fn copy_expression(e: &Ex, alloc: Global) -> Result<Ex, AllocError>
+    ensures { IfOk result (λ x. expression x ≡ expression e.now) }
+{
+    match e {
+        Ex::Num(n) => Ok(Ex::Num(*n)),
+        Ex::Loc(l, span) => Ok(Ex::Loc(*l, *span)),
+        Ex::Op(op, a, b) => {
+            let left = copy_expression(a, alloc)?;
+            let right = copy_expression(b, alloc)?;
+            Ok(Ex::Op(*op, Box::new(alloc, left)?, Box::new(alloc, right)?))
+        }
+    }
+}
+
+/// Adds commands with a loop in place of each choice.
+#[cycle(watching)]
+fn watch_all(body: &[Cmd], out: &mut Vec<Cmd>, alloc: Global) -> Result<(), AllocError>
+    ensures { OnOk result
+        (sequence out.new.items ≡ append (sequence out.old.items) (looped (sequence body.now))) }
+{
+    for c in body {
+        out.push(watch_one(c, alloc)?)?;
+    }
+    Ok(())
+}
+
+/// Commands with a loop in place of each choice.
+#[cycle(watching)]
+fn watch_list(body: &[Cmd], alloc: Global) -> Result<Vec<Cmd>, AllocError>
+    ensures { IfOk result (λ v. sequence v.items ≡ looped (sequence body.now)) }
+{
+    let mut out = Vec::new(alloc);
+    watch_all(body, &mut out, alloc)?;
+    Ok(out)
+}
+
+#[cycle(watching)]
+fn watch_one(c: &Cmd, alloc: Global) -> Result<Cmd, AllocError>
+    ensures { IfOk result (λ d. command d ≡ looped (command c.now)) }
+{
+    match c {
+        Cmd::Assign { loc, span, value } => {
+            let value = copy_expression(value, alloc)?;
+            Ok(Cmd::Assign {
+                loc: *loc,
+                span: *span,
+                value,
+            })
+        }
+        Cmd::If { guard, yes, no } => {
+            let guard = copy_expression(guard, alloc)?;
+            let mut both = watch_list(yes, alloc)?;
+            watch_all(no, &mut both, alloc)?;
+            Ok(Cmd::While { guard, body: both })
+        }
+        Cmd::While { guard, body } => {
+            let guard = copy_expression(guard, alloc)?;
+            let body = watch_list(body, alloc)?;
+            Ok(Cmd::While { guard, body })
+        }
+        Cmd::Letvar { value, body } => {
+            let value = copy_expression(value, alloc)?;
+            let body = watch_list(body, alloc)?;
+            Ok(Cmd::Letvar { value, body })
+        }
+    }
+}
+
+/// The program with the same globals and letvars, and a loop over both branches in place of each
+/// choice.
+pub(crate) fn looped_program<'a>(
+    alloc: Global,
+    program: &Resolved<'a>,
+) -> Result<Resolved<'a>, AllocError>
+    ensures { IfOk result (IsLooped program.now) }
+{
+    let letvars = program.letvars().to_vec(alloc)?;
+    let body = watch_list(program.body(), alloc)?;
+    match program.rebuilt(alloc, letvars, body) {
+        Ok(looped) => Ok(looped),
+        Err((error, _, _)) => Err(error),
     }
 }

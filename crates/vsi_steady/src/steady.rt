@@ -7,8 +7,7 @@ ghost use Rattle.vsi_steady.specs.Refusal.{Refuses};
 ghost use Rattle.vsi_steady.specs.Steady.{IsSteady};
 ghost use Rattle.vsi_steady.specs.declared.error.SteadyError.TheVariants.{Memory};
 
-use crate::check::settle;
-use crate::classes::first_classes;
+use crate::check::{first_classes, settle};
 use crate::error::SteadyError;
 use std::alloc::Global;
 use vsi_image::Verified;

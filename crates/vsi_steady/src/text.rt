@@ -5,9 +5,8 @@ ghost use Rattle.std.specs.List.{flat_map};
 ghost use Rattle.vsi_image.specs.Fields.{globals};
 ghost use Rattle.vsi_steady.specs.Telling as spec;
 
-use crate::chain::chain_to;
+use crate::chain::{Step, chain_to};
 use crate::error::SteadyError;
-use crate::step::Step;
 use std::alloc::{AllocError, Global};
 use vsi_image::Image;
 use vsi_lattice::{Classes, Lattice};

@@ -11,9 +11,9 @@ use Rattle.vsi_machine.specs.Cells.{word_cell, halted_cell}
 use Rattle.vsi_machine.specs.Runs.{HaltsWith, run_of}
 use Rattle.vsi_lattice.specs.Known.{Known}
 use Rattle.vsi_store.specs.View.{is_seen}
-use Rattle.vsi_store.specs.declared.comparison.RunEnding.{RunEnding}
-use Rattle.vsi_store.specs.declared.comparison.RunEnding.TheVariants.{Halted, OutOfBudget}
-use Rattle.vsi_store.specs.declared.comparison.Comparison.{Comparison}
+use Rattle.vsi_store.specs.declared.comparing.RunEnding.{RunEnding}
+use Rattle.vsi_store.specs.declared.comparing.RunEnding.TheVariants.{Halted, OutOfBudget}
+use Rattle.vsi_store.specs.declared.comparing.Comparison.{Comparison}
 
 -- Whether the run from a store has halted within this many instructions.
 abbrev pub halted_within : Image → List ℤ → ℕ → Option Bool

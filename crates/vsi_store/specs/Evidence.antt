@@ -3,9 +3,9 @@ use Rattle.std.specs.Prelude.{ℕ, ◌==◌, Bool, ◌||◌, if◌then◌else◌
 use Rattle.std.specs.List.{flat_map, list_any}
 use Rattle.hex.specs.Hex.{encode_lower}
 use Rattle.sha2.specs.Sha256.{sha256}
-use Rattle.vsi_store.specs.declared.filed.Filed as code
-use Rattle.vsi_store.specs.declared.filed.AuditProfile.{AuditProfile}
-use Rattle.vsi_store.specs.declared.filed.AuditProfile.TheVariants.{Base, Strict, Steady}
+use Rattle.vsi_store.specs.declared.reader.Filed as code
+use Rattle.vsi_store.specs.declared.reader.AuditProfile.{AuditProfile}
+use Rattle.vsi_store.specs.declared.reader.AuditProfile.TheVariants.{Base, Strict, Steady}
 
 -- A path and the bytes of the file.
 abbrev pub Filed : Type 0

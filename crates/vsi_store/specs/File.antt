@@ -5,8 +5,8 @@ use Rattle.std.specs.Str.{IsUtf8, bytes_eq}
 use Rattle.toml.specs.Data.{Data, Members, no_members, member, as_integer}
 use Rattle.toml.specs.Parse.{parse_document}
 use Rattle.vsi_image.specs.Fields.{Global}
-use Rattle.vsi_store.specs.declared.error.StoreError.{StoreError}
-use Rattle.vsi_store.specs.declared.error.StoreError.TheVariants.{NotToml, NotANumber, UnknownGlobal, Memory}
+use Rattle.vsi_store.specs.declared.reader.StoreError.{StoreError}
+use Rattle.vsi_store.specs.declared.reader.StoreError.TheVariants.{NotToml, NotANumber, UnknownGlobal, Memory}
 
 -- The bytes are text, and as TOML they are this table.
 abbrev pub IsDocument : List ℕ → Members → Type 0

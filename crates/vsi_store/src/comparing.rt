@@ -4,13 +4,11 @@ ghost use Rattle.std.specs.Prelude.{◌≡◌, ◌++◌, ℕ, List, length, slic
 ghost use Rattle.vsi_image.specs.Fields.{global, globals};
 ghost use Rattle.vsi_lattice.specs.LatticeView.{class_named, names, order};
 ghost use Rattle.vsi_lattice.specs.Order.{IsClass};
-ghost use Rattle.vsi_store.specs.Compare as spec;
 ghost use Rattle.vsi_store.specs.View.{first_unknown};
 ghost use Rattle.vsi_store.specs.declared.views.ViewError.TheVariants.{Memory};
+ghost use Rattle.vsi_store.specs.Compare as spec;
 
-use crate::comparison::{Comparison, RunEnding};
-use crate::endings::ending_of;
-use crate::observer::{sees, unknown_in};
+use crate::endings::{ending_of, sees, unknown_in};
 use crate::views::ViewError;
 use std::alloc::{AllocError, Global};
 use vsi_image::Verified;
@@ -283,4 +281,23 @@ fn text_of(
     put_behind(alloc, &mut text, lattice, class, variables, one, other)?;
     put_ends(alloc, &mut text, one, other)?;
     Ok(text)
+}
+
+/// The ending of a run within a budget.
+#[derive(Debug, Drop)]
+pub enum RunEnding {
+    /// It halts after this many instructions, including HALT, with these words in the globals.
+    Halted { instructions: u64, words: Vec<i64> },
+    /// The budget is spent before a HALT.
+    OutOfBudget,
+}
+
+/// Two runs of an image, and whether a class sees the same after both. The text has a row for each
+/// global that the class sees, before the runs and after them, and one for how they end.
+#[derive(Debug, Drop)]
+pub struct Comparison {
+    pub first: RunEnding,
+    pub second: RunEnding,
+    pub is_same: bool,
+    pub text: Vec<u8>,
 }

@@ -11,22 +11,15 @@
 #![tactic(auto)]
 
 mod comparing;
-mod comparison;
 mod endings;
-mod error;
-mod filed;
-mod observer;
 mod reader;
 mod seals;
-mod text;
 mod views;
 
-pub use comparing::compare;
-pub use comparison::{Comparison, RunEnding};
-pub use error::StoreError;
-pub use filed::{AuditProfile, Filed, conformity, evidence};
-pub use observer::{sees, view};
-pub use reader::{named_globals, read_store};
+pub use comparing::{Comparison, RunEnding, compare};
+pub use endings::{sees, store_text, view};
+pub use reader::{
+    AuditProfile, Filed, StoreError, conformity, evidence, named_globals, read_store,
+};
 pub use seals::{is_whole, sealed};
-pub use text::store_text;
 pub use views::{View, ViewError};

@@ -1,13 +1,20 @@
-//! Reads a store file.
+//! Reads store files.
 
-ghost use Rattle.std.specs.Prelude.{◌≡◌, IfOk, IfErr, MatchResult, None};
+ghost use Rattle.std.specs.Prelude.{◌≡◌, IfOk, IfErr, MatchResult, None, ◌++◌, OnOk, decimal, map};
 ghost use Rattle.toml.specs.View.{table_view, view};
 ghost use Rattle.vsi_image.specs.Fields.{globals};
 ghost use Rattle.vsi_store.specs.File.{Tells, Names, IsDocument, IsNameless, IsRefusal, IsEntryRefusal, entry_fault, has_name, number_in};
+ghost use Rattle.vsi_store.specs.declared.reader.StoreError.TheVariants.{Memory};
+ghost use Rattle.std.specs.List.{flat_map, list_any};
+ghost use Rattle.hex.specs.Hex.{encode_lower};
+ghost use Rattle.sha2.specs.Sha256.{sha256};
 ghost use Rattle.vsi_store.specs.File as spec;
+ghost use Rattle.vsi_store.specs.Evidence as evidence_spec;
 
-use crate::error::StoreError;
-use std::alloc::Global;
+use itoa::Buffer;
+use sha2::{Digest, Sha256};
+use std::alloc::{AllocError, AllocFailed, Global};
+use thiserror::Error;
 use toml::{Table, Value};
 use vsi_image::Image;
 
@@ -131,4 +138,228 @@ fn has_key(table: &Table, name: &[u8]) -> bool
         }
     }
     false
+}
+
+/// Why a store file is refused: it isn't TOML, or the first faulty key in byte order has no number
+/// or isn't a global.
+#[derive(Debug, Drop, Error)]
+pub enum StoreError {
+    /// The text isn't a TOML document.
+    #[error("the store file is no TOML")]
+    NotToml,
+    /// The value of this key isn't an integer.
+    #[error("the value of a key is no number")]
+    NotANumber(Vec<u8>),
+    /// The image has no global of this name.
+    #[error("a key is no global")]
+    UnknownGlobal(Vec<u8>),
+    /// An allocation failed.
+    #[error("out of memory")]
+    Memory,
+}
+
+impl From<AllocError> for StoreError {
+    ghost from_gives = { λ _ e. e ≡ Memory };
+
+    fn from(_error: AllocError) -> StoreError {
+        StoreError::Memory
+    }
+}
+
+impl<T: Drop> From<AllocFailed<T>> for StoreError {
+    ghost from_gives = { λ _ e. e ≡ Memory };
+
+    fn from(_error: AllocFailed<T>) -> StoreError {
+        StoreError::Memory
+    }
+}
+
+/// How an audit judges an image, or an interface a text or an image.
+#[derive(Clone, Copy, PartialEq, Eq, Debug)]
+pub enum AuditProfile {
+    /// Under the base profile.
+    Base,
+    /// Under the strict profile.
+    Strict,
+    /// By its jumps.
+    Steady,
+}
+
+/// A file that was read: its path and its bytes.
+#[derive(Clone, Copy)]
+pub struct Filed<'a> {
+    pub path: &'a [u8],
+    pub bytes: &'a [u8],
+}
+
+/// The name of a profile.
+fn profile_name(profile: AuditProfile) -> &'static [u8]
+    ensures { result.now ≡ evidence_spec.profile_name profile }
+{
+    match profile {
+        AuditProfile::Base => b"base",
+        AuditProfile::Strict => b"strict",
+        AuditProfile::Steady => b"steady",
+    }
+}
+
+/// Whether a byte of a path has to be written as two.
+fn is_special(byte: u8) -> bool
+    ensures { result ≡ evidence_spec.is_special byte }
+{
+    byte == b'\\' || byte == b'\n' || byte == b'\r'
+}
+
+/// Whether a byte of a path has to be written as two.
+fn has_special(path: &[u8]) -> bool
+    ensures { result ≡ list_any evidence_spec.is_special path.now }
+{
+    for byte in path {
+        if is_special(*byte) {
+            return true;
+        }
+    }
+    false
+}
+
+/// Adds a byte of a path.
+fn put_byte(text: &mut Vec<u8>, byte: u8) -> Result<(), AllocError>
+    ensures { OnOk result (text.new.items ≡ text.old.items ++ evidence_spec.escaped_byte byte) }
+{
+    match byte {
+        b'\\' => text.extend_from_slice(b"\\\\"),
+        b'\n' => text.extend_from_slice(b"\\n"),
+        b'\r' => text.extend_from_slice(b"\\r"),
+        _ => text.extend_from_slice(&[byte]),
+    }
+}
+
+/// Adds a path.
+fn put_path(text: &mut Vec<u8>, path: &[u8]) -> Result<(), AllocError>
+    ensures { OnOk result
+        (text.new.items ≡ text.old.items ++ flat_map evidence_spec.escaped_byte path.now) }
+{
+    for byte in path {
+        put_byte(text, *byte)?;
+    }
+    Ok(())
+}
+
+/// Adds the SHA-256 of a file.
+fn put_sum(alloc: Global, text: &mut Vec<u8>, bytes: &[u8]) -> Result<(), AllocError>
+    ensures { OnOk result
+        (text.new.items ≡ text.old.items ++ encode_lower (sha256 bytes.now)) }
+{
+    let digest = Sha256::digest(bytes);
+    let digits = hex::encode(alloc, digest)?;
+    text.extend_from_slice(digits.as_bytes())
+}
+
+/// Adds the line of a file.
+fn put_file(alloc: Global, text: &mut Vec<u8>, file: Filed<'_>) -> Result<(), AllocError>
+    ensures { OnOk result (text.new.items
+        ≡ text.old.items ++ evidence_spec.sum_line (file.entry.path.now, file.entry.bytes.now)) }
+{
+    if has_special(file.path) {
+        text.extend_from_slice(b"\\")?;
+    }
+    put_sum(alloc, text, file.bytes)?;
+    text.extend_from_slice(b"  ")?;
+    put_path(text, file.path)?;
+    text.extend_from_slice(b"\n")
+}
+
+/// Adds the lines of files.
+fn put_files(alloc: Global, text: &mut Vec<u8>, files: &[Filed<'_>]) -> Result<(), AllocError>
+    ensures { OnOk result (text.new.items
+        ≡ text.old.items ++ flat_map evidence_spec.sum_line (map evidence_spec.filed files.now)) }
+{
+    for file in files {
+        put_file(alloc, text, *file)?;
+    }
+    Ok(())
+}
+
+/// A block of evidence: comments with the version of the program and with a judgement, and a line
+/// with the SHA-256 of each file.
+fn block(
+    alloc: Global,
+    version: &[u8],
+    judgement: &[u8],
+    files: &[Filed<'_>],
+) -> Result<Vec<u8>, AllocError>
+    ensures { IfOk result (λ text. text.items
+        ≡ evidence_spec.block_text version.now judgement.now (map evidence_spec.filed files.now)) }
+{
+    let mut text = Vec::from_slice(alloc, b"# vsi ")?;
+    text.extend_from_slice(version)?;
+    text.extend_from_slice(b"\n# ")?;
+    text.extend_from_slice(judgement)?;
+    text.extend_from_slice(b"\n")?;
+    put_files(alloc, &mut text, files)?;
+    Ok(text)
+}
+
+/// The evidence of an audit that has accepted an image: comments with the version of the program and
+/// the profile of the audit, and a line with the SHA-256 of each file.
+pub fn evidence(
+    alloc: Global,
+    version: &[u8],
+    profile: AuditProfile,
+    files: &[Filed<'_>],
+) -> Result<Vec<u8>, AllocError>
+    ensures text { IfOk result (λ text. text.items
+        ≡ evidence_spec.evidence_text version.now profile (map evidence_spec.filed files.now)) }
+{
+    let mut judgement = Vec::from_slice(alloc, b"audit ")?;
+    judgement.extend_from_slice(profile_name(profile))?;
+    judgement.extend_from_slice(b": accepted")?;
+    block(alloc, version, &judgement, files)
+}
+
+/// Adds a number in decimal.
+fn put_number(text: &mut Vec<u8>, number: usize) -> Result<(), AllocError>
+    ensures { OnOk result (text.new.items ≡ text.old.items ++ decimal number) }
+{
+    let mut buffer = Buffer::new();
+    text.extend_from_slice(buffer.format(number).as_bytes())
+}
+
+/// Adds the most instructions of a run.
+fn put_most(text: &mut Vec<u8>, most: u64) -> Result<(), AllocError>
+    ensures { OnOk result (text.new.items ≡ text.old.items ++ evidence_spec.most_text most) }
+{
+    text.extend_from_slice(b", halts within ")?;
+    put_number(text, most as usize)?;
+    text.extend_from_slice(b" instructions")
+}
+
+/// Adds the most instructions of a run, if a bound is named.
+fn put_bound(text: &mut Vec<u8>, most: Option<u64>) -> Result<(), AllocError>
+    ensures { OnOk result (text.new.items ≡ text.old.items ++ evidence_spec.bound_text most) }
+{
+    match most {
+        Some(most) => put_most(text, most),
+        None => Ok(()),
+    }
+}
+
+/// The evidence of a text or an image that conforms to an interface: comments with the version of the
+/// program, the profile that the interface requires and the bound that was found if one is named, and
+/// a line with the SHA-256 of each file.
+pub fn conformity(
+    alloc: Global,
+    version: &[u8],
+    profile: AuditProfile,
+    most: Option<u64>,
+    files: &[Filed<'_>],
+) -> Result<Vec<u8>, AllocError>
+    ensures text { IfOk result (λ text. text.items
+        ≡ evidence_spec.conformity_text version.now profile most (map evidence_spec.filed files.now)) }
+{
+    let mut judgement = Vec::from_slice(alloc, b"conform ")?;
+    judgement.extend_from_slice(profile_name(profile))?;
+    judgement.extend_from_slice(b": conforms")?;
+    put_bound(&mut judgement, most)?;
+    block(alloc, version, &judgement, files)
 }

@@ -78,7 +78,7 @@ impl Telling<'_> {
     }
 
     /// Adds the faults of a refused text after its first one, but none on a line for which a hint
-    /// is listed, and no names that are listed.
+    /// is listed, no names that are listed, and no unexpected tokens on the line of the first fault.
     pub(crate) fn put_faults(
         &mut self,
         lattice: &Lattice,
@@ -89,7 +89,9 @@ impl Telling<'_> {
         let places = listed_places(self.alloc, source, at)?;
         for fault in &further_faults(self.alloc, lattice, source, MAX_READ)? {
             let is_name = lists_names(error) && is_of_name(fault.cause);
-            if !is_name && !is_listed(source, &places, fault.span.start) {
+            let is_token = matches!(fault.cause, Cause::Tree);
+            let is_near = is_token && are_on_line(source, at, fault.span.start);
+            if !is_name && !is_near && !is_listed(source, &places, fault.span.start) {
                 self.put_fault(*fault)?;
             }
         }

@@ -216,7 +216,7 @@ pub(crate) fn place_hint(place: &TokenPlace, lacks_else: bool) -> Option<&'stati
     if let Some(hint) = comparison_hint(place) {
         return Some(hint);
     }
-    if place.has_open_bracket() {
+    if place.has_open(Kind::Open, Kind::Close) {
         return Some("Hint: a `(` before this place has no `)` yet.\n");
     }
     if let Some(hint) = guard_hint(place) {
@@ -224,6 +224,10 @@ pub(crate) fn place_hint(place: &TokenPlace, lacks_else: bool) -> Option<&'stati
     }
     if lacks_else {
         return None;
+    }
+    let is_end = matches!(place.kind(), None | Some(Kind::Else));
+    if is_end && place.has_open(Kind::OpenBrace, Kind::CloseBrace) {
+        return Some("Hint: a `{` before this place has no `}` yet.\n");
     }
     command_hint(place)
 }

@@ -20,12 +20,13 @@ const JOINED: &str = ", where both are 0 or 1: keep the brackets";
 
 /// The loop that divides, and what it does.
 const DIVISION: &str = "Hint: there is no division. `letvar r := P in while Q - 1 < r do \
-    { r := r - Q; N := N + 1 }` adds to N how often Q goes into P.\n";
+    { r := r - Q; N := N + 1 }` adds to N how often Q goes into P, if P isn't negative and Q is \
+    above 0.\n";
 
 /// The loop that leaves a remainder, and what it does.
 const REMAINDER: &str = "Hint: there is no remainder. `letvar r := P in { while Q - 1 < r do \
     r := r - Q; N := r }` puts into N what is left of P after Q is subtracted as often as \
-    possible.\n";
+    possible, if P isn't negative and Q is above 0.\n";
 
 /// The remark about a sign that negates a guard.
 const NEGATED: &str = ", where P is 0 or 1: keep the brackets";

@@ -101,14 +101,14 @@ impl<'a, 't> TokenPlace<'a, 't> {
         found
     }
 
-    /// Whether a `(` in front of the place has no `)`.
-    pub(crate) fn has_open_bracket(&self) -> bool {
+    /// Whether a bracket of this kind in front of the place isn't closed by one of the other kind.
+    pub(crate) fn has_open(&self, opening: Kind, closing: Kind) -> bool {
         let mut open: usize = 0;
         for token in self.tokens.iter().take(self.at) {
-            match token.kind {
-                Kind::Open => open = open.saturating_add(1),
-                Kind::Close => open = open.saturating_sub(1),
-                _ => {}
+            if token.kind == opening {
+                open = open.saturating_add(1);
+            } else if token.kind == closing {
+                open = open.saturating_sub(1);
             }
         }
         open > 0

@@ -10,10 +10,7 @@
 #![tactic(auto)]
 
 mod changed;
-mod cycle_changes;
-mod cycle_rows;
 mod cycles;
-mod globals;
 mod table;
 mod unused;
 

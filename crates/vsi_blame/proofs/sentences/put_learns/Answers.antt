@@ -9,7 +9,7 @@ returns c =
     let r = c.args.program.now in
     let a = codes "No value is copied, but whoever sees " in
     let b = variable_prose r c.args.step.now.target in
-    let d = codes " learns something about " in
+    let d = codes " may learn something about " in
     let e = variable_prose r c.args.step.now.source in
     on_added c.extend_from_slice-3.result c.extend_from_slice-3.new.self.items c.put_variable-2.new.text.items
     (codes ".\nThe assignment is here:\n")

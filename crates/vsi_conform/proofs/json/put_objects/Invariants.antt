@@ -7,5 +7,5 @@ use Rattle.vsi_conform.proofs.json.put_objects.Given as goal
 -- The objects so far and those of the remaining points are all objects.
 abbrev pub invariant-loop-point : goal.invariant-loop-point
 invariant-loop-point l =
-    map view l.found.items ++ objects_of_points (page l.pages) (drop l.point-index l.points)
-    ≡ map view l.initial.found.items ++ objects_of_points (page l.pages) l.points
+    map view l.found ++ objects_of_points (page l.pages) (drop l.point-index l.points)
+    ≡ map view l.initial.found ++ objects_of_points (page l.pages) l.points

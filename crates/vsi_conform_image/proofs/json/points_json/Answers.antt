@@ -7,8 +7,8 @@ pub returns : goal.returns
 returns c =
     record {
       json = json_so c.args.lattice.now c.args.image.now c.args.interface.now c.args.answer.now
-          (map view c.in_ok-objects.objects.items) (map view c.put_objects.new.found.items)
-          (map view c.put_bound.new.found.items) c.in_ok-line.line.items c.in_ok-objects.ensures
+          (map view c.in_ok-objects.objects) (map view c.put_objects.new.found)
+          (map view c.put_bound.new.found) c.in_ok-line.line.items c.in_ok-objects.ensures
           (rw c.deref.ensures.value at c.in_ok-put_objects.ensures) c.in_ok-put_bound.ensures
           (rw c.conforms.ensures at c.in_ok-line.ensures);
     }

@@ -10,5 +10,5 @@ returns-else-wants_memory c =
     inr (record {
       unreadable = λ r stands. c.wants_memory.ensures.refusal c.if-wants_memory.false
           (c.in-Err.ensures.exact stands.tree _ stands.reads stands.resolves.resolution);
-      nothing = ap (map view) c.new.ensures.items;
+      nothing = ap (map view) c.new.ensures;
     })

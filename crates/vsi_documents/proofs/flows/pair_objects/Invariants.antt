@@ -6,5 +6,5 @@ use Rattle.vsi_documents.proofs.flows.pair_objects.Given as goal
 -- The objects so far, and then those of the remaining pairs.
 abbrev pub invariant-loop-pair : goal.invariant-loop-pair
 invariant-loop-pair l =
-    map view l.found.items ++ flows.pair_objects l.lattice l.program (drop l.pair-index l.pairs)
+    map view l.found ++ flows.pair_objects l.lattice l.program (drop l.pair-index l.pairs)
     ≡ flows.pair_objects l.lattice l.program l.pairs

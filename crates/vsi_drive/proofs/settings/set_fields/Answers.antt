@@ -1,7 +1,7 @@
 use Rattle.std.proofs.Common.{◌≡◌, Err, ◌*◌, ◌/◌, ap, sym, ◌∙◌, arith, drop, length}
 use Rattle.std.proofs.lemmas.List.{length-map, length-drop}
 use Rattle.vsi_lattice.specs.NamePlaces.{texts}
-use Rattle.vsi_drive.specs.declared.fault.LineFault.TheVariants.{BadSetting}
+use Rattle.vsi_drive.specs.declared.settings.LineFault.TheVariants.{BadSetting}
 use Rattle.vsi_drive.specs.Reaches.{settable}
 use Rattle.vsi_drive.proofs.Written.{few_left, fault_of, written_fault}
 use Rattle.vsi_drive.proofs.settings.set_fields.Goals as goal

@@ -8,7 +8,7 @@ use Rattle.vsi_errors.proofs.diagnostics.objects_in.Goals as goal
 pub returns : goal.returns
 returns c =
     let accepted =
-    IsAccepted (class_named c.args.lattice.now) (order c.args.lattice.now) c.args.profile c.args.text.now in
+    IsAccepted (class_named c.args.lattice.now) (order c.args.lattice.now) c.args.profile c.args.document.text.now in
     let shown = c.in_ok-shown.ensures in
     record {
       exact = subst (Shows accepted) (sym c.in_ok-append.ensures.items)

@@ -15,19 +15,19 @@ returns-in-Ok-clause-exact c =
 
 pub returns-in-Ok-clause-warned : goal.returns-in-Ok-clause-warned
 returns-in-Ok-clause-warned c =
-    read_others (HasProgram (class_named c.args.lattice.now) c.args.text.now) (λ v. All IsWarning v.others.items)
+    read_others (HasProgram (class_named c.args.lattice.now) c.args.document.text.now) (λ v. All IsWarning v.others.items)
     c.shown_of_source.result c.shown_of_source.ensures.warned
 
 pub returns-in-Err-clause-exact : goal.returns-in-Err-clause-exact
 returns-in-Err-clause-exact c =
     let accepted =
-    IsAccepted (class_named c.args.lattice.now) (order c.args.lattice.now) c.args.profile c.args.text.now in
+    IsAccepted (class_named c.args.lattice.now) (order c.args.lattice.now) c.args.profile c.args.document.text.now in
     refused_verdict accepted (c.in-Err.error ≢ Memory) (λ v. v.errors.items) c.shown_of_refused.result
     c.shown_of_refused.ensures.some c.shown_of_refused.ensures.judged
     (λ n a. n (c.in-Err.ensures.exact a.tree a.commands a.reads a.resolution))
 
 pub returns-in-Err-clause-warned : goal.returns-in-Err-clause-warned
 returns-in-Err-clause-warned c =
-    refused_others (HasProgram (class_named c.args.lattice.now) c.args.text.now) (c.in-Err.error ≢ Memory)
+    refused_others (HasProgram (class_named c.args.lattice.now) c.args.document.text.now) (c.in-Err.error ≢ Memory)
     (λ v. All IsWarning v.others.items) c.shown_of_refused.result c.shown_of_refused.ensures.judged
     (λ n a. n (c.in-Err.ensures.exact a.tree a.commands a.reads a.resolution))

@@ -1,7 +1,7 @@
 use Rattle.std.proofs.Common.{◌≡◌, ◌∙◌, ◌+◌, ◌∷◌, ◌++◌, [], List, ap, sym, subst, take}
 use Rattle.std.proofs.lemmas.List.{take_more}
 use Rattle.vsi_types.specs.Security.{program, steps_of}
-use Rattle.vsi_flows.specs.declared.pair.Pair.{Pair}
+use Rattle.vsi_flows.specs.declared.table.Pair.{Pair}
 use Rattle.vsi_flows.specs.declared.walked.WalkedPair.{WalkedPair}
 use Rattle.vsi_flows.specs.Refused.{AreWalked}
 use Rattle.vsi_flows.proofs.WalkedLemmas.{walked_more}

@@ -27,10 +27,10 @@ returns-clause-verdict c =
     let pairs = c.in_ok-facts.facts.pairs.items in
     let l = c.lattice-lattice.result.now in
     let p = c.resolved-program.result.now in
-    let table : IsTable (order s.lattice) c.args.profile (program s.resolved) pairs =
-    subst (λ r. IsTable (order s.lattice) c.args.profile (program r) pairs) c.resolved-program.ensures.value
-    (subst (λ x. IsTable (order x) c.args.profile (program p) pairs) c.lattice-lattice.ensures
+    let table : IsTable (order s.lattice) c.args.task.now.profile (program s.resolved) pairs =
+    subst (λ r. IsTable (order s.lattice) c.args.task.now.profile (program r) pairs) c.resolved-program.ensures.value
+    (subst (λ x. IsTable (order x) c.args.task.now.profile (program p) pairs) c.lattice-lattice.ensures
     c.in_ok-facts.ensures) in
-    accepted_shown s.lattice c.args.profile s.text pairs c.page_with_image.result c.requires
+    accepted_shown s.lattice c.args.task.now.profile s.text pairs c.page_with_image.result c.requires
     (record { resolved = s.resolved; stands = c.resolved-program.ensures.kept.stands; table = table })
     c.page_with_image.ensures.led

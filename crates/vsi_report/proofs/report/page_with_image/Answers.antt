@@ -2,7 +2,7 @@ use Rattle.std.proofs.Common.{◌≡◌, length, ap, ◌∙◌, subst, arith}
 use Rattle.std.specs.Prelude.{IfOk}
 use Rattle.vsi_report.specs.Banner.{HasLead}
 use Rattle.vsi_report.specs.Lead.{allowed_words}
-use Rattle.vsi_report.specs.declared.verdict.Verdict.TheVariants.{Accepted}
+use Rattle.vsi_report.specs.declared.page.Verdict.TheVariants.{Accepted}
 use Rattle.vsi_report.proofs.report.page_with_image.Goals as goal
 
 pub returns-clause-led : goal.returns-clause-led

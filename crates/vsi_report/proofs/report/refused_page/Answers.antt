@@ -4,7 +4,6 @@ use Rattle.vsi_lattice.specs.LatticeView.{class_named, order}
 use Rattle.vsi_compiler.specs.Refusal.{HasShortestBadWalk}
 use Rattle.vsi_compiler.specs.SourceView.{IsSource, source_of}
 use Rattle.vsi_compiler.proofs.Held.{of_parts, globals_at, declared_at}
-use Rattle.vsi_types.specs.Security.{program}
 use Rattle.vsi_report.specs.Page.{HasPanel}
 use Rattle.vsi_report.specs.Verdict.{HasVerdict}
 use Rattle.vsi_report.proofs.BannerLemmas.{refused_shown}
@@ -34,7 +33,7 @@ returns-clause-panel c =
 pub returns-clause-verdict : goal.returns-clause-verdict
 returns-clause-verdict c = λ given.
     let s = c.args.read.now in
-    let P = c.args.profile in
+    let P = c.args.task.now.profile in
     let w = c.args.walk.now in
     let l = c.lattice-lattice.result.now in
     let t = c.text-source.result.now in

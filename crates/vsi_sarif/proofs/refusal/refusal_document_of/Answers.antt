@@ -9,7 +9,7 @@ pub returns : goal.returns
 returns c =
     let s = c.args.source.now in
     let d = diagnostic_of c.args.diagnostic.now in
-    let steps = option_map (λ v. map view v.items) c.in_ok-steps.steps in
+    let steps = option_map (map view) c.in_ok-steps.steps in
     subst (λ t. IsRefusalDocument s.lattice c.args.uri.now t d c.args.lines.now c.in_ok-written.written.items)
     c.text-text.ensures
     (c.in_ok-written.ensures s.lattice (c.deref.ensures.value ∙ c.in_ok-id.ensures)

@@ -1,5 +1,5 @@
 use Rattle.std.proofs.Common.{◌++◌, ap, ◌∙◌, rules}
-use Rattle.vsi_report.specs.Page.{HasPanel, panel_begin, panel_end}
+use Rattle.vsi_report.specs.Page.{panel_begin, panel_end}
 use Rattle.vsi_report.proofs.BannerLemmas.{lead_more, five_so}
 use Rattle.vsi_report.proofs.EscapeLemmas.{parts_so}
 use Rattle.vsi_report.proofs.page.Page.with_panel.Goals as goal

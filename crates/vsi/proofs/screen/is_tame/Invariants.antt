@@ -1,6 +1,0 @@
-use Rattle.std.proofs.Common.{◌≡◌, drop}
-use Rattle.vsi.specs.Screen.{is_tame, is_tame_after}
-use Rattle.vsi.proofs.screen.is_tame.Given as goal
-
-abbrev pub invariant-loop-at : goal.invariant-loop-at
-invariant-loop-at l = is_tame l.bytes ≡ is_tame_after l.left (drop l.at l.bytes)

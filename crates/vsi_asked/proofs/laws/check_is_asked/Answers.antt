@@ -1,5 +1,0 @@
-use Rattle.vsi_asked.proofs.Plain as law
-use Rattle.vsi_asked.proofs.laws.check_is_asked.Goals as goal
-
-pub returns : goal.returns
-returns c = law.check_is_asked

@@ -1,4 +1,0 @@
-use Rattle.vsi_audit.proofs.globals.unknown_class.Given as goal
-
-abbrev pub invariant-loop-i : goal.invariant-loop-i
-invariant-loop-i l = Unit {0}

@@ -1,0 +1,13 @@
+use Rattle.std.proofs.Common.{◌≡◌, ◌≤◌, length, true}
+use Rattle.vsi_syntax.specs.Words as spec
+use Rattle.vsi_drive.proofs.settings.value_up_to.Given as goal
+
+abbrev pub invariant-loop-rest : goal.invariant-loop-rest
+invariant-loop-rest l = record {
+  so_far : spec.value_from l.value l.rest ≡ spec.value_of l.digits;
+  fits : l.value ≤ l.limit;
+  digits : spec.every spec.is_digit l.rest ≡ true;
+}
+
+abbrev pub decreases-loop-rest : goal.decreases-loop-rest
+decreases-loop-rest l = length l.rest

@@ -1,0 +1,12 @@
+use Rattle.std.proofs.Common.{ℕ, ◌<◌}
+use Rattle.std.specs.List.{slice_index_or}
+use Rattle.vsi_layered.specs.declared.graph.Node.{Node}
+use Rattle.vsi_layered.specs.declared.graph.Place.{Place}
+use Rattle.vsi_layered.specs.Drawing.{HasSize}
+use Rattle.vsi_layered.proofs.drawing.are_all_sized.Given as goal
+
+-- Each of the first nodes has a box of its size.
+abbrev pub invariant-loop-node : goal.invariant-loop-node
+invariant-loop-node l =
+    (k : ℕ) (n : Node) (d : Place) → k < l.node
+    → HasSize (slice_index_or l.nodes k n) (slice_index_or l.places k d)

@@ -1,0 +1,10 @@
+use Rattle.std.proofs.Common.{◌≡◌, length}
+use Rattle.vsi_types.specs.Walks.{last_target}
+use Rattle.vsi_report.proofs.banner.last_target.Given as goal
+
+-- The walk from the step on ends where the whole walk does.
+abbrev pub invariant-loop-rest : goal.invariant-loop-rest
+invariant-loop-rest l = last_target l.first l.later ≡ last_target l.step l.rest
+
+abbrev pub decreases-loop-rest : goal.decreases-loop-rest
+decreases-loop-rest l = length l.rest
