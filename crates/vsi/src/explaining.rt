@@ -15,7 +15,9 @@ use vsi_audit::AuditError;
 use vsi_blame::refused_flows_of;
 use vsi_caret::ColourMode;
 use vsi_compiler::{CompileError, Source, read_source};
-use vsi_conform::{InterfaceError, Judgement, Policy, flows_profile, judged, read_interface};
+use vsi_conform::{
+    InterfaceError, InterfaceFile, Judgement, Policy, flows_profile, judged, read_interface,
+};
 use vsi_diagnostics::{Diagnostic, Fault};
 use vsi_drive::{LineFault, StartFault};
 use vsi_image::{Image, decode};
@@ -379,23 +381,29 @@ fn put_page(lines: &mut Vec<u8>, diagnostic: &Diagnostic) -> Result<(), AllocErr
     lines.extend_from_slice(b"\n")
 }
 
+/// The lattice that an interface has itself, or `L` below `H` if it names a file.
+fn own_lattice(alloc: Global, asked: &InterfaceFile) -> Option<Lattice> {
+    match &asked.policy {
+        Policy::Tables(text) => read_lattice(alloc, text).ok(),
+        _ => read_lattice(alloc, TWO_CLASSES).ok(),
+    }
+}
+
 /// The lattice that was read or that an interface has, or `L` below `H` if there is none.
 fn policy(cache: &InputCache) -> Option<Lattice> {
     if let Some(kept) = cache.last(InputKind::Lattice) {
         return read_lattice(cache.alloc, kept.bytes.as_slice()).ok();
     }
-    if let Some(kept) = cache.last(InputKind::Interface) {
-        match read_interface(cache.alloc, &kept.bytes) {
-            Ok(asked) => {
-                if let Policy::Tables(text) = asked.policy {
-                    return read_lattice(cache.alloc, &text).ok();
-                }
-            }
-            Err(InterfaceError::Memory) => return None,
-            Err(_) => {}
-        }
+    let Some(kept) = cache.last(InputKind::Interface) else {
+        return read_lattice(cache.alloc, TWO_CLASSES).ok();
+    };
+    match read_interface(cache.alloc, &kept.bytes) {
+        Ok(asked) => own_lattice(cache.alloc, &asked),
+        Err(error) => match &error {
+            InterfaceError::Memory => None,
+            _ => read_lattice(cache.alloc, TWO_CLASSES).ok(),
+        },
     }
-    read_lattice(cache.alloc, TWO_CLASSES).ok()
 }
 
 /// The explanation of a class name that the lattice lacks.
