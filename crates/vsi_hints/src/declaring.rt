@@ -1,11 +1,9 @@
 //! Declarations of other languages.
 
-use crate::look::Look;
-use crate::offers::Sense;
-use crate::pieces::Sort;
+use crate::found::{Found, Letters, Sense, Shape, offered, put, say, shaped};
+use crate::pieces::{Sort, is_one_of};
 use crate::sayings::NONE;
-use crate::shapes::{Found, Shape, hyphen, make_found, put, say, word_for};
-use crate::words::is_one_of;
+use crate::scan::{Scan, after};
 
 /// Names that declare a variable in many languages.
 const TYPES: &[u8] =
@@ -17,6 +15,20 @@ const OTHER_TYPES: &[u8] = b"val mut static global integer short dim";
 /// The end of a sentence on declarations.
 const ONE_EACH: &str = " declares one variable with its class, as in `var x : L; var y : L;`.";
 
+/// A declaration with a value.
+const INITIAL: Letters = (
+    b"var A : C",
+    ": a global gets its value from the store.",
+    "declare a global without a value.",
+);
+
+/// A declaration of several names by one word.
+const LISTED: Letters = (
+    b"L",
+    ": each `var` declares one variable.",
+    "declare each variable on its own.",
+);
+
 /// Whether a name does nothing.
 pub fn is_idle(word: &[u8]) -> bool {
     is_one_of(b"skip pass nop noop nothing SKIP", word)
@@ -27,124 +39,121 @@ pub fn is_type(word: &[u8]) -> bool {
     is_one_of(TYPES, word)
 }
 
-/// A declaration with a value.
-fn initial(first: usize, next: usize) -> Option<Found> {
-    let rule = ": a global gets its value from the store.";
-    let plain = "declare a global without a value.";
-    let shape = Shape::Offer(Sense::Declarations, b"var A : C", rule, plain);
-    Some(make_found(first, next, shape))
-}
-
 /// A name that declares a variable, or does nothing.
-pub(crate) fn declaring_word(look: &Look, at: usize) -> Option<Found> {
-    if !look.is_command_start(at) {
+pub(crate) fn declaring_word(scan: &Scan, at: usize) -> Option<Found> {
+    if !scan.is_command_start(at) {
         return None;
     }
-    let word = look.text(at);
-    let next = at.saturating_add(1);
-    let declares = is_type(word) || is_one_of(OTHER_TYPES, word);
-    let sign = local_sign(look, at);
-    let stop = look.value_stop(sign.saturating_add(1));
-    if declares && look.is_any(sign, b":= =") && look.is(stop, b"in") {
-        let shape = Shape::Put("letvar", ": it declares a variable for one command.");
-        return Some(make_found(at, sign, shape));
-    }
-    if declares && look.is(at.saturating_add(2), b":") {
-        return initial(at, look.value_stop(at.saturating_add(5)));
-    }
-    if declares && look.is_name(next) {
-        let rest = ": declare a global with `var x : L;` at the beginning, where L is a class of \
-            the lattice file, and set its value in the store, or begin the command that uses the \
-            variable with `letvar x := 1 in`.";
-        return say(at, look.command_stop(at), NONE, rest);
-    }
+    let word = scan.text(at);
+    let (next, colon, _, _, value) = after(at);
     if is_idle(word) {
         let rest = ": assign a variable to itself to do nothing, as in `x := x`.";
         return say(at, next, NONE, rest);
     }
-    None
+    if !is_type(word) && !is_one_of(OTHER_TYPES, word) {
+        return None;
+    }
+    let (sign, stop) = local_value(scan, at);
+    if scan.is_any(sign, b":= =") && scan.is(stop, b"in") {
+        let shape = Shape::Put("letvar", ": it declares a variable for one command.");
+        return shaped(at, sign, shape);
+    }
+    if scan.is(colon, b":") {
+        return offered(at, scan.value_stop(value), Sense::Declarations, INITIAL);
+    }
+    if !scan.is_name(next) {
+        return None;
+    }
+    let rest = ": declare a global with `var x : L;` at the beginning, where L is a class of \
+        the lattice file, and set its value in the store, or begin the command that uses the \
+        variable with `letvar x := 1 in`.";
+    say(at, scan.command_stop(at), NONE, rest)
+}
+
+/// A name with a `-` in it, which begins with a piece.
+pub(crate) fn hyphen(scan: &Scan, at: usize) -> Option<Found> {
+    if !scan.is_hyphened(at) {
+        return None;
+    }
+    let rule = ": a name has only letters, digits and `_`.";
+    offered(
+        at,
+        at.saturating_add(3),
+        Sense::Expression,
+        (b"N_P", rule, ""),
+    )
 }
 
 /// A keyword in the position of a declared name.
-fn bad_name(look: &Look, at: usize) -> Option<Found> {
-    if look.is_keyword(at) {
-        return word_for(
-            at,
-            at.saturating_add(1),
-            b"N_1",
-            ": a keyword can't be a name.",
-        );
+fn bad_name(scan: &Scan, at: usize) -> Option<Found> {
+    if !scan.is_keyword(at) {
+        return None;
     }
-    None
-}
-
-/// A declaration of several names by one word.
-fn listed(look: &Look, at: usize) -> Option<Found> {
-    let stop = look.command_stop(at);
-    if !look.is(stop, b":") {
-        return say(at, stop, "", ONE_EACH);
-    }
-    let rule = ": each `var` declares one variable.";
-    let plain = "declare each variable on its own.";
-    let shape = Shape::Offer(Sense::Declarations, b"L", rule, plain);
-    Some(make_found(at, stop.saturating_add(2), shape))
+    let rule = ": a keyword can't be a name.";
+    offered(
+        at,
+        at.saturating_add(1),
+        Sense::Expression,
+        (b"N_1", rule, ""),
+    )
 }
 
 /// A declaration by `var` that isn't valid here.
-pub(crate) fn declaration(look: &Look, at: usize) -> Option<Found> {
-    let name = at.saturating_add(1);
-    let sign = at.saturating_add(2);
-    let after = at.saturating_add(4);
-    if let Some(found) = bad_name(look, name) {
+pub(crate) fn declaration(scan: &Scan, at: usize) -> Option<Found> {
+    let (name, sign, _, end, value) = after(at);
+    if let Some(found) = bad_name(scan, name) {
         return Some(found);
     }
-    if let Some(found) = hyphen(look, name) {
+    if let Some(found) = hyphen(scan, name) {
         return Some(found);
     }
-    if look.is(sign, b",") {
-        return listed(look, at);
+    if scan.is(sign, b",") {
+        let stop = scan.command_stop(at);
+        if scan.is(stop, b":") {
+            return offered(at, stop.saturating_add(2), Sense::Declarations, LISTED);
+        }
+        return say(at, stop, "", ONE_EACH);
     }
-    if look.has_sort(sign, Sort::Strange) || look.has_sort(after, Sort::Strange) {
+    if scan.piece(sign).sort == Sort::Strange || scan.piece(end).sort == Sort::Strange {
         return None;
     }
-    if !look.is(sign, b":") {
+    if !scan.is(sign, b":") {
         let rest = " declares a variable with a class and no value, as in `var x : L;`: set its \
             value in the store.";
-        return say(at, look.command_stop(sign), "", rest);
+        return say(at, scan.command_stop(sign), "", rest);
     }
-    match look.text(after) {
-        [b'='] | [b':', b'='] => initial(at, look.value_stop(after.saturating_add(1))),
+    match scan.text(end) {
+        [b'='] | [b':', b'='] => offered(at, scan.value_stop(value), Sense::Declarations, INITIAL),
         [b';'] => None,
-        [b','] => say(at, look.command_stop(after), "", ONE_EACH),
-        _ => {
-            let rest = " needs a `;` after the class, as in `var x : L;`.";
-            say(at, after, "a declaration with ", rest)
-        }
+        [b','] => say(at, scan.command_stop(end), "", ONE_EACH),
+        _ => say(
+            at,
+            end,
+            "a declaration with ",
+            " needs a `;` after the class, as in `var x : L;`.",
+        ),
     }
 }
 
-/// The sign that assigns in a declaration by `letvar`, which may have a class before it.
-pub(crate) fn local_sign(look: &Look, at: usize) -> usize {
-    let sign = at.saturating_add(2);
-    if look.is(sign, b":") {
-        sign.saturating_add(2)
-    } else {
-        sign
+/// The sign that assigns in a declaration by `letvar`, which may have a class before it, and the
+/// piece after the value that it assigns.
+pub(crate) fn local_value(scan: &Scan, at: usize) -> (usize, usize) {
+    let mut sign = at.saturating_add(2);
+    if scan.is(sign, b":") {
+        sign = sign.saturating_add(2);
     }
+    (sign, scan.value_stop(sign.saturating_add(1)))
 }
 
 /// A declaration by `letvar` that isn't valid here.
-pub(crate) fn local(look: &Look, at: usize) -> Option<Found> {
-    let sign = local_sign(look, at);
-    if let Some(found) = bad_name(look, at.saturating_add(1)) {
+pub(crate) fn local(scan: &Scan, at: usize) -> Option<Found> {
+    if let Some(found) = bad_name(scan, at.saturating_add(1)) {
         return Some(found);
     }
-    if look.is(sign, b"=") {
-        return put(
-            sign,
-            ":=",
-            ": `=` compares, as in `letvar y := x + 1 in z := y`.",
-        );
+    let (sign, _) = local_value(scan, at);
+    if !scan.is(sign, b"=") {
+        return None;
     }
-    None
+    let rest = ": `=` compares, as in `letvar y := x + 1 in z := y`.";
+    put(sign, ":=", rest)
 }

@@ -2,15 +2,20 @@
 
 use crate::forms::{BOTH, Form, Pattern, form_before, form_between, pattern_of};
 use crate::numbers::number_of;
-use crate::pieces::{Piece, Sort};
+use crate::pieces::{Piece, Sort, is_one_of};
 use crate::wording::LONGEST;
-use crate::words::is_one_of;
 use std::alloc::{AllocError, Global};
 use vsi_syntax::put_number;
 
 /// The keywords that are no operands.
 const NO_OPERANDS: &[u8] =
     b"var letvar in if then else while do and or not mod div AND OR NOT MOD DIV is xor";
+
+/// The names that mean 1.
+pub(crate) const TRUE: &[u8] = b"true True TRUE";
+
+/// The names that mean 0.
+pub(crate) const FALSE: &[u8] = b"false False FALSE";
 
 /// Whether a name can't be an operand.
 pub(crate) fn is_no_operand(word: &[u8]) -> bool {
@@ -19,12 +24,12 @@ pub(crate) fn is_no_operand(word: &[u8]) -> bool {
 
 /// Whether a name means 1.
 pub fn is_true(word: &[u8]) -> bool {
-    is_one_of(b"true True TRUE", word)
+    is_one_of(TRUE, word)
 }
 
 /// Whether a name means 0.
 pub fn is_false(word: &[u8]) -> bool {
-    is_one_of(b"false False FALSE", word)
+    is_one_of(FALSE, word)
 }
 
 /// A text and its level, as in a `Pattern`.
@@ -73,28 +78,6 @@ fn joined(alloc: Global, pattern: Pattern, left: &Part, right: &Part) -> Result<
     Ok(Part { text, level })
 }
 
-/// Two comparisons, of the last operand of one with a further one, and that one.
-fn chained(
-    alloc: Global,
-    pattern: Pattern,
-    first: &Part,
-    middle: &Part,
-    last: &Part,
-) -> Result<Part, AllocError> {
-    let second = joined(alloc, pattern, middle, last)?;
-    joined(alloc, BOTH, first, &second)
-}
-
-/// The operand that an operator makes.
-fn made(part: Part, form: Form, compared: Option<(Form, Part)>) -> Option<Operand> {
-    Some(Operand {
-        part,
-        is_truth: form.is_truth(),
-        value: None,
-        compared,
-    })
-}
-
 /// Whether a comparison with a number asks whether the one before it holds, as in `a < 5 = 1`, and
 /// compares its last operand no further.
 fn asks_truth(form: Form, last: Option<u64>, before: Form, middle: &Part) -> bool {
@@ -103,46 +86,26 @@ fn asks_truth(form: Form, last: Option<u64>, before: Form, middle: &Part) -> boo
     matches!(form, Form::Equal | Form::Differs) && last.is_some() && (is_number || is_truth)
 }
 
-/// An operator between two operands, if it can be written. A comparison is chained to its left
-/// operand if that is one: `a < b < c` compares twice.
-fn between(
+/// An operator between two operands, or before one that is given twice, if it can be written. A
+/// comparison is chained to its left operand if that is one: `a < b < c` compares twice.
+fn applied(
     alloc: Global,
     form: Form,
-    left: Operand,
-    right: Operand,
-) -> Result<Option<Operand>, AllocError> {
+    left: &Operand,
+    right: &Operand,
+) -> Result<Option<Part>, AllocError> {
     let Some(pattern) = pattern_of(form, left.is_truth, right.is_truth, right.value) else {
         return Ok(None);
     };
-    let Operand {
-        part: first,
-        compared,
-        ..
-    } = left;
-    let Operand {
-        part: last,
-        value,
-        ..
-    } = right;
-    if !form.compares() {
-        return Ok(made(joined(alloc, pattern, &first, &last)?, form, None));
-    }
-    let part = match &compared {
-        Some((before, middle)) if !asks_truth(form, value, *before, middle) => {
-            chained(alloc, pattern, &first, middle, &last)?
+    if form.compares() {
+        if let Some((before, middle)) = &left.compared {
+            if !asks_truth(form, right.value, *before, middle) {
+                let second = joined(alloc, pattern, middle, &right.part)?;
+                return Ok(Some(joined(alloc, BOTH, &left.part, &second)?));
+            }
         }
-        _ => joined(alloc, pattern, &first, &last)?,
-    };
-    Ok(made(part, form, Some((form, last))))
-}
-
-/// An operator before an operand.
-fn before(alloc: Global, form: Form, operand: &Operand) -> Result<Option<Operand>, AllocError> {
-    let Some(pattern) = pattern_of(form, operand.is_truth, operand.is_truth, None) else {
-        return Ok(None);
-    };
-    let part = joined(alloc, pattern, &operand.part, &operand.part)?;
-    Ok(made(part, form, None))
+    }
+    Ok(Some(joined(alloc, pattern, &left.part, &right.part)?))
 }
 
 /// The value of a piece, if it is a number or a name for one.
@@ -189,11 +152,8 @@ struct Reading {
 }
 
 impl Reading {
-    /// Adds an operand, and returns whether it is one and short.
-    fn put(&mut self, operand: Option<Operand>) -> Result<bool, AllocError> {
-        let Some(operand) = operand else {
-            return Ok(false);
-        };
+    /// Adds an operand, and returns whether it is short.
+    fn put(&mut self, operand: Operand) -> Result<bool, AllocError> {
         let is_short = operand.part.text.len() <= LONGEST;
         self.operands.push(operand)?;
         Ok(is_short)
@@ -204,15 +164,28 @@ impl Reading {
         let Some(right) = self.operands.pop() else {
             return Ok(false);
         };
-        if form.is_before() {
-            let made = before(self.alloc, form, &right)?;
-            return self.put(made);
-        }
-        let Some(left) = self.operands.pop() else {
+        let made = if form.is_before() {
+            applied(self.alloc, form, &right, &right)?
+        } else {
+            let Some(left) = self.operands.pop() else {
+                return Ok(false);
+            };
+            applied(self.alloc, form, &left, &right)?
+        };
+        let Some(part) = made else {
             return Ok(false);
         };
-        let made = between(self.alloc, form, left, right)?;
-        self.put(made)
+        let Operand { part: last, .. } = right;
+        self.put(Operand {
+            part,
+            is_truth: form.is_truth(),
+            value: None,
+            compared: if form.compares() {
+                Some((form, last))
+            } else {
+                None
+            },
+        })
     }
 
     /// Joins by each waiting operator that binds at least as strongly.
@@ -243,8 +216,10 @@ impl Reading {
             return Ok(true);
         }
         self.wants_operand = false;
-        let operand = operand_of(self.alloc, piece)?;
-        self.put(operand)
+        match operand_of(self.alloc, piece)? {
+            Some(operand) => self.put(operand),
+            None => Ok(false),
+        }
     }
 
     /// Reads a closing bracket.
@@ -257,7 +232,7 @@ impl Reading {
         };
         let mut operand = operand;
         operand.compared = None;
-        self.put(Some(operand))
+        self.put(operand)
     }
 
     /// Reads a piece, and returns whether an expression may go on with it.

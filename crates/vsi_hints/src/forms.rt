@@ -1,6 +1,6 @@
 //! The operators of other languages, and their translations.
 
-use crate::words::is_one_of;
+use crate::pieces::is_one_of;
 
 /// An operator, or an open bracket.
 #[derive(Clone, Copy, PartialEq, Eq)]

@@ -1,6 +1,5 @@
 //! A text of another language, cut into pieces: words, numbers, signs, texts and comments.
 
-use crate::words::up_to;
 use std::alloc::{AllocError, Global};
 
 /// The largest number of pieces of a text that is examined; the rest of a longer text is not.
@@ -37,24 +36,39 @@ pub(crate) struct Piece<'a> {
 const SIGNS: &[u8] = b">>>= === !== **= //= <<= >>= >>> << >> |= &= ^= := == != <> ~= <= >= =< => \
     && || ** ++ -- += -= *= /= %= ->";
 
-/// Whether a byte belongs to a name.
-fn is_part(byte: u8) -> bool {
-    byte.is_ascii_alphanumeric() || byte == b'_'
+/// Whether a word is one of these, which have blanks between them.
+pub(crate) fn is_one_of(words: &[u8], word: &[u8]) -> bool {
+    for one in words.split(|byte| *byte == b' ') {
+        if one == word {
+            return true;
+        }
+    }
+    false
 }
 
-/// The number of bytes of the name at the beginning of a text.
-fn word_length(rest: &[u8]) -> usize {
-    let found = rest.iter().position(|byte| !is_part(*byte));
-    found.unwrap_or(rest.len())
+/// The number of bytes of a text before the first of these, or of all.
+pub(crate) fn up_to(text: &[u8], stop: u8) -> usize {
+    let found = text.iter().position(|byte| *byte == stop);
+    found.unwrap_or(text.len())
 }
 
-/// The number of bytes of the number at the beginning of a text. A point belongs to it if a digit
-/// follows.
-fn number_length(rest: &[u8]) -> usize {
+/// The number of bytes of a text up to the end of a part of it that begins before `from`.
+fn up_to_end(text: &[u8], from: usize, end: &[u8]) -> usize {
+    for at in from..text.len() {
+        if text[at..].starts_with(end) {
+            return at.saturating_add(end.len());
+        }
+    }
+    text.len()
+}
+
+/// The number of bytes of the name or the number at the beginning of a text. A point belongs to a
+/// number if a digit follows.
+fn word_length(rest: &[u8], is_number: bool) -> usize {
     for at in 0..rest.len() {
         let next = rest.get(at.saturating_add(1));
-        let is_point = rest[at] == b'.' && matches!(next, Some(b'0'..=b'9'));
-        if !is_part(rest[at]) && !is_point {
+        let is_point = is_number && rest[at] == b'.' && matches!(next, Some(b'0'..=b'9'));
+        if !rest[at].is_ascii_alphanumeric() && rest[at] != b'_' && !is_point {
             return at;
         }
     }
@@ -63,25 +77,8 @@ fn number_length(rest: &[u8]) -> usize {
 
 /// The number of bytes of a text between quotes. It ends with its line at the latest.
 fn quoted_length(rest: &[u8], quote: u8) -> usize {
-    for at in 1..rest.len() {
-        if rest[at] == quote {
-            return at.saturating_add(1);
-        }
-        if rest[at] == b'\n' {
-            return at;
-        }
-    }
-    rest.len()
-}
-
-/// The number of bytes of a comment that ends with `*/`.
-fn block_length(rest: &[u8]) -> usize {
-    for at in 2..rest.len() {
-        if rest[at..].starts_with(b"*/") {
-            return at.saturating_add(2);
-        }
-    }
-    rest.len()
+    let line = &rest[..up_to(rest, b'\n').min(rest.len())];
+    up_to_end(line, 1, &[quote])
 }
 
 /// The number of bytes of a character outside of ASCII.
@@ -104,58 +101,29 @@ fn sign_length(rest: &[u8]) -> usize {
     1
 }
 
-/// Whether `//` divides by a number here, as it does in Python.
-fn divides(rest: &[u8]) -> bool {
+/// Whether a text begins with a comment that ends with its line. In Python `//` divides by the
+/// number after it.
+fn is_line_comment(rest: &[u8], is_begun: bool) -> bool {
+    if !rest.starts_with(b"//") {
+        return is_begun && rest.starts_with(b"-- ");
+    }
     let after = rest.get(2..).unwrap_or(b"");
-    matches!(after.trim_ascii_start().first(), Some(b'0'..=b'9'))
-}
-
-/// The number of bytes of a comment of another language, if the text begins with one.
-fn comment_length(rest: &[u8], is_begun: bool) -> Option<usize> {
-    if rest.starts_with(b"/*") {
-        return Some(block_length(rest));
-    }
-    if rest.starts_with(b"//") && !divides(rest) {
-        return Some(up_to(rest, b'\n'));
-    }
-    if is_begun && rest.starts_with(b"-- ") {
-        return Some(up_to(rest, b'\n'));
-    }
-    None
+    !matches!(after.trim_ascii_start().first(), Some(b'0'..=b'9'))
 }
 
 /// The sort and the length of the piece at the beginning of a text.
 fn measured(rest: &[u8], is_begun: bool) -> (Sort, usize) {
-    if let Some(length) = comment_length(rest, is_begun) {
-        return (Sort::Comment, length);
+    if is_line_comment(rest, is_begun) {
+        return (Sort::Comment, up_to(rest, b'\n'));
     }
-    match rest.first() {
-        Some(b'a'..=b'z' | b'A'..=b'Z' | b'_') => (Sort::Word, word_length(rest)),
-        Some(b'0'..=b'9') => (Sort::Number, number_length(rest)),
-        Some(b'"') => (Sort::Quoted, quoted_length(rest, b'"')),
-        Some(b'\'') => (Sort::Quoted, quoted_length(rest, b'\'')),
-        Some(128..=255) => (Sort::Strange, strange_length(rest)),
+    match rest {
+        [b'/', b'*', ..] => (Sort::Comment, up_to_end(rest, 2, b"*/")),
+        [b'a'..=b'z' | b'A'..=b'Z' | b'_', ..] => (Sort::Word, word_length(rest, false)),
+        [b'0'..=b'9', ..] => (Sort::Number, word_length(rest, true)),
+        [b'"', ..] => (Sort::Quoted, quoted_length(rest, b'"')),
+        [b'\'', ..] => (Sort::Quoted, quoted_length(rest, b'\'')),
+        [128..=255, ..] => (Sort::Strange, strange_length(rest)),
         _ => (Sort::Sign, sign_length(rest)),
-    }
-}
-
-/// Whether a comment may begin after a piece as it does at the beginning of a line.
-fn begins_after(piece: Option<&Piece>) -> bool {
-    match piece {
-        Some(piece) => matches!(piece.text, [b';' | b'{' | b'}']),
-        None => true,
-    }
-}
-
-/// The piece that begins at a position.
-fn piece_at<'a>(source: &'a [u8], at: usize, is_first: bool, last: Option<&Piece>) -> Piece<'a> {
-    let rest = &source[at.min(source.len())..];
-    let (sort, length) = measured(rest, is_first || begins_after(last));
-    Piece {
-        sort,
-        text: &rest[..length.min(rest.len())],
-        at,
-        is_first,
     }
 }
 
@@ -164,23 +132,32 @@ pub(crate) fn pieces_of<'a>(alloc: Global, source: &'a [u8]) -> Result<Vec<Piece
     let mut pieces = Vec::new(alloc);
     let mut at: usize = 0;
     let mut is_first = true;
+    let mut is_begun = true;
     for _ in 0..source.len() {
-        let Some(byte) = source.get(at).copied() else {
+        let rest = &source[at.min(source.len())..];
+        let [byte, ..] = rest else {
             return Ok(pieces);
         };
         if pieces.len() >= MOST {
             return Ok(pieces);
         }
-        if byte == b'#' {
-            at = at.saturating_add(up_to(&source[at..], b'\n'));
-        } else if matches!(byte, b' ' | b'\t' | b'\r' | b'\n') {
-            is_first = is_first || byte == b'\n';
+        if *byte == b'#' {
+            at = at.saturating_add(up_to(rest, b'\n'));
+        } else if matches!(*byte, b' ' | b'\t' | b'\r' | b'\n') {
+            is_first = is_first || *byte == b'\n';
             at = at.saturating_add(1);
         } else {
-            let piece = piece_at(source, at, is_first, pieces.last());
+            let (sort, length) = measured(rest, is_first || is_begun);
+            let text = &rest[..length.min(rest.len())];
+            pieces.push(Piece {
+                sort,
+                text,
+                at,
+                is_first,
+            })?;
             is_first = false;
-            at = at.saturating_add(piece.text.len().max(1));
-            pieces.push(piece)?;
+            is_begun = matches!(text, [b';' | b'{' | b'}']);
+            at = at.saturating_add(length.max(1));
         }
     }
     Ok(pieces)

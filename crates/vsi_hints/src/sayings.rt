@@ -1,6 +1,7 @@
 //! Names and signs of other languages without a replacement, and what to do instead.
 
-use crate::words::{is_one_of, up_to};
+use crate::found::{Found, say};
+use crate::pieces::{is_one_of, up_to};
 
 /// Names or signs of other languages with blanks between them, and the two parts of a sentence
 /// around one of them.
@@ -11,7 +12,7 @@ pub(crate) const NONE: &str = "there is no ";
 
 /// Names that call something. Each line has the names, and below them what comes before the name in
 /// the sentence, if that isn't `NONE`, and what comes after it.
-const CALLS: [&str; 9] = [
+pub(crate) const CALLS: [&str; 9] = [
     "declassify endorse reveal release sanitize\n: nothing makes a secret public, so compute \
     what you publish from public variables alone, as in `l := l + 1`.",
     "input raw_input read readln readline scanf gets getchar cin argv\n: declare `var x : L;` \
@@ -31,7 +32,7 @@ const CALLS: [&str; 9] = [
 ];
 
 /// Names that begin or end commands, in the same form.
-const COMMANDS: [&str; 12] = [
+pub(crate) const COMMANDS: [&str; 12] = [
     "def fn func function fun void proc procedure sub\nyou can't define a function with \n: \
     write its commands where you need them, as in `x := x + 1`.",
     "return yield\n: assign the result to a global, as in `y := x`.",
@@ -57,7 +58,7 @@ const COMMANDS: [&str; 12] = [
 ];
 
 /// The signs between or before operands, in the same form.
-const SIGNS: [&str; 14] = [
+pub(crate) const SIGNS: [&str; 14] = [
     "<< <<=\n: double the value for each place, as in `x := x * 2`.",
     ">> >>= >>> >>>=\n: halve the value for each place, as `while 1 < r do { r := r - 2; q := q \
     + 1 }` does if r isn't negative.",
@@ -89,7 +90,7 @@ pub(crate) const BITS: Saying = (
 );
 
 /// The sentence for a name or a sign in a table.
-fn saying_in(sayings: &[&'static str], word: &[u8]) -> Option<Saying> {
+pub(crate) fn saying_in(sayings: &[&'static str], word: &[u8]) -> Option<Saying> {
     for saying in sayings {
         let saying: &'static str = *saying;
         let bytes = saying.as_bytes();
@@ -105,19 +106,9 @@ fn saying_in(sayings: &[&'static str], word: &[u8]) -> Option<Saying> {
     None
 }
 
-/// The sentence for a name that calls something.
-pub(crate) fn call_saying(word: &[u8]) -> Option<Saying> {
-    saying_in(&CALLS, word)
-}
-
-/// The sentence for a name that begins or ends a command.
-pub(crate) fn command_saying(word: &[u8]) -> Option<Saying> {
-    saying_in(&COMMANDS, word)
-}
-
-/// The sentence for a sign between or before operands.
-pub(crate) fn sign_saying(sign: &[u8]) -> Option<Saying> {
-    saying_in(&SIGNS, sign)
+/// The sentence of a saying around the first of these pieces.
+pub(crate) fn said(first: usize, next: usize, saying: Saying) -> Option<Found> {
+    say(first, next, saying.1, saying.2)
 }
 
 /// The sign that a character outside of ASCII looks like, or else the same text.

@@ -26,28 +26,14 @@ struct Gap {
     highs: u64,
 }
 
-/// The class that two classes lack above both.
-fn gap_above(above: &[u64], below: &[u64], a: usize, b: usize) -> Option<Gap> {
-    let (Some(one), Some(other)) = (above.get(a), above.get(b)) else {
-        return None;
-    };
-    let highs = *one & *other;
-    if above.contains(&highs) {
-        return None;
-    }
-    Some(Gap {
-        lows: common(below, highs),
-        highs,
-    })
-}
-
 /// The class that the first two classes without one lack above both.
 fn first_gap(above: &[u64], below: &[u64]) -> Option<Gap> {
     for a in 0..above.len() {
         for b in 0..above.len() {
-            let gap = gap_above(above, below, a, b);
-            if gap.is_some() {
-                return gap;
+            let highs = above[a] & above[b];
+            if !above.contains(&highs) {
+                let lows = common(below, highs);
+                return Some(Gap { lows, highs });
             }
         }
     }

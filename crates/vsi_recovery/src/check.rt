@@ -21,8 +21,7 @@ pub(crate) fn joined(
 ) -> Result<Vec<(u8, u8)>, AllocError>
     ensures { IfOk result (λ all. all.items ≡ pairs.now ++ added.now) }
 {
-    let mut all = Vec::new(alloc);
-    all.extend_from_slice(pairs)?;
+    let mut all = Vec::from_slice(alloc, pairs)?;
     all.extend_from_slice(added)?;
     Ok(all)
 }

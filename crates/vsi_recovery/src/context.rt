@@ -16,10 +16,10 @@ pub(crate) struct Start {
 /// A sequence that hasn't ended: where it begins in `kept`, where its last command begins, and
 /// where the innermost command within that one begins.
 #[derive(Clone, Copy)]
-struct Level {
+pub(crate) struct Level {
     mark: usize,
-    item: Start,
-    command: Start,
+    pub(crate) item: Start,
+    pub(crate) command: Start,
 }
 
 /// What was read of a list: a short list after which the same tokens may come, in which each token
@@ -29,38 +29,27 @@ pub(crate) struct Open<'a> {
     alloc: Global,
     pub(crate) kept: Vec<Token<'a>>,
     outer: Vec<Level>,
-    now: Level,
+    /// The innermost sequence.
+    pub(crate) now: Level,
 }
 
 impl<'a> Open<'a> {
     /// The beginning of a list whose first token has this number.
     pub(crate) fn new(alloc: Global, number: usize) -> Open<'a> {
-        let item = Start {
+        let start = Start {
             place: number,
             kept: 0,
         };
-        let command = item;
-        let mark = 0;
         Open {
             alloc,
             kept: Vec::new(alloc),
             outer: Vec::new(alloc),
             now: Level {
-                mark,
-                item,
-                command,
+                mark: 0,
+                item: start,
+                command: start,
             },
         }
-    }
-
-    /// Where the last command of the innermost sequence begins.
-    pub(crate) fn item(&self) -> Start {
-        self.now.item
-    }
-
-    /// Where the innermost command begins.
-    pub(crate) fn command(&self) -> Start {
-        self.now.command
     }
 
     /// Whether the token is in the sequence of the program, and not in a block.
@@ -133,14 +122,6 @@ impl<'a> Open<'a> {
         Ok(())
     }
 
-    /// Reads tokens of a list that was read, each by its number and so many more.
-    fn note_again(&mut self, tokens: &[Token<'a>], more: usize) -> Result<(), AllocError> {
-        for token in tokens {
-            self.note(token.span.start.saturating_add(more), *token)?;
-        }
-        Ok(())
-    }
-
     /// The constructs that haven't ended after a repair.
     pub(crate) fn with(&self, choice: Choice) -> Result<Open<'a>, AllocError> {
         let start = choice.start;
@@ -150,13 +131,16 @@ impl<'a> Open<'a> {
         };
         let parts = tokens_of(self.alloc, choice.put)?;
         let mut open = Open::new(self.alloc, first);
-        open.note_again(self.kept.get(..start.kept).unwrap_or(&[]), 0)?;
+        for token in self.kept.get(..start.kept).unwrap_or(&[]) {
+            open.note(token.span.start, *token)?;
+        }
         for (number, token) in parts.iter().enumerate() {
             open.note(start.place.saturating_add(number), *token)?;
         }
         if choice.is_before {
-            let after = self.kept.get(start.kept..).unwrap_or(&[]);
-            open.note_again(after, parts.len())?;
+            for token in self.kept.get(start.kept..).unwrap_or(&[]) {
+                open.note(token.span.start.saturating_add(parts.len()), *token)?;
+            }
         }
         Ok(open)
     }

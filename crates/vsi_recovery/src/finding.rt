@@ -59,7 +59,7 @@ impl Walk<'_, '_> {
                 Some([token, ..]) => token.span.start,
                 _ => stop_of(rest).max(from),
             };
-            (self.open.command().place.min(place), stop)
+            (self.open.now.command.place.min(place), stop)
         };
         Stretch {
             first: self.byte_at(first),
@@ -84,9 +84,8 @@ impl Walk<'_, '_> {
             || has_brace(rest.get(..stop).unwrap_or(rest))
     }
 
-    /// Adds the first fault of the tree, and repairs it. The answer is no if it can't be repaired.
-    fn put_tree(&mut self) -> Result<bool, AllocError> {
-        self.put_fault()?;
+    /// Repairs the first fault of the tree. The answer is no if it can't be repaired.
+    fn mend(&mut self) -> Result<bool, AllocError> {
         let rest = self.rest();
         let mut left = self.left;
         let found = repair_of(self.alloc, &self.open, self.list.len(), rest, &mut left)?;
@@ -109,7 +108,11 @@ impl Walk<'_, '_> {
                 Reading::Stopped => return Ok(false),
                 Reading::Unexpected(_) => {}
             }
-            if MAX_FAULTS <= self.faults.len() || !self.put_tree()? {
+            if MAX_FAULTS <= self.faults.len() {
+                return Ok(false);
+            }
+            self.put_fault()?;
+            if !self.mend()? {
                 return Ok(false);
             }
         }

@@ -9,19 +9,8 @@ use vsi_syntax::{LexError, Span, Token, lex};
 
 /// The number of bytes before the first of these, or of all.
 fn up_to(text: &[u8], stop: u8) -> usize {
-    text.iter()
-        .position(|byte| *byte == stop)
-        .unwrap_or(text.len())
-}
-
-/// The number of bytes at the beginning of a text up to one with which a run of `byte` ends.
-fn run_of(text: &[u8], byte: u8) -> usize {
-    for at in 0..text.len() {
-        if text[at] != byte && (text[at] < 128 || byte < 128) {
-            return at;
-        }
-    }
-    text.len()
+    let found = text.iter().position(|byte| *byte == stop);
+    found.unwrap_or(text.len())
 }
 
 /// The number of bytes of a quotation: its line has its end, or it is the quote alone.
@@ -46,19 +35,17 @@ fn block(text: &[u8]) -> usize {
     2
 }
 
-/// Whether a text begins with a comment of C.
-fn is_comment(text: &[u8]) -> bool {
-    matches!(text, [b'/', b'/' | b'*', ..])
-}
-
-/// The number of bytes that are skipped for a byte that begins no token.
+/// The number of bytes that are skipped for a byte that begins no token: a comment, a quotation, or a
+/// run of the byte or of bytes outside of ASCII.
 fn skipped(rest: &[u8]) -> usize {
     match rest {
         [b'/', b'/', ..] => up_to(rest, b'\n'),
         [b'/', b'*', ..] => block(rest),
-        [b'"', ..] => quotation(rest, b'"'),
-        [b'\'', ..] => quotation(rest, b'\''),
-        [byte, ..] => run_of(rest, *byte),
+        [quote, ..] if matches!(*quote, b'"' | b'\'') => quotation(rest, *quote),
+        [first, ..] => {
+            let ends = |byte: &u8| *byte != *first && (*byte < 128 || *first < 128);
+            rest.iter().position(ends).unwrap_or(rest.len())
+        }
         [] => 1,
     }
 }
@@ -85,15 +72,6 @@ fn fault_of(text: &[u8], from: usize, error: LexError) -> Option<Fault> {
     Some(Fault { cause, span })
 }
 
-/// What takes the place of a part without a token.
-fn part_of(cause: Cause) -> &'static [u8] {
-    match cause {
-        Cause::Lex(LexError::BadWord(_)) => NAME,
-        Cause::Lex(LexError::BadNumber(_)) => b"0",
-        _ => b"",
-    }
-}
-
 /// What was read of a text up to a byte: the tokens, and the faults of the parts without.
 #[derive(Drop)]
 pub(crate) struct Pieces<'a> {
@@ -118,7 +96,12 @@ impl<'a> Pieces<'a> {
         let part = self.text.get(self.from..fault.span.start).unwrap_or(b"");
         let tokens = tokens_of(self.alloc, part)?;
         self.put_tokens(&tokens)?;
-        put_text(self.alloc, &mut self.list, part_of(fault.cause), fault.span)?;
+        let put = match fault.cause {
+            Cause::Lex(LexError::BadWord(_)) => NAME,
+            Cause::Lex(LexError::BadNumber(_)) => b"0",
+            _ => b"",
+        };
+        put_text(self.alloc, &mut self.list, put, fault.span)?;
         self.faults.push(fault)?;
         self.from = fault.span.stop;
         Ok(())
@@ -155,7 +138,8 @@ impl<'a> Pieces<'a> {
     /// The part of the text around a hole whose tokens aren't judged: from the token after the
     /// landmark before it to the landmark after it, or to the next token after a comment.
     fn stretch_of(&self, hole: Span) -> Stretch {
-        let is_comment = is_comment(self.text.get(hole.start..).unwrap_or(b""));
+        let skipped = self.text.get(hole.start..).unwrap_or(b"");
+        let is_comment = matches!(skipped, [b'/', b'/' | b'*', ..]);
         let mut stretch = Stretch {
             first: 0,
             from: 0,

@@ -35,22 +35,6 @@ pub fn nearest(
     Ok(found)
 }
 
-/// The highest classes of an order where `is_up`, else the lowest.
-fn outermost(
-    alloc: Global,
-    count: usize,
-    pairs: &[(u8, u8)],
-    is_up: bool,
-) -> Result<Vec<u8>, AllocError> {
-    let above = rows_of(alloc, count.min(MOST_CLASSES), pairs)?;
-    let all = all_bits(count.min(MOST_CLASSES));
-    if is_up {
-        ends(alloc, &above, all)
-    } else {
-        ends(alloc, &turned(alloc, &above)?, all)
-    }
-}
-
 /// Adds a pair, if the order with it is a lattice.
 fn put_link(
     alloc: Global,
@@ -70,7 +54,7 @@ fn put_link(
 }
 
 /// The two classes of which one may be put below the other, where two classes lack one above both
-/// or, unless `is_up`, below both.
+/// or, unless `is_up`, below both: the highest or the lowest classes, if there are none above both.
 fn candidates(
     alloc: Global,
     count: usize,
@@ -85,7 +69,12 @@ fn candidates(
             return Ok(found);
         }
     }
-    outermost(alloc, count, pairs, is_up)
+    let count = count.min(MOST_CLASSES);
+    let mut rows = rows_of(alloc, count, pairs)?;
+    if !is_up {
+        rows = turned(alloc, &rows)?;
+    }
+    ends(alloc, &rows, all_bits(count))
 }
 
 /// The pairs, each of which makes a lattice of an order where two classes lack one above both or,

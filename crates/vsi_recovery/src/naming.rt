@@ -20,11 +20,6 @@ fn is_declaring(kind: Kind) -> bool {
     kind == Kind::Var || kind == Kind::Letvar
 }
 
-/// Whether a repair has put in a token: nothing of the text is in it.
-fn is_put(token: &Token<'_>) -> bool {
-    token.span.start == token.span.stop
-}
-
 /// The names of the declarations of a list.
 fn declared_names<'a>(alloc: Global, list: &[Token<'a>]) -> Result<IndexSet<&'a [u8]>, AllocError> {
     let mut names = IndexSet::new(alloc);
@@ -122,9 +117,9 @@ impl<'a> Walk<'_, 'a> {
         };
         match error {
             ScopeError::Memory => Err(AllocError),
-            ScopeError::Duplicate(span) => Ok(Some((number_of(span), error))),
-            ScopeError::UnknownClass(span) => Ok(Some((number_of(span), error))),
-            ScopeError::Unbound(span) => Ok(Some((number_of(span), error))),
+            ScopeError::Duplicate(span)
+            | ScopeError::UnknownClass(span)
+            | ScopeError::Unbound(span) => Ok(Some((number_of(span), error))),
             _ => Ok(None),
         }
     }
@@ -154,24 +149,15 @@ impl<'a> Walk<'_, 'a> {
 
     /// Adds a fault of a name, unless it may come from a repair.
     fn put_name_fault(&mut self, token: Token<'a>, error: ScopeError) -> Result<(), AllocError> {
-        if is_put(&token) || self.is_within(token.span.start) {
+        // Nothing of the text is in a token that a repair has put in.
+        let is_put = token.span.start == token.span.stop;
+        if is_put || self.is_within(token.span.start) {
             return Ok(());
         }
         if matches!(error, ScopeError::Unbound(_)) && self.is_in_doubt(token.text) {
             return Ok(());
         }
         Ok(self.faults.push(placed(error, token.span))?)
-    }
-
-    /// Adds the fault of the class of a global whose name is declared above, if it has one.
-    fn put_class_fault(&mut self, place: usize) -> Result<(), AllocError> {
-        let Some(class) = self.list.get(place.saturating_add(2)).copied() else {
-            return Ok(());
-        };
-        if self.lattice.class_named(class.text).is_some() {
-            return Ok(());
-        }
-        self.put_name_fault(class, ScopeError::UnknownClass(class.span))
     }
 
     /// Adds the fault of a name that isn't in scope, and then those of the names that no declaration
@@ -203,7 +189,12 @@ impl<'a> Walk<'_, 'a> {
             ScopeError::Unbound(_) => self.put_unbound(token)?,
             ScopeError::Duplicate(_) => {
                 self.put_name_fault(token, error)?;
-                self.put_class_fault(place)?;
+                // The class of a global whose name is declared above may be another fault.
+                if let Some(class) = self.list.get(place.saturating_add(2)).copied() {
+                    if self.lattice.class_named(class.text).is_none() {
+                        self.put_name_fault(class, ScopeError::UnknownClass(class.span))?;
+                    }
+                }
                 let start = place.saturating_sub(1);
                 self.splice(start, start.saturating_add(DECLARATION), &[])?;
             }

@@ -40,40 +40,6 @@ fn levels(alloc: Global, count: usize) -> Result<Vec<(u8, u8)>, AllocError> {
     Ok(pairs)
 }
 
-/// The pairs that give a class a rank among the others.
-fn ranked(
-    alloc: Global,
-    count: usize,
-    pairs: &[(u8, u8)],
-    class: u8,
-    rank: Rank,
-) -> Result<Vec<(u8, u8)>, AllocError> {
-    let count = count.min(MOST_CLASSES);
-    let above = rows_of(alloc, count, pairs)?;
-    let below = turned(alloc, &above)?;
-    let others = all_bits(count) & !bit(usize::from(class));
-    let mut found = Vec::new(alloc);
-    if rank != Rank::Below {
-        let lows = match rank {
-            Rank::Between => ends(alloc, &below, others)?,
-            _ => ends(alloc, &above, others)?,
-        };
-        for low in &lows {
-            found.push((*low, class))?;
-        }
-    }
-    if rank != Rank::Above {
-        let highs = match rank {
-            Rank::Between => ends(alloc, &above, others)?,
-            _ => ends(alloc, &below, others)?,
-        };
-        for high in &highs {
-            found.push((class, *high))?;
-        }
-    }
-    Ok(found)
-}
-
 /// The pairs that may place a class.
 fn proposed(
     alloc: Global,
@@ -82,11 +48,33 @@ fn proposed(
     class: u8,
     rank: Rank,
 ) -> Result<Vec<(u8, u8)>, AllocError> {
-    match rank {
-        Rank::Levels if pairs.is_empty() && count > 2 => levels(alloc, count),
-        Rank::Levels => Ok(Vec::new(alloc)),
-        _ => ranked(alloc, count, pairs, class, rank),
+    let mut found = Vec::new(alloc);
+    if rank == Rank::Levels {
+        let is_plain = pairs.is_empty() && count > 2;
+        return if is_plain {
+            levels(alloc, count)
+        } else {
+            Ok(found)
+        };
     }
+    let count = count.min(MOST_CLASSES);
+    let above = rows_of(alloc, count, pairs)?;
+    let below = turned(alloc, &above)?;
+    let others = all_bits(count) & !bit(usize::from(class));
+    let highest = ends(alloc, &above, others)?;
+    let lowest = ends(alloc, &below, others)?;
+    let is_between = rank == Rank::Between;
+    if rank != Rank::Below {
+        for low in if is_between { &lowest } else { &highest } {
+            found.push((*low, class))?;
+        }
+    }
+    if rank != Rank::Above {
+        for high in if is_between { &highest } else { &lowest } {
+            found.push((class, *high))?;
+        }
+    }
+    Ok(found)
 }
 
 /// Adds pairs that place a class, if the order with them is a lattice.

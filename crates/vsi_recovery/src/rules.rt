@@ -22,26 +22,6 @@ fn put(ahead: &mut Vec<Wanted>, parts: &[Wanted]) -> Result<bool, AllocError>
     Ok(true)
 }
 
-/// The parts of a global after its `var`.
-fn put_globals(ahead: &mut Vec<Wanted>, sort: Sort) -> Result<bool, AllocError>
-    ensures { IfOk result (λ put. Puts (parts_of sort (rules w.Globals)) put
-        (reverse ahead.old.items) (reverse ahead.new.items)) }
-{
-    match sort {
-        Sort::Var => put(
-            ahead,
-            &[
-                Wanted::Token(Sort::Name),
-                Wanted::Token(Sort::Colon),
-                Wanted::Token(Sort::Name),
-                Wanted::Token(Sort::Semicolon),
-                Wanted::Globals,
-            ],
-        ),
-        _ => Ok(false),
-    }
-}
-
 /// The parts of a command after its first token.
 fn put_command(ahead: &mut Vec<Wanted>, sort: Sort) -> Result<bool, AllocError>
     ensures { IfOk result (λ put. Puts (parts_of sort (rules w.Command)) put
@@ -82,28 +62,6 @@ fn put_command(ahead: &mut Vec<Wanted>, sort: Sort) -> Result<bool, AllocError>
                 Wanted::Token(Sort::CloseBrace),
             ],
         ),
-        _ => Ok(false),
-    }
-}
-
-/// The parts of another command after its semicolon.
-fn put_rest(ahead: &mut Vec<Wanted>, sort: Sort) -> Result<bool, AllocError>
-    ensures { IfOk result (λ put. Puts (parts_of sort (rules w.Rest)) put
-        (reverse ahead.old.items) (reverse ahead.new.items)) }
-{
-    match sort {
-        Sort::Semicolon => put(ahead, &[Wanted::Command, Wanted::Rest]),
-        _ => Ok(false),
-    }
-}
-
-/// The parts of a class after its colon.
-fn put_class(ahead: &mut Vec<Wanted>, sort: Sort) -> Result<bool, AllocError>
-    ensures { IfOk result (λ put. Puts (parts_of sort (rules w.Class)) put
-        (reverse ahead.old.items) (reverse ahead.new.items)) }
-{
-    match sort {
-        Sort::Colon => put(ahead, &[Wanted::Token(Sort::Name)]),
         _ => Ok(false),
     }
 }
@@ -162,10 +120,28 @@ pub(crate) fn put_rule(
         (reverse ahead.old.items) (reverse ahead.new.items)) }
 {
     match wanted {
-        Wanted::Globals => put_globals(ahead, sort),
+        Wanted::Globals => match sort {
+            Sort::Var => put(
+                ahead,
+                &[
+                    Wanted::Token(Sort::Name),
+                    Wanted::Token(Sort::Colon),
+                    Wanted::Token(Sort::Name),
+                    Wanted::Token(Sort::Semicolon),
+                    Wanted::Globals,
+                ],
+            ),
+            _ => Ok(false),
+        },
         Wanted::Command => put_command(ahead, sort),
-        Wanted::Rest => put_rest(ahead, sort),
-        Wanted::Class => put_class(ahead, sort),
+        Wanted::Rest => match sort {
+            Sort::Semicolon => put(ahead, &[Wanted::Command, Wanted::Rest]),
+            _ => Ok(false),
+        },
+        Wanted::Class => match sort {
+            Sort::Colon => put(ahead, &[Wanted::Token(Sort::Name)]),
+            _ => Ok(false),
+        },
         Wanted::Expression => put_operand(ahead, sort, Wanted::Operators),
         Wanted::Sum => put_operand(ahead, sort, Wanted::SumOperators),
         Wanted::Operators => put_operators(ahead, sort),

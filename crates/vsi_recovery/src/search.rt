@@ -43,13 +43,6 @@ fn replacing(start: Start, stop: usize, put: &'static [u8]) -> Choice {
     }
 }
 
-/// The repair that puts in a text at a beginning.
-fn preceding(start: Start, put: &'static [u8]) -> Choice {
-    let mut choice = replacing(start, 0, put);
-    choice.is_before = true;
-    choice
-}
-
 /// Whether some of these tokens begin a construct that ends with another one.
 fn has_opening(tokens: &[Token<'_>]) -> bool {
     let is_opening = |token: &Token<'_>| {
@@ -134,6 +127,13 @@ impl Search<'_, '_> {
         Ok(())
     }
 
+    /// Tries to put in a text at a beginning.
+    fn attempt_before(&mut self, start: Start, put: &'static [u8]) -> Result<(), AllocError> {
+        let mut choice = replacing(start, 0, put);
+        choice.is_before = true;
+        self.attempt(choice)
+    }
+
     /// Tries a repair of one token. A token that begins a construct is left out only if reading goes
     /// on over two landmarks.
     fn try_one(&mut self, here: Start, out: usize, put: &'static [u8]) -> Result<(), AllocError> {
@@ -151,21 +151,8 @@ impl Search<'_, '_> {
         Ok(())
     }
 
-    /// Tries to leave out the token before, and to put in the beginning of a construct.
-    fn try_before(&mut self, here: Start) -> Result<(), AllocError> {
-        if 0 < here.kept {
-            let before = Start {
-                place: here.place.saturating_sub(1),
-                kept: here.kept.saturating_sub(1),
-            };
-            self.attempt(replacing(before, 0, b""))?;
-        }
-        let start = self.open.command();
-        self.attempt(preceding(start, b"if"))?;
-        self.attempt(preceding(start, b"while"))
-    }
-
-    /// Tries repairs with which reading goes on over two landmarks.
+    /// Tries repairs with which reading goes on over two landmarks: of one token, without the token
+    /// before, and with the beginning of a construct.
     fn try_sure(&mut self, here: Start) -> Result<(), AllocError> {
         self.landmarks = 2;
         if let Some(number) = lone_close(self.rest) {
@@ -173,7 +160,16 @@ impl Search<'_, '_> {
             self.attempt(replacing(here, number, b"0"))?;
         }
         self.try_small(here)?;
-        self.try_before(here)?;
+        if 0 < here.kept {
+            let before = Start {
+                place: here.place.saturating_sub(1),
+                kept: here.kept.saturating_sub(1),
+            };
+            self.attempt(replacing(before, 0, b""))?;
+        }
+        let start = self.open.now.command;
+        self.attempt_before(start, b"if")?;
+        self.attempt_before(start, b"while")?;
         self.landmarks = 1;
         Ok(())
     }
@@ -183,11 +179,11 @@ impl Search<'_, '_> {
         for put in FILLINGS.as_slice() {
             self.attempt(replacing(here, number, *put))?;
         }
-        let item = self.open.item();
-        self.attempt(replacing(self.open.command(), number, COMMAND))?;
-        self.attempt(replacing(item, number, COMMAND))?;
+        let now = self.open.now;
+        self.attempt(replacing(now.command, number, COMMAND))?;
+        self.attempt(replacing(now.item, number, COMMAND))?;
         if kind == Kind::Semicolon {
-            self.attempt(replacing(item, number.saturating_add(1), b""))?;
+            self.attempt(replacing(now.item, number.saturating_add(1), b""))?;
         }
         Ok(())
     }
@@ -211,16 +207,6 @@ impl Search<'_, '_> {
         Ok(())
     }
 
-    /// Tries to end a text that ends too early.
-    fn try_endings(&mut self, here: Start) -> Result<(), AllocError> {
-        for put in ENDINGS.as_slice() {
-            if self.best.is_none() {
-                self.attempt(replacing(here, 0, *put))?;
-            }
-        }
-        Ok(())
-    }
-
     /// Leaves out a declaration that begins where only a command, or a `;` and a command, may come.
     fn leave_declaration(&mut self, here: Start) -> Result<(), AllocError> {
         let Some(is_followed) = misplaced(self.rest) else {
@@ -228,7 +214,7 @@ impl Search<'_, '_> {
         };
         let mut choice = replacing(here, DECLARATION, b";");
         choice.is_misplaced = true;
-        let is_begun = self.open.item().place == here.place;
+        let is_begun = self.open.now.item.place == here.place;
         let is_ended = !is_begun && self.reached(choice, DECLARATION)?.is_some();
         choice.put = match (is_begun, is_followed) {
             (true, false) => COMMAND,
@@ -245,13 +231,18 @@ impl Search<'_, '_> {
     /// Tries all repairs of the fault.
     fn run(&mut self, here: Start) -> Result<(), AllocError> {
         let Some(token) = self.rest.first() else {
-            return self.try_endings(here);
+            for put in ENDINGS.as_slice() {
+                if self.best.is_none() {
+                    self.attempt(replacing(here, 0, *put))?;
+                }
+            }
+            return Ok(());
         };
         self.leave_declaration(here)?;
-        let item = self.open.item();
+        let item = self.open.now.item;
         let is_named = item.place.saturating_add(1) == here.place && self.open.is_outermost();
         if token.kind == Kind::Colon && is_named {
-            self.attempt(preceding(item, b"var"))?;
+            self.attempt_before(item, b"var")?;
         }
         if let Some(number) = lone_else(self.rest) {
             self.attempt(replacing(here, number, b""))?;

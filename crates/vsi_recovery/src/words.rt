@@ -62,15 +62,6 @@ fn word_of(sort: Sort) -> &'static [u8]
     }
 }
 
-/// A text with these bytes.
-fn text_of(alloc: Global, bytes: &[u8]) -> Result<Vec<u8>, AllocError>
-    ensures { IfOk result (λ text. text.items ≡ bytes.now) }
-{
-    let mut text = Vec::new(alloc);
-    text.extend_from_slice(bytes)?;
-    Ok(text)
-}
-
 /// Appends items as a sentence lists them: with commas between them, and "or" before the last.
 fn put_listed(text: &mut Vec<u8>, words: &[Vec<u8>]) -> Result<(), AllocError>
     ensures { OnOk result (text.new.items ≡ text.old.items
@@ -100,7 +91,7 @@ fn add_words(
 {
     for sort in sorts {
         if told.has(*sort) {
-            words.push(text_of(alloc, word_of(*sort))?)?;
+            words.push(Vec::from_slice(alloc, word_of(*sort))?)?;
         }
     }
     Ok(())
@@ -116,7 +107,7 @@ fn add_operators(alloc: Global, words: &mut Vec<Vec<u8>>, told: &Expected) -> Re
     if operators.is_empty() {
         return Ok(());
     }
-    let mut word = text_of(alloc, b"an operator (")?;
+    let mut word = Vec::from_slice(alloc, b"an operator (")?;
     put_listed(&mut word, &operators)?;
     word.extend_from_slice(b")")?;
     words.push(word)?;
@@ -129,7 +120,7 @@ fn add_end(alloc: Global, words: &mut Vec<Vec<u8>>, end: bool) -> Result<(), All
         ≡ map (λ word. word.items) words.old.items ++ spec.end_of end) }
 {
     if end {
-        words.push(text_of(alloc, b"the end of the text")?)?;
+        words.push(Vec::from_slice(alloc, b"the end of the text")?)?;
     }
     Ok(())
 }

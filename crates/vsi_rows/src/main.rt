@@ -8,28 +8,20 @@
 //! row; `escapes` defines the notation for texts.
 //!
 //! To add a row, write it into `stdin`, and write it into `stdout` with the answer that the
-//! language's pages define, worked by hand; `rt run < stdin` should then print `stdout`.
+//! language's pages define, worked by hand; `rt run < stdin` should then print `stdout`. Where a
+//! command of the program shows the same answer, write a transcript in `cases` instead.
 #![tactic(auto)]
 
 mod calls;
-mod code;
 mod compiling;
-mod displays;
 mod drives;
-mod editors;
-mod engines;
 mod escapes;
-mod faults;
 mod flows;
 mod images;
-mod judging;
 mod lattices;
-mod names;
 mod requests;
 mod row;
-mod runs;
-mod scopes;
-mod stores;
+mod shown;
 mod texts;
 
 use crate::calls::answered;

@@ -5,7 +5,6 @@ use std::alloc::{AllocError, AllocFailed, Global};
 use std::fmt::{Debug, Display};
 use std::str::from_utf8;
 use vsi_lattice::{Class, Lattice, read_lattice};
-use vsi_syntax::Span;
 use vsi_types::Profile;
 
 /// Why a row has no answer.
@@ -33,6 +32,8 @@ impl<T: Drop> From<AllocFailed<T>> for Wrong {
 /// wrong, the row notes it and goes on with 0, an empty text or the values it has.
 #[derive(Drop)]
 pub(crate) struct Row<'a> {
+    /// The allocator of its input and its answer.
+    pub alloc: Global,
     /// The fields that aren't read yet, and the text.
     pub rest: &'a str,
     /// The profile of a row over a lattice.
@@ -61,11 +62,6 @@ const HOUSE: &[u8] = b"classes = [\"Public\", \"Operator\", \"Secret\"]
 below = [[\"Public\", \"Operator\"], [\"Operator\", \"Secret\"]]
 ";
 
-/// The greatest class first and the least one last.
-const DOWN: &[u8] = b"classes = [\"T\", \"A\", \"B\", \"L\"]
-below = [[\"L\", \"A\"], [\"L\", \"B\"], [\"A\", \"T\"], [\"B\", \"T\"]]
-";
-
 /// The file of the lattice with a name.
 fn file_named(name: &str) -> &'static [u8] {
     match name {
@@ -73,7 +69,6 @@ fn file_named(name: &str) -> &'static [u8] {
         "two" => TWO,
         "four" => FOUR,
         "house" => HOUSE,
-        "down" => DOWN,
         _ => OTHER,
     }
 }
@@ -83,6 +78,7 @@ impl<'a> Row<'a> {
     /// A row without an answer yet.
     pub(crate) fn new(alloc: Global, line: &'a str) -> Row<'a> {
         Row {
+            alloc,
             rest: line,
             profile: Profile::Base,
             answer: String::new(alloc),
@@ -124,14 +120,9 @@ impl<'a> Row<'a> {
         u16::try_from(self.number()).unwrap_or(u16::MAX)
     }
 
-    /// The next field as a position in a text, or as another number in memory.
-    pub(crate) fn place(&mut self) -> usize {
-        self.number() as usize
-    }
-
     /// The next field as the name of a lattice, after the name of a profile unless that is left out
     /// for the base profile.
-    pub(crate) fn lattice(&mut self, alloc: Global) -> Option<Lattice> {
+    pub(crate) fn lattice(&mut self) -> Option<Lattice> {
         let file = match self.field() {
             "base" => file_named(self.field()),
             "strict" => {
@@ -140,14 +131,14 @@ impl<'a> Row<'a> {
             }
             name => file_named(name),
         };
-        let found = read_lattice(alloc, file).ok();
+        let found = read_lattice(self.alloc, file).ok();
         self.note(found.is_none());
         found
     }
 
     /// The next field as numbers separated by commas, or `-` for none.
-    pub(crate) fn numbers(&mut self, alloc: Global) -> Vec<i64> {
-        let mut numbers = Vec::new(alloc);
+    pub(crate) fn numbers(&mut self) -> Vec<i64> {
+        let mut numbers = Vec::new(self.alloc);
         let field = self.field();
         if field != "-" {
             for part in field.split(',') {
@@ -161,9 +152,9 @@ impl<'a> Row<'a> {
     }
 
     /// The next field as the numbers of classes.
-    pub(crate) fn classes(&mut self, alloc: Global) -> Vec<Class> {
-        let mut classes = Vec::new(alloc);
-        for number in &self.numbers(alloc) {
+    pub(crate) fn classes(&mut self) -> Vec<Class> {
+        let mut classes = Vec::new(self.alloc);
+        for number in &self.numbers() {
             match u8::try_from(*number) {
                 Ok(number) => self.note(classes.push(Class::at(number)).is_err()),
                 Err(_) => self.fail(Wrong::Row),
@@ -174,25 +165,25 @@ impl<'a> Row<'a> {
 
     /// The rest up to ` | `, as the bytes that it denotes; the text after it remains. Without a
     /// ` | `, the whole text counts as both.
-    pub(crate) fn first_text(&mut self, alloc: Global) -> Vec<u8> {
+    pub(crate) fn first_text(&mut self) -> Vec<u8> {
         match self.rest.split_once(" | ") {
             Some((first, other)) => {
                 self.rest = first;
-                let text = self.text(alloc);
+                let text = self.text();
                 self.rest = other;
                 text
             }
-            None => self.text(alloc),
+            None => self.text(),
         }
     }
 
     /// The rest, as the bytes that it denotes.
-    pub(crate) fn text(&mut self, alloc: Global) -> Vec<u8> {
-        match bytes_of(alloc, self.rest) {
+    pub(crate) fn text(&mut self) -> Vec<u8> {
+        match bytes_of(self.alloc, self.rest) {
             Ok(text) => text,
             Err(wrong) => {
                 self.fail(wrong);
-                Vec::new(alloc)
+                Vec::new(self.alloc)
             }
         }
     }
@@ -226,23 +217,9 @@ impl<'a> Row<'a> {
         }
     }
 
-    /// Adds the bytes of a text that was made, unless memory ran out for it.
-    pub(crate) fn put_made(&mut self, made: Result<Vec<u8>, AllocError>) {
-        match made {
-            Ok(text) => self.put_bytes(&text),
-            Err(_) => self.fail(Wrong::Memory),
-        }
-    }
-
     /// Adds a number.
-    pub(crate) fn put_number(&mut self, number: usize) {
+    pub(crate) fn put_number(&mut self, number: &impl Display) {
         let is_wanting = write!(self.answer, "{number}").is_err();
-        self.note(is_wanting);
-    }
-
-    /// Adds a word of the machine.
-    pub(crate) fn put_word(&mut self, word: i64) {
-        let is_wanting = write!(self.answer, "{word}").is_err();
         self.note(is_wanting);
     }
 
@@ -250,16 +227,9 @@ impl<'a> Row<'a> {
     pub(crate) fn put_words(&mut self, words: &[i64]) {
         for word in words {
             self.put(" ");
-            self.put_word(*word);
+            self.put_number(word);
         }
         self.put("\n");
-    }
-
-    /// Adds the start and the stop of a span.
-    pub(crate) fn put_span(&mut self, span: Span) {
-        self.put_number(span.start);
-        self.put("..");
-        self.put_number(span.stop);
     }
 
     /// Adds a value by its name in the code.
@@ -268,15 +238,24 @@ impl<'a> Row<'a> {
         self.note(is_wanting);
     }
 
-    /// Adds a line with the message of an error.
-    pub(crate) fn put_message(&mut self, error: &impl Display) {
-        let is_wanting = writeln!(self.answer, "{error}").is_err();
-        self.note(is_wanting);
-    }
-
     /// Adds a line with a value by its name in the code.
     pub(crate) fn put_line(&mut self, value: &impl Debug) {
         self.put_value(value);
+        self.put("\n");
+    }
+
+    /// Adds a line with a verdict.
+    pub(crate) fn put_verdict(&mut self, is_so: bool) {
+        self.put(if is_so { "yes\n" } else { "no\n" });
+    }
+
+    /// Adds the numbers of classes.
+    pub(crate) fn put_classes(&mut self, classes: &[Class]) {
+        self.put("classes");
+        for class in classes {
+            self.put(" ");
+            self.put_number(&class.index());
+        }
         self.put("\n");
     }
 }

@@ -1,78 +1,69 @@
 //! Calls that read a source text.
 
 use crate::row::{Row, Wrong};
+use crate::shown::Shown;
 use std::alloc::Global;
+use vsi_client::{Encoding, place_of};
 use vsi_compiler::{CompileError, format_text};
-use vsi_syntax::{Op, Program, Token, is_name, lex, line_column, parse, print};
-
-/// Adds a line for each token.
-fn put_tokens(row: &mut Row<'_>, tokens: &[Token<'_>]) {
-    for token in tokens {
-        row.put_value(&token.kind);
-        row.put(" ");
-        row.put_span(token.span);
-        row.put("\n");
-    }
-}
+use vsi_syntax::{Op, Program, is_name, lex, line_column, parse};
 
 /// `lex TEXT`: each token's kind and position, or the fault.
-pub(crate) fn tokens(alloc: Global, row: &mut Row<'_>) {
-    let text = row.text(alloc);
-    match lex(alloc, &text) {
-        Ok(tokens) => put_tokens(row, &tokens),
+pub(crate) fn tokens(row: &mut Row<'_>) {
+    let text = row.text();
+    match lex(row.alloc, &text) {
+        Ok(tokens) => {
+            for token in &tokens {
+                row.put_line(&(token.kind, token.span));
+            }
+        }
         Err(error) => row.put_line(&error),
     }
 }
 
 /// The tree of a text.
-pub(crate) fn tree_of<'t>(alloc: Global, text: &'t [u8]) -> Result<Program<'t>, CompileError> {
+fn tree_of<'t>(alloc: Global, text: &'t [u8]) -> Result<Program<'t>, CompileError> {
     let tokens = lex(alloc, text)?;
     Ok(parse(alloc, &tokens)?)
 }
 
-/// Adds the line of a refusal, even for a flow.
-pub(crate) fn put_refusal(row: &mut Row<'_>, error: &CompileError) {
-    match error {
-        CompileError::Flow(_) => row.put("Flow\n"),
-        error => row.put_line(error),
-    }
-}
-
-/// `parse TEXT` or `print TEXT`: that the text is a program, or the canonical text of its tree; or
-/// the fault.
-pub(crate) fn parsed(alloc: Global, row: &mut Row<'_>, is_printed: bool) {
-    let text = row.text(alloc);
-    match tree_of(alloc, &text) {
-        Ok(program) if is_printed => row.put_made(print(alloc, &program)),
+/// `parse TEXT`: that the text is a program, or the fault.
+pub(crate) fn parsed(row: &mut Row<'_>) {
+    let text = row.text();
+    match tree_of(row.alloc, &text) {
         Ok(_) => row.put("accepted\n"),
-        Err(error) => put_refusal(row, &error),
+        Err(error) => error.show(row),
     }
 }
 
 /// `format TEXT`: the canonical text of the text, or the fault.
-pub(crate) fn formatted(alloc: Global, row: &mut Row<'_>) {
-    let text = row.text(alloc);
-    match format_text(alloc, &text) {
-        Ok(canonical) => row.put_bytes(&canonical),
-        Err(error) => put_refusal(row, &error),
-    }
+pub(crate) fn formatted(row: &mut Row<'_>) {
+    let text = row.text();
+    format_text(row.alloc, &text).show(row);
 }
 
 /// `name TEXT`: whether the text is a name.
-pub(crate) fn name(alloc: Global, row: &mut Row<'_>) {
-    let text = row.text(alloc);
+pub(crate) fn name(row: &mut Row<'_>) {
+    let text = row.text();
     row.put_line(&is_name(&text));
 }
 
 /// `place AT TEXT`: the line and the column of the byte with this number.
-pub(crate) fn place(alloc: Global, row: &mut Row<'_>) {
-    let at = row.place();
-    let text = row.text(alloc);
-    let (line, column) = line_column(&text, at);
-    row.put_number(line);
-    row.put(":");
-    row.put_number(column);
-    row.put("\n");
+pub(crate) fn place(row: &mut Row<'_>) {
+    let at = row.number() as usize;
+    let text = row.text();
+    row.put_line(&line_column(&text, at));
+}
+
+/// `place_of ENCODING AT TEXT`: the position in an editor of the byte with this number, if a
+/// character begins there.
+pub(crate) fn position(row: &mut Row<'_>) {
+    let encoding = match row.field() {
+        "utf8" => Encoding::Utf8,
+        _ => Encoding::Utf16,
+    };
+    let at = row.number() as usize;
+    let text = row.text();
+    row.put_line(&place_of(encoding, &text, at));
 }
 
 /// The operator with a sign.
@@ -88,12 +79,11 @@ fn operator(sign: &str) -> Option<Op> {
 }
 
 /// `apply SIGN LEFT,RIGHT`: the operator's result for two words.
-pub(crate) fn applied(alloc: Global, row: &mut Row<'_>) {
+pub(crate) fn applied(row: &mut Row<'_>) {
     let sign = operator(row.field());
-    let words = row.numbers(alloc);
+    let words = row.numbers();
     match (sign, words.as_slice()) {
-        (Some(op), [left, right]) => row.put_word(op.apply(*left, *right)),
+        (Some(op), [left, right]) => row.put_line(&op.apply(*left, *right)),
         _ => row.fail(Wrong::Row),
     }
-    row.put("\n");
 }

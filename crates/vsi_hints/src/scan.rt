@@ -2,14 +2,16 @@
 
 use crate::expression::is_no_operand;
 use crate::forms::is_operator;
-use crate::pieces::{Piece, Sort};
+use crate::pieces::{Piece, Sort, is_one_of};
 use crate::sayings::narrow;
-use crate::words::is_one_of;
+use std::alloc::Global;
 
-/// The pieces of a text.
+/// A text and its pieces.
 #[derive(Clone, Copy)]
-pub(crate) struct Look<'a, 't> {
-    pub(crate) pieces: &'t [Piece<'a>],
+pub(crate) struct Scan<'s, 't> {
+    pub(crate) alloc: Global,
+    pub(crate) source: &'s [u8],
+    pub(crate) pieces: &'t [Piece<'s>],
 }
 
 /// The keywords and signs after which an expression begins.
@@ -28,13 +30,41 @@ const KEYWORDS: &[u8] = b"var letvar in if then else while do";
 /// The keywords that declare.
 pub(crate) const DECLARING: &[u8] = b"var letvar";
 
-impl<'a, 't> Look<'a, 't> {
-    /// The text of a piece, or an empty text if there is none.
-    pub(crate) fn text(&self, at: usize) -> &'a [u8] {
+/// The numbers of the five pieces after a piece.
+pub(crate) fn after(at: usize) -> (usize, usize, usize, usize, usize) {
+    (
+        at.saturating_add(1),
+        at.saturating_add(2),
+        at.saturating_add(3),
+        at.saturating_add(4),
+        at.saturating_add(5),
+    )
+}
+
+impl<'s, 't> Scan<'s, 't> {
+    /// A piece, or an empty one if there is none.
+    pub(crate) fn piece(&self, at: usize) -> Piece<'s> {
         match self.pieces.get(at) {
-            Some(piece) => piece.text,
-            None => b"",
+            Some(piece) => *piece,
+            None => Piece {
+                sort: Sort::Sign,
+                text: b"",
+                at: 0,
+                is_first: true,
+            },
         }
+    }
+
+    /// The text of a piece, or an empty text if there is none.
+    pub(crate) fn text(&self, at: usize) -> &'s [u8] {
+        self.piece(at).text
+    }
+
+    /// The part of the text from one piece up to another one.
+    pub(crate) fn span(&self, first: usize, next: usize) -> &'s [u8] {
+        let source = self.source;
+        let stop = self.stop(next.saturating_sub(1)).min(source.len());
+        &source[self.piece(first).at.min(stop)..stop]
     }
 
     /// Whether a piece is this text.
@@ -65,17 +95,9 @@ impl<'a, 't> Look<'a, 't> {
         true
     }
 
-    /// Whether a piece is of this sort.
-    pub(crate) fn has_sort(&self, at: usize, sort: Sort) -> bool {
-        match self.pieces.get(at) {
-            Some(piece) => piece.sort == sort,
-            None => false,
-        }
-    }
-
     /// Whether a piece may be a name.
     pub(crate) fn is_name(&self, at: usize) -> bool {
-        self.has_sort(at, Sort::Word) && !self.is_keyword(at)
+        self.piece(at).sort == Sort::Word && !self.is_keyword(at)
     }
 
     /// Whether a piece is a keyword.
@@ -83,28 +105,15 @@ impl<'a, 't> Look<'a, 't> {
         self.is_any(at, KEYWORDS)
     }
 
-    /// Whether a piece is the first one of its line.
-    pub(crate) fn is_first(&self, at: usize) -> bool {
-        match self.pieces.get(at) {
-            Some(piece) => piece.is_first,
-            None => true,
-        }
-    }
-
     /// The position after a piece.
     pub(crate) fn stop(&self, at: usize) -> usize {
-        match self.pieces.get(at) {
-            Some(piece) => piece.at.saturating_add(piece.text.len()),
-            None => 0,
-        }
+        let piece = self.piece(at);
+        piece.at.saturating_add(piece.text.len())
     }
 
     /// Whether a piece begins where the one before it ends.
     pub(crate) fn touches(&self, at: usize) -> bool {
-        match (at.checked_sub(1), self.pieces.get(at)) {
-            (Some(before), Some(piece)) => self.stop(before) == piece.at,
-            _ => false,
-        }
+        0 < at && at < self.pieces.len() && self.stop(at.saturating_sub(1)) == self.piece(at).at
     }
 
     /// Whether a command may begin at a piece.
@@ -112,11 +121,11 @@ impl<'a, 't> Look<'a, 't> {
         let Some(before) = at.checked_sub(1) else {
             return true;
         };
-        if self.is_any(before, COMMAND_STARTS) || self.has_sort(before, Sort::Comment) {
+        if self.is_any(before, COMMAND_STARTS) || self.piece(before).sort == Sort::Comment {
             return true;
         }
         let goes_on = is_operator(self.text(before)) || self.is_any(before, VALUE_STARTS);
-        self.is_first(at) && (!goes_on || self.is(before, b":"))
+        self.piece(at).is_first && (!goes_on || self.is(before, b":"))
     }
 
     /// Whether a name is declared somewhere in the text.
@@ -127,13 +136,6 @@ impl<'a, 't> Look<'a, 't> {
             }
         }
         false
-    }
-
-    /// Whether an expression begins after a piece.
-    fn ends_before_value(&self, at: usize) -> bool {
-        self.is_any(at, VALUE_STARTS)
-            || self.has_sort(at, Sort::Comment)
-            || self.is(at, b"=") && self.is_assignment(at)
     }
 
     /// Whether a sign comes after a name with which a command begins.
@@ -151,9 +153,10 @@ impl<'a, 't> Look<'a, 't> {
             let Some(before) = start.checked_sub(1) else {
                 return start;
             };
-            if self.ends_before_value(before)
-                || (self.is_first(start) && self.is_command_start(start))
-            {
+            let begins = self.is_any(before, VALUE_STARTS)
+                || self.piece(before).sort == Sort::Comment
+                || self.is(before, b"=") && self.is_assignment(before);
+            if begins || (self.piece(start).is_first && self.is_command_start(start)) {
                 return start;
             }
             start = before;
@@ -164,7 +167,7 @@ impl<'a, 't> Look<'a, 't> {
     /// Whether a piece is an operand, or begins a call.
     fn is_operand(&self, at: usize) -> bool {
         let text = self.text(at);
-        (self.is_name(at) || self.has_sort(at, Sort::Number))
+        (self.is_name(at) || self.piece(at).sort == Sort::Number)
             && !is_operator(text)
             && !is_no_operand(text)
     }
@@ -196,13 +199,12 @@ impl<'a, 't> Look<'a, 't> {
 
     /// Whether a piece begins a name with a `-` in it, which no declaration can have.
     pub(crate) fn is_hyphened(&self, at: usize) -> bool {
-        let middle = at.saturating_add(1);
-        let last = at.saturating_add(2);
+        let (middle, last, ..) = after(at);
         self.is(middle, b"-")
             && self.touches(middle)
             && self.touches(last)
             && self.is_name(at)
-            && self.has_sort(last, Sort::Word)
+            && self.piece(last).sort == Sort::Word
             && !self.is_declared(self.text(last))
     }
 
@@ -211,7 +213,7 @@ impl<'a, 't> Look<'a, 't> {
     fn has_ended(&self, at: usize) -> bool {
         0 < at
             && (self.is_after_operand(at) && (self.is_operand(at) || self.is_keyword(at))
-                || self.is_first(at) && self.is_command_start(at))
+                || self.piece(at).is_first && self.is_command_start(at))
     }
 
     /// The piece after the expression that begins with a piece.
@@ -224,7 +226,7 @@ impl<'a, 't> Look<'a, 't> {
                 [b')'] => open = open.saturating_sub(1),
                 _ => {}
             }
-            if self.is_any(at, VALUE_STOPS) || self.has_sort(at, Sort::Comment) {
+            if self.is_any(at, VALUE_STOPS) || self.piece(at).sort == Sort::Comment {
                 return at;
             }
             if at > start && open == 0 && self.has_ended(at) {
@@ -254,7 +256,7 @@ impl<'a, 't> Look<'a, 't> {
     /// The piece at which the command around a piece has ended.
     pub(crate) fn command_stop(&self, at: usize) -> usize {
         for place in at.saturating_add(1)..self.pieces.len() {
-            if self.is_first(place) || self.is_any(place, b"; { } :") {
+            if self.piece(place).is_first || self.is_any(place, b"; { } :") {
                 return place;
             }
         }

@@ -1,0 +1,243 @@
+//! The constructs of other languages that begin with a name.
+
+use crate::declaring::{declaring_word, hyphen};
+use crate::expression::{FALSE, TRUE};
+use crate::forms::is_operator;
+use crate::found::{Found, Letters, Shape, commands, put, say, shaped};
+use crate::pieces::is_one_of;
+use crate::sayings::{CALLS, COMMANDS, NONE, Saying, said, saying_in};
+use crate::scan::{Scan, after};
+use crate::signs::is_beyond;
+
+/// Names for an `if` in an `else`.
+const ELSE_IF: &[u8] = b"elif elsif elseif";
+
+/// The signs that assign, or declare, after a name.
+const ASSIGNING: &[u8] = b":= = : , += -= *= /= %= ++ -- |= &= ^= <<= >>=";
+
+/// The end of a sentence on names of values.
+const WHOLE: &str = ": each variable holds a whole number.";
+
+/// Names that another text replaces: the names, the text, and the end of the sentence.
+const REPLACED: [(&[u8], &str, &str); 5] = [
+    (ELSE_IF, "else if", "."),
+    (
+        b"begin BEGIN",
+        "{",
+        ": { } hold several commands, as in `{ x := 1; y := 2 }`.",
+    ),
+    (TRUE, "1", WHOLE),
+    (FALSE, "0", WHOLE),
+    (b"null None nil NULL undefined", "0", WHOLE),
+];
+
+/// The commands that compute a quotient.
+const QUOTIENT: &[u8] =
+    b"letvar R := P in letvar T := 0 in { while Q - 1 < R do { R := R - Q; T := T + 1 }; N := T }";
+
+/// The commands that compute a remainder.
+const REMAINDER: &[u8] = b"letvar R := P in { while Q - 1 < R do R := R - Q; N := R }";
+
+/// The rule for a command that assigns to several variables.
+const ONE_VARIABLE: &str = ": a command assigns to one variable.";
+
+/// Two values that are assigned to two names at once.
+const SWAP: Letters = (
+    b"letvar K := V in { P := W; N := K }",
+    ONE_VARIABLE,
+    "assign to one variable at a time, as in `letvar t := x in { x := y; y := t }`.",
+);
+
+/// The rule for other signs than `:=`.
+const ONE_SIGN: &str = ": a command assigns with `:=` only.";
+
+/// The advice on such a sign.
+const ASSIGN: &str = "assign with `:=`, as in `x := x + 1`.";
+
+/// The rule for a sign that compares.
+const COMPARES: &str = ": `:=` assigns, and `=` compares.";
+
+/// The advice on such a sign that compares.
+const WRITE: &str = "write `:=` to assign, as in `x := 1`.";
+
+/// The signs that assign after a name in other languages, and the commands to offer.
+const ASSIGNMENTS: [(&[u8], Letters); 9] = [
+    (b"=", (b"N := V", COMPARES, WRITE)),
+    (b"==", (b"N := V", COMPARES, WRITE)),
+    (b"< -", (b"N := V", COMPARES, WRITE)),
+    (b": =", (b"N := V", COMPARES, WRITE)),
+    (b"+=", (b"N := N + X", ONE_SIGN, ASSIGN)),
+    (b"-=", (b"N := N - X", ONE_SIGN, ASSIGN)),
+    (b"*=", (b"N := N * Y", ONE_SIGN, ASSIGN)),
+    (b"++", (b"N := N + 1", ONE_SIGN, "")),
+    (b"--", (b"N := N - 1", ONE_SIGN, "")),
+];
+
+/// Whether a name is one for an `if` in an `else`.
+pub fn is_else_if(word: &[u8]) -> bool {
+    is_one_of(ELSE_IF, word)
+}
+
+/// The piece after the arguments of a call that begin with a piece, or after a command.
+fn call_stop(scan: &Scan, at: usize) -> usize {
+    let next = at.saturating_add(1);
+    if scan.is(next, b"(") {
+        scan.after_closing(next, b'(', b')')
+    } else {
+        scan.command_stop(at)
+    }
+}
+
+/// A call, whose name is the piece with this number.
+fn call(scan: &Scan, at: usize) -> Option<Found> {
+    let next = at.saturating_add(1);
+    let has_bracket = scan.is(next, b"(");
+    if has_bracket || scan.is_command_start(at) {
+        if let Some(saying) = saying_in(&CALLS, scan.text(at)) {
+            return said(at, call_stop(scan, at), saying);
+        }
+    }
+    if !has_bracket || !scan.touches(next) {
+        return None;
+    }
+    let rest =
+        ": you can't call functions, so write its commands in its place, as in `y := x * x`.";
+    say(at, call_stop(scan, at), NONE, rest)
+}
+
+/// The piece after a name that begins or ends a command, with what belongs to it.
+fn command_next(scan: &Scan, at: usize, saying: Saying) -> usize {
+    let next = at.saturating_add(1);
+    let is_ended = scan.is(next, b".") || scan.is_keyword(next) && !scan.piece(next).is_first;
+    match saying.0 {
+        [b'e', b'n', b'd', ..] if is_ended => next.saturating_add(1),
+        [b'e', b'n', b'd', ..] | [b'r', b'e', b'p', ..] | [b's', b'w', ..] => next,
+        [b't', b'r', b'y', ..] => next,
+        _ => call_stop(scan, at),
+    }
+}
+
+/// The construct that a name begins, unless it is a command that assigns.
+fn word(scan: &Scan, at: usize) -> Option<Found> {
+    let text = scan.text(at);
+    let next = at.saturating_add(1);
+    let is_declared = scan.is_declared(text);
+    if is_declared && scan.is(next, b"(") && scan.touches(next) {
+        return call(scan, at);
+    }
+    if is_declared || scan.is_any(next, ASSIGNING) || is_operator(text) {
+        return None;
+    }
+    for (words, new, rest) in REPLACED.as_slice() {
+        if is_one_of(*words, text) {
+            return put(at, *new, *rest);
+        }
+    }
+    if let Some(found) = declaring_word(scan, at) {
+        return Some(found);
+    }
+    if scan.is_after_operand(at) || scan.is_command_start(at) {
+        if let Some(saying) = saying_in(&COMMANDS, text) {
+            return said(at, command_next(scan, at, saying), saying);
+        }
+    }
+    call(scan, at)
+}
+
+/// Commands in place of pieces with a value up to a piece; in place of those before the value, if it
+/// has an operator without a translation.
+fn rewriting(scan: &Scan, at: usize, value: usize, stop: usize, letters: Letters) -> Option<Found> {
+    let is_whole = !(value..stop).any(|place| is_beyond(scan, place));
+    commands(at, value, if is_whole { stop } else { value }, letters)
+}
+
+/// An operand that is divided by another one, in a value that begins at a piece.
+fn division(scan: &Scan, at: usize, value: usize) -> Option<Found> {
+    let (sign, last, next, ..) = after(value);
+    let is_whole = scan.ends_operand(value) && scan.ends_operand(last);
+    if !is_whole || scan.value_stop(last) != next {
+        return None;
+    }
+    let text = if scan.is_any(sign, b"% mod MOD") {
+        REMAINDER
+    } else if scan.is_any(sign, b"/ // div DIV") {
+        QUOTIENT
+    } else {
+        return None;
+    };
+    let rule = ": subtract as often as you can, if the dividend isn't negative and the divisor is \
+        above 0.";
+    let plain = "divide in a loop, as `while 1 < r do { r := r - 2; q := q + 1 }` does for half of \
+        r, if r isn't negative.";
+    commands(at, value, next, (text, rule, plain))
+}
+
+/// A value that is assigned to two names by one command.
+fn twice(scan: &Scan, at: usize) -> Option<Found> {
+    let (sign, second, other, value, end) = after(at);
+    if !scan.is(other, scan.text(sign)) || !scan.is_name(second) {
+        return None;
+    }
+    let plain = "assign to one variable at a time, as in `y := 1; x := y`.";
+    let next = scan.value_stop(value);
+    if scan.is_any(next, b":= ,") || scan.is(end, b"=") {
+        return shaped(at, next, Shape::Tell(plain));
+    }
+    let text = if at == 0 || scan.is_after(at, b"; { }") {
+        b"P := V; N := P".as_slice()
+    } else {
+        b"{ P := V; N := P }".as_slice()
+    };
+    rewriting(scan, at, value, next, (text, ONE_VARIABLE, plain))
+}
+
+/// A command that begins with a name and isn't valid here.
+fn assignment(scan: &Scan, at: usize) -> Option<Found> {
+    let (sign, value, second, last, _) = after(at);
+    if scan.is_any(sign, b":= =") {
+        if let Some(found) = twice(scan, at) {
+            return Some(found);
+        }
+        if let Some(found) = division(scan, at, value) {
+            return Some(found);
+        }
+    }
+    if scan.is(sign, b",") {
+        if !scan.is_name(value) || !scan.is_any(second, b"= :=") {
+            return None;
+        }
+        return rewriting(scan, at, last, scan.command_stop(at), SWAP);
+    }
+    if scan.is(sign, b"<") && !scan.touches(value) {
+        return None;
+    }
+    for (signs, letters) in ASSIGNMENTS.as_slice() {
+        if scan.begins(sign, *signs) {
+            let value = value.saturating_add(usize::from(signs.contains(&b' ')));
+            if letters.2.is_empty() {
+                return commands(at, value, value, *letters);
+            }
+            return rewriting(scan, at, value, scan.value_stop(value), *letters);
+        }
+    }
+    if scan.is(sign, b":") && saying_in(&COMMANDS, scan.text(at)).is_none() {
+        let rest = " with `var`, as in `var x : L;`, at the beginning of the text.";
+        return say(at, scan.command_stop(sign), "declare ", rest);
+    }
+    None
+}
+
+/// The construct that a name begins.
+pub(crate) fn named(scan: &Scan, at: usize) -> Option<Found> {
+    if let Some(found) = word(scan, at) {
+        return Some(found);
+    }
+    if let Some(found) = hyphen(scan, at) {
+        return Some(found);
+    }
+    if scan.is_command_start(at) {
+        assignment(scan, at)
+    } else {
+        None
+    }
+}
