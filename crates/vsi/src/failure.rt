@@ -23,7 +23,6 @@ use vsi_devices::{Counted, EngineError, write_out};
 use vsi_diagnostics::{Diagnostic, Field, fault_diagnostic, line_text, refusal_diagnostic};
 use vsi_documents::{refused_interface_json, refused_json};
 use vsi_drive::{BoundaryFault, LineFault, StartFault};
-use vsi_report::ReportError;
 use vsi_steady::SteadyError;
 
 /// Standard input and output, in a file fault.
@@ -69,15 +68,6 @@ impl<T: Drop> From<AllocFailed<T>> for Failure<'_> {
     ghost from_gives = { λ _ e. e ≡ Memory };
 
     fn from(_error: AllocFailed<T>) -> Self {
-        Failure::Memory
-    }
-}
-
-impl From<ReportError> for Failure<'_> {
-    ghost from_gives = { λ _ e. e ≡ Memory };
-
-    // A page that is too long has no text of its own.
-    fn from(_error: ReportError) -> Self {
         Failure::Memory
     }
 }
@@ -194,27 +184,6 @@ pub(crate) fn write_answer<'a, W: Write>(
     } else {
         Err(Failure::Differs)
     }
-}
-
-/// Writes an answer, and then fails in this way if it isn't good.
-pub(crate) fn write_document<'a, W: Write>(
-    text: &[u8],
-    is_good: bool,
-    otherwise: Failure<'a>,
-    output: &mut Counted<W>,
-) -> Result<(), Failure<'a>>
-    requires { faults_of output.old < u64.MAX }
-    ensures fault { TellsFault (faults_of output.old) (faults_of output.new) result }
-    ensures part { WritesPart text.now
-        (W.contents (device_of output.old)) (W.contents (device_of output.new)) }
-    ensures whole { OnOk result ((is_good ≡ true)
-        × Appends (W.contents (device_of output.old)) (W.contents (device_of output.new)) text.now) }
-    ensures failed { IfErr result (λ failure. ((failure ≡ otherwise.entry) × ((is_good ≡ false)
-        × Appends (W.contents (device_of output.old)) (W.contents (device_of output.new)) text.now))
-        ⊎ (status_of failure ≡ 4)) }
-{
-    write(text, output)?;
-    if is_good { Ok(()) } else { Err(otherwise) }
 }
 
 /// Writes the start and the name on a line.

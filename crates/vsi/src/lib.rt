@@ -11,10 +11,12 @@
 //! `Seeing`, `Laying`, `Raises`, `Documents`, `Admitted`, `Served`, `Files`, `Interfaces`,
 //! `Filed`, `Visible`, `Boundaries`, `Steering`, `Feeding`, `Viewing`, `Performed`, `Refusals`,
 //! `Undriven`, `Reasons`, `Partly`, `FaultyFiles`, `Diagnosing`, `Done`, `Screen`, `Objections`,
-//! `Input` and `Laws`, of `Failures` all but `FailsFor`, of `Noted` all but `Notes`, and of `Saved` its
-//! second part; its first part and `Walked` are stepping stones of proofs.
+//! `Works`, `Input` and `Laws`, of `Failures` all but `FailsFor`, of `Noted` all but `Notes` and
+//! `NotesAnswer`, and of `Saved` its second part; its first part and `Walked` are stepping stones of
+//! proofs.
 #![tactic(auto)]
 
+mod answering;
 mod auditing;
 mod boundaries;
 mod carrying_out;
@@ -36,8 +38,8 @@ mod objections;
 mod policies;
 mod reading;
 mod references;
+mod replies;
 mod running;
-mod sarif_documents;
 mod steering;
 mod subcommands;
 mod trying;
@@ -147,7 +149,6 @@ pub use vsi_machine::Machine;
 pub use vsi_machine::Outcome;
 pub use vsi_machine::StartError;
 pub use vsi_report::Filing;
-pub use vsi_report::ReportError;
 pub use vsi_report::filed_page;
 pub use vsi_report::flows_dot;
 pub use vsi_report::lattice_dot;

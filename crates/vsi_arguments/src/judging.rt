@@ -1,10 +1,27 @@
 //! Looks for mistakes in arguments that the command-line parser accepts.
 
-use crate::numbers::{number_in, wrong_number};
+use crate::given_numbers::number_in;
 use clap::ArgMatches;
 use clap::parser::ValueSource;
 use vsi_emit::is_function_name;
 use vsi_explain::{page, subject_page};
+
+/// The options that take numbers, each with the message for a value that isn't such a number.
+macro_rules! numbers {
+    ($($name:literal from $least:literal),*) => {
+        [$(($name, concat!("--", $name, " takes a number from ", $least,
+            " to 18446744073709551615, in digits alone"))),*]
+    };
+}
+
+/// The options that take numbers, each with the message for a value that isn't such a number.
+const NUMBERS: [(&str, &str); 4] = numbers! {
+    "budget" from "0", "tries" from "0", "seed" from "0", "save-every" from "1"
+};
+
+/// The message for a budget of a subcommand that runs an image, whose bound can be the budget.
+const BUDGET_OR_AUTO: &str =
+    "--budget takes `auto`, or a number from 0 to 18446744073709551615, in digits alone";
 
 /// A subcommand, or `*` for each that has the arguments; an argument, and others of which it needs
 /// one or goes with none; and the mistake if it doesn't.
@@ -54,23 +71,26 @@ const APART: [Rule; 11] = table! {
 
 /// The mistake in the arguments of a subcommand, if there is one.
 pub(crate) fn mistake_in(name: &str, matches: &ArgMatches<'_>) -> Option<&'static str> {
-    if let Some(mistake) = wrong_number(name, matches) {
-        return Some(mistake);
+    wrong_number(name, matches)
+        .or(mistake_of(&NEEDED, name, matches, false))
+        .or(mistake_of(&APART, name, matches, true))
+        .or(own_mistake(name, matches))
+}
+
+/// The message for the first value of a subcommand that should be a number and isn't one.
+fn wrong_number(name: &str, matches: &ArgMatches<'_>) -> Option<&'static str> {
+    for (id, text) in &NUMBERS {
+        let Some(word) = matches.get_str(id) else {
+            continue;
+        };
+        match (*id, name, number_in(word.as_bytes())) {
+            ("budget", "run" | "view" | "drive" | "compare", None) if word == "auto" => {}
+            ("budget", "run" | "view" | "drive" | "compare", None) => return Some(BUDGET_OR_AUTO),
+            ("save-every", _, Some(0)) | (_, _, None) => return Some(*text),
+            _ => {}
+        }
     }
-    if let Some(mistake) = mistake_of(&NEEDED, name, matches, false) {
-        return Some(mistake);
-    }
-    if let Some(mistake) = mistake_of(&APART, name, matches, true) {
-        return Some(mistake);
-    }
-    match name {
-        "build" => wrong_image(matches),
-        "compare" => wrong_stores(matches),
-        "drive" => wrong_start(matches),
-        "emit-c" => wrong_name(matches),
-        "explain" => wrong_page(text(matches, "WHAT")),
-        _ => None,
-    }
+    None
 }
 
 /// The mistake of the first rule of the subcommand whose argument is given, with or without one of
@@ -107,43 +127,49 @@ fn is_given(matches: &ArgMatches<'_>, id: &str) -> bool {
     matches.value_source(id) == Some(ValueSource::CommandLine)
 }
 
-/// The mistake of an image that would overwrite an input file.
-fn wrong_image(matches: &ArgMatches<'_>) -> Option<&'static str> {
-    let place = plain(text(matches, "IMAGE"));
-    if place == plain(text(matches, "LATTICE")) || place == plain(text(matches, "SOURCE")) {
-        return Some("the image would replace a file that is read");
-    }
-    None
+/// The mistake that no table has, of the arguments of a subcommand.
+fn own_mistake(name: &str, matches: &ArgMatches<'_>) -> Option<&'static str> {
+    let (is_right, mistake) = match name {
+        "build" => (
+            keeps_files(matches),
+            "the image would replace a file that is read",
+        ),
+        "compare" => (has_two_stores(matches), "`compare` needs two stores"),
+        "drive" => (
+            has_one_path(matches),
+            "`--init` needs `--store` and `--save` with the same path",
+        ),
+        "emit-c" => (
+            is_function_name(matches.get_str("name")?.as_bytes()),
+            "the name isn't an identifier of C, or it is a keyword",
+        ),
+        "explain" => return wrong_page(matches.get_str("WHAT")?),
+        _ => return None,
+    };
+    if is_right { None } else { Some(mistake) }
 }
 
-/// A path without a leading `./`.
-fn plain(path: &str) -> &str {
-    path.strip_prefix("./").unwrap_or(path)
+/// The path that a required argument gives, without a leading `./`.
+fn text<'a>(matches: &ArgMatches<'a>, id: &str) -> &'a str {
+    let given = matches.get_str(id).unwrap_or("");
+    given.strip_prefix("./").unwrap_or(given)
 }
 
-/// The mistake of a comparison of more or fewer stores than two.
-fn wrong_stores(matches: &ArgMatches<'_>) -> Option<&'static str> {
-    match matches.get_strs("store") {
-        Some([_, _]) => None,
-        _ => Some("`compare` needs two stores"),
-    }
+/// Whether the image of `build` overwrites neither input file.
+fn keeps_files(matches: &ArgMatches<'_>) -> bool {
+    let image = text(matches, "IMAGE");
+    image != text(matches, "LATTICE") && image != text(matches, "SOURCE")
 }
 
-/// The mistake of a first start without one path at which the store is read and saved.
-fn wrong_start(matches: &ArgMatches<'_>) -> Option<&'static str> {
-    let _start = matches.get_str("init")?;
-    match (matches.get_str("store"), matches.get_str("save")) {
-        (Some(store), Some(save)) if store == save => None,
-        _ => Some("`--init` needs `--store` and `--save` with the same path"),
-    }
+/// Whether a comparison has two stores.
+fn has_two_stores(matches: &ArgMatches<'_>) -> bool {
+    matches!(matches.get_strs("store"), Some([_, _]))
 }
 
-/// The mistake of a prefix that can't begin names in C.
-fn wrong_name(matches: &ArgMatches<'_>) -> Option<&'static str> {
-    if is_function_name(matches.get_str("name")?.as_bytes()) {
-        return None;
-    }
-    Some("the name isn't an identifier of C, or it is a keyword")
+/// Whether a first start has one path at which the store is read and saved.
+fn has_one_path(matches: &ArgMatches<'_>) -> bool {
+    let store = matches.get_str("store");
+    !is_given(matches, "init") || store.is_some() && store == matches.get_str("save")
 }
 
 /// The mistake of an argument that is neither a number nor a subject.
@@ -155,16 +181,9 @@ fn wrong_page(what: &str) -> Option<&'static str> {
     if subject_page(what.as_bytes()).is_some() {
         return None;
     }
-    let Some(number) = number_in(what) else {
-        return Some(NO_SUBJECT);
-    };
-    match page(number) {
+    match number_in(what.as_bytes()) {
+        None => Some(NO_SUBJECT),
+        Some(number) if page(number).is_none() => Some("no refusal has this number"),
         Some(_) => None,
-        None => Some("no refusal has this number"),
     }
-}
-
-/// The value of a required argument, which every successful parse has.
-fn text<'a>(matches: &ArgMatches<'a>, id: &str) -> &'a str {
-    matches.get_str(id).unwrap_or("")
 }

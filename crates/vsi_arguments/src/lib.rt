@@ -15,7 +15,6 @@ mod given_numbers;
 mod images;
 mod judging;
 pub mod laws;
-mod numbers;
 mod pages;
 mod reader;
 mod reading;
@@ -25,6 +24,7 @@ mod running;
 mod runs;
 mod subcommand;
 mod texts;
+mod tips;
 mod usage;
 
 pub use asking::{asks_help, request_of};

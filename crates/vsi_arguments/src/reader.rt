@@ -4,7 +4,8 @@ use crate::error::ArgumentsError;
 use crate::escaped::escaped;
 use crate::judging::mistake_in;
 use crate::request::{Colour, Manner, Reporting};
-use crate::usage::{program, reformatted};
+use crate::tips::with_tips;
+use crate::usage::program;
 use clap::error::ErrorKind;
 use clap::{ArgMatches, Error};
 use std::alloc::{AllocError, Global};
@@ -40,15 +41,15 @@ fn told(alloc: Global, error: &Error) -> ArgumentsError {
 
 /// The message for a mistake, in which no argument controls a terminal.
 fn message(alloc: Global, text: &str) -> Result<String, AllocError> {
-    let told = reformatted(alloc, text)?;
+    let told = with_tips(alloc, text)?;
     escaped(alloc, told.as_str())
 }
 
 /// Parses the arguments.
 fn parsed(alloc: Global, arguments: &[String]) -> Result<Manner, Error> {
-    let first = match arguments.first() {
-        Some(first) => first.as_str(),
-        None => "",
+    let first = match arguments {
+        [first, ..] => first.as_str(),
+        [] => "",
     };
     let mut command = program(alloc, first)?;
     let matches = command.try_get_matches_from_mut(arguments)?;

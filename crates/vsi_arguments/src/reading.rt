@@ -72,10 +72,12 @@ pub(crate) fn behind<'a>(
 }
 
 /// The arguments after the first, as `behind` returns them, by a row: the name, the flags and the
-/// options of the subcommand.
+/// options of the subcommand, to which those are added that say how a refusal is explained; and the
+/// flag that lets it replace a file, if it has that.
 macro_rules! rest_of {
-    ($words:ident $name:literal [$($flag:literal)*] [$($option:literal)*]) => {
-        behind($words, $name, [$($flag),*].as_slice(), [$($option),*].as_slice())?
+    ($words:ident $name:literal [$($flag:literal)*] [$($option:literal)*] $($force:literal)?) => {
+        behind($words, $name, [$($flag,)* "--explain" $(, $force)?].as_slice(),
+            [$($option,)* "--color"].as_slice())?
     };
 }
 

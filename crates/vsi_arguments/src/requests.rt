@@ -33,9 +33,8 @@ pub(crate) fn compilation<'a>(words: &[String], proposed: &[&'a str]) -> Option<
 pub(crate) fn check<'a>(words: &[String], proposed: &[&'a str]) -> Option<Request<'a>>
     ensures { IfSome result (spec.AsksFor words.now) }
 {
-    let rest = rest_of! { words "check"
-    ["--strict" "--steady" "--json" "--sarif" "--warnings" "--explain"]
-    ["--color"] };
+    let rest = rest_of! { words "check" ["--strict" "--steady" "--json" "--sarif" "--warnings"]
+    [] };
     let judging = Judging {
         compilation: compilation(rest, proposed)?,
         is_steady: has_flag(rest, "--steady"),
@@ -67,8 +66,7 @@ fn form(words: &[String]) -> Option<AnswerForm>
 pub(crate) fn conform<'a>(words: &[String], proposed: &[&'a str]) -> Option<Request<'a>>
     ensures { IfSome result (spec.AsksFor words.now) }
 {
-    let rest = rest_of! { words "conform" ["--json" "--sarif" "--evidence" "--explain"]
-    ["--budget" "--color"] };
+    let rest = rest_of! { words "conform" ["--json" "--sarif" "--evidence"] ["--budget"] };
     let (interface, source) = two(rest, proposed)?;
     Some(Request::Conform(Conformance {
         interface,
@@ -83,7 +81,7 @@ pub(crate) fn conform<'a>(words: &[String], proposed: &[&'a str]) -> Option<Requ
 pub(crate) fn classes<'a>(words: &[String], proposed: &[&'a str]) -> Option<Request<'a>>
     ensures { IfSome result (spec.AsksFor words.now) }
 {
-    let rest = rest_of! { words "classes" ["--strict" "--json" "--explain"] ["--color"] };
+    let rest = rest_of! { words "classes" ["--strict" "--json"] [] };
     let compilation = compilation(rest, proposed)?;
     if has_flag(rest, "--json") {
         return Some(Request::Document(Document::Classes(compilation)));
@@ -95,7 +93,7 @@ pub(crate) fn classes<'a>(words: &[String], proposed: &[&'a str]) -> Option<Requ
 pub(crate) fn flows<'a>(words: &[String], proposed: &[&'a str]) -> Option<Request<'a>>
     ensures { IfSome result (spec.AsksFor words.now) }
 {
-    let rest = rest_of! { words "flows" ["--strict" "--walks" "--json" "--explain"] ["--color"] };
+    let rest = rest_of! { words "flows" ["--strict" "--walks" "--json"] [] };
     let compilation = compilation(rest, proposed)?;
     match (has_flag(rest, "--walks"), has_flag(rest, "--json")) {
         (true, true) => None,
@@ -111,7 +109,7 @@ pub(crate) fn flows<'a>(words: &[String], proposed: &[&'a str]) -> Option<Reques
 pub(crate) fn mend<'a>(words: &[String], proposed: &[&'a str]) -> Option<Request<'a>>
     ensures { IfSome result (spec.AsksFor words.now) }
 {
-    let rest = rest_of! { words "mend" ["--strict" "--apply" "--json" "--explain"] ["--color"] };
+    let rest = rest_of! { words "mend" ["--strict" "--apply" "--json"] [] };
     let compilation = compilation(rest, proposed)?;
     let is_applied = has_flag(rest, "--apply");
     let is_json = has_flag(rest, "--json");
@@ -129,9 +127,8 @@ pub(crate) fn mend<'a>(words: &[String], proposed: &[&'a str]) -> Option<Request
 pub(crate) fn audit<'a>(words: &[String], proposed: &[&'a str]) -> Option<Request<'a>>
     ensures { IfSome result (spec.AsksFor words.now) }
 {
-    let rest = rest_of! { words "audit"
-    ["--strict" "--steady" "--evidence" "--json" "--sarif" "--explain"]
-    ["--color"] };
+    let rest = rest_of! { words "audit" ["--strict" "--steady" "--evidence" "--json" "--sarif"]
+    [] };
     let (lattice, image) = two(rest, proposed)?;
     let audit = Audit {
         lattice,
@@ -151,8 +148,8 @@ pub(crate) fn audit<'a>(words: &[String], proposed: &[&'a str]) -> Option<Reques
 pub(crate) fn leak<'a>(words: &'a [String], proposed: &[&'a str]) -> Option<Request<'a>>
     ensures { IfSome result (spec.AsksFor words.now) }
 {
-    let rest = rest_of! { words "leak" ["--endings" "--steps" "--json" "--explain"]
-    ["--class" "--budget" "--tries" "--seed" "--color"] };
+    let rest = rest_of! { words "leak" ["--endings" "--steps" "--json"]
+    ["--class" "--budget" "--tries" "--seed"] };
     let (lattice, source) = two(rest, proposed)?;
     let search = Search {
         lattice,
@@ -174,27 +171,24 @@ pub(crate) fn leak<'a>(words: &'a [String], proposed: &[&'a str]) -> Option<Requ
 pub(crate) fn build<'a>(words: &[String], proposed: &[&'a str]) -> Option<Request<'a>>
     ensures { IfSome result (spec.AsksFor words.now) }
 {
-    let rest = rest_of! { words "build" ["--strict" "--explain" "--force"] ["--color"] };
+    let rest = rest_of! { words "build" ["--strict"] [] "--force" };
     let [lattice, source, image] = proposed else {
         return None;
     };
     let operands = [lattice.as_bytes(), source.as_bytes(), image.as_bytes()];
-    if !has_operands(rest, operands.as_slice()) {
-        return None;
-    }
     let compilation = Compilation {
         lattice,
         source,
         is_strict: has_flag(rest, "--strict"),
     };
-    Some(Request::Build(compilation, image))
+    has_operands(rest, operands.as_slice()).then_some(Request::Build(compilation, image))
 }
 
 /// The request of `list`.
 pub(crate) fn list<'a>(words: &[String], proposed: &[&'a str]) -> Option<Request<'a>>
     ensures { IfSome result (spec.AsksFor words.now) }
 {
-    let rest = rest_of! { words "list" ["--explain"] ["--color"] };
+    let rest = rest_of! { words "list" [] [] };
     Some(Request::List(one(rest, proposed)?))
 }
 
@@ -202,7 +196,7 @@ pub(crate) fn list<'a>(words: &[String], proposed: &[&'a str]) -> Option<Request
 pub(crate) fn source<'a>(words: &[String], proposed: &[&'a str]) -> Option<Request<'a>>
     ensures { IfSome result (spec.AsksFor words.now) }
 {
-    let rest = rest_of! { words "source" ["--explain"] ["--color"] };
+    let rest = rest_of! { words "source" [] [] };
     Some(Request::Source(one(rest, proposed)?))
 }
 
@@ -210,8 +204,7 @@ pub(crate) fn source<'a>(words: &[String], proposed: &[&'a str]) -> Option<Reque
 pub(crate) fn emit_c<'a>(words: &'a [String], proposed: &[&'a str]) -> Option<Request<'a>>
     ensures { IfSome result (spec.AsksFor words.now) }
 {
-    let rest = rest_of! { words "emit-c" ["--header" "--bounded" "--explain"]
-    ["--lattice" "--name" "--color"] };
+    let rest = rest_of! { words "emit-c" ["--header" "--bounded"] ["--lattice" "--name"] };
     Some(Request::EmitC(Emission {
         lattice: value(rest, "--lattice")?,
         file: one(rest, proposed)?,
@@ -225,17 +218,12 @@ pub(crate) fn emit_c<'a>(words: &'a [String], proposed: &[&'a str]) -> Option<Re
 pub(crate) fn bound<'a>(words: &[String], proposed: &[&'a str]) -> Option<Request<'a>>
     ensures { IfSome result (spec.AsksFor words.now) }
 {
-    let rest = rest_of! { words "bound" ["--json" "--explain"] ["--color"] };
-    let bounding = match one_or_two(rest, proposed)? {
-        (file, None) => Bounding {
-            lattice: None,
-            file,
-        },
-        (lattice, Some(file)) => Bounding {
-            lattice: Some(lattice),
-            file,
-        },
+    let rest = rest_of! { words "bound" ["--json"] [] };
+    let (lattice, file) = match one_or_two(rest, proposed)? {
+        (file, None) => (None, file),
+        (lattice, Some(file)) => (Some(lattice), file),
     };
+    let bounding = Bounding { lattice, file };
     if has_flag(rest, "--json") {
         return Some(Request::Document(Document::Bound(bounding)));
     }
@@ -246,7 +234,7 @@ pub(crate) fn bound<'a>(words: &[String], proposed: &[&'a str]) -> Option<Reques
 pub(crate) fn report<'a>(words: &[String], proposed: &[&'a str]) -> Option<Request<'a>>
     ensures { IfSome result (spec.AsksFor words.now) }
 {
-    let rest = rest_of! { words "report" ["--strict" "--explain"] ["--color"] };
+    let rest = rest_of! { words "report" ["--strict"] [] };
     Some(Request::Report(compilation(rest, proposed)?))
 }
 
@@ -254,7 +242,7 @@ pub(crate) fn report<'a>(words: &[String], proposed: &[&'a str]) -> Option<Reque
 pub(crate) fn draw<'a>(words: &[String], proposed: &[&'a str]) -> Option<Request<'a>>
     ensures { IfSome result (spec.AsksFor words.now) }
 {
-    let rest = rest_of! { words "draw" ["--strict" "--flows" "--explain"] ["--color"] };
+    let rest = rest_of! { words "draw" ["--strict" "--flows"] [] };
     let (lattice, source) = one_or_two(rest, proposed)?;
     Some(Request::Draw(Drawing {
         lattice,
@@ -269,7 +257,7 @@ pub(crate) fn draw<'a>(words: &[String], proposed: &[&'a str]) -> Option<Request
 pub(crate) fn policy<'a>(words: &'a [String], proposed: &[&'a str]) -> Option<Request<'a>>
     ensures { IfSome result (spec.AsksFor words.now) }
 {
-    let rest = rest_of! { words "policy" ["--explain"] ["--interface" "--color"] };
+    let rest = rest_of! { words "policy" [] ["--interface"] };
     let Some(interface) = value(rest, "--interface")? else {
         let (lattice, old) = one_or_two(rest, proposed)?;
         return Some(Request::Policy(Looking { lattice, old }));
@@ -293,8 +281,7 @@ fn keeps_comments(layout: &Layout<'_>) -> bool
 pub(crate) fn layout<'a>(words: &[String], proposed: &[&'a str]) -> Option<Request<'a>>
     ensures { IfSome result (spec.AsksFor words.now) }
 {
-    let rest = rest_of! { words "fmt" ["--keep-comments" "--check" "--write" "--explain"]
-    ["--color"] };
+    let rest = rest_of! { words "fmt" ["--keep-comments" "--check" "--write"] [] };
     let layout = Layout {
         source: one(rest, proposed)?,
         is_kept: has_flag(rest, "--keep-comments"),
@@ -304,7 +291,7 @@ pub(crate) fn layout<'a>(words: &[String], proposed: &[&'a str]) -> Option<Reque
     if keeps_comments(&layout) {
         return Some(Request::Layout(layout));
     }
-    let rest = rest_of! { words "fmt" ["--explain"] ["--color"] };
+    let rest = rest_of! { words "fmt" [] [] };
     Some(Request::Format(one(rest, proposed)?))
 }
 
@@ -313,18 +300,19 @@ pub(crate) fn lattice<'a>(words: &[String], proposed: Vec<&'a [u8]>) -> Option<R
     ensures { IfSome result (spec.AsksFor words.now) }
 {
     let rest = behind(words, "lattice", &[], &[])?;
-    if has_operands(rest, proposed.as_slice()) {
-        Some(Request::Lattice(proposed))
-    } else {
-        None
-    }
+    has_operands(rest, proposed.as_slice()).then_some(Request::Lattice(proposed))
 }
 
 /// The request of `lsp`.
 pub(crate) fn lsp<'a>(words: &'a [String]) -> Option<Request<'a>>
     ensures { IfSome result (spec.AsksFor words.now) }
 {
-    let rest = rest_of! { words "lsp" ["--strict"] ["--lattice"] };
+    let rest = behind(
+        words,
+        "lsp",
+        ["--strict"].as_slice(),
+        ["--lattice"].as_slice(),
+    )?;
     if !has_operands(rest, &[]) {
         return None;
     }

@@ -19,8 +19,7 @@ pub(crate) fn attempt<'a>(
 ) -> Option<Request<'a>>
     ensures { IfSome result (spec.AsksFor words.now) }
 {
-    let rest = rest_of! { words "try" ["--explain"]
-    ["--lattice" "--class" "--set" "--budget" "--color"] };
+    let rest = rest_of! { words "try" [] ["--lattice" "--class" "--set" "--budget"] };
     if !has_values(rest, "--set", settings.as_slice()) {
         return None;
     }
@@ -75,9 +74,8 @@ pub(crate) fn run<'a>(
 ) -> Option<Request<'a>>
     ensures { IfSome result (spec.AsksFor words.now) }
 {
-    let rest = rest_of! { words "run"
-    ["--full-store" "--trace" "--count" "--json" "--explain" "--force"]
-    ["--store" "--out" "--set" "--budget" "--color"] };
+    let rest = rest_of! { words "run" ["--full-store" "--trace" "--count" "--json"]
+    ["--store" "--out" "--set" "--budget"] "--force" };
     let execution = execution(rest, one(rest, proposed)?)?;
     let initial_store = initial_store(rest, settings)?;
     let (has_trace, has_count) = (has_flag(rest, "--trace"), has_flag(rest, "--count"));
@@ -150,10 +148,9 @@ pub(crate) fn view<'a>(
 ) -> Option<Request<'a>>
     ensures { IfSome result (spec.AsksFor words.now) }
 {
-    let rest = rest_of! { words "view"
-    ["--full-store" "--unbounded" "--explain" "--force"]
-    ["--class" "--store" "--out" "--set" "--interface" "--outputs" "--release" "--budget"
-    "--color"] };
+    let rest = rest_of! { words "view" ["--full-store" "--unbounded"]
+    ["--class" "--store" "--out" "--set" "--interface" "--outputs" "--release" "--budget"]
+    "--force" };
     let (policy, image) = policy(rest, proposed, None)?;
     let class = value(rest, "--class")??;
     let execution = execution(rest, image)?;
@@ -178,11 +175,8 @@ pub(crate) fn view<'a>(
     else {
         return None;
     };
-    let flags = ["--full-store", "--explain", "--force"];
-    let options = [
-        "--class", "--store", "--out", "--set", "--budget", "--color",
-    ];
-    behind(words, "view", flags.as_slice(), options.as_slice())?;
+    rest_of! { words "view" ["--full-store"]
+    ["--class" "--store" "--out" "--set" "--budget"] "--force" };
     Some(Request::View {
         lattice,
         class,
@@ -225,10 +219,9 @@ fn stores<'a>(words: &'a [String]) -> Option<StorePaths<'a>>
 pub(crate) fn drive<'a>(words: &'a [String], proposed: &[&'a str]) -> Option<Request<'a>>
     ensures { IfSome result (spec.AsksFor words.now) }
 {
-    let rest = rest_of! { words "drive"
-    ["--full-store" "--unbounded" "--explain" "--force"]
+    let rest = rest_of! { words "drive" ["--full-store" "--unbounded"]
     ["--class" "--store" "--init" "--save" "--interface" "--inputs" "--outputs" "--release"
-    "--budget" "--save-every" "--color"] };
+    "--budget" "--save-every"] "--force" };
     let (policy, image) = policy(rest, proposed, value(rest, "--inputs")?)?;
     let class = value(rest, "--class")??;
     let stores = stores(rest)?;
@@ -256,8 +249,8 @@ pub(crate) fn compare<'a>(
 ) -> Option<Request<'a>>
     ensures { IfSome result (spec.AsksFor words.now) }
 {
-    let rest = rest_of! { words "compare" ["--unbounded" "--json" "--explain"]
-    ["--class" "--store" "--budget" "--color"] };
+    let rest = rest_of! { words "compare" ["--unbounded" "--json"]
+    ["--class" "--store" "--budget"] };
     let (lattice, image) = two(rest, proposed)?;
     let [first, second] = stores else {
         return None;

@@ -3,4 +3,3 @@ pub mod CoveringLemmas
 pub mod NameLemmas
 pub mod FlowsGraphLemmas
 pub mod BannerLemmas
-pub mod ReachedLemmas

@@ -6,9 +6,7 @@ pub mod Page
 pub mod Graph
 pub mod ByRule
 pub mod FlowsGraph
-pub mod Size
 pub mod Banner
 pub mod Verdict
 pub mod Drawn
 pub mod Lead
-pub mod Reached

@@ -4,26 +4,21 @@
 //! A refused program has no typable choice of classes. Its letvars are shown with the least class
 //! at or above all that reaches them. In an accepted program that is the class of the least choice.
 
-ghost use Rattle.std.specs.Prelude.{◌≡◌, IfOk, ◌≤◌, ◌<◌, length};
+ghost use Rattle.std.specs.Prelude.{◌≡◌, IfOk};
 ghost use Rattle.std.specs.List.{All};
 ghost use Rattle.vsi_types.specs.Security.{program as program_of};
 ghost use Rattle.vsi_lattice.specs.Order.{IsClass};
 ghost use Rattle.vsi_lattice.specs.LatticeView.{order as order_of};
 ghost use Rattle.vsi_infer.specs.Inference.{AreClasses};
-ghost use Rattle.vsi_infer.specs.Flowing.{size_of, AreFlowsOf};
-ghost use Rattle.vsi_flows.specs.Reaching.{floor, AreFloors, IsJoined, IsReached};
 ghost use Rattle.vsi_flows.specs.Table.{IsTable};
 ghost use Rattle.vsi_report.specs.ByRule.{flows_in_rows, HasFlows};
 ghost use Rattle.vsi_report.specs.FlowsGraph.{AreShown};
-ghost use Rattle.vsi_report.specs.Reached.{AreReached};
 
-use crate::order::{Order, name_of};
+use crate::order::{Order, class_with, name_of, set_at};
 use crate::page::Made;
 use std::alloc::{AllocError, Global};
 use vsi_flows::{FlowsError, Pair, declarations, flows_in};
-use vsi_infer::{
-    Flow, FlowRows, InferError, declared_class, fewest_flows, flow_rows, flow_rows_by, infer_in,
-};
+use vsi_infer::{Flow, FlowRows, InferError, declared_class, flow_rows, flow_rows_by, infer_in};
 use vsi_lattice::{Class, Classes, Lattice};
 use vsi_names::Mention;
 use vsi_scope::{Resolved, Var};
@@ -107,116 +102,59 @@ pub(crate) fn judged_classes(
     }
 }
 
-/// The declared class of a variable, or the bottom if none is declared.
-fn floor_of(lattice: &Lattice, program: &Resolved<'_>, variable: Var) -> Class
-    ensures { result ≡ floor (order_of lattice.now) (program_of program.now) variable }
-{
-    match declared_class(lattice, program, variable) {
-        Some(class) => class,
-        None => lattice.bottom(),
-    }
-}
-
-/// The floors of all declarations, in order.
-fn floors_of(alloc: Global, lattice: &Lattice, program: &Resolved<'_>) -> Made<Vec<Class>>
-    requires globals { All (IsClass (order_of lattice.now)) (program_of program.now).globals }
-    requires declared { AreClasses (order_of lattice.now) (program_of program.now).declared }
-    ensures floors { IfOk result
-        (λ f. AreFloors (order_of lattice.now) (program_of program.now) f.items) }
-    ensures classes { IfOk result (λ f. All (IsClass (order_of lattice.now)) f.items) }
-{
-    let count = declarations(program);
-    let mut floors = Vec::new(alloc);
-    for v in 0..count {
-        floors.push(floor_of(lattice, program, Var(v)))?;
-    }
-    Ok(floors)
-}
-
-/// The least class at or above the floors of all positions with a distance in the row.
-fn joined<C: Classes>(lattice: &C, floors: &[Class], row: &[u16]) -> Class
-    requires classes { All (IsClass (C.lattice lattice.now)) floors.now }
-    requires room { length floors.now ≤ length row.now }
-    ensures { IsJoined (C.lattice lattice.now) floors.now row.now (length floors.now) result }
-{
-    let mut class = lattice.bottom();
-    for a in 0..floors.len() {
-        if row[a] < 65535 {
-            class = lattice.join(class, floors[a]);
-        }
-    }
-    class
-}
-
-/// The class that reaches a variable.
-fn reached_class(
-    alloc: Global,
-    profile: Profile,
-    lattice: &Lattice,
-    program: &Resolved<'_>,
-    flow: &FlowRows,
-    floors: &[Class],
-    variable: u16,
-) -> Made<Class>
-    requires globals { All (IsClass (order_of lattice.now)) (program_of program.now).globals }
-    requires declared { AreClasses (order_of lattice.now) (program_of program.now).declared }
-    requires flows { AreFlowsOf profile (program_of program.now)
-        (⟦<FlowRows as Flow>⟧.flows flow.now) }
-    requires floors { AreFloors (order_of lattice.now) (program_of program.now) floors.now }
-    requires classes { All (IsClass (order_of lattice.now)) floors.now }
-    requires variable { variable < size_of (program_of program.now) }
-    ensures { IfOk result
-        (IsReached (order_of lattice.now) profile (program_of program.now) variable) }
-{
-    // `body` ensures that the program is resolved, which the proofs need.
-    let _body = program.body();
-    let row = fewest_flows(alloc, flow, floors.len() + 1, variable as usize)?;
-    Ok(joined(lattice, floors, &row))
-}
-
-/// The number of the first letvar.
-fn first_letvar(program: &Resolved<'_>) -> u16
-    ensures first { result ≡ length (program_of program.now).globals }
-    ensures within { result ≤ size_of (program_of program.now) }
-{
-    // `body` ensures that the program is resolved, so its number of declarations is limited.
-    let _body = program.body();
-    program.globals().len() as u16
-}
-
-/// The classes that reach the letvars.
+/// The classes of the letvars of a refused program: for each the least at or above the declared
+/// classes of all variables that reach it. A variable has the set of the classes that are at or
+/// above all that has reached it, and hands it on whenever it has become smaller.
 pub(crate) fn reached_classes(
     alloc: Global,
     profile: Profile,
     lattice: &Lattice,
+    order: &Order,
     program: &Resolved<'_>,
-) -> Made<Vec<Class>>
-    requires globals { All (IsClass (order_of lattice.now)) (program_of program.now).globals }
-    requires declared { AreClasses (order_of lattice.now) (program_of program.now).declared }
-    ensures { IfOk result (λ classes.
-        AreReached (order_of lattice.now) profile (program_of program.now) classes.items) }
-{
+) -> Made<Vec<Class>> {
     let flow = flow_rows(alloc, profile, program)?;
-    let floors = floors_of(alloc, lattice, program)?;
-    let count = declarations(program);
-    let first = first_letvar(program);
+    let mut sets = Vec::new(alloc);
+    let mut waiting = Vec::new(alloc);
+    for number in 0..declarations(program) {
+        let class = match declared_class(lattice, program, Var(number)) {
+            Some(class) => class,
+            None => lattice.bottom(),
+        };
+        sets.push(set_at(&order.above, class.index()))?;
+        waiting.push(number as usize)?;
+    }
+    for _ in 0..sets.len().saturating_mul(65) {
+        let Some(source) = waiting.pop() else {
+            break;
+        };
+        for target in 0..sets.len() {
+            let set = set_at(&sets, target) & set_at(&sets, source);
+            if flow.has(source, target) && set != set_at(&sets, target) {
+                if let Some(cell) = sets.get_mut(target) {
+                    *cell = set;
+                }
+                waiting.push(target)?;
+            }
+        }
+    }
     let mut classes = Vec::new(alloc);
-    for variable in first..count {
-        let class = reached_class(alloc, profile, lattice, program, &flow, &floors, variable)?;
-        classes.push(class)?;
+    for number in program.globals().len()..sets.len() {
+        classes.push(class_with(lattice, order, set_at(&sets, number)))?;
     }
     Ok(classes)
 }
 
-/// The most variables of a program whose flows are drawn.
+/// The most variables of a program whose flows are in a graph.
 pub(crate) const MOST_DRAWN: usize = 200;
+/// The most variables of a program whose flows are drawn on a page.
+pub(crate) const MOST_BOXES: usize = 40;
 
 /// A variable: its name, its label in the panel, its class, and whether the text declares that.
 #[derive(Drop)]
 pub(crate) struct Variable {
     pub(crate) name: Vec<u8>,
     pub(crate) label: Vec<u8>,
-    pub(crate) class: Option<usize>,
+    pub(crate) class: usize,
     pub(crate) is_declared: bool,
 }
 
@@ -235,21 +173,15 @@ fn variable_of(
     alloc: Global,
     order: &Order,
     name: &[u8],
-    class: Option<Class>,
+    class: Class,
     is_declared: bool,
 ) -> Made<Variable> {
-    let mut label = Vec::new(alloc);
-    let mut number = None;
-    if let Some(class) = class {
-        label.extend_from_slice(name_of(order, class.index()))?;
-        label.extend_from_slice(if is_declared { b"" } else { b"*" })?;
-        number = Some(class.index());
-    }
-    let name = name.to_vec(alloc)?;
+    let mut label = name_of(order, class.index()).to_vec(alloc)?;
+    label.extend_from_slice(if is_declared { b"" } else { b"*" })?;
     Ok(Variable {
-        name,
+        name: name.to_vec(alloc)?,
         label,
-        class: number,
+        class: class.index(),
         is_declared,
     })
 }
@@ -264,13 +196,14 @@ fn variables_of(
 ) -> Made<Vec<Variable>> {
     let mut variables = Vec::new(alloc);
     for global in program.globals() {
-        variables.push(variable_of(alloc, order, global.name, Some(global.class), true)?)?;
+        variables.push(variable_of(alloc, order, global.name, global.class, true)?)?;
     }
     for (number, entry) in program.letvars().iter().enumerate() {
-        let class = entry.class.or(inferred.get(number).copied());
+        let least = inferred.get(number).copied().unwrap_or(bottom);
+        let class = entry.class.unwrap_or(least);
         variables.push(variable_of(alloc, order, entry.name, class, entry.class.is_some())?)?;
     }
-    variables.push(variable_of(alloc, order, b"(loop)", Some(bottom), true)?)?;
+    variables.push(variable_of(alloc, order, b"(loop)", bottom, true)?)?;
     Ok(variables)
 }
 
@@ -292,14 +225,6 @@ fn pairs_of(
     }
 }
 
-/// Whether flows into the ending of loops are judged.
-pub(crate) fn is_strict(profile: Profile) -> bool {
-    match profile {
-        Profile::Base => false,
-        Profile::Strict => true,
-    }
-}
-
 /// The facts of a program, with these classes of its letvars, and these names in its text.
 pub(crate) fn facts_of(
     alloc: Global,
@@ -317,7 +242,7 @@ pub(crate) fn facts_of(
 {
     let variables = variables_of(alloc, order, program, chosen, lattice.bottom())?;
     let mut flows = None;
-    if variables.len() <= MOST_DRAWN + 1 {
+    if variables.len() <= MOST_BOXES + 1 {
         flows = Some(flows_of(alloc, profile, program)?);
     }
     let pairs = pairs_of(alloc, profile, lattice, program)?;
@@ -352,8 +277,11 @@ impl Facts {
     }
 
     /// The class of a variable.
-    pub(crate) fn class(&self, number: usize) -> Option<usize> {
-        self.variables.get(number)?.class
+    pub(crate) fn class(&self, number: usize) -> usize {
+        match self.variables.get(number) {
+            Some(variable) => variable.class,
+            None => 0,
+        }
     }
 
     /// Whether the class of a variable was inferred.
@@ -367,26 +295,16 @@ impl Facts {
     /// Whether a variable flows to another by a rule in one step.
     pub(crate) fn flows_between(&self, source: usize, target: usize, rule: Rule) -> bool {
         match &self.flows {
-            Some(flows) => target <= MOST_DRAWN && has_flow(flows, rule, source, target),
+            Some(flows) => target <= MOST_BOXES && has_flow(flows, rule, source, target),
             None => false,
         }
     }
 }
 
-/// The kinds of names in the panel of a source text, each with the name of a class's colour.
-const KINDS: [&[u8]; 8] = [
-    b"name k0", b"name k1", b"name k2", b"name k3", b"name k4", b"name k5", b"name k6", b"name k7",
-];
-
-/// The kind of a name of a class.
-pub(crate) fn name_kind(class: Option<usize>) -> &'static [u8] {
-    match class {
-        Some(class) => KINDS[class % 8],
-        None => b"name kn",
-    }
-}
+/// The names of the colours of classes.
+const COLOURS: [&[u8]; 8] = [b"k0", b"k1", b"k2", b"k3", b"k4", b"k5", b"k6", b"k7"];
 
 /// The name of the colour of a class.
-pub(crate) fn colour(class: Option<usize>) -> &'static [u8] {
-    name_kind(class).get(5..).unwrap_or(b"")
+pub(crate) fn colour(class: usize) -> &'static [u8] {
+    COLOURS[class % 8]
 }

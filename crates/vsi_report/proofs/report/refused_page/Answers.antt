@@ -9,14 +9,6 @@ use Rattle.vsi_report.specs.Verdict.{HasVerdict}
 use Rattle.vsi_report.proofs.BannerLemmas.{refused_shown}
 use Rattle.vsi_report.proofs.report.refused_page.Goals as goal
 
-pub reached_classes-requires-clause-globals : goal.reached_classes-requires-clause-globals
-reached_classes-requires-clause-globals c =
-    globals_at _ c.resolved-program.ensures.kept _ _ c.lattice-lattice.ensures c.resolved-program.ensures.value
-
-pub reached_classes-requires-clause-declared : goal.reached_classes-requires-clause-declared
-reached_classes-requires-clause-declared c =
-    declared_at _ c.resolved-program.ensures.kept _ _ c.lattice-lattice.ensures c.resolved-program.ensures.value
-
 pub facts_of-requires-clause-globals : goal.facts_of-requires-clause-globals
 facts_of-requires-clause-globals c =
     globals_at _ c.resolved-program.ensures.kept _ _ c.lattice-lattice.ensures c.resolved-program.ensures.value
