@@ -11,4 +11,8 @@ mod files;
 #[cfg(test)]
 mod loads;
 #[cfg(test)]
+mod monitors;
+#[cfg(test)]
 mod near;
+#[cfg(test)]
+mod steps;

@@ -1,0 +1,4 @@
+pub mod Labels
+pub mod Monitor
+pub mod Laws
+pub mod Watched

@@ -1,0 +1,4 @@
+pub mod Counting
+pub mod Running
+pub mod Spelling
+pub mod Beginning
