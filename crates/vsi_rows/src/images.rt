@@ -197,7 +197,7 @@ fn put_part(row: &mut Row<'_>, machine: &mut Machine<'_>, part: &str) {
     }
 }
 
-/// Adds the output of the parts of a run, and the remaining words.
+/// Adds the output of each part of a run, and then the store that it leaves.
 fn put_run(row: &mut Row<'_>, machine: &mut Machine<'_>, parts: &str) {
     for part in parts.split(',') {
         put_part(row, machine, part);
@@ -206,9 +206,9 @@ fn put_run(row: &mut Row<'_>, machine: &mut Machine<'_>, parts: &str) {
     row.put_words(machine.store());
 }
 
-/// `machine STORE PARTS IMAGE`: the output of the parts of one run, in turn, and then the remaining
-/// words. Parts are separated by commas: a number is a run with this budget, and `t` one step with
-/// its trace line.
+/// `machine STORE PARTS IMAGE`: the output of each part of one run, in turn, and then the store
+/// that it leaves. Commas separate the parts: a number is a run with this budget, and `t` is one
+/// step with its trace line.
 pub(crate) fn machine(row: &mut Row<'_>) {
     let store = row.numbers();
     let parts = row.field();
