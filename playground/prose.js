@@ -7,8 +7,9 @@ const PLACE_LINE = /^(?:text\.vsi|lattice\.toml|store\.toml|other\.toml):(?:(\d+
 const FRAME = /^ *(?:\d+)? \| /;
 const ALSO = /^Also at (\d+):(\d+): (.*)$/;
 const RAISE = /^(\d+):(\d+) (\w+ : \w+ -> \w+.*)$/;
-const BEGINS = new RegExp("^(?:Hint|Expected here|Also |Or add |What would fix it|The least raise"
-  + "|This language|Declaring )");
+const LEAD = /^`([^`]+)` flows to (?:`([^`]+)`|the ending of loops):/;
+const BEGINS = new RegExp("^(?:Hint|Expected here|Also |Or add |This flow goes away|The whole text"
+  + "|This language|Declaring |`[^`]+` flows to )");
 // Words of a shell, with the words of this page.
 const SHELL = [
   [/\bMore: vsi explain \w+\.?/g, ""],
@@ -124,17 +125,17 @@ export function headline(list, most = 90) {
 export function flows(text) {
   const parts = [[]], found = [], rest = [];
   for (const block of blocks(text)) {
-    if (block.kind === "end") parts.push([]);
-    else parts[parts.length - 1].push(block);
+    if (block.kind === "end" || block.kind === "text" && LEAD.test(block.text)) parts.push([]);
+    if (block.kind !== "end") parts[parts.length - 1].push(block);
   }
   for (const part of parts) {
     const lead = part[0]?.kind === "text" ? part[0].text : "";
-    const pair = /^`([^`]+)` flows to (?:`([^`]+)`|the ending of loops):/.exec(lead);
+    const pair = LEAD.exec(lead);
     if (!pair) {
       rest.push(...part);
       continue;
     }
-    const isAdvice = ({ kind, text }) => kind === "text" && text.startsWith("What would fix it");
+    const isAdvice = ({ kind, text }) => kind === "text" && text.startsWith("This flow goes away");
     const at = part.findIndex(isAdvice);
     const end = at < 0 ? part.length : at, walk = part.slice(1, end), advice = part.slice(end + 1);
     found.push({ from: pair[1], to: pair[2] ?? "(loop)", lead, walk, advice });

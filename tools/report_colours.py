@@ -86,7 +86,7 @@ def judge(name, colours, paper):
 
 def main():
     with open(os.path.join(ROOT, "crates/vsi_report/src/style.rt"), encoding="utf-8") as file:
-        text = file.read()
+        text = file.read().replace("\\\n", "")
     colours = [linear(c) for c in re.findall(r"--k\d:(#[0-9a-f]{6})", text)]
     papers = [linear(c) for c in re.findall(r"--panel:(#[0-9a-f]{6})", text)]
     good = len(colours) == 16 and len(papers) == 2

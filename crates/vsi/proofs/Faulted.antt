@@ -2,8 +2,6 @@
 use Rattle.std.proofs.Common.{◌≡◌, ◌<◌, ◌≤◌, ◌-◌, ◌^◌, ◌⊎◌, ◌∙◌, ℕ, Bool, true, false, List, Option, Some, None, inl, inr, refl, sym, ap, subst, arith}
 use Rattle.std.specs.Prelude.{◌≢◌, if◌then◌else◌}
 use Rattle.std.proofs.lemmas.Bool.{cases_lt}
-use Rattle.vsi_arguments.specs.declared.request.Document.{Document}
-use Rattle.vsi_arguments.specs.declared.request.Document.TheVariants as document
 use Rattle.vsi_arguments.specs.declared.request.Request.{Request}
 use Rattle.vsi_arguments.specs.declared.request.Request.TheVariants as request
 use Rattle.vsi.specs.declared.failure.Failure.{Failure}
@@ -12,8 +10,9 @@ use Rattle.vsi.specs.Done.{EndsEarly, IsFailureOf}
 use Rattle.vsi.specs.FaultyFiles.{TellsRefusal, answers_json, has_line, is_refusal}
 use Rattle.vsi.specs.Failures.{status_of}
 use Rattle.vsi.specs.Holding.{Holding}
-use Rattle.vsi.specs.Partly.{Answers, Partly, cut_from, document_cut_from}
+use Rattle.vsi.specs.Partly.{Answers, Partly}
 use Rattle.vsi.specs.Saved.{KeepsState, LeavesState}
+use Rattle.vsi.specs.Works.{cut_from, cut_of, document_spends}
 use Rattle.vsi.proofs.CarriedOut.{memory_why}
 use Rattle.vsi.proofs.Leaving.{leaves_memory}
 
@@ -62,23 +61,16 @@ has_early is_json Memory has = absurd (cc)
 pub refusal_one : (f : Failure) → is_refusal f ≡ true → status_of f ≡ 1
 refusal_one f refuses = (has_early true f (refusal_has true f refuses refl)).one
 
--- No request for a document has written anything at status 1.
-document_silent : (asked : Document) → 1 < document_cut_from asked
-document_silent (document.Sarif asked) = omega arith
-document_silent (document.AuditSarif asked) = omega arith
-document_silent (document.Classes asked) = omega arith
-document_silent (document.Flows asked) = omega arith
-document_silent (document.Audit asked) = omega arith
-document_silent (document.Bound asked) = omega arith
-document_silent (document.Run e o) = omega arith
-document_silent (document.Compare comparison) = omega arith
-document_silent (document.Leak search) = omega arith
+-- No request that answers has written anything at status 1.
+cut_some : (spent : Bool) → 1 < cut_of spent
+cut_some true = omega arith
+cut_some false = omega arith
 
 -- No request that answers with JSON has.
 json_silent : (asked : Request) → answers_json asked ≡ true → 1 < cut_from asked
 json_silent (request.Try attempt) json = omega arith
 json_silent (request.Check asked) json = omega arith
-json_silent (request.Document asked) json = document_silent asked
+json_silent (request.Document asked) json = cut_some (document_spends asked)
 json_silent (request.Conform asked) json = omega arith
 json_silent (request.Classes c) json = omega arith
 json_silent (request.Flows c has_walks) json = omega arith

@@ -169,12 +169,3 @@ failure_note asked holds failure first told before after old new so fault same f
       (objects_on failure first found.0 fault same found.1);
   all = ap tamed found.2;
 }
-
--- A failure without arguments that ask for an explanation is followed by the lines of the request that they ask for.
-pub hushed_words : {T : Type 0} (holds : Holding) (words : List (String Global)) (asked : Request) (explains : Bool)
-    (note : List ℕ) (result : Result T Failure) → explains ≡ has_explain words → AsksFor words asked →
-    (explains ≡ false → IfErr result (λ failure. IsFailureNote holds asked failure note)) →
-    IfErr result (λ failure. NotesFailure holds words failure note)
-hushed_words holds words asked explains note (Ok x) is asks so = tt
-hushed_words holds words asked explains note (Err failure) is asks so =
-    λ unasked. inr (asked, asks, so (subst (λ b. b ≡ false) (sym is) unasked))

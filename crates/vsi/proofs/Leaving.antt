@@ -1,7 +1,6 @@
 -- The output that requests leave if they fail.
 use Rattle.std.proofs.Common.{◌≡◌, ◌+◌, ◌-◌, ◌≤◌, ◌<◌, ◌⊎◌, ◌++◌, ◌∙◌, ℕ, ℤ, List, [], Bool, true, false, Option, Some, None, Result, Ok, Err, inl, inr, refl, sym, ap, subst, arith}
 use Rattle.std.specs.Prelude.{◌≢◌, IfOk, IfErr}
-use Rattle.std.specs.Global.{Vec}
 use Rattle.std.specs.Io.KnownBytes.{Appends}
 use Rattle.vsi_lattice.specs.declared.lattice.Lattice.{Lattice}
 use Rattle.vsi_image.specs.declared.instr.Image.{Image}
@@ -16,83 +15,37 @@ use Rattle.vsi_devices.specs.declared.engine.EngineError.{EngineError}
 use Rattle.vsi_devices.specs.declared.engine.EngineError.TheVariants as engine
 use Rattle.vsi_devices.proofs.Outputs.{longer_text, text_then}
 use Rattle.vsi_devices.proofs.Traces.{trace_rest}
-use Rattle.vsi_arguments.specs.declared.request.Document.{Document}
-use Rattle.vsi_arguments.specs.declared.request.Document.TheVariants as document
 use Rattle.vsi_arguments.specs.declared.request.Driving.{Driving}
 use Rattle.vsi_arguments.specs.declared.request.Execution.{Execution}
-use Rattle.vsi_arguments.specs.declared.request.Judging.{Judging}
 use Rattle.vsi_arguments.specs.declared.request.InitialStore.{InitialStore}
 use Rattle.vsi_arguments.specs.declared.request.Request.{Request}
-use Rattle.vsi_arguments.specs.declared.request.Request.TheVariants as request
 use Rattle.vsi.specs.declared.failure.Failure.{Failure}
 use Rattle.vsi.specs.declared.failure.Failure.TheVariants.{Memory}
 use Rattle.vsi.specs.Admitted.{IsAdmitted}
 use Rattle.vsi.specs.Holding.{Holding, IsImageAt}
-use Rattle.vsi.specs.Partly.{AnswersCheck, AnswersDrive, AnswersRun, DrivenText, Leaves, Partly, WritesPart, cut_from, document_cut_from}
+use Rattle.vsi.specs.Partly.{AnswersDrive, AnswersRun, DrivenText, Leaves, Partly, WritesPart}
 use Rattle.vsi.specs.Beginning.{IsBegun}
-use Rattle.vsi.specs.Files.{BeginsAt, IsBudgetOf, OfFiles, shown}
-use Rattle.vsi.specs.Performed.{ToldJson, judgement_of}
-use Rattle.vsi.specs.Reasons.{ToldRefusal}
+use Rattle.vsi.specs.Files.{BeginsAt, IsBudgetOf, shown}
 use Rattle.vsi.specs.Failures.{status_of}
 use Rattle.vsi.specs.Steering.{IsSteered}
+use Rattle.vsi.specs.Works.{Drives, Lays, Lists, Replies, Runs, Talks, Work, cut_by, cut_from, spends, work_of}
 use Rattle.vsi.proofs.Partly.{Partly-weaker, spent_leaf, whole_part}
 
--- The line of JSON of a text is an answer of `check --json`, whether it accepts the text or not.
-pub check_answer : (holds : Holding) (asked : Judging) (accepted : Bool) (line : Vec ℕ) →
-    (accepted ≡ true → OfFiles holds asked.compilation (ToldJson (judgement_of asked)) line) →
-    (accepted ≡ false → OfFiles holds asked.compilation (ToldRefusal (judgement_of asked)) line) →
-    AnswersCheck true holds asked line
-check_answer holds asked true line told refused = inl (told refl)
-check_answer holds asked false line told refused = inr (refused refl)
-
--- No request for a document writes a part of it at a lower status than that of a file fault, but for a run.
-document_cut_within : (asked : Document) → document_cut_from asked ≤ 4
-document_cut_within (document.Sarif asked) = omega arith
-document_cut_within (document.Classes asked) = omega arith
-document_cut_within (document.Flows asked) = omega arith
-document_cut_within (document.Audit asked) = omega arith
-document_cut_within (document.AuditSarif asked) = omega arith
-document_cut_within (document.Bound asked) = omega arith
-document_cut_within (document.Run e o) = omega arith
-document_cut_within (document.Compare comparison) = omega arith
-document_cut_within (document.Leak search) = omega arith
-
 -- No request writes a part of an answer at a lower status than that of a file fault, but for a run and a server.
-pub cut_within : (asked : Request) → cut_from asked ≤ 4
-cut_within (request.Check asked) = omega arith
-cut_within (request.Document asked) = document_cut_within asked
-cut_within (request.Conform asked) = omega arith
-cut_within (request.Classes c) = omega arith
-cut_within (request.Flows c has_walks) = omega arith
-cut_within (request.Mend asked) = omega arith
-cut_within (request.Build c image) = omega arith
-cut_within (request.List image) = omega arith
-cut_within (request.Audit asked) = omega arith
-cut_within (request.Source image) = omega arith
-cut_within (request.EmitC asked) = omega arith
-cut_within (request.Bound asked) = omega arith
-cut_within (request.Run e o has_trace has_count) = omega arith
-cut_within (request.View lattice class e o) = omega arith
-cut_within (request.ViewWithin asked) = omega arith
-cut_within (request.Drive driving) = omega arith
-cut_within (request.Compare comparison) = omega arith
-cut_within (request.Leak search) = omega arith
-cut_within (request.Report c) = omega arith
-cut_within (request.Draw drawing) = omega arith
-cut_within (request.Policy looking) = omega arith
-cut_within (request.Visible visibility) = omega arith
-cut_within (request.Format source) = omega arith
-cut_within (request.Layout asked) = omega arith
-cut_within (request.Try attempt) = omega arith
-cut_within (request.Lattice arguments) = omega arith
-cut_within (request.Lsp serving) = omega arith
-cut_within (request.Explain page) = omega arith
+cut_below : (work : Work) (spent : Bool) → cut_by work spent ≤ 4
+cut_below (Lists c has_walks) spent = omega arith
+cut_below (Runs e o has_trace has_count) spent = omega arith
+cut_below (Drives driving) spent = omega arith
+cut_below (Lays layout) spent = omega arith
+cut_below Talks spent = omega arith
+cut_below Replies true = omega arith
+cut_below Replies false = omega arith
 
 -- Where the explanation of a failure has found no memory, the same is left.
 pub leaves_memory : (Kind : List ℕ → Type 0) (asked : Request) (old new : Option (List ℕ)) →
     Partly Kind old new → Leaves Kind (cut_from asked) old new Memory
 leaves_memory Kind asked old new part =
-    record { partly = part; silent = λ other below. absurd (omega (arith, below, cut_within asked)) }
+    record { partly = part; silent = λ other below. absurd (omega (arith, below, cut_below (work_of asked) (spends asked))) }
 
 -- If the status isn't 0, the output is left as a failed answer leaves it.
 pub partly_at : {T : Type 0} (A : Type 0) (answer : Result T Failure) (status : ℕ) → IfErr answer (λ failure. A) →

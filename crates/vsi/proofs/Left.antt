@@ -35,7 +35,7 @@ use Rattle.vsi.specs.Done.{Done}
 use Rattle.vsi.specs.Holding.{Delivers, Holding, HoldsAt, IsImageAt, IsLatticeAt, IsReadAt, IsStoreAt, KeepsOthers}
 use Rattle.vsi.specs.Laws.{BeginAlike, LeftIsSeenAlike, Shows}
 use Rattle.vsi.specs.Files.{BeginsAt, LooksAt, shown}
-use Rattle.vsi.specs.Performed.{PerformsBuild, PerformsView, Performs, profile_of}
+use Rattle.vsi.specs.Performed.{Performs, PutsAnswer, profile_of}
 use Rattle.vsi.proofs.Declared.{AreAlike, declared_alike}
 use Rattle.vsi.proofs.Once.{SameBuild, SameView, one_build, one_view}
 use Rattle.vsi.proofs.Short.{built_short, read_again, read_whole}
@@ -190,18 +190,18 @@ delivered_at (Some p) (Some q) text before after same is =
 
 -- A build that the arguments request leaves an image.
 leaves_of : (holds : Holding) (c d : Compilation) (i j : Bor (List ℕ)) (left : Holding) (old new : Option (List ℕ)) →
-    SameBuild c d i j → PerformsBuild holds d j.now left old new → Leaves holds c.lattice.now i.now left
+    SameBuild c d i j → PutsAnswer holds (Build d j) left old new → Leaves holds c.lattice.now i.now left
 leaves_of holds c d i j left old new same done =
-    let is = done.builds.built in
+    let is = done.is in
     record {
       lattice = is.lattice;
       declared = subst (λ p. IsLatticeAt holds p is.lattice) same.lattice is.files.lattice;
       profile = profile_of d.is_strict;
       source = is.source;
-      bytes = done.builds.bytes;
+      bytes = done.text;
       built = is.is;
-      filled = subst (λ p. HoldsAt left p done.builds.bytes.items) same.image done.builds.filled.filled;
-      others = subst (λ p. KeepsOthers p holds left) same.image done.builds.filled.others;
+      filled = subst (λ p. HoldsAt left p done.text.items) same.image done.put.0.filled;
+      others = subst (λ p. KeepsOthers p holds left) same.image done.put.0.others;
     }
 
 -- A run begins with the words that one of the same paths and settings begins with.
@@ -225,10 +225,10 @@ record Shown (holds : Holding) (path class : List ℕ) (e : Execution) (o : Init
 
 -- It is the one that has been performed.
 shown_of : (holds : Holding) (l m x y : Bor (List ℕ)) (e f : Execution) (o p : InitialStore) (left : Holding)
-    (old new : Option (List ℕ)) → SameView l m x y e f o p → PerformsView holds m.now y.now f p left old new →
+    (old new : Option (List ℕ)) → SameView l m x y e f o p → PutsAnswer holds (View m y f p) left old new →
     Shown holds l.now x.now e o left old new
 shown_of holds l m x y e f o p left old new same done =
-    let is = done.views in
+    let is = done.is in
     record {
       text = done.text;
       sees = record {
@@ -243,8 +243,8 @@ shown_of holds l m x y e f o p left old new same done =
         views = is.views;
       };
       shows = record {
-        written = subst (Appends old new) (shown_at p.out o.out done.text.items same.out) done.written;
-        delivered = delivered_at p.out o.out done.text.items holds left same.out done.delivered;
+        written = subst (Appends old new) (shown_at p.out o.out done.text.items same.out) done.put.1;
+        delivered = delivered_at p.out o.out done.text.items holds left same.out done.put.0;
       };
     }
 

@@ -14,7 +14,6 @@ pub mod ScreenLemmas
 pub mod Failed
 pub mod NoteLemmas
 pub mod Checked
-pub mod Mended
 pub mod Documented
 pub mod CarriedOut
 pub mod Refused
@@ -32,6 +31,6 @@ pub mod Loading
 pub mod Looked
 pub mod Viewed
 pub mod Fed
-pub mod Wrong
 pub mod Faulted
 pub mod Hushed
+pub mod Ended

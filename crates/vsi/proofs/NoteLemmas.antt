@@ -72,24 +72,6 @@ left_halts traced image words budget text output ran = subst Halts (sym ran.reac
     by true whole e = refl
     by false whole e = absurd (cc)
 
--- A run whose outcome is a spent budget hasn't halted.
-pub spent_goes_on : (image : Image) (words : List ℤ) (budget : ℕ) (s : State) (outcome : Outcome) →
-    run_of image words budget ≡ Some s → outcome ≡ outcome_of s → outcome ≡ OutOfBudget →
-    Halts (run_of image words budget) → ⊥
-spent_goes_on image words budget s outcome reached is spent halts =
-    by s.halted (sym spent ∙ is) (subst Halts reached halts)
-  where
-    by : (b : Bool) → OutOfBudget ≡ (if b then Halted else OutOfBudget) → IsTrue b → ⊥
-    by true e h = absurd (cc)
-    by false e h = absurd (cc)
-
--- The line of the count of a run that halts within a budget of 64 bits.
-pub count_told : (image : Image) (words : List ℤ) (budget n : ℕ) (text : List ℕ) → HaltsIn image words n →
-    budget < 2 ^ 64 → Halts (run_of image words budget) → text ≡ count_line n → Counts true image words text
-count_told image words budget n text halts fits within is =
-    let small = halts.least budget within in
-    (n, halts, omega (arith, small, fits), is)
-
 -- The lines about a count stay as they are.
 counts_kept : (has_count : Bool) (image : Image) (words : List ℤ) (note : List ℕ) → Counts has_count image words note →
     Counts has_count image words (tamed note)
@@ -129,71 +111,11 @@ noted_err T holds Sentences failure note is = tt
 noted_err T holds Warning failure note is = is
 noted_err T holds Nothing failure note is = is
 
--- Lines of a kind are so after any answer, and before any failure.
-pub noted_both : {U : Type 0} (Kind : List ℕ → Type 0) (later : Result U Failure) (note : List ℕ) → Kind note →
-    OnOk later (Kind note) × IfErr later (λ failure. (note ≡ []) ⊎ Kind note)
-noted_both Kind (Ok x) note is = (is, tt)
-noted_both Kind (Err failure) note is = (tt, inr is)
-
--- The lines aren't those of a drive.
-abbrev pub IsNoDrive : Noting → Type 0
-IsNoDrive (Count e o has_count) = Unit {0}
-IsNoDrive (DriveBudget d) = ⊥
-IsNoDrive (ViewBudget v) = Unit {0}
-IsNoDrive (CompareBudget c) = Unit {0}
-IsNoDrive Sentences = Unit {0}
-IsNoDrive Warning = Unit {0}
-IsNoDrive Nothing = Unit {0}
-
--- Those after a request for a document aren't.
-pub document_no_drive : (asked : Document) → IsNoDrive (document_noting asked)
-document_no_drive (document.Sarif judging) = tt
-document_no_drive (document.Classes compilation) = tt
-document_no_drive (document.Flows compilation) = tt
-document_no_drive (document.Audit audit) = tt
-document_no_drive (document.AuditSarif audit) = tt
-document_no_drive (document.Bound bounding) = tt
-document_no_drive (document.Run execution initial_store) = tt
-document_no_drive (document.Compare comparison) = tt
-document_no_drive (document.Leak search) = tt
-
--- The lines after an answer without a failure are those after a later answer, unless they are those of a drive.
-pub noted_then : {T U : Type 0} (holds : Holding) (n : Noting) (x : T) (later : Result U Failure) (note : List ℕ) →
-    IsNoDrive n → Notes holds n (Ok x) note → Notes holds n later note
-noted_then holds (Count e o has_count) x later note other is = each_done _ later is
-noted_then holds (DriveBudget d) x later note other is = absurd other
-noted_then holds (ViewBudget v) x later note other is = noted_both (NotesView holds v) later note is.0
-noted_then holds (CompareBudget c) x later note other is = noted_both (NotesCompare holds c) later note is.0
-noted_then holds Sentences x later note other is = is
-noted_then holds Warning x later note other is = is
-noted_then holds Nothing x later note other is = is
-
--- Nothing is claimed of a failure.
-none_done : {U : Type 0} (A : Type 0) (later : Result U Failure) (failure : Failure) →
-    IsErrAnd later (λ s. s ≡ failure) → OnOk later A
-none_done A (Ok x) failure is = absurd is
-none_done A (Err f) failure is = tt
-
 -- A fact about a failure is one about an answer that passes it on.
 both_failed : {U : Type 0} (A : Type 0) (P : Failure → Type 0) (later : Result U Failure) (failure : Failure) →
     IsErrAnd later (λ s. s ≡ failure) → P failure → OnOk later A × IfErr later P
 both_failed A P (Ok x) failure is so = absurd is
 both_failed A P (Err f) failure is so = (tt, subst P (sym is) so)
-
--- The lines after a failure are those after an answer that passes it on.
-pub noted_failed : {U : Type 0} (T : Type 0) (holds : Holding) (n : Noting) (later : Result U Failure) (failure : Failure)
-    (note : List ℕ) → IsErrAnd later (λ s. s ≡ failure) → Notes {T = T} holds n (Err failure) note →
-    Notes holds n later note
-noted_failed T holds (Count e o has_count) later failure note is told = none_done _ later failure is
-noted_failed T holds (DriveBudget d) later failure note is told =
-    both_failed (NotesDrive holds d note) (λ f. NotesStop holds d f note) later failure is told.1
-noted_failed T holds (ViewBudget v) later failure note is told =
-    both_failed (NotesView holds v note) (λ f. (note ≡ []) ⊎ NotesView holds v note) later failure is told.1
-noted_failed T holds (CompareBudget c) later failure note is told =
-    both_failed (NotesCompare holds c note) (λ f. (note ≡ []) ⊎ NotesCompare holds c note) later failure is told.1
-noted_failed T holds Sentences later failure note is told = tt
-noted_failed T holds Warning later failure note is told = told
-noted_failed T holds Nothing later failure note is told = told
 
 -- The lines after a request are written at status 0.
 pub tells_note : {T E : Type 0} (holds : Holding) (words : List (String Global)) (contents : E → Option (List ℕ))

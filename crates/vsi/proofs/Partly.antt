@@ -96,42 +96,6 @@ fault_leaves Kind old new text (Ok x) is fault part = tt
 fault_leaves Kind old new text (Err failure) is fault part =
     late_leaf Kind old new failure (omega arith) (inr (text, is, part))
 
--- The output that an answer leaves if it may be a difference.
-pub answer_leaves : {T : Type 0} (Kind : List ℕ → Type 0) (told : Type 0) (old new : Option (List ℕ)) (text : List ℕ)
-    (result : Result T Failure) → Kind text →
-    IfErr result (λ failure. ((failure ≡ Differs) × told) ⊎ (status_of failure ≡ 4)) → WritesPart text old new →
-    IfErr result (Leaves Kind 4 old new)
-answer_leaves Kind told old new text (Ok x) is failed part = tt
-answer_leaves Kind told old new text (Err failure) is (inl differs) part =
-    record { partly = inr (text, is, part); silent = λ other below. absurd (other differs.0) }
-answer_leaves Kind told old new text (Err failure) is (inr fault) part =
-    late_leaf Kind old new failure (omega arith) (inr (text, is, part))
-
--- The output that is left when an answer is written.
-pub put_leaves : {T : Type 0} (Kind : Vec ℕ → Type 0) (old new : Option (List ℕ)) (answer : Result (Vec ℕ) Failure)
-    (result : Result T Failure) → IfOk answer Kind →
-    IfErr result (λ failure. Keeps old new
-    ⊎ ((status_of failure ≡ 4) × IsOkAnd answer (λ text. WritesPart text.items old new))) →
-    IfErr result (Leaves (BytesOf Kind) 4 old new)
-put_leaves Kind old new answer (Ok x) is left = tt
-put_leaves Kind old new answer (Err failure) is (inl kept) = record { partly = inl kept; silent = λ other below. kept }
-put_leaves Kind old new (Ok text) (Err failure) is (inr (four, part)) =
-    late_leaf (BytesOf Kind) old new failure (omega (arith, four)) (inr (text.items, (text, is, refl), part))
-put_leaves Kind old new (Err other) (Err failure) is (inr (four, part)) = absurd part
-
--- Where the writing of an answer has failed, a part of it has been written.
-pub put_left : {T U : Type 0} (answer : Result U Failure) (part : U → Type 0) (kept : Type 0) (x : U)
-    (result : Result T Failure) → answer ≡ Ok x → IfErr result (λ failure. status_of failure ≡ 4) → part x →
-    IfErr result (λ failure. kept ⊎ ((status_of failure ≡ 4) × IsOkAnd answer part))
-put_left answer part kept x (Ok y) is fault so = tt
-put_left answer part kept x (Err failure) is fault so = inr (fault, subst (λ a. IsOkAnd a part) (sym is) so)
-
--- If there is no text, the output is unchanged.
-pub put_kept : {T : Type 0} (late : Failure → Type 0) (old : Option (List ℕ)) (result : Result T Failure) →
-    IfErr result (λ failure. Keeps old old ⊎ late failure)
-put_kept late old (Ok x) = tt
-put_kept late old (Err failure) = inl (Keeps-refl old)
-
 -- Each failure has a status above 0.
 pub some_status : (failure : Failure) → 0 < status_of failure
 some_status (Refused text cause) = omega arith

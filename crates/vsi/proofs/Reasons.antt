@@ -66,7 +66,7 @@ answered_fails Ask (Err reason) result is told =
     (reason_fails (λ reason. Ask (Err reason)) NoOther reason told)
 
 -- A property of a failure holds if that fail is passed on.
-pub handed : {T : Type 0} (P : Failure → Type 0) (failure : Failure) (result : Result T Failure) →
+pub handed : {T E : Type 0} (P : E → Type 0) (failure : E) (result : Result T E) →
     IsErrAnd result (λ e. e ≡ failure) → P failure → IfErr result P
 handed P failure (Ok x) is told = tt
 handed P failure (Err e) is told = subst P (sym is) told

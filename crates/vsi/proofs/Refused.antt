@@ -1,5 +1,5 @@
 -- The reason of a failed step is the reason of the whole, and the claims about a refusal.
-use Rattle.std.proofs.Common.{◌≡◌, ◌⊎◌, ℕ, List, Result, Ok, Err, subst, inl, inr}
+use Rattle.std.proofs.Common.{◌≡◌, ◌⊎◌, ℕ, Bool, true, false, List, Result, Ok, Err, subst, inl, inr}
 use Rattle.std.specs.Borrow.{Bor}
 use Rattle.std.specs.Prelude.{IfErr, IsErrAnd, IsSomeAnd, MatchResult, Option, Some, None}
 use Rattle.std.specs.Global.{Vec}
@@ -16,17 +16,16 @@ use Rattle.vsi_answers.specs.Judged.{Declares, IsProgramFault, TellsSource}
 use Rattle.vsi_answers.specs.Requests.{Answer, FormatsTo, ReadsLattice}
 use Rattle.vsi_answers.specs.declared.unanswered.Unanswered.{Unanswered}
 use Rattle.vsi_arguments.specs.declared.request.Compilation.{Compilation}
-use Rattle.vsi_arguments.specs.declared.request.Search.{Search}
 use Rattle.vsi.specs.declared.failure.Failure.{Failure}
 use Rattle.vsi.specs.Holding.{Holding, IsLatticeAt, IsReadAt}
 use Rattle.vsi.specs.Input.{two_classes}
 use Rattle.vsi.specs.Files.{AreFiles}
 use Rattle.vsi.specs.Performed.{profile_of}
-use Rattle.vsi.specs.Refusals.{AsksCanonical, LacksClass, LacksClassAt, NoOther, RefusesFile, RefusesFiles, RefusesLattice, RefusesProgramAt, RefusesSource, FailsBy}
-use Rattle.vsi.specs.Reasons.{OtherLeak, WhyDraw}
+use Rattle.vsi.specs.Refusals.{AsksCanonical, LacksClass, LacksClassAt, NoOther, RefusesFile, RefusesFiles, RefusesLattice, RefusesProgramAt, FailsBy}
+use Rattle.vsi.specs.Reasons.{RefusesJudged, WhyDraw}
 use Rattle.vsi.specs.Failures.{failure_of}
 use Rattle.vsi_answers.proofs.Told.{source_told}
-use Rattle.vsi.proofs.Reasons.{FailsBy-weaker, answered_fails, handed, failed_by, fails_by}
+use Rattle.vsi.proofs.Reasons.{answered_fails, handed, failed_by, fails_by}
 
 -- ---- which file is refused.
 
@@ -38,6 +37,15 @@ pub refuses_lattice : {T : Type 0} (holds : Holding) (c : Compilation) (Ask : La
 refuses_lattice holds c Ask result failure is told =
     failed_by (RefusesLattice holds c.lattice.now) (RefusesFiles holds c Ask) NoOther (λ reason why. inl why)
     result failure is told
+
+-- The same, where only the lattice can be refused with `--json`.
+pub judged_lattice : {T : Type 0} (holds : Holding) (c : Compilation) (Ask : Lattice → List ℕ → Answer → Type 0)
+    (is_json : Bool) (result : Result T Failure) (failure : Failure) → IsErrAnd result (λ s. s ≡ failure) →
+    FailsBy (RefusesLattice holds c.lattice.now) NoOther failure →
+    IfErr result (FailsBy (RefusesJudged is_json holds c Ask) NoOther)
+judged_lattice holds c Ask true result failure is told =
+    handed (FailsBy (RefusesLattice holds c.lattice.now) NoOther) failure result is told
+judged_lattice holds c Ask false result failure is told = refuses_lattice holds c Ask result failure is told
 
 -- Why a lattice and a source text have no answer is why the files that hold them have none.
 pub refuses_files : (holds : Holding) (c : Compilation) (Ask : Lattice → List ℕ → Answer → Type 0) (l : Lattice)
@@ -132,20 +140,7 @@ draw_source holds lattice None l reason declared is = absurd is
 draw_source holds lattice (Some path) l reason declared is =
     inr (record { classes = l; declared = declared; refused = is })
 
--- ---- leaks.
-
--- Why a search for leaks has no answer: the lattice file is refused, or a source text without a program.
-abbrev pub WhyLeak : Holding → Search → Unanswered → Type 0
-WhyLeak holds s reason =
-    RefusesLattice holds s.lattice.now reason ⊎ RefusesSource holds s.lattice.now s.source.now reason
-
--- A lattice file that is refused is why nothing is searched.
-pub leak_lattice : {T : Type 0} (holds : Holding) (s : Search) (result : Result T Failure) (failure : Failure) →
-    IsErrAnd result (λ e. e ≡ failure) → FailsBy (RefusesLattice holds s.lattice.now) NoOther failure →
-    IfErr result (FailsBy (WhyLeak holds s) (OtherLeak holds s))
-leak_lattice holds s result failure is told =
-    failed_by (RefusesLattice holds s.lattice.now) (WhyLeak holds s) (OtherLeak holds s) (λ reason why. inl why)
-    result failure is told
+-- ---- classes.
 
 -- A class that the lattice lacks is missing in that of the file.
 pub lacks_named : (holds : Holding) (path : List ℕ) (l : Lattice) (name : Option (Bor (List ℕ))) (failure : Failure) →
@@ -153,27 +148,3 @@ pub lacks_named : (holds : Holding) (path : List ℕ) (l : Lattice) (name : Opti
     IsSomeAnd name (λ n. LacksClassAt holds path n.now failure)
 lacks_named holds path l None failure at lacks = lacks
 lacks_named holds path l (Some n) failure at lacks = (l, at, lacks)
-
--- A class that the lattice lacks is passed on.
-pub leak_lacking : {T : Type 0} (holds : Holding) (s : Search) (l : Lattice) (result : Result T Failure) (failure : Failure) →
-    IsErrAnd result (λ e. e ≡ failure) → IsLatticeAt holds s.lattice.now l →
-    FailsBy (λ reason. ⊥) (λ e. IsSomeAnd s.class (λ name. LacksClass l name.now e)) failure →
-    IfErr result (FailsBy (WhyLeak holds s) (OtherLeak holds s))
-leak_lacking holds s l result failure is at told =
-    handed (FailsBy (WhyLeak holds s) (OtherLeak holds s)) failure result is
-    (FailsBy-weaker (λ reason. ⊥) (WhyLeak holds s) (λ e. IsSomeAnd s.class (λ name. LacksClass l name.now e))
-    (OtherLeak holds s) (λ reason none. absurd none) (λ e lacks. inl (lacks_named holds s.lattice.now l s.class e at
-    lacks)) failure told)
-
--- So is a source text without a program.
-pub leak_program : (holds : Holding) (s : Search) (l : Lattice) (text judged told : List ℕ) (error : CompileError)
-    (failure : Failure) → IsLatticeAt holds s.lattice.now l → IsReadAt holds s.source.now text → judged ≡ text →
-    told ≡ text → RefusesProgram (class_named l) judged error →
-    (HasProgram (class_named l) judged → error ≡ compiler.Memory) →
-    FailsBy (Because (TellsSource (λ e. e ≡ error) l told) ⊥) NoOther failure →
-    FailsBy (WhyLeak holds s) (OtherLeak holds s) failure
-leak_program holds s l text judged told error failure declared read of_judged of_told refused exact is =
-    fails_by (RefusesProgramAt holds l s.source.now) (WhyLeak holds s) (OtherLeak holds s)
-    (λ reason why. inr (record { classes = l; declared = declared; refused = why }))
-    failure
-    (refuses_program holds l s.source.now text judged told error failure read of_judged of_told refused exact is)

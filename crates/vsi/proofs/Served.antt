@@ -9,10 +9,6 @@ use Rattle.vsi.specs.Partly.{Partly}
 use Rattle.vsi.specs.Served.{Serves}
 use Rattle.vsi.proofs.Partly.{whole_part}
 
--- No message has been written.
-pub none_served : (old : Option (List ℕ)) → Serves old old
-none_served old = ([], none_framed, Appends-nil old)
-
 -- More messages have been written after some.
 pub served_on : (old between new : Option (List ℕ)) → Serves old between → Serves between new → Serves old new
 served_on old between new (a, first, written) (b, second, more) =

@@ -13,14 +13,10 @@ use Rattle.vsi_answers.specs.Judged.{TellsSource}
 use Rattle.vsi_arguments.specs.declared.request.Search.{Search}
 use Rattle.vsi.specs.declared.failure.Failure.{Failure}
 use Rattle.vsi.specs.Holding.{Holding, IsLatticeAt, IsReadAt}
-use Rattle.vsi.specs.Refusals.{LacksClass, LacksClassAt, NoOther, RefusesLattice, RefusesProgramAt, FailsBy}
-use Rattle.vsi.specs.Reasons.{RefusesSearch}
+use Rattle.vsi.specs.Refusals.{LacksClass, NoOther, RefusesLattice, RefusesProgramAt, FailsBy}
+use Rattle.vsi.specs.Reasons.{LacksSought, RefusesSearch}
 use Rattle.vsi.proofs.Reasons.{FailsBy-weaker, handed, failed_by, fails_by}
 use Rattle.vsi.proofs.Refused.{lacks_named, refuses_program}
-
--- The lattice has no class of the name that is given.
-abbrev pub LacksSought : Holding → Search → Failure → Type 0
-LacksSought holds s failure = IsSomeAnd s.class (λ class. LacksClassAt holds s.lattice.now class.now failure)
 
 -- A lattice file that is refused is why nothing is searched.
 pub sought_lattice : {T : Type 0} (holds : Holding) (s : Search) (result : Result T Failure) (failure : Failure) →
@@ -42,14 +38,14 @@ sought_lacking holds s l result failure is at told =
     failure told)
 
 -- So is a source text without a program.
-pub sought_program : (holds : Holding) (s : Search) (l : Lattice) (text judged told : List ℕ) (error : CompileError)
+pub sought_program : (holds : Holding) (s : Search) (other : Failure → Type 0) (l : Lattice) (text judged told : List ℕ) (error : CompileError)
     (failure : Failure) → IsLatticeAt holds s.lattice.now l → IsReadAt holds s.source.now text → judged ≡ text →
     told ≡ text → RefusesProgram (class_named l) judged error →
     (HasProgram (class_named l) judged → error ≡ compiler.Memory) →
     FailsBy (Because (TellsSource (λ e. e ≡ error) l told) ⊥) NoOther failure →
-    FailsBy (RefusesSearch holds s) (LacksSought holds s) failure
-sought_program holds s l text judged told error failure declared read of_judged of_told refused exact is =
-    fails_by (RefusesProgramAt holds l s.source.now) (RefusesSearch holds s) (LacksSought holds s)
+    FailsBy (RefusesSearch holds s) other failure
+sought_program holds s other l text judged told error failure declared read of_judged of_told refused exact is =
+    fails_by (RefusesProgramAt holds l s.source.now) (RefusesSearch holds s) other
     (λ reason why. inr (record { classes = l; declared = declared; refused = why }))
     failure
     (refuses_program holds l s.source.now text judged told error failure read of_judged of_told refused exact is)

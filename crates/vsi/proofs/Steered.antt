@@ -34,39 +34,6 @@ later_table left rest c class found is other same =
     subst (λ cs. table_of (map cycle cs) class ≡ found) is same in
     rw other at first
 
--- The first table is that of the class.
-pub first_table : (left rest : List Cycle) (c : Cycle) (class : List ℕ) (found : Option ClassBoundary) →
-    left ≡ c ∷ rest → bytes_eq c.class.items class ≡ true → table_of (map cycle left) class ≡ found →
-    Some (cycle c) ≡ found
-first_table left rest c class found is own same =
-    let first : table_of (map cycle (c ∷ rest)) class ≡ found =
-    subst (λ cs. table_of (map cycle cs) class ≡ found) is same in
-    rw own at first
-
--- No tables have none of the class.
-pub no_table : (left : List Cycle) (class : List ℕ) (found : Option ClassBoundary) → length left ≡ 0 →
-    table_of (map cycle left) class ≡ found → None ≡ found
-no_table [] class found none same = same
-no_table (c ∷ cs) class found none same = absurd (omega arith)
-
--- Without tables, each class has the boundary without lists.
-pub unbound_at : (cs : List Cycle) (class : List ℕ) → length cs ≡ 0 →
-    boundary_at (map cycle cs) class ≡ Some no_boundary
-unbound_at [] class none = refl
-unbound_at (c ∷ cs) class none = absurd (omega arith)
-
--- The boundary of a class is that of its table.
-pub bound_at : (bs : List ClassBoundary) (class : List ℕ) (b : ClassBoundary) → Some b ≡ table_of bs class →
-    boundary_at bs class ≡ Some (bound_by (Some b))
-bound_at [] class b is = cc
-bound_at (first ∷ bs) class b is = ap (option_map (λ found. bound_by (Some found))) (sym is)
-
--- A class without a table has no boundary among tables.
-pub lacking_at : (bs : List ClassBoundary) (class : List ℕ) → 0 < length bs → None ≡ table_of bs class →
-    boundary_at bs class ≡ None
-lacking_at [] class some is = absurd (omega arith)
-lacking_at (first ∷ bs) class some is = ap (option_map (λ found. bound_by (Some found))) (sym is)
-
 -- ---- the class of a drive or of a view.
 
 -- The class that a lattice file gives drives by the policy that names the file.

@@ -18,13 +18,17 @@ unbounded_says : (holds : Holding) (asked : Emission) (image : Image) →
 unbounded_says holds asked image held bounded (fails.Refused text (Some cause)) is = absurd is
 unbounded_says holds asked image held bounded (fails.Refused text None) is = record {
   bounded = bounded;
-  told = record { text = text; is_bounded = false };
-  bounds = record {
+  text = text;
+  unbounded = record {
     image = image;
     held = held;
-    is = record { answer = is.answer; is = is.is; place = None; line = is.says; bounded = sym is.unbounded };
+    is = (
+      record { text = text; is_bounded = false },
+      record { answer = is.answer; is = is.is; place = None; line = is.says; bounded = sym is.unbounded },
+      refl,
+      refl,
+    );
   };
-  unbounded = refl;
   says = refl;
 }
 unbounded_says holds asked image held bounded (fails.Interface text error) is = absurd is

@@ -203,18 +203,6 @@ store_failed holds new path store so other image result failure held same f =
       is = refused.2;
     }))
 
--- An answer that is a difference claims one, and a fault of the output claims no reason.
-pub answer_failed : {T : Type 0} (why : Unanswered → Type 0) (other : Failure → Type 0) (told : Type 0)
-    (result : Result T Failure) → IfErr result (λ failure. ((failure ≡ fails.Differs) × told) ⊎ (status_of failure ≡ 4)) →
-    (told → other fails.Differs) → IfErr result (FailsBy why other)
-answer_failed why other told result failed f =
-    IfErr-weaker result (λ failure. ((failure ≡ fails.Differs) × told) ⊎ (status_of failure ≡ 4)) (FailsBy why other)
-    (λ failure is. elim is [
-      | inl (differs, tells) ↦ subst (FailsBy why other) (sym differs) (f tells)
-      | inr fault ↦ fault_fails why other failure fault
-    ])
-    failed
-
 -- A call that only writes fails at a fault of the output, or for lack of memory.
 pub ended_fails : (why : Unanswered → Type 0) (other : Failure → Type 0) (error : EngineError) (failure : Failure) →
     IsOfWriting error → (error ≡ engine.WriteFault → status_of failure ≡ 4) → (error ≡ engine.Memory → failure ≡

@@ -1,24 +1,21 @@
 -- Documents, which programs read.
-use Rattle.std.specs.Prelude.{ℕ, ℤ, Bool, true, false, List, Some}
+use Rattle.std.specs.Prelude.{ℕ, ℤ, Bool, true, false, List, if◌then◌else◌}
 use Rattle.std.specs.Global.{Vec}
 use Rattle.vsi_lattice.specs.declared.lattice.Lattice.{Lattice}
 use Rattle.vsi_types.specs.declared.rules.Profile.{Profile}
+use Rattle.vsi_types.specs.declared.rules.Profile.TheVariants.{Base, Strict}
 use Rattle.vsi_image.specs.declared.instr.Image.{Image}
 use Rattle.vsi_conform.specs.declared.interface.Judgement.{Judgement}
 use Rattle.vsi_sarif.specs.Auditing as sarif
 use Rattle.vsi_sarif.specs.Checking.{TellsDocument}
 use Rattle.vsi_documents.specs.Audits.{TellsAudit, TellsSteadiness}
-use Rattle.vsi_documents.specs.Bounds.{IsBoundJson}
 use Rattle.vsi_documents.specs.Classes.{TellsClasses}
-use Rattle.vsi_documents.specs.Comparisons.{IsComparisonJson}
 use Rattle.vsi_documents.specs.Flows.{TellsFlows}
 use Rattle.vsi_documents.specs.Runs.{TellsRun}
 use Rattle.vsi_arguments.specs.declared.request.Audit.{Audit}
-use Rattle.vsi_arguments.specs.declared.request.Comparison.{Comparison}
 use Rattle.vsi_arguments.specs.declared.request.Execution.{Execution}
 use Rattle.vsi_arguments.specs.declared.request.InitialStore.{InitialStore}
-use Rattle.vsi.specs.Admitted.{IsAdmitted}
-use Rattle.vsi.specs.Files.{BeginsAt, IsBudgetOf, IsStoredAt, LooksAt}
+use Rattle.vsi.specs.Files.{BeginsAt, IsBudgetOf}
 use Rattle.vsi.specs.Holding.{Holding, IsImageAt, IsLatticeAt}
 
 -- The document of SARIF for the text of the file at a path, which is accepted or refused.
@@ -38,33 +35,24 @@ abbrev pub ToldAuditJson : Bool → Profile → Lattice → Image → Bool → V
 ToldAuditJson true P l image good text = TellsSteadiness l image good text.items
 ToldAuditJson false P l image good text = TellsAudit l P image good text.items
 
--- The line of JSON for the files of an audit.
-pub record AuditsJson (holds : Holding) (a : Audit) (P : Profile) (good : Bool) (text : Vec ℕ) : Type 0 where
-  pub lattice : Lattice
-  pub declared : IsLatticeAt holds a.lattice.now lattice
-  pub image : Image
-  pub held : IsImageAt holds a.image.now image
-  pub is : ToldAuditJson a.is_steady P lattice image good text
-
 -- The document of SARIF for the image of the file at a path, which is judged by a profile or, with `--steady`, by its
 -- jumps.
 abbrev pub ToldAuditSarif : Bool → Profile → List ℕ → Lattice → Image → Bool → Vec ℕ → Type 0
 ToldAuditSarif true P path l image good text = sarif.TellsSteadiness l path image good text.items
 ToldAuditSarif false P path l image good text = sarif.TellsAudit l P path image good text.items
 
--- The document of SARIF for the files of an audit.
-pub record AuditsSarif (holds : Holding) (a : Audit) (P : Profile) (good : Bool) (text : Vec ℕ) : Type 0 where
+-- The line of JSON for an image, or the document of SARIF.
+abbrev pub ToldAudit : Bool → Audit → Profile → Lattice → Image → Bool → Vec ℕ → Type 0
+ToldAudit true a P l image good text = ToldAuditSarif a.is_steady P a.image.now l image good text
+ToldAudit false a P l image good text = ToldAuditJson a.is_steady P l image good text
+
+-- The same for the files of an audit.
+pub record AuditsDocument (is_sarif : Bool) (holds : Holding) (a : Audit) (good : Bool) (text : Vec ℕ) : Type 0 where
   pub lattice : Lattice
   pub declared : IsLatticeAt holds a.lattice.now lattice
   pub image : Image
   pub held : IsImageAt holds a.image.now image
-  pub is : ToldAuditSarif a.is_steady P a.image.now lattice image good text
-
--- The line of JSON about the bound of an image of this kind.
-pub record BoundsJson (Kind : Image → Type 0) (good : Bool) (text : Vec ℕ) : Type 0 where
-  pub image : Image
-  pub held : Kind image
-  pub is : IsBoundJson image good text.items
+  pub is : ToldAudit is_sarif a (if a.is_strict then Strict else Base) lattice image good text
 
 -- The line of JSON for the run of the image of a file, which halts within its budget or doesn't.
 pub record RunsJson (holds : Holding) (e : Execution) (o : InitialStore) (good : Bool) (text : Vec ℕ) : Type 0 where
@@ -74,20 +62,3 @@ pub record RunsJson (holds : Holding) (e : Execution) (o : InitialStore) (good :
   pub budget : ℕ
   pub within : IsBudgetOf e.budget image budget
   pub is : TellsRun image words budget good text.items
-
--- The line of JSON for the comparison that a class makes of the runs of an image from two store files. The budget is
--- enough or `--unbounded` is given.
-pub record ComparesJson (holds : Holding) (c : Comparison) (good : Bool) (text : Vec ℕ) : Type 0 where
-  pub lattice : Lattice
-  pub viewer : ℕ
-  pub looks : LooksAt holds c.lattice.now c.class.now lattice viewer
-  pub image : Image
-  pub held : IsImageAt holds c.image.now image
-  pub first : List ℤ
-  pub from_first : IsStoredAt holds (Some c.stores.0) image first
-  pub second : List ℤ
-  pub from_second : IsStoredAt holds (Some c.stores.1) image second
-  pub budget : ℕ
-  pub within : IsBudgetOf c.budget image budget
-  pub admitted : IsAdmitted c.is_unbounded lattice image budget
-  pub is : IsComparisonJson lattice viewer image first second budget good text.items

@@ -7,10 +7,11 @@ use Rattle.vsi_arguments.specs.Asked.{AsksFor}
 use Rattle.vsi_arguments.specs.Help.{AsksHelp}
 use Rattle.vsi.specs.FaultyFiles.{WritesRefusal, answers_json, has_line}
 use Rattle.vsi.specs.Holding.{Holding}
-use Rattle.vsi.specs.Partly.{Answers, Leaves, cut_from}
+use Rattle.vsi.specs.Partly.{Answers, Leaves}
 use Rattle.vsi.specs.Performed.{Performs}
 use Rattle.vsi.specs.Reasons.{Why}
 use Rattle.vsi.specs.Failures.{status_of}
+use Rattle.vsi.specs.Works.{cut_from}
 use Rattle.vsi.specs.declared.failure.Failure.{Failure}
 use Rattle.vsi.specs.declared.failure.Failure.TheVariants.{Usage}
 

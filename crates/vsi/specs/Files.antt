@@ -1,5 +1,5 @@
 -- The files that a request names, and the text that is written of them.
-use Rattle.std.specs.Prelude.{◌≡◌, ℕ, ℤ, Bool, List, [], Option, Some, None}
+use Rattle.std.specs.Prelude.{◌≡◌, ℕ, ℤ, Bool, List, [], Option, Some, None, IsSomeAnd}
 use Rattle.std.specs.Borrow.{Bor}
 use Rattle.std.specs.Global.{Vec}
 use Rattle.std.specs.Io.KnownBytes.{Appends}
@@ -81,6 +81,11 @@ pub record LooksAt (holds : Holding) (path name : List ℕ) (l : Lattice) (class
   pub lattice : IsLatticeAt holds path l
   pub named : class_named l name ≡ Some class
   pub is : IsClass (order l) class
+
+-- The class of a viewer: that of the name, if one is given.
+abbrev pub LooksFor : Lattice → Option (Bor (List ℕ)) → Option ℕ → Type 0
+LooksFor l None viewer = viewer ≡ None
+LooksFor l (Some name) viewer = IsSomeAnd viewer (λ a. class_named l name.now ≡ Some a)
 
 -- The number of a budget: the given one, or with `auto` one within which the image halts from every store.
 abbrev pub IsBudgetOf : Budget → Image → ℕ → Type 0

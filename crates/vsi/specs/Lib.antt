@@ -3,6 +3,7 @@ pub mod Screen
 pub mod Input
 pub mod Objections
 pub mod Words
+pub mod Works
 pub mod Holding
 pub mod Loading
 pub mod Driven

@@ -146,6 +146,17 @@ Notes holds Sentences answer note = Unit {0}
 Notes holds Warning answer note = MayWarn note
 Notes holds Nothing answer note = note ≡ []
 
+-- The lines of this kind once a request has been answered, whatever becomes of the answer; no count and no drive is
+-- an answer.
+abbrev pub NotesAnswer : Holding → Noting → List ℕ → Type 0
+NotesAnswer holds (Count e o has_count) note = ⊥
+NotesAnswer holds (DriveBudget d) note = ⊥
+NotesAnswer holds (ViewBudget v) note = NotesView holds v note
+NotesAnswer holds (CompareBudget c) note = NotesCompare holds c note
+NotesAnswer holds Sentences note = Unit {0}
+NotesAnswer holds Warning note = MayWarn note
+NotesAnswer holds Nothing note = note ≡ []
+
 -- The lines after the request of these arguments; there are none after help.
 abbrev pub NotesOf : Holding → List (String Global) → List ℕ → Type 0
 NotesOf holds words note =

@@ -2,7 +2,7 @@
 use Rattle.std.specs.Prelude.{◌≡◌, ◌≤◌, ℕ, ◌++◌, ◌∷◌, ℤ, Bool, true, false, List, [], Option, Some, None, Ok, codes, decimal, if◌then◌else◌, IsSomeAnd, IfSome, option_map}
 use Rattle.std.specs.Borrow.{Bor}
 use Rattle.std.specs.Global.{Vec}
-use Rattle.std.specs.Io.KnownBytes.{Appends, Keeps}
+use Rattle.std.specs.Io.KnownBytes.{Appends}
 use Rattle.vsi_lattice.specs.LatticeView.{class_named, order}
 use Rattle.vsi_lattice.specs.declared.lattice.Lattice.{Lattice}
 use Rattle.vsi_types.specs.declared.rules.Profile.{Profile}
@@ -24,6 +24,8 @@ use Rattle.vsi_drive.specs.Boundary.{Boundary}
 use Rattle.vsi_drive.specs.BoundaryFaults.{boundary_fault}
 use Rattle.vsi_drive.specs.Control.{controlled}
 use Rattle.vsi_devices.specs.Running.{RunsApart}
+use Rattle.vsi_documents.specs.Bounds.{IsBoundJson}
+use Rattle.vsi_documents.specs.Comparisons.{IsComparisonJson}
 use Rattle.vsi_documents.specs.Leaks.{TellsSearch}
 use Rattle.vsi_leak.specs.declared.whole.Wanted.{Wanted}
 use Rattle.vsi_leak.specs.Leaks.{most_pairs}
@@ -39,7 +41,7 @@ use Rattle.vsi_report.specs.Verdict.{HasVerdict}
 use Rattle.vsi_conform.specs.Conforms.{Conforms, IsUnbounded, Tells as TellsPoints}
 use Rattle.vsi_conform.specs.Json.{IsConformJson}
 use Rattle.vsi_conform.specs.Lines.{IsConformText}
-use Rattle.vsi_sarif.specs.Conforming.{IsConformSarif}
+use Rattle.vsi_sarif.specs.Findings.{IsConformSarif}
 use Rattle.vsi_conform.specs.Points.{is_conforming}
 use Rattle.vsi_conform.specs.Totals.{total_of}
 use Rattle.vsi_conform.specs.declared.interface.Answer.{Answer}
@@ -47,7 +49,7 @@ use Rattle.vsi_conform.specs.declared.reader.InterfaceFile.{InterfaceFile}
 use Rattle.vsi_conform.specs.declared.interface.Interface.{Interface}
 use Rattle.vsi_conform.specs.declared.interface.Judgement.{Judgement}
 use Rattle.vsi_conform.specs.declared.interface.Judgement.TheVariants as judgement
-use Rattle.vsi_conform.specs.Checking.{TellsAccepted}
+use Rattle.vsi_conform.specs.Checking.{TellsAnswer}
 use Rattle.vsi_answers.specs.Bounds.{IsBound, TellsBound}
 use Rattle.vsi_answers.specs.Judged.{AreImage}
 use Rattle.vsi_answers.specs.Requests.{BuildsTo, ChecksSteadyTo, ChecksTo, ClassesTo, ComparesTo, FlowsTo, ListsTo, ViewsTo, WalksTo}
@@ -72,15 +74,15 @@ use Rattle.vsi_arguments.specs.declared.request.Search.{Search}
 use Rattle.vsi_arguments.specs.declared.request.Request.{Request}
 use Rattle.vsi_arguments.specs.declared.request.Request.TheVariants as request
 use Rattle.vsi.specs.Admitted.{IsAdmitted}
-use Rattle.vsi.specs.Documents.{AuditsJson, AuditsSarif, BoundsJson, ComparesJson, RunsJson, ToldClassesJson, ToldFlowsJson, ToldSarif}
+use Rattle.vsi.specs.Documents.{AuditsDocument, RunsJson, ToldClassesJson, ToldFlowsJson, ToldSarif}
 use Rattle.vsi.specs.Driven.{DrivesInput}
 use Rattle.vsi.specs.Filed.{IsFiledBound, IsFollowed, IsJudged, filed_profile, lattice_file, policy_bytes}
-use Rattle.vsi.specs.Holding.{Delivers, Fills, Holding, IsImageAt, IsLatticeAt, IsReadAt}
+use Rattle.vsi.specs.Holding.{Delivers, Holding, IsImageAt, IsLatticeAt, IsReadAt}
 use Rattle.vsi.specs.Referred.{IsTried}
 use Rattle.vsi.specs.Interfaces.{IsAskedAt, IsPolicyAt}
 use Rattle.vsi.specs.Laying.{PerformsLayout, ToldCanonical}
 use Rattle.vsi.specs.Naming.{function_name}
-use Rattle.vsi.specs.Raises.{ToldMended}
+use Rattle.vsi.specs.Raises.{ToldMended, ToldMendedJson}
 use Rattle.vsi.specs.Reached.{IsReachedAs}
 use Rattle.vsi.specs.Seeing.{SeesFiles}
 use Rattle.vsi.specs.Visible.{ShowsFiles}
@@ -90,9 +92,10 @@ use Rattle.vsi.specs.Steering.{IsSteered}
 use Rattle.vsi.specs.Supplied.{TellsSupplied, begins_image}
 use Rattle.vsi.specs.Tried.{TriesFile}
 use Rattle.vsi.specs.Beginning.{IsBegun}
-use Rattle.vsi.specs.Files.{BeginsAt, IsBudgetOf, IsStoredAt, LooksAt, OfFile, OfFiles, Writes, shown}
+use Rattle.vsi.specs.Files.{BeginsAt, IsBudgetOf, IsStoredAt, LooksAt, LooksFor, OfFile, OfFiles, Writes, shown}
 use Rattle.vsi.specs.State.{state_text}
-use Rattle.vsi.specs.Viewing.{PerformsViewWithin}
+use Rattle.vsi.specs.Viewing.{ViewsWithin}
+use Rattle.vsi.specs.Works.{Drives, Lays, Lists, Puts, Replies, Runs, Talks, Work, place_of, work_of}
 
 -- ---- the output.
 
@@ -111,9 +114,9 @@ abbrev pub ToldAccepted : Bool → Bool → Lattice → List ℕ → Vec ℕ →
 ToldAccepted true is_strict l source text = ChecksSteadyTo l source (Ok text)
 ToldAccepted false is_strict l source text = ChecksTo l (profile_of is_strict) source (Ok text)
 
--- The line of JSON for an accepted text.
-abbrev pub ToldJson : Judgement → Lattice → List ℕ → Vec ℕ → Type 0
-ToldJson j l source text = TellsAccepted l j source text.items
+-- The line of JSON for a text that is accepted or refused.
+abbrev pub ToldJson : Judgement → Bool → Lattice → List ℕ → Vec ℕ → Type 0
+ToldJson j accepted l source text = TellsAnswer l j source accepted text.items
 
 -- The lines of the classes of an accepted text.
 abbrev pub ToldClasses : Bool → Lattice → List ℕ → Vec ℕ → Type 0
@@ -123,10 +126,6 @@ ToldClasses is_strict l source text = ClassesTo l (profile_of is_strict) source 
 abbrev pub ToldFlows : Bool → Bool → Lattice → List ℕ → Vec ℕ → Type 0
 ToldFlows true is_strict l source text = WalksTo l (profile_of is_strict) source (Ok text)
 ToldFlows false is_strict l source text = FlowsTo l (profile_of is_strict) source (Ok text)
-
--- The lines of the least raises of a text, their line of JSON, or the accepted text with these raises.
-abbrev pub ToldRaises : Bool → Bool → Bool → Lattice → List ℕ → Vec ℕ → Type 0
-ToldRaises is_json is_applied is_strict = ToldMended is_json is_applied (profile_of is_strict)
 
 -- The bytes of the image of an accepted text.
 abbrev pub ToldImage : Bool → Lattice → List ℕ → Vec ℕ → Type 0
@@ -164,22 +163,42 @@ pub record ViewsFiles (holds : Holding) (path class : List ℕ) (e : Execution) 
   pub within : IsBudgetOf e.budget image budget
   pub views : ViewsTo lattice viewer image words budget (Ok text)
 
--- The comparison that a class makes of the runs of an image from two store files. The budget is enough or `--unbounded`
--- is given.
-pub record ComparesFiles (holds : Holding) (c : Comparison) (told : found.Comparison) : Type 0 where
+-- The files of a comparison have this lattice and its class, this image and these words of two store files. The budget is
+-- enough or `--unbounded` is given.
+pub record AreCompared (holds : Holding) (c : Comparison) (l : Lattice) (viewer : ℕ) (im : Image)
+    (first second : List ℤ) (budget : ℕ) : Type 0 where
+  pub looks : LooksAt holds c.lattice.now c.class.now l viewer
+  pub held : IsImageAt holds c.image.now im
+  pub from_first : IsStoredAt holds (Some c.stores.0) im first
+  pub from_second : IsStoredAt holds (Some c.stores.1) im second
+  pub within : IsBudgetOf c.budget im budget
+  pub admitted : IsAdmitted c.is_unbounded l im budget
+
+-- This is so of the files of a comparison.
+pub record OfCompared (holds : Holding) (c : Comparison)
+    (So : Lattice → ℕ → Image → List ℤ → List ℤ → ℕ → Type 0) : Type 0 where
   pub lattice : Lattice
   pub viewer : ℕ
-  pub looks : LooksAt holds c.lattice.now c.class.now lattice viewer
   pub image : Image
-  pub held : IsImageAt holds c.image.now image
   pub first : List ℤ
-  pub from_first : IsStoredAt holds (Some c.stores.0) image first
   pub second : List ℤ
-  pub from_second : IsStoredAt holds (Some c.stores.1) image second
   pub budget : ℕ
-  pub within : IsBudgetOf c.budget image budget
-  pub admitted : IsAdmitted c.is_unbounded lattice image budget
-  pub compares : ComparesTo lattice viewer image first second budget (Ok told)
+  pub read : AreCompared holds c lattice viewer image first second budget
+  pub is : So lattice viewer image first second budget
+
+-- The comparison that a class makes of two runs, as lines or as a line of JSON: it sees the same of both, or not.
+abbrev pub ToldComparison : Bool → Lattice → ℕ → Image → List ℤ → List ℤ → ℕ → Bool → Vec ℕ → Type 0
+ToldComparison true l viewer im first second budget same text =
+    IsComparisonJson l viewer im first second budget same text.items
+ToldComparison false l viewer im first second budget same text =
+    (told : found.Comparison) × ComparesTo l viewer im first second budget (Ok told) × (told.is_same ≡ same)
+    × (told.text ≡ text)
+
+-- The same of the files of a comparison.
+abbrev pub TellsComparison : Bool → Holding → Comparison → Bool → Vec ℕ → Type 0
+TellsComparison is_json holds c same text =
+    OfCompared holds c
+    (λ l viewer im first second budget. ToldComparison is_json l viewer im first second budget same text)
 
 -- The text of the image of a file: the canonical text of a program whose commands are those of the image's code.
 pub record SourceOfFile (holds : Holding) (path : List ℕ) (text : Vec ℕ) : Type 0 where
@@ -247,11 +266,6 @@ pub record DrawsFiles (holds : Holding) (d : Drawing) (text : Vec ℕ) : Type 0 
   pub declared : IsLatticeAt holds d.lattice.now lattice
   pub graph : DrawsGraph holds d.source d.is_strict d.is_alone lattice text.items
 
--- A search is at this class: that of the name that is given, or each class if none is given.
-abbrev pub LooksFor : Lattice → Option (Bor (List ℕ)) → Option ℕ → Type 0
-LooksFor l None viewer = viewer ≡ None
-LooksFor l (Some name) viewer = IsSomeAnd viewer (λ a. class_named l name.now ≡ Some a)
-
 -- A search at this class, or at each.
 abbrev pub wanted_of : Search → Option ℕ → Wanted
 wanted_of s viewer = record {
@@ -260,6 +274,14 @@ wanted_of s viewer = record {
   steps = s.has_steps;
   effort = record { budget = s.budget; tries = s.tries; seed = s.seed };
 }
+
+-- The files of a search have this lattice and this source text, and this is wanted of them.
+pub record AreSought (holds : Holding) (s : Search) (l : Lattice) (source : List ℕ) (wanted : Wanted) : Type 0 where
+  pub declared : IsLatticeAt holds s.lattice.now l
+  pub read : IsReadAt holds s.source.now source
+  pub viewer : Option ℕ
+  pub looks : LooksFor l s.class viewer
+  pub is : wanted ≡ wanted_of s viewer
 
 -- No leak was found in this many pairs of runs of a text that has a program, at most the tries for each class and each
 -- sign; this says nothing about other pairs.
@@ -359,15 +381,21 @@ pub record EmitsFile (holds : Holding) (asked : Emission) (text : Vec ℕ) : Typ
   pub lattice : AreLatticeBytes holds asked.lattice (option_map (λ b. b.now) origin.lattice)
   pub is : IsRequestedC asked.is_bounded asked.is_header image origin (function_name asked.name asked.file.now) text.items
 
--- The answer about the bound of an image of this kind.
-pub record BoundsImage (Kind : Image → Type 0) (told : BoundAnswer) : Type 0 where
+-- What is said of the bound of an image, as a line or as a line of JSON: it has one, or none was found.
+abbrev pub ToldBound : Bool → Image → Bool → Vec ℕ → Type 0
+ToldBound true im bounded text = IsBoundJson im bounded text.items
+ToldBound false im bounded text =
+    (told : BoundAnswer) × TellsBound im told × (told.is_bounded ≡ bounded) × (told.text ≡ text)
+
+-- The same of an image of this kind.
+pub record Bounds (Kind : Image → Type 0) (is_json bounded : Bool) (text : Vec ℕ) : Type 0 where
   pub image : Image
   pub held : Kind image
-  pub is : TellsBound image told
+  pub is : ToldBound is_json image bounded text
 
--- The answer about the bound of the requested image.
-abbrev pub BoundsFile : Holding → Bounding → BoundAnswer → Type 0
-BoundsFile holds asked = BoundsImage (IsEmittedFrom holds asked.lattice asked.file)
+-- The same of the requested image.
+abbrev pub TellsBounding : Bool → Holding → Bounding → Bool → Vec ℕ → Type 0
+TellsBounding is_json holds asked = Bounds (IsEmittedFrom holds asked.lattice asked.file) is_json
 
 -- The request of an interface, its lattice and a source text or an image, as the files hold them.
 pub record AreAsked (holds : Holding) (c : Conformance) (asked : InterfaceFile) (l : Lattice) (source : List ℕ)
@@ -450,44 +478,67 @@ DocumentOf holds (document.Sarif asked) accepted =
     OfFiles holds asked.compilation (ToldSarif (judgement_of asked) asked.compilation.source.now accepted)
 DocumentOf holds (document.Classes asked) good = OfFiles holds asked (ToldClassesJson (profile_of asked.is_strict) good)
 DocumentOf holds (document.Flows asked) good = OfFiles holds asked (ToldFlowsJson (profile_of asked.is_strict) good)
-DocumentOf holds (document.Audit asked) good = AuditsJson holds asked (profile_of asked.is_strict) good
-DocumentOf holds (document.AuditSarif asked) good = AuditsSarif holds asked (profile_of asked.is_strict) good
-DocumentOf holds (document.Bound asked) good = BoundsJson (IsEmittedFrom holds asked.lattice asked.file) good
+DocumentOf holds (document.Audit asked) good = AuditsDocument false holds asked good
+DocumentOf holds (document.AuditSarif asked) good = AuditsDocument true holds asked good
+DocumentOf holds (document.Bound asked) good = TellsBounding true holds asked good
 DocumentOf holds (document.Run e o) good = RunsJson holds e o good
-DocumentOf holds (document.Compare comparison) good = ComparesJson holds comparison good
+DocumentOf holds (document.Compare comparison) good = TellsComparison true holds comparison good
 DocumentOf holds (document.Leak search) good = SearchesJson holds search good
 
--- ---- what each subcommand has done.
+-- ---- the answer of each request.
 
--- `check`, with `--json` or without.
-abbrev pub PerformsCheck : Bool → Holding → Judging → Option (List ℕ) → Option (List ℕ) → Type 0
-PerformsCheck true holds asked = Writes (OfFiles holds asked.compilation (ToldJson (judgement_of asked)))
-PerformsCheck false holds asked =
-    Writes (OfFiles holds asked.compilation (ToldAccepted asked.is_steady asked.compilation.is_strict))
+-- A text of this kind, which says that all is well.
+abbrev pub Well : (Vec ℕ → Type 0) → Bool → Vec ℕ → Type 0
+Well Kind true text = Kind text
+Well Kind false text = ⊥
 
--- `mend`, with `--json` or without.
-abbrev pub PerformsMend : Bool → Holding → Mending → Option (List ℕ) → Option (List ℕ) → Type 0
-PerformsMend is_json holds asked =
-    Writes (OfFiles holds asked.compilation (ToldRaises is_json asked.is_applied asked.compilation.is_strict))
+-- `check`: the text is accepted; with `--json` the line says whether it is.
+abbrev pub TellsCheck : Bool → Holding → Judging → Bool → Vec ℕ → Type 0
+TellsCheck true holds asked accepted = OfFiles holds asked.compilation (ToldJson (judgement_of asked) accepted)
+TellsCheck false holds asked accepted =
+    Well (OfFiles holds asked.compilation (ToldAccepted asked.is_steady asked.compilation.is_strict)) accepted
 
--- The image's bytes have been put into its file.
-pub record BuildsFile (holds : Holding) (c : Compilation) (image : List ℕ) (left : Holding) : Type 0 where
-  pub bytes : Vec ℕ
-  pub built : OfFiles holds c (ToldImage c.is_strict) bytes
-  pub filled : Fills image bytes.items holds left
+-- `mend`: the least raises of the text; with `--json` the line may say that none serves.
+abbrev pub TellsMend : Bool → Holding → Mending → Bool → Vec ℕ → Type 0
+TellsMend true holds asked served =
+    OfFiles holds asked.compilation (ToldMendedJson (profile_of asked.compilation.is_strict) served)
+TellsMend false holds asked served =
+    Well (OfFiles holds asked.compilation (ToldMended asked.is_applied (profile_of asked.compilation.is_strict))) served
 
--- `build`: the image's file has been filled, and nothing was written to the output.
-pub record PerformsBuild (holds : Holding) (c : Compilation) (image : List ℕ) (left : Holding)
-    (old new : Option (List ℕ)) : Type 0 where
-  pub builds : BuildsFile holds c image left
-  pub kept : Keeps old new
+-- The text that answers a request, and whether it says that all is well; a request that writes while it works has none.
+abbrev pub Tells : Holding → Request → Bool → Vec ℕ → Type 0
+Tells holds (request.Try attempt) = Well (TriesFile holds attempt)
+Tells holds (request.Check asked) = TellsCheck asked.is_json holds asked
+Tells holds (request.Document asked) = DocumentOf holds asked
+Tells holds (request.Conform asked) = ConformsFiles holds asked
+Tells holds (request.Classes c) = Well (OfFiles holds c (ToldClasses c.is_strict))
+Tells holds (request.Mend asked) = TellsMend asked.is_json holds asked
+Tells holds (request.Build c image) = Well (OfFiles holds c (ToldImage c.is_strict))
+Tells holds (request.List image) = Well (OfFile holds image.now ToldListing)
+Tells holds (request.Audit asked) = Well (AuditsTo holds asked)
+Tells holds (request.Source image) = Well (SourceOfFile holds image.now)
+Tells holds (request.EmitC asked) = Well (EmitsFile holds asked)
+Tells holds (request.Bound asked) = TellsBounding false holds asked
+Tells holds (request.View lattice class e o) = Well (ViewsFiles holds lattice.now class.now e o)
+Tells holds (request.ViewWithin asked) = Well (ViewsWithin holds asked)
+Tells holds (request.Compare comparison) = TellsComparison false holds comparison
+Tells holds (request.Leak search) = Well (SearchesFiles holds search)
+Tells holds (request.Report c) = Well (OfFiles holds c (ToldPage c.is_strict))
+Tells holds (request.Draw drawing) = Well (DrawsFiles holds drawing)
+Tells holds (request.Policy looking) = Well (SeesFiles holds looking)
+Tells holds (request.Visible visibility) = Well (ShowsFiles holds visibility)
+Tells holds (request.Format source) = Well (OfFile holds source.now ToldCanonical)
+Tells holds (request.Lattice arguments) = Well (ShapedText arguments.items)
+Tells holds (request.Explain page) = Well (λ text. text.items ≡ page.now)
+Tells holds asked = λ good text. ⊥
 
--- `bound`: the image has a bound, and the line that says so has been written.
-pub record PerformsBound (holds : Holding) (asked : Bounding) (old new : Option (List ℕ)) : Type 0 where
-  pub told : BoundAnswer
-  pub bounds : BoundsFile holds asked told
-  pub bounded : told.is_bounded ≡ true
-  pub written : Appends old new told.text.items
+-- ---- what each request has done.
+
+-- A good answer has been put into its place.
+pub record PutsAnswer (holds : Holding) (asked : Request) (left : Holding) (old new : Option (List ℕ)) : Type 0 where
+  pub text : Vec ℕ
+  pub is : Tells holds asked true text
+  pub put : Puts (place_of asked) text.items holds left old new
 
 -- `run`: the trace, followed by the text of the store, which goes to a file if one is given.
 pub record PerformsRun (holds : Holding) (e : Execution) (o : InitialStore) (traced : Bool) (left : Holding)
@@ -497,14 +548,6 @@ pub record PerformsRun (holds : Holding) (e : Execution) (o : InitialStore) (tra
   pub ran : RunsFiles holds e o traced trace text
   pub written : Appends old new (trace ++ shown o.out text)
   pub delivered : Delivers o.out text holds left
-
--- `view`: the lines, which go to a file if one is given.
-pub record PerformsView (holds : Holding) (path class : List ℕ) (e : Execution) (o : InitialStore) (left : Holding)
-    (old new : Option (List ℕ)) : Type 0 where
-  pub text : Vec ℕ
-  pub views : ViewsFiles holds path class e o text
-  pub written : Appends old new (shown o.out text.items)
-  pub delivered : Delivers o.out text.items holds left
 
 -- `drive`: a class drives the image by a lattice file or by an interface, its boundary has no fault, its budget is
 -- enough or `--unbounded` is given, a cycle has run for each line of the input, beginning with the words of its first
@@ -527,47 +570,23 @@ pub record PerformsDrive (holds : Holding) (d : Driving) (given : Option (List �
   pub drives : DrivesInput (controlled lattice driver image budget boundary) first words given old new
   pub saved : Delivers d.save (state_text image words) holds left
 
--- `compare`: the class sees no difference, and what it sees has been written.
-pub record PerformsCompare (holds : Holding) (c : Comparison) (old new : Option (List ℕ)) : Type 0 where
-  pub told : found.Comparison
-  pub compares : ComparesFiles holds c told
-  pub same : told.is_same ≡ true
-  pub written : Appends old new told.text.items
-
 -- This has been done without filling a file.
 abbrev pub Alone : (Option (List ℕ) → Option (List ℕ) → Type 0) → Holding → Holding → Option (List ℕ) →
     Option (List ℕ) → Type 0
 Alone Does holds left old new = (left ≡ holds) × Does old new
 
--- The effect of a request that ends well: its output and the files afterwards, given its files and the input.
-abbrev pub Performs : Holding → Option (List ℕ) → Request → Holding → Option (List ℕ) → Option (List ℕ) → Type 0
-Performs holds given (request.Try attempt) left = Alone (Writes (TriesFile holds attempt)) holds left
-Performs holds given (request.Check asked) left = Alone (PerformsCheck asked.is_json holds asked) holds left
-Performs holds given (request.Document asked) left = Alone (Writes (DocumentOf holds asked true)) holds left
-Performs holds given (request.Conform asked) left = Alone (Writes (ConformsFiles holds asked true)) holds left
-Performs holds given (request.Classes c) left = Alone (Writes (OfFiles holds c (ToldClasses c.is_strict))) holds left
-Performs holds given (request.Flows c has_walks) left =
+-- The effect of a request that ends well and is carried out so: its output and the files afterwards, given its files and
+-- the input.
+abbrev pub PerformsWork : Work → Holding → Option (List ℕ) → Request → Holding → Option (List ℕ) → Option (List ℕ) → Type 0
+PerformsWork (Lists c has_walks) holds given asked left =
     Alone (Writes (OfFiles holds c (ToldFlows has_walks c.is_strict))) holds left
-Performs holds given (request.Mend asked) left = Alone (PerformsMend asked.is_json holds asked) holds left
-Performs holds given (request.Build c image) left = PerformsBuild holds c image.now left
-Performs holds given (request.List image) left = Alone (Writes (OfFile holds image.now ToldListing)) holds left
-Performs holds given (request.Audit asked) left = Alone (Writes (AuditsTo holds asked)) holds left
-Performs holds given (request.Source image) left = Alone (Writes (SourceOfFile holds image.now)) holds left
-Performs holds given (request.EmitC asked) left = Alone (Writes (EmitsFile holds asked)) holds left
-Performs holds given (request.Bound asked) left = Alone (PerformsBound holds asked) holds left
-Performs holds given (request.Run e o has_trace has_count) left = PerformsRun holds e o has_trace left
-Performs holds given (request.View lattice class e o) left = PerformsView holds lattice.now class.now e o left
-Performs holds given (request.ViewWithin asked) left = PerformsViewWithin holds asked left
-Performs holds given (request.Drive driving) left = PerformsDrive holds driving given left
-Performs holds given (request.Compare comparison) left = Alone (PerformsCompare holds comparison) holds left
-Performs holds given (request.Leak search) left = Alone (Writes (SearchesFiles holds search)) holds left
-Performs holds given (request.Report c) left = Alone (Writes (OfFiles holds c (ToldPage c.is_strict))) holds left
-Performs holds given (request.Draw drawing) left = Alone (Writes (DrawsFiles holds drawing)) holds left
-Performs holds given (request.Policy looking) left = Alone (Writes (SeesFiles holds looking)) holds left
-Performs holds given (request.Visible visibility) left = Alone (Writes (ShowsFiles holds visibility)) holds left
-Performs holds given (request.Format source) left = Alone (Writes (OfFile holds source.now ToldCanonical)) holds left
-Performs holds given (request.Layout asked) left =
-    PerformsLayout asked.is_checked asked.is_written holds asked.source.now left
-Performs holds given (request.Lattice arguments) left = Alone (Writes (ShapedText arguments.items)) holds left
-Performs holds given (request.Lsp serving) left = Alone Serves holds left
-Performs holds given (request.Explain page) left = Alone (λ old new. Appends old new page.now) holds left
+PerformsWork (Runs e o has_trace has_count) holds given asked left = PerformsRun holds e o has_trace left
+PerformsWork (Drives driving) holds given asked left = PerformsDrive holds driving given left
+PerformsWork (Lays layout) holds given asked left =
+    PerformsLayout layout.is_checked layout.is_written holds layout.source.now left
+PerformsWork Talks holds given asked left = Alone Serves holds left
+PerformsWork Replies holds given asked left = PutsAnswer holds asked left
+
+-- The effect of a request that ends well.
+abbrev pub Performs : Holding → Option (List ℕ) → Request → Holding → Option (List ℕ) → Option (List ℕ) → Type 0
+Performs holds given asked = PerformsWork (work_of asked) holds given asked

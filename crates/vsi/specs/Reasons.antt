@@ -1,5 +1,5 @@
 -- The reason why a request has failed early, given the contents of its files.
-use Rattle.std.specs.Prelude.{◌≡◌, ℤ, ℕ, ◌⊎◌, Bool, true, false, List, Option, Some, None, Err, IsSomeAnd}
+use Rattle.std.specs.Prelude.{◌≡◌, ◌<◌, ℤ, ℕ, ◌⊎◌, Bool, true, false, List, Option, Some, None, Err, IsSomeAnd}
 use Rattle.std.specs.Global.{Vec}
 use Rattle.std.specs.Borrow.{Bor}
 use Rattle.std.specs.Io.KnownBytes.{Appends}
@@ -8,7 +8,6 @@ use Rattle.vsi_lattice.specs.declared.lattice.Lattice.{Lattice}
 use Rattle.vsi_lattice.specs.declared.fault.LatticeError.TheVariants as lattice
 use Rattle.vsi_image.specs.declared.instr.Image.{Image}
 use Rattle.vsi_image.specs.Fields.{globals}
-use Rattle.vsi_store.specs.declared.comparing.Comparison as found
 use Rattle.vsi_compiler.specs.Headline.{IsImageOf}
 use Rattle.vsi_compiler.specs.Readable.{HasProgram}
 use Rattle.vsi_drive.specs.Boundary.{Boundary}
@@ -24,19 +23,17 @@ use Rattle.vsi_leak.specs.Texts.{IsLeakText}
 use Rattle.vsi_leak.specs.declared.found.Finding.TheVariants as finding
 use Rattle.vsi_leak.specs.declared.found.Leak.{Leak}
 use Rattle.vsi_devices.specs.Running.{RunsApart}
-use Rattle.vsi_conform.specs.declared.interface.Judgement.{Judgement}
-use Rattle.vsi_conform.specs.Checking.{TellsRefused}
 use Rattle.vsi_answers.specs.Judged.{Declares}
-use Rattle.vsi_answers.specs.Requests.{BuildsTo, ComparesTo, ListsTo, ReadsImage, ViewsTo}
+use Rattle.vsi_answers.specs.Requests.{Answer, BuildsTo, ComparesTo, ListsTo, ReadsImage, ViewsTo}
 use Rattle.vsi_answers.specs.declared.unanswered.Unanswered.{Unanswered}
 use Rattle.vsi_answers.specs.declared.unanswered.Unanswered.TheVariants as unanswered
-use Rattle.vsi_answers.specs.declared.bounds.BoundAnswer.{BoundAnswer}
 use Rattle.vsi_types.specs.declared.rules.Profile.TheVariants.{Base}
 use Rattle.vsi_policy.specs.Named.{named_policy}
 use Rattle.vsi_arguments.specs.declared.request.Attempt.{Attempt}
 use Rattle.vsi_arguments.specs.declared.request.Audit.{Audit}
 use Rattle.vsi_arguments.specs.declared.request.Bounding.{Bounding}
 use Rattle.vsi_arguments.specs.declared.request.Comparison.{Comparison}
+use Rattle.vsi_arguments.specs.declared.request.Compilation.{Compilation}
 use Rattle.vsi_arguments.specs.declared.request.Conformance.{Conformance}
 use Rattle.vsi_arguments.specs.declared.request.Document.{Document}
 use Rattle.vsi_arguments.specs.declared.request.Document.TheVariants as document
@@ -51,43 +48,38 @@ use Rattle.vsi_arguments.specs.declared.request.Request.{Request}
 use Rattle.vsi_arguments.specs.declared.request.Request.TheVariants as request
 use Rattle.vsi.specs.declared.failure.Failure.{Failure}
 use Rattle.vsi.specs.declared.failure.Failure.TheVariants as fails
-use Rattle.vsi.specs.Documents.{RunsJson}
 use Rattle.vsi.specs.Holding.{Holding, IsImageAt, IsLatticeAt, IsReadAt}
 use Rattle.vsi.specs.Laying.{OtherLayout}
-use Rattle.vsi.specs.Raises.{ToldUnserved}
 use Rattle.vsi.specs.Input.{two_classes}
 use Rattle.vsi.specs.Served.{Serves, unended_line}
 use Rattle.vsi.specs.Supplied.{begins_image}
 use Rattle.vsi.specs.Steering.{IsViewed}
 use Rattle.vsi.specs.Tried.{AreTried, BeginsSet, IsMade, IsTriedUnder, RunsMade, policy_path}
 use Rattle.vsi.specs.Feeding.{RefusesSettings}
-use Rattle.vsi.specs.Files.{BeginsAt, IsBudgetOf, LooksAt, OfFiles, Writes}
-use Rattle.vsi.specs.Performed.{BoundsFile, ComparesFiles, ConformsFiles, DocumentOf, LooksFor, compilation_of, judgement_of, profile_of, wanted_of}
-use Rattle.vsi.specs.Refusals.{AsksCanonical, AsksCheck, AsksClasses, AsksFlows, AsksImage, AsksMend, IsDifference, LacksBoundAt, LacksClass, LacksClassAt, LacksEither, NoOther, RefusesFile, RefusesFiles, RefusesImage, RefusesLattice, RefusesSource, RefusesStart, RefusesStore, FailsBy}
+use Rattle.vsi.specs.Files.{BeginsAt, IsBudgetOf, LooksAt, LooksFor, Writes}
+use Rattle.vsi.specs.Failures.{status_of}
+use Rattle.vsi.specs.Works.{Drives, Lays, Lists, Replies, Runs, Talks, Work, end_of, spends, work_of}
+use Rattle.vsi.specs.Performed.{OfCompared, Tells, TellsBounding, compilation_of, profile_of, wanted_of}
+use Rattle.vsi.specs.Refusals.{AsksCanonical, AsksCheck, AsksClasses, AsksFlows, AsksImage, AsksMend, LacksBoundAt, LacksClassAt, LacksEither, LacksGiven, NoOther, RefusesFile, RefusesFiles, RefusesImage, RefusesLattice, RefusesSource, RefusesStart, RefusesStore, FailsBy}
 use Rattle.vsi.specs.Undriven.{FallsShort, IsUnusable, LacksDrive, LacksView, RefusesAsked, RefusesControl, RefusesSteering, SaysLine, WhyDrive}
 
 -- ---- why each subcommand has failed.
 
--- The line of JSON for a refused text.
-abbrev pub ToldRefusal : Judgement → Lattice → List ℕ → Vec ℕ → Type 0
-ToldRefusal j l source text = TellsRefused l j source text.items
+-- `check` and `mend`: the lattice or the text is refused; with `--json` only the lattice, since a refusal of the text is
+-- an answer.
+abbrev pub RefusesJudged : Bool → Holding → Compilation → (Lattice → List ℕ → Answer → Type 0) → Unanswered → Type 0
+RefusesJudged true holds c Ask = RefusesLattice holds c.lattice.now
+RefusesJudged false holds c Ask = RefusesFiles holds c Ask
 
--- `check`: the text is refused, and with `--json` the refusal has been written.
-abbrev pub WhyCheck : Bool → Holding → Judging → Option (List ℕ) → Option (List ℕ) → Failure → Type 0
-WhyCheck true holds asked old new =
-    FailsBy (RefusesLattice holds asked.compilation.lattice.now)
-    (IsDifference (Writes (OfFiles holds asked.compilation (ToldRefusal (judgement_of asked))) old new))
-WhyCheck false holds asked old new =
-    FailsBy (RefusesFiles holds asked.compilation (AsksCheck asked.is_steady asked.compilation.is_strict)) NoOther
+-- `check`: the same.
+abbrev pub RefusesCheck : Holding → Judging → Unanswered → Type 0
+RefusesCheck holds asked =
+    RefusesJudged asked.is_json holds asked.compilation (AsksCheck asked.is_steady asked.compilation.is_strict)
 
--- `mend`: the text has no answer, and with `--json` the line about that has been written.
-abbrev pub WhyMend : Bool → Holding → Mending → Option (List ℕ) → Option (List ℕ) → Failure → Type 0
-WhyMend true holds asked old new =
-    FailsBy (RefusesLattice holds asked.compilation.lattice.now)
-    (IsDifference
-    (Writes (OfFiles holds asked.compilation (ToldUnserved (profile_of asked.compilation.is_strict))) old new))
-WhyMend false holds asked old new =
-    FailsBy (RefusesFiles holds asked.compilation (AsksMend asked.is_applied asked.compilation.is_strict)) NoOther
+-- `mend`: the same.
+abbrev pub RefusesMend : Holding → Mending → Unanswered → Type 0
+RefusesMend holds asked =
+    RefusesJudged asked.is_json holds asked.compilation (AsksMend asked.is_applied asked.compilation.is_strict)
 
 -- The bytes begin as those of an image, and the image is refused.
 abbrev pub RefusesBytes : List ℕ → Unanswered → Type 0
@@ -103,12 +95,6 @@ pub record RefusesSupplied (holds : Holding) (path : List ℕ) (reason : Unanswe
 abbrev pub RefusesConform : Holding → Conformance → Unanswered → Type 0
 RefusesConform holds c reason =
     RefusesAsked holds c.interface.now reason ⊎ RefusesSupplied holds c.source.now reason
-
--- `conform`: the interface is refused, or the text or the image doesn't conform to it and the difference has been
--- written.
-abbrev pub DiffersConform : Holding → Conformance → Option (List ℕ) → Option (List ℕ) → Failure → Type 0
-DiffersConform holds c old new failure =
-    IsUnusable failure ⊎ IsDifference (Writes (ConformsFiles holds c false) old new) failure
 
 -- `run`: the trace of a run that is out of budget has been written.
 pub record SpendsRun (holds : Holding) (e : Execution) (o : InitialStore) (traced : Bool) (old new : Option (List ℕ))
@@ -148,17 +134,9 @@ WhyView holds path class e o reason =
     ⊎ RefusesView holds path class e o reason
 
 -- `compare`: the lattice lacks the class of a global.
-pub record RefusesComparison (holds : Holding) (c : Comparison) (reason : Unanswered) : Type 0 where
-  pub lattice : Lattice
-  pub viewer : ℕ
-  pub looks : LooksAt holds c.lattice.now c.class.now lattice viewer
-  pub image : Image
-  pub held : IsImageAt holds c.image.now image
-  pub first : List ℤ
-  pub second : List ℤ
-  pub budget : ℕ
-  pub within : IsBudgetOf c.budget image budget
-  pub is : ComparesTo lattice viewer image first second budget (Err reason)
+abbrev pub RefusesComparison : Holding → Comparison → Unanswered → Type 0
+RefusesComparison holds c reason =
+    OfCompared holds c (λ l viewer im first second budget. ComparesTo l viewer im first second budget (Err reason))
 
 -- `compare`: the lattice is refused, or the image, or a store, or the runs aren't compared.
 abbrev pub WhyCompare : Holding → Comparison → Unanswered → Type 0
@@ -167,23 +145,11 @@ WhyCompare holds c reason =
     ⊎ RefusesStore holds c.image.now (Some c.stores.0) reason ⊎ RefusesStore holds c.image.now (Some c.stores.1) reason
     ⊎ RefusesComparison holds c reason
 
--- `compare`: the class sees a difference, and what it sees has been written.
-pub record DiffersCompare (holds : Holding) (c : Comparison) (old new : Option (List ℕ)) : Type 0 where
-  pub told : found.Comparison
-  pub compares : ComparesFiles holds c told
-  pub differs : told.is_same ≡ false
-  pub written : Appends old new told.text.items
-
 -- `compare`: the lattice has no class of the name, no bound was found for the image, or the budget isn't enough.
 abbrev pub LacksCompare : Holding → Comparison → Failure → Type 0
 LacksCompare holds c failure =
     LacksEither holds c.lattice.now c.class.now c.image.now c.budget failure
     ⊎ FallsShort holds c.is_unbounded (IsLatticeAt holds c.lattice.now) c.image.now c.budget failure
-
--- `compare`: something is missing, or a difference has been written.
-abbrev pub OtherCompare : Holding → Comparison → Option (List ℕ) → Option (List ℕ) → Failure → Type 0
-OtherCompare holds c old new failure =
-    LacksCompare holds c failure ⊎ IsDifference (DiffersCompare holds c old new) failure
 
 -- An image is refused with the error in the failure, whose text describes that error.
 abbrev pub IsRefusedImage : Bool → Lattice → Image → Failure → Type 0
@@ -236,10 +202,13 @@ abbrev pub ToldLeak : Holding → Search → Failure → Type 0
 ToldLeak holds s (fails.Refused text None) = TellsLeak holds s text.items
 ToldLeak holds s failure = ⊥
 
--- `leak`: the lattice has no class of the name that is given, or a leak has been found.
+-- `leak`: the lattice has no class of the name that is given.
+abbrev pub LacksSought : Holding → Search → Failure → Type 0
+LacksSought holds s failure = IsSomeAnd s.class (λ class. LacksClassAt holds s.lattice.now class.now failure)
+
+-- `leak`: the same, or a leak has been found.
 abbrev pub OtherLeak : Holding → Search → Failure → Type 0
-OtherLeak holds s failure =
-    IsSomeAnd s.class (λ class. LacksClassAt holds s.lattice.now class.now failure) ⊎ ToldLeak holds s failure
+OtherLeak holds s failure = LacksSought holds s failure ⊎ ToldLeak holds s failure
 
 -- `emit-c` and `bound`: the image is refused, or with a lattice the lattice or the source text.
 abbrev pub WhyEmit : Holding → Option (Bor (List ℕ)) → Bor (List ℕ) → Unanswered → Type 0
@@ -266,40 +235,12 @@ RefusesDocument holds (document.Run e o) reason = RefusesImage holds e.image.now
 RefusesDocument holds (document.Compare comparison) reason = WhyCompare holds comparison reason
 RefusesDocument holds (document.Leak search) reason = RefusesSearch holds search reason
 
--- A run is out of budget, and the document that says so has been written.
-abbrev pub SpendsDocument : Holding → Document → Option (List ℕ) → Option (List ℕ) → Unanswered → Type 0
-SpendsDocument holds (document.Run e o) old new reason =
-    (reason ≡ unanswered.OutOfBudget) × Writes (RunsJson holds e o false) old new
-SpendsDocument holds asked old new reason = ⊥
-
--- A request for a document has none, or the document says that a run is out of budget.
-abbrev pub WhyDocument : Holding → Document → Option (List ℕ) → Option (List ℕ) → Unanswered → Type 0
-WhyDocument holds asked old new reason =
-    RefusesDocument holds asked reason ⊎ SpendsDocument holds asked old new reason
-
 -- A request for a document lacks a class or a bound.
 abbrev pub LacksDocument : Holding → Document → Failure → Type 0
 LacksDocument holds (document.Run e o) = LacksBoundAt holds e.image.now e.budget
 LacksDocument holds (document.Compare comparison) = LacksCompare holds comparison
-LacksDocument holds (document.Leak search) = λ failure.
-    IsSomeAnd search.class (λ class. LacksClassAt holds search.lattice.now class.now failure)
+LacksDocument holds (document.Leak search) = LacksSought holds search
 LacksDocument holds asked = NoOther
-
--- A document says that something is wrong, and has been written; that of a run says so by the budget.
-abbrev pub DiffersDocument : Holding → Document → Option (List ℕ) → Option (List ℕ) → Failure → Type 0
-DiffersDocument holds (document.Run e o) old new failure = ⊥
-DiffersDocument holds asked old new failure =
-    IsDifference (Writes (DocumentOf holds asked false) old new) failure
-
--- A request for a document lacks something, or its document says that something is wrong.
-abbrev pub OtherDocument : Holding → Document → Option (List ℕ) → Option (List ℕ) → Failure → Type 0
-OtherDocument holds asked old new failure =
-    LacksDocument holds asked failure ⊎ DiffersDocument holds asked old new failure
-
--- How the program fails if a document says that something is wrong.
-abbrev pub failure_of_document : Document → Failure
-failure_of_document (document.Run e o) = fails.OutOfBudget
-failure_of_document asked = fails.Differs
 
 -- The request of `bound` about the image of an emission.
 abbrev pub bounding_of : Emission → Bounding
@@ -308,17 +249,9 @@ bounding_of asked = record { lattice = asked.lattice; file = asked.file }
 -- `emit-c --bounded`: no bound was found for the image, and the line is that of `bound`.
 pub record LacksEmitBound (holds : Holding) (asked : Emission) (failure : Failure) : Type 0 where
   pub bounded : asked.is_bounded ≡ true
-  pub told : BoundAnswer
-  pub bounds : BoundsFile holds (bounding_of asked) told
-  pub unbounded : told.is_bounded ≡ false
-  pub says : SaysLine told.text.items failure
-
--- `bound`: no bound was found for the image, and the line that says why has been written.
-pub record DiffersBound (holds : Holding) (asked : Bounding) (old new : Option (List ℕ)) : Type 0 where
-  pub told : BoundAnswer
-  pub bounds : BoundsFile holds asked told
-  pub unbounded : told.is_bounded ≡ false
-  pub written : Appends old new told.text.items
+  pub text : Vec ℕ
+  pub unbounded : TellsBounding false holds (bounding_of asked) false text
+  pub says : SaysLine text.items failure
 
 -- `draw`: the lattice is refused, or a source text without a program.
 abbrev pub WhyDraw : Holding → List ℕ → Option (Bor (List ℕ)) → Unanswered → Type 0
@@ -401,11 +334,6 @@ pub record RefusesTriedText (holds : Holding) (a : Attempt) (reason : Unanswered
 abbrev pub WhyTry : Holding → Attempt → Unanswered → Type 0
 WhyTry holds a reason = RefusesTriedLattice holds a reason ⊎ RefusesTriedText holds a reason
 
--- A lattice has no class of the name, if one is given.
-abbrev pub LacksGiven : Lattice → Option (Bor (List ℕ)) → Failure → Type 0
-LacksGiven l None failure = ⊥
-LacksGiven l (Some name) failure = LacksClass l name.now failure
-
 -- `try`: the lattice of a source text has no class of the name that is given.
 pub record LacksTried (holds : Holding) (a : Attempt) (failure : Failure) : Type 0 where
   pub text : List ℕ
@@ -414,51 +342,64 @@ pub record LacksTried (holds : Holding) (a : Attempt) (failure : Failure) : Type
   pub under : IsTriedUnder holds a.lattice a.source.now text lattice
   pub lacks : LacksGiven lattice a.class failure
 
--- The reason why a request has failed.
-abbrev pub Why : Holding → Request → Option (List ℕ) → Option (List ℕ) → Failure → Type 0
-Why holds (request.Try attempt) old new = FailsBy (WhyTry holds attempt) (LacksTried holds attempt)
-Why holds (request.Check asked) old new = WhyCheck asked.is_json holds asked old new
-Why holds (request.Document asked) old new =
-    FailsBy (WhyDocument holds asked old new) (OtherDocument holds asked old new)
-Why holds (request.Conform asked) old new =
-    FailsBy (RefusesConform holds asked) (DiffersConform holds asked old new)
-Why holds (request.Classes c) old new = FailsBy (RefusesFiles holds c (AsksClasses c.is_strict)) NoOther
-Why holds (request.Flows c has_walks) old new = FailsBy (RefusesFiles holds c (AsksFlows has_walks c.is_strict)) NoOther
-Why holds (request.Mend asked) old new = WhyMend asked.is_json holds asked old new
-Why holds (request.Build c image) old new = FailsBy (RefusesFiles holds c (AsksImage c.is_strict)) NoOther
-Why holds (request.List image) old new = FailsBy (RefusesFile holds image.now ListsTo) NoOther
-Why holds (request.Audit asked) old new =
+-- ---- why each request has failed.
+
+-- A request that answers has no answer for this reason.
+abbrev pub Refuses : Holding → Request → Failure → Type 0
+Refuses holds (request.Try attempt) = FailsBy (WhyTry holds attempt) (LacksTried holds attempt)
+Refuses holds (request.Check asked) = FailsBy (RefusesCheck holds asked) NoOther
+Refuses holds (request.Document asked) = FailsBy (RefusesDocument holds asked) (LacksDocument holds asked)
+Refuses holds (request.Conform asked) = FailsBy (RefusesConform holds asked) IsUnusable
+Refuses holds (request.Classes c) = FailsBy (RefusesFiles holds c (AsksClasses c.is_strict)) NoOther
+Refuses holds (request.Mend asked) = FailsBy (RefusesMend holds asked) NoOther
+Refuses holds (request.Build c image) = FailsBy (RefusesFiles holds c (AsksImage c.is_strict)) NoOther
+Refuses holds (request.List image) = FailsBy (RefusesFile holds image.now ListsTo) NoOther
+Refuses holds (request.Audit asked) =
     FailsBy
     (λ reason. RefusesLattice holds asked.lattice.now reason ⊎ RefusesImage holds asked.image.now reason)
     (RefusesAudit holds asked)
-Why holds (request.Source image) old new = FailsBy (RefusesImage holds image.now) (HasNoText holds image.now)
-Why holds (request.EmitC asked) old new = FailsBy (WhyEmit holds asked.lattice asked.file) (LacksEmitBound holds asked)
-Why holds (request.Bound asked) old new =
-    FailsBy (WhyEmit holds asked.lattice asked.file) (IsDifference (DiffersBound holds asked old new))
-Why holds (request.Run e o has_trace has_count) old new =
-    FailsBy (WhyRun holds e o has_trace old new) (LacksBoundAt holds e.image.now e.budget)
-Why holds (request.View lattice class e o) old new =
+Refuses holds (request.Source image) = FailsBy (RefusesImage holds image.now) (HasNoText holds image.now)
+Refuses holds (request.EmitC asked) =
+    FailsBy (WhyEmit holds asked.lattice asked.file) (LacksEmitBound holds asked)
+Refuses holds (request.Bound asked) = FailsBy (WhyEmit holds asked.lattice asked.file) NoOther
+Refuses holds (request.View lattice class e o) =
     FailsBy (WhyView holds lattice.now class.now e o)
     (LacksEither holds lattice.now class.now e.image.now e.budget)
-Why holds (request.ViewWithin asked) old new = FailsBy (WhyViewWithin holds asked) (LacksView holds asked)
-Why holds (request.Drive driving) old new =
-    FailsBy (WhyDrive holds driving) (LacksDrive holds driving)
-Why holds (request.Compare comparison) old new =
-    FailsBy (WhyCompare holds comparison) (OtherCompare holds comparison old new)
-Why holds (request.Leak search) old new =
-    FailsBy
-    (λ reason. RefusesLattice holds search.lattice.now reason
-    ⊎ RefusesSource holds search.lattice.now search.source.now reason)
-    (OtherLeak holds search)
-Why holds (request.Report c) old new = FailsBy (RefusesLattice holds c.lattice.now) NoOther
-Why holds (request.Draw drawing) old new = FailsBy (WhyDraw holds drawing.lattice.now drawing.source) NoOther
-Why holds (request.Policy looking) old new = FailsBy (WhyPolicy holds looking.lattice.now looking.old) NoOther
-Why holds (request.Visible visibility) old new =
+Refuses holds (request.ViewWithin asked) = FailsBy (WhyViewWithin holds asked) (LacksView holds asked)
+Refuses holds (request.Compare comparison) = FailsBy (WhyCompare holds comparison) (LacksCompare holds comparison)
+Refuses holds (request.Leak search) = FailsBy (RefusesSearch holds search) (OtherLeak holds search)
+Refuses holds (request.Report c) = FailsBy (RefusesLattice holds c.lattice.now) NoOther
+Refuses holds (request.Draw drawing) = FailsBy (WhyDraw holds drawing.lattice.now drawing.source) NoOther
+Refuses holds (request.Policy looking) = FailsBy (WhyPolicy holds looking.lattice.now looking.old) NoOther
+Refuses holds (request.Visible visibility) =
     FailsBy (WhyVisible holds visibility.interface.now visibility.old) IsUnusable
-Why holds (request.Format source) old new = FailsBy (RefusesFile holds source.now AsksCanonical) NoOther
-Why holds (request.Layout asked) old new =
-    FailsBy (RefusesFile holds asked.source.now AsksCanonical) (OtherLayout asked.is_checked holds asked.source.now old new)
-Why holds (request.Lattice arguments) old new = FailsBy (λ reason. ⊥) NoOther
-Why holds (request.Lsp serving) old new =
+Refuses holds (request.Format source) = FailsBy (RefusesFile holds source.now AsksCanonical) NoOther
+Refuses holds asked = FailsBy (λ reason. ⊥) NoOther
+
+-- A bad answer has been written, after which the program fails so.
+pub record IsBad (holds : Holding) (asked : Request) (old new : Option (List ℕ)) (failure : Failure) : Type 0 where
+  pub is : failure ≡ end_of (spends asked)
+  pub written : Writes (Tells holds asked false) old new
+
+-- A request that answers has failed: there is no answer, or a bad one, or it couldn't be written or put into its file.
+abbrev pub WhyAnswer : Holding → Request → Option (List ℕ) → Option (List ℕ) → Failure → Type 0
+WhyAnswer holds asked old new failure =
+    Refuses holds asked failure ⊎ IsBad holds asked old new failure ⊎ (3 < status_of failure)
+
+-- The reason why a request that is carried out so has failed.
+abbrev pub WhyWork : Work → Holding → Request → Option (List ℕ) → Option (List ℕ) → Failure → Type 0
+WhyWork (Lists c has_walks) holds asked old new =
+    FailsBy (RefusesFiles holds c (AsksFlows has_walks c.is_strict)) NoOther
+WhyWork (Runs e o has_trace has_count) holds asked old new =
+    FailsBy (WhyRun holds e o has_trace old new) (LacksBoundAt holds e.image.now e.budget)
+WhyWork (Drives driving) holds asked old new = FailsBy (WhyDrive holds driving) (LacksDrive holds driving)
+WhyWork (Lays layout) holds asked old new =
+    FailsBy (RefusesFile holds layout.source.now AsksCanonical)
+    (OtherLayout layout.is_checked holds layout.source.now old new)
+WhyWork Talks holds asked old new =
     FailsBy (λ reason. ⊥) (λ failure. SaysLine unended_line failure × Serves old new)
-Why holds (request.Explain page) old new = FailsBy (λ reason. ⊥) NoOther
+WhyWork Replies holds asked old new = WhyAnswer holds asked old new
+
+-- The reason why a request has failed.
+abbrev pub Why : Holding → Request → Option (List ℕ) → Option (List ℕ) → Failure → Type 0
+Why holds asked old new = WhyWork (work_of asked) holds asked old new

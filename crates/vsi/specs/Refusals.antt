@@ -1,5 +1,5 @@
 -- Why a request has no answer: the refused file, or the request about it.
-use Rattle.std.specs.Prelude.{◌≡◌, ◌≢◌, ◌⊎◌, ℕ, Bool, true, false, List, [], Option, Some, None, Result, Err}
+use Rattle.std.specs.Prelude.{◌≡◌, ◌≢◌, ◌⊎◌, ℕ, Bool, true, false, List, [], Option, Some, None, Result, Err, IsSomeAnd}
 use Rattle.std.specs.Borrow.{Bor}
 use Rattle.vsi_lattice.specs.LatticeView.{class_named}
 use Rattle.vsi_lattice.specs.NamePlaces.{texts}
@@ -60,14 +60,14 @@ IsNoMemory (fault.Verify e) = Unit {0}
 IsNoMemory (fault.Store e) = e ≢ store.Memory
 IsNoMemory (fault.View e) = e ≢ views.Memory
 
--- The failure is a difference, and it has been reported in this way.
-abbrev pub IsDifference : Type 0 → Failure → Type 0
-IsDifference told failure = (failure ≡ fails.Differs) × told
-
 -- A lattice has no class of this name, and the failure gives that name.
 abbrev pub LacksClass : Lattice → List ℕ → Failure → Type 0
 LacksClass l name (fails.NoClass told) = (told.now ≡ name) × (class_named l name ≡ None)
 LacksClass l name failure = ⊥
+
+-- A lattice has no class of the name, if one is given.
+abbrev pub LacksGiven : Lattice → Option (Bor (List ℕ)) → Failure → Type 0
+LacksGiven l name failure = IsSomeAnd name (λ n. LacksClass l n.now failure)
 
 -- The text of the failure says why no bound was found for an image.
 abbrev pub IsUnbounded : Image → Failure → Type 0

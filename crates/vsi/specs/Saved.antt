@@ -12,17 +12,17 @@ use Rattle.vsi_drive.specs.Control.{Control, controlled}
 use Rattle.vsi_drive.specs.Cycles.{store_behind, text_of}
 use Rattle.vsi_arguments.specs.declared.request.Driving.{Driving}
 use Rattle.vsi_arguments.specs.declared.request.Request.{Request}
-use Rattle.vsi_arguments.specs.declared.request.Request.TheVariants.{Build, Drive, Layout, Run, View, ViewWithin}
 use Rattle.vsi_arguments.specs.Asked.{AsksFor}
 use Rattle.vsi.specs.Admitted.{IsAdmitted}
 use Rattle.vsi.specs.Driven.{lines_of}
 use Rattle.vsi.specs.Beginning.{IsBegun}
 use Rattle.vsi.specs.Files.{IsBudgetOf}
-use Rattle.vsi.specs.Holding.{Holding, HoldsAt, IsImageAt, KeepsOthers}
+use Rattle.vsi.specs.Holding.{Holding, HoldsAt, IsImageAt}
 use Rattle.vsi.specs.Laying.{written_by}
 use Rattle.vsi.specs.Partly.{WritesPart}
 use Rattle.vsi.specs.State.{HoldsState, StaysAt, StaysBeside, Touches, state_text}
 use Rattle.vsi.specs.Steering.{IsSteered}
+use Rattle.vsi.specs.Works.{Drives, Lays, Lists, Replies, Runs, Stays, Talks, Work, place_of, work_of}
 
 -- ---- while lines are driven.
 
@@ -107,18 +107,21 @@ pub record LeavesState (holds : Holding) (d : Driving) (given : Option (List ℕ
   pub touches : Touches d.save holds left
   pub state : (StaysAt d.save holds left × Keeps old new) ⊎ SavesDrive holds d given left old new
 
--- A request that fails leaves the files so: a drive leaves its store's file in one of these states; `run`, `view` and
--- `fmt` leave each file as it was but the one that is filled beside theirs, and `build` each but the image; a request that
--- writes no file leaves each file as it was.
+-- A request that fails and is carried out so leaves the files so: a drive leaves its store's file in one of these states;
+-- `run` and `fmt` leave each file as it was but the one that is filled beside theirs; an answer stays out of its place.
+abbrev pub KeepsStateWork : Work → Holding → Option (List ℕ) → Request → Holding → Option (List ℕ) → Option (List ℕ) →
+    Type 0
+KeepsStateWork (Lists c has_walks) holds given asked left old new = left ≡ holds
+KeepsStateWork (Runs e o has_trace has_count) holds given asked left old new = StaysBeside o.out holds left
+KeepsStateWork (Drives d) holds given asked left old new = LeavesState holds d given left old new
+KeepsStateWork (Lays layout) holds given asked left old new =
+    StaysBeside (written_by layout.is_checked layout.is_written layout.source) holds left
+KeepsStateWork Talks holds given asked left old new = left ≡ holds
+KeepsStateWork Replies holds given asked left old new = Stays (place_of asked) holds left
+
+-- A request that fails leaves the files so.
 abbrev pub KeepsState : Holding → Option (List ℕ) → Request → Holding → Option (List ℕ) → Option (List ℕ) → Type 0
-KeepsState holds given (Drive d) left old new = LeavesState holds d given left old new
-KeepsState holds given (Build c image) left old new = KeepsOthers image.now holds left
-KeepsState holds given (Run e o has_trace has_count) left old new = StaysBeside o.out holds left
-KeepsState holds given (View lattice class e o) left old new = StaysBeside o.out holds left
-KeepsState holds given (ViewWithin asked) left old new = StaysBeside asked.initial_store.out holds left
-KeepsState holds given (Layout asked) left old new =
-    StaysBeside (written_by asked.is_checked asked.is_written asked.source) holds left
-KeepsState holds given asked left old new = left ≡ holds
+KeepsState holds given asked = KeepsStateWork (work_of asked) holds given asked
 
 -- Arguments that fail, without changing a file or with what their request leaves.
 abbrev pub KeepsStateOf : Holding → Option (List ℕ) → List (String Global) → Holding → Option (List ℕ) →

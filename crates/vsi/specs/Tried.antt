@@ -3,7 +3,6 @@ use Rattle.std.specs.Prelude.{◌≡◌, ℕ, ℤ, false, List, [], Option, Some
 use Rattle.std.specs.Borrow.{Bor}
 use Rattle.std.specs.Global.{Vec}
 use Rattle.std.specs.Str.Lossy.{utf8_lossy}
-use Rattle.vsi_lattice.specs.LatticeView.{class_named}
 use Rattle.vsi_lattice.specs.NamePlaces.{texts}
 use Rattle.vsi_lattice.specs.declared.lattice.Lattice.{Lattice}
 use Rattle.vsi_types.specs.declared.rules.Profile.TheVariants.{Base}
@@ -14,6 +13,7 @@ use Rattle.vsi_answers.specs.Judged.{AreImage, Declares}
 use Rattle.vsi_answers.specs.Requests.{Answer, BeginsWith, BuildsTo, RunsTo, ViewsTo}
 use Rattle.vsi_answers.specs.declared.unanswered.Unanswered.{Unanswered}
 use Rattle.vsi_arguments.specs.declared.request.Attempt.{Attempt}
+use Rattle.vsi.specs.Files.{LooksFor}
 use Rattle.vsi.specs.Holding.{Holding, IsLatticeAt, IsReadAt}
 use Rattle.vsi.specs.Input.{two_classes}
 
@@ -34,11 +34,6 @@ IsTriedUnder holds (Some path) source text l = IsLatticeAt holds path.now l
 IsTriedUnder holds None source text l = IsNamedLattice holds source (named_policy text) l
 
 -- ---- the run.
-
--- The class of the viewer, if one is given.
-abbrev pub Looks : Lattice → Option (Bor (List ℕ)) → Option ℕ → Type 0
-Looks l None viewer = viewer ≡ None
-Looks l (Some name) viewer = (class : ℕ) × (class_named l name.now ≡ Some class) × (viewer ≡ Some class)
 
 -- The image whose bytes `build` makes from a text.
 pub record IsMade (l : Lattice) (text : List ℕ) (im : Image) : Type 0 where
@@ -67,7 +62,7 @@ pub record RunsMade (l : Lattice) (viewer : Option ℕ) (a : Attempt) (text : Li
 pub record AreTried (holds : Holding) (a : Attempt) (l : Lattice) (viewer : Option ℕ) (text : List ℕ) : Type 0 where
   pub read : IsReadAt holds a.source.now text
   pub under : IsTriedUnder holds a.lattice a.source.now text l
-  pub looks : Looks l a.class viewer
+  pub looks : LooksFor l a.class viewer
 
 -- `try`: the lines of the run of the source text of a file.
 pub record TriesFile (holds : Holding) (a : Attempt) (lines : Vec ℕ) : Type 0 where

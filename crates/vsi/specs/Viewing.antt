@@ -1,7 +1,6 @@
 -- The view of a class within the boundary of a request.
 use Rattle.std.specs.Prelude.{◌≡◌, ℕ, ℤ, List, Option, Some, None}
 use Rattle.std.specs.Global.{Vec}
-use Rattle.std.specs.Io.KnownBytes.{Appends}
 use Rattle.vsi_lattice.specs.NamePlaces.{texts}
 use Rattle.vsi_lattice.specs.declared.lattice.Lattice.{Lattice}
 use Rattle.vsi_image.specs.declared.instr.Image.{Image}
@@ -12,8 +11,8 @@ use Rattle.vsi_drive.specs.Views.{view_of}
 use Rattle.vsi_arguments.specs.declared.request.Viewing.{Viewing}
 use Rattle.vsi.specs.Admitted.{IsAdmitted}
 use Rattle.vsi.specs.Feeding.{AreFed}
-use Rattle.vsi.specs.Files.{BeginsAt, IsBudgetOf, shown}
-use Rattle.vsi.specs.Holding.{Delivers, Holding}
+use Rattle.vsi.specs.Files.{BeginsAt, IsBudgetOf}
+use Rattle.vsi.specs.Holding.{Holding}
 use Rattle.vsi.specs.Steering.{IsViewed}
 
 -- The lines of the final store of a halting run that are written within a boundary without a fault: by a lattice file,
@@ -33,16 +32,3 @@ pub record ViewsWithin (holds : Holding) (asked : Viewing) (text : Vec ℕ) : Ty
   pub admitted : IsAdmitted asked.is_unbounded lattice image budget
   pub sound : boundary_fault (controlled lattice viewer image budget boundary) ≡ None
   pub view : view_of (controlled lattice viewer image budget boundary) budget words ≡ Some text.items
-
--- `view` within a boundary: the lines, which go to a file if one is given.
-pub record PerformsViewWithin (holds : Holding) (asked : Viewing) (left : Holding) (old new : Option (List ℕ))
-    : Type 0 where
-  pub text : Vec ℕ
-  pub views : ViewsWithin holds asked text
-  pub written : Appends old new (shown asked.initial_store.out text.items)
-  pub delivered : Delivers asked.initial_store.out text.items holds left
-
--- `view` within a boundary: the lines, and nothing if they go to a file.
-abbrev pub AnswersViewWithin : Holding → Viewing → List ℕ → Type 0
-AnswersViewWithin holds asked bytes =
-    (text : Vec ℕ) × ViewsWithin holds asked text × (bytes ≡ shown asked.initial_store.out text.items)

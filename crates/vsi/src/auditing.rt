@@ -1,33 +1,30 @@
 //! Judgements of images and their bounds.
 
-ghost use Rattle.std.specs.Prelude.{◌≡◌, ◌⊎◌, ◌++◌, ◌∷◌, ℕ, [], IfErr, IfOk, OnOk, codes, ◌<◌, false};
+ghost use Rattle.std.specs.Prelude.{◌≡◌, ◌⊎◌, ◌++◌, ◌∷◌, ℕ, [], IfErr, IfOk, OnOk, codes, false};
 ghost use Rattle.vsi_audit.specs.Telling.{IsAuditText};
 ghost use Rattle.vsi_steady.specs.Telling.{IsUnsteadyText};
 ghost use Rattle.vsi.specs.Holding.{IsReadAt, IsImageAt};
-ghost use Rattle.vsi.specs.Performed.{AuditsTo, Passes, SourceOfFile, program_version, BoundsFile, BoundsImage, IsBuiltAt, PerformsBound, compilation_of, IsBoundedC};
-ghost use Rattle.vsi_answers.specs.Judged.{AreImage, Declares};
+ghost use Rattle.vsi.specs.Performed.{AuditsTo, Bounds, Passes, SourceOfFile, TellsBounding, program_version, IsBuiltAt, compilation_of, IsBoundedC};
+ghost use Rattle.vsi_answers.specs.Judged.{AreImage};
 ghost use Rattle.vsi_store.specs.Evidence.{evidence_text};
-ghost use Rattle.vsi.specs.Refusals.{NoOther, RefusesImage, RefusesLattice, FailsBy, AsksImage, IsDifference, RefusesFiles, IsUnbounded};
-ghost use Rattle.vsi.specs.Reasons.{HasNoText, IsRefusedImage, RefusesAudit, DiffersBound, WhyEmit};
+ghost use Rattle.vsi.specs.Refusals.{NoOther, RefusesImage, RefusesLattice, FailsBy, AsksImage, RefusesFiles, IsUnbounded};
+ghost use Rattle.vsi.specs.Reasons.{HasNoText, IsRefusedImage, RefusesAudit, WhyEmit};
 ghost use Rattle.std.specs.Global.{Vec};
-ghost use Rattle.vsi.specs.Partly.{AnswersBound, Leaves};
-ghost use Rattle.vsi.specs.Failures.{TellsFault};
-ghost use Rattle.vsi_devices.specs.Counted.{device_of, faults_of};
 ghost use Rattle.vsi_answers.specs.Bounds.{IsBound};
 ghost use Rattle.vsi.specs.Performed as spec;
 ghost use Rattle.vsi.specs.declared.failure.Failure.TheVariants as fails;
 
-use crate::failure::{Failure, write_answer};
+use crate::failure::Failure;
 use crate::files::Files;
-use crate::reading::{InputCache, InputKind, bytes_in, declared_lattice, image_in, two_classes};
+use crate::reading::{InputCache, InputKind, bytes_in, image_in, policy_in, two_classes};
+use crate::replies::Reply;
 use crate::subcommands::{policy_and_text, profile};
 use crate::trying::made_image;
 use std::alloc::{AllocError, Global};
-use std::io::Write;
-use vsi_answers::{BoundAnswer, enough_budget, judged_image};
+use vsi_answers::{enough_budget, judged_image};
 use vsi_arguments::{Audit, Bounding, Compilation};
 use vsi_audit::{AuditError, audit_in, audit_text, source_text};
-use vsi_devices::Counted;
+use vsi_documents::{bound_json, bound_json_in};
 use vsi_emit::{Origin, emit_bounded, emit_bounded_header};
 use vsi_image::{Image, Verified};
 use vsi_lattice::Lattice;
@@ -160,24 +157,6 @@ fn accepted_text(
     Ok(text)
 }
 
-/// The bytes of a lattice file, and its lattice.
-fn policy_in<'a, F: Files>(
-    cache: &mut InputCache,
-    path: &'a str,
-    files: &mut F,
-) -> Result<(Vec<u8>, Lattice), Failure<'a>>
-    ensures kept { F.holds files.new ≡ F.holds files.old }
-    ensures read { IfOk result
-        (λ pair. IsReadAt (F.holds files.old) path.now pair.0.items) }
-    ensures declared { IfOk result (λ pair. Declares pair.0.items pair.1) }
-    ensures failed { IfErr result
-        (FailsBy (RefusesLattice (F.holds files.old) path.now) NoOther) }
-{
-    let bytes = bytes_in(cache, InputKind::Lattice, path, files)?;
-    let lattice = declared_lattice(cache.alloc, bytes.as_slice())?;
-    Ok((bytes, lattice))
-}
-
 /// The bytes of an image, and the verified image.
 pub(crate) fn verified_in<'a, F: Files>(
     cache: &mut InputCache,
@@ -238,32 +217,46 @@ pub(crate) fn source<'a, F: Files>(
     }
 }
 
-/// The answer about the bound of an image file.
+/// The line about the bound of an image file, or the same as a line of JSON.
 fn image_bound<'a, F: Files>(
     cache: &mut InputCache,
     image: &'a str,
+    is_json: bool,
     files: &mut F,
-) -> Result<BoundAnswer, Failure<'a>>
+) -> Result<Reply, Failure<'a>>
     ensures kept { F.holds files.new ≡ F.holds files.old }
-    ensures told { IfOk result (BoundsImage (IsImageAt (F.holds files.old) image.now)) }
+    ensures told { IfOk result (λ reply. Bounds (IsImageAt (F.holds files.old) image.now) is_json
+        reply.is_good reply.text) }
     ensures failed { IfErr result
         (FailsBy (RefusesImage (F.holds files.old) image.now) NoOther) }
 {
     let verified = image_in(cache, image, files)?;
+    if is_json {
+        let told = bound_json(cache.alloc, &verified)?;
+        return Ok(Reply {
+            text: told.line,
+            is_good: told.is_good,
+        });
+    }
     let found = vsi_answers::bound(cache.alloc, &verified)?;
-    Ok(found)
+    Ok(Reply {
+        text: found.text,
+        is_good: found.is_bounded,
+    })
 }
 
-/// The answer about the bound of the image of a source text.
+/// The line about the bound of the image of a source text, or the same as a line of JSON.
 fn text_bound<'a, F: Files>(
     cache: &mut InputCache,
     lattice: &'a str,
     source: &'a str,
+    is_json: bool,
     files: &mut F,
-) -> Result<BoundAnswer, Failure<'a>>
+) -> Result<Reply, Failure<'a>>
     ensures kept { F.holds files.new ≡ F.holds files.old }
-    ensures told { IfOk result (BoundsImage
-        (IsBuiltAt (F.holds files.old) (compilation_of lattice.entry source.entry))) }
+    ensures told { IfOk result (λ reply. Bounds
+        (IsBuiltAt (F.holds files.old) (compilation_of lattice.entry source.entry)) is_json
+        reply.is_good reply.text) }
     ensures failed { IfErr result (FailsBy (RefusesFiles (F.holds files.old)
         (compilation_of lattice.entry source.entry) (AsksImage false)) NoOther) }
 {
@@ -274,48 +267,37 @@ fn text_bound<'a, F: Files>(
     };
     let (classes, text) = policy_and_text(cache, compilation, files)?;
     let verified = made_image(cache, &classes, source, text.as_slice())?;
+    if is_json {
+        let told = bound_json_in(cache.alloc, &classes, text.as_slice(), &verified)?;
+        return Ok(Reply {
+            text: told.line,
+            is_good: told.is_good,
+        });
+    }
     let found = vsi_answers::bound_in(cache.alloc, &classes, text.as_slice(), &verified)?;
-    Ok(found)
+    Ok(Reply {
+        text: found.text,
+        is_good: found.is_bounded,
+    })
 }
 
-/// The answer about the bound of the requested image.
-pub(crate) fn bounded<'a, F: Files>(
+/// The line about the bound of the requested image, or the same as a line of JSON.
+pub(crate) fn bound<'a, F: Files>(
     cache: &mut InputCache,
     asked: Bounding<'a>,
+    is_json: bool,
     files: &mut F,
-) -> Result<BoundAnswer, Failure<'a>>
+) -> Result<Reply, Failure<'a>>
     ensures kept { F.holds files.new ≡ F.holds files.old }
-    ensures told { IfOk result (BoundsFile (F.holds files.old) asked.entry) }
+    ensures told { IfOk result (λ reply.
+        TellsBounding is_json (F.holds files.old) asked.entry reply.is_good reply.text) }
     ensures failed { IfErr result (FailsBy
         (WhyEmit (F.holds files.old) asked.entry.lattice asked.entry.file) NoOther) }
 {
     match asked.lattice {
-        Some(lattice) => text_bound(cache, lattice, asked.file, files),
-        None => image_bound(cache, asked.file, files),
+        Some(lattice) => text_bound(cache, lattice, asked.file, is_json, files),
+        None => image_bound(cache, asked.file, is_json, files),
     }
-}
-
-/// Writes the answer about the bound of the requested image.
-pub(crate) fn bound<'a, F: Files, W: Write>(
-    cache: &mut InputCache,
-    asked: Bounding<'a>,
-    files: &mut F,
-    output: &mut Counted<W>,
-) -> Result<(), Failure<'a>>
-    requires { faults_of output.old < u64.MAX }
-    ensures kept { F.holds files.new ≡ F.holds files.old }
-    ensures fault { TellsFault (faults_of output.old) (faults_of output.new) result }
-    ensures left { IfErr result (Leaves (AnswersBound (F.holds files.old) asked.entry) 4
-        (W.contents (device_of output.old)) (W.contents (device_of output.new))) }
-    ensures performed { OnOk result (PerformsBound (F.holds files.old) asked.entry
-        (W.contents (device_of output.old)) (W.contents (device_of output.new))) }
-    ensures failed { IfErr result (FailsBy
-        (WhyEmit (F.holds files.old) asked.entry.lattice asked.entry.file)
-        (IsDifference (DiffersBound (F.holds files.old) asked.entry
-        (W.contents (device_of output.old)) (W.contents (device_of output.new))))) }
-{
-    let found = bounded(cache, asked, files)?;
-    write_answer(&found.text, found.is_bounded, output)
 }
 
 /// The most instructions of an image's runs, or the failure with the line of `bound` that says why

@@ -1,45 +1,35 @@
 //! Carries out arguments.
 
-ghost use Rattle.std.specs.Prelude.{◌≡◌, ◌<◌, ◌⊎◌, ◌++◌, ℕ, List, [], false, None, IfErr, IfOk, OnOk, Err, IsOkAnd};
-ghost use Rattle.std.specs.Io.KnownBytes.{Keeps, Appends};
+ghost use Rattle.std.specs.Prelude.{◌≡◌, ◌<◌, ◌⊎◌, ◌++◌, ℕ, List, [], false, None, IfErr, IfOk, OnOk};
 ghost use Rattle.vsi.specs.Done.{Done, EndsEarly, IsMistake, Failed, Unread};
 ghost use Rattle.vsi.specs.Noted.{IsFailureNote, IsNote, NotesFailure, NotesOf, noting, Notes};
 ghost use Rattle.vsi.specs.Objections.{MayObject};
-ghost use Rattle.vsi.specs.Performed.{Performs, PerformsCheck, PerformsMend};
+ghost use Rattle.vsi.specs.Performed.{Performs};
 ghost use Rattle.vsi.specs.Saved.{KeepsState, KeepsStateOf};
 ghost use Rattle.vsi.specs.Screen.{tamed};
 ghost use Rattle.vsi.specs.Failures.{TellsFault, status_of};
 ghost use Rattle.vsi.specs.declared.failure.Failure.TheVariants.{Memory};
 ghost use Rattle.vsi_arguments.specs.Help.{AsksHelp};
 ghost use Rattle.vsi_devices.specs.Counted.{device_of, faults_of};
-ghost use Rattle.vsi.specs.Partly.{Answers, AnswersCheck, AnswersMend, BytesOf, Leaves, WritesPart, cut_from};
-ghost use Rattle.vsi.specs.Reasons.{Why, WhyCheck, WhyMend};
+ghost use Rattle.vsi.specs.Partly.{Answers, Leaves};
+ghost use Rattle.vsi.specs.Works.{cut_from};
+ghost use Rattle.vsi.specs.Reasons.{Why};
 ghost use Rattle.vsi.specs.Words as words_spec;
 
-use crate::auditing::{audit, bound, source};
+use crate::answering::put_answer;
 use crate::command_line::ErrorText;
-use crate::conformance::conform;
-use crate::documents::put_document;
-use crate::drawing::{draw, leak, report};
 use crate::driving::drive;
-use crate::emitting::emit;
 use crate::explaining::{Explaining, explained};
 use crate::failure::{Failure, answers_json, tell_refusal, write};
 use crate::files::Files;
-use crate::interface_policies::visible;
 use crate::laying::{lay_out, put_flows};
 use crate::objections::objection;
-use crate::policies::{lattice, policy};
 use crate::reading::InputCache;
-use crate::running::{Running, compare, run, view};
-use crate::steering::view_within;
-use crate::subcommands::{build, check, check_as_json, classes, format, list, mend, mend_as_json};
-use crate::trying::{serve, try_source};
+use crate::running::{Running, run};
+use crate::trying::serve;
 use std::alloc::{AllocError, Global};
 use std::io::{Read, Write};
-use vsi_arguments::{
-    ArgumentsError, Judging, Manner, Mending, Reporting, Request, asks_help, manner_of, request_of,
-};
+use vsi_arguments::{ArgumentsError, Manner, Reporting, Request, asks_help, manner_of, request_of};
 use vsi_devices::Counted;
 
 /// The message if the arguments spell no request, or don't ask for the help that the parser has.
@@ -117,8 +107,8 @@ struct Asking<'a> {
     explains: bool,
 }
 
-/// Performs the request with the requested explanations, if there may be any, and writes the line of
-/// JSON of a refused file.
+/// Performs the request with the requested explanations, if there may be any, and writes the line
+/// of JSON of a refused file.
 fn carry_out_asked<'a, F: Files, R: Read, W: Write>(
     alloc: Global,
     asking: Asking<'a>,
@@ -163,7 +153,11 @@ fn carry_out_asked<'a, F: Files, R: Read, W: Write>(
 
 /// An empty cache, which keeps files for an explanation or for the position in a line of JSON.
 fn cache_for(alloc: Global, explaining: &Option<Explaining>, is_json: bool) -> InputCache {
-    InputCache::new(alloc, explaining.is_some(), is_json)
+    let mode = match explaining {
+        Some(explaining) => Some(explaining.mode),
+        None => None,
+    };
+    InputCache::new(alloc, mode, is_json)
 }
 
 /// The settings for explaining a refusal, if explanations are requested.
@@ -197,8 +191,8 @@ fn explain_failure<'a, F: Files>(
     failure.after(error_text.put(lines))
 }
 
-/// The explanation of a failure, if one is requested, or else why its file isn't used, where each user
-/// has to know.
+/// The explanation of a failure, if one is requested, or else why its file isn't used, where each
+/// user has to know.
 fn lines_about<F: Files>(
     cache: &InputCache,
     explaining: Option<Explaining>,
@@ -225,7 +219,8 @@ fn misunderstood<'a>(alloc: Global) -> Failure<'a>
     }
 }
 
-/// Writes help that the arguments request to the output; for a mistake the failure says what is wrong.
+/// Writes help that the arguments request to the output; for a mistake the failure says what is
+/// wrong.
 fn answer_arguments<'a, W: Write>(
     alloc: Global,
     words: &[String],
@@ -248,79 +243,6 @@ fn answer_arguments<'a, W: Write>(
         ArgumentsError::Mistake(text) => Err(Failure::Usage(text)),
         ArgumentsError::Memory => Err(Failure::Memory),
     }
-}
-
-/// Writes the text of an answer.
-fn put<'a, W: Write>(
-    answer: Result<Vec<u8>, Failure<'a>>,
-    output: &mut Counted<W>,
-) -> Result<(), Failure<'a>>
-    requires { faults_of output.old < u64.MAX }
-    ensures fault { TellsFault (faults_of output.old) (faults_of output.new) result }
-    ensures left { IfErr result (λ failure.
-        Keeps (W.contents (device_of output.old)) (W.contents (device_of output.new))
-        ⊎ ((status_of failure ≡ 4) × IsOkAnd answer.entry (λ text. WritesPart text.items
-        (W.contents (device_of output.old)) (W.contents (device_of output.new))))) }
-    ensures done { OnOk result (IsOkAnd answer.entry (λ text.
-        Appends (W.contents (device_of output.old)) (W.contents (device_of output.new))
-        text.items)) }
-    ensures failed { IfErr result (λ failure. (answer.entry ≡ Err failure) ⊎ (3 < status_of failure)) }
-{
-    let text = answer?;
-    write(text.as_slice(), output)
-}
-
-/// Writes that the source text is accepted, in the requested manner.
-fn put_check<'a, F: Files, W: Write>(
-    cache: &mut InputCache,
-    asked: Judging<'a>,
-    files: &mut F,
-    output: &mut Counted<W>,
-    note: &mut Vec<u8>,
-) -> Result<(), Failure<'a>>
-    requires { faults_of output.old < u64.MAX }
-    ensures kept { F.holds files.new ≡ F.holds files.old }
-    ensures fault { TellsFault (faults_of output.old) (faults_of output.new) result }
-    ensures left { IfErr result (Leaves (BytesOf (AnswersCheck asked.entry.is_json (F.holds files.old) asked.entry)) 4
-        (W.contents (device_of output.old)) (W.contents (device_of output.new))) }
-    ensures performed { OnOk result
-        (PerformsCheck asked.entry.is_json (F.holds files.old) asked.entry
-        (W.contents (device_of output.old)) (W.contents (device_of output.new))) }
-    ensures failed { IfErr result
-        (WhyCheck asked.entry.is_json (F.holds files.old) asked.entry
-        (W.contents (device_of output.old)) (W.contents (device_of output.new))) }
-{
-    if asked.is_json {
-        check_as_json(cache, asked, files, output, note)
-    } else {
-        put(check(cache, asked, files, note), output)
-    }
-}
-
-/// Writes the raises of the source text, in the requested manner.
-fn put_mend<'a, F: Files, W: Write>(
-    cache: &mut InputCache,
-    asked: Mending<'a>,
-    files: &mut F,
-    output: &mut Counted<W>,
-) -> Result<(), Failure<'a>>
-    requires { faults_of output.old < u64.MAX }
-    ensures kept { F.holds files.new ≡ F.holds files.old }
-    ensures fault { TellsFault (faults_of output.old) (faults_of output.new) result }
-    ensures left { IfErr result (Leaves (BytesOf (AnswersMend asked.entry.is_json (F.holds files.old) asked.entry)) 4
-        (W.contents (device_of output.old)) (W.contents (device_of output.new))) }
-    ensures performed { OnOk result
-        (PerformsMend asked.entry.is_json (F.holds files.old) asked.entry
-        (W.contents (device_of output.old)) (W.contents (device_of output.new))) }
-    ensures failed { IfErr result
-        (WhyMend asked.entry.is_json (F.holds files.old) asked.entry
-        (W.contents (device_of output.old)) (W.contents (device_of output.new))) }
-{
-    if asked.is_json {
-        return mend_as_json(cache, asked, files, output);
-    }
-    let (compilation, is_applied) = (asked.compilation, asked.is_applied);
-    put(mend(cache, compilation, is_applied, files), output)
 }
 
 /// Does one subcommand.
@@ -355,23 +277,10 @@ pub(crate) fn perform<'a, F: Files, R: Read, W: Write>(
         (W.contents (device_of output.old)) (W.contents (device_of output.new))) }
 {
     match request {
-        Request::Check(asked) => put_check(cache, asked, files, output, &mut error_text.lines),
-        Request::Document(asked) => {
-            put_document(cache, asked, files, output, &mut error_text.lines)
-        }
-        Request::Conform(asked) => conform(cache, asked, files, output, &mut error_text.lines),
-        Request::Classes(compilation) => put(classes(cache, compilation, files), output),
         Request::Flows {
             compilation,
             has_walks,
         } => put_flows(cache, compilation, has_walks, files, output),
-        Request::Mend(asked) => put_mend(cache, asked, files, output),
-        Request::Build(compilation, image) => build(cache, compilation, image, files),
-        Request::List(image) => put(list(cache, image, files), output),
-        Request::Audit(asked) => put(audit(cache, asked, files), output),
-        Request::Source(image) => put(source(cache, image, files), output),
-        Request::EmitC(asked) => put(emit(cache, asked, files), output),
-        Request::Bound(asked) => bound(cache, asked, files, output),
         Request::Run {
             execution,
             initial_store,
@@ -386,23 +295,6 @@ pub(crate) fn perform<'a, F: Files, R: Read, W: Write>(
             };
             run(cache, &asked, files, output, &mut error_text.lines)
         }
-        Request::View {
-            lattice,
-            class,
-            execution,
-            initial_store,
-        } => view(
-            cache,
-            lattice,
-            class,
-            execution,
-            &initial_store,
-            files,
-            output,
-        ),
-        Request::ViewWithin(asked) => {
-            view_within(cache, &asked, files, output, &mut error_text.lines)
-        }
         Request::Drive(driving) => drive(
             cache,
             driving,
@@ -411,25 +303,7 @@ pub(crate) fn perform<'a, F: Files, R: Read, W: Write>(
             output,
             &mut error_text.lines,
         ),
-        Request::Compare(comparison) => {
-            compare(cache, comparison, files, output, &mut error_text.lines)
-        }
-        Request::Leak(search) => put(leak(cache, search, files), output),
-        Request::Report(compilation) => put(report(cache, compilation, files), output),
-        Request::Draw(drawing) => put(draw(cache, drawing, files), output),
-        Request::Policy(looking) => {
-            put(policy(cache, looking, files, &mut error_text.lines), output)
-        }
-        Request::Visible(visibility) => {
-            put(
-                visible(cache, visibility, files, &mut error_text.lines),
-                output,
-            )
-        }
-        Request::Format(source) => put(format(cache, source, files), output),
         Request::Layout(asked) => lay_out(cache, asked, files, output),
-        Request::Try(attempt) => put(try_source(cache, &attempt, files), output),
-        Request::Lattice(arguments) => put(lattice(cache.alloc, arguments.as_slice()), output),
         Request::Lsp(serving) => {
             serve(
                 cache.alloc,
@@ -440,6 +314,6 @@ pub(crate) fn perform<'a, F: Files, R: Read, W: Write>(
                 &mut error_text.lines,
             )
         }
-        Request::Explain(page) => write(page.as_bytes(), output),
+        _ => put_answer(cache, request, files, output, &mut error_text.lines),
     }
 }

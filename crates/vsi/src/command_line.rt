@@ -30,10 +30,10 @@ const DEFAULT_BUDGET: u64 = 1_000_000;
 /// The input of every subcommand except those that read the input.
 const NOTHING: &[u8] = b"";
 
-/// Carries out the arguments, and returns the exit status of the program. The arguments leave out the
-/// program's name; without any, a source text is read from the input, compiled with the classes `L`
-/// below `H`, run from zeros with a budget of 1,000,000, and the text of its store is written to
-/// the output.
+/// Carries out the arguments, and returns the exit status of the program. The arguments leave out
+/// the program's name; without any, a source text is read from the input, compiled with the classes
+/// `L` below `H`, run from zeros with a budget of 1,000,000, and the text of its store is written
+/// to the output.
 ///
 /// The status is 0 if everything was done, 1 for a refusal or a difference, 2 for a mistake in the
 /// arguments, 3 if a run is out of budget, 4 for a fault of a file or a stream, 5 for lack of
@@ -135,7 +135,8 @@ fn without_words<R: Read, W: Write, E: Write>(
     ended(answer, &ErrorText::new(alloc), error)
 }
 
-/// Carries out the arguments, and gives them the input only if they name a subcommand that reads it.
+/// Carries out the arguments, and gives them the input only if they name a subcommand that reads
+/// it.
 fn carried_out<'a, F: Files, R: Read, W: Write>(
     alloc: Global,
     words: &'a [String],

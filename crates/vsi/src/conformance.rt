@@ -1,33 +1,29 @@
 //! A source text, or an image, beside an interface that is fixed from outside.
 
-ghost use Rattle.std.specs.Prelude.{◌≡◌, ◌<◌, ◌≤◌, Bool, Err, true, [], IfErr, IfOk, OnOk};
+ghost use Rattle.std.specs.Prelude.{◌≡◌, ◌<◌, ◌≤◌, Err, [], IfErr, IfOk, IfSome, OnOk};
 ghost use Rattle.std.specs.Str.Lossy.{utf8_lossy};
 ghost use Rattle.vsi.specs.Holding.{IsReadAt};
-ghost use Rattle.vsi.specs.Files.{Writes};
 ghost use Rattle.vsi.specs.Interfaces.{ArePolicyBytes, IsAskedAt, IsPolicyAt};
 ghost use Rattle.vsi.specs.Noted.{MayWarn};
 ghost use Rattle.vsi.specs.Performed.{ConformsFiles, IsWrittenAs, TellsBytes, TellsConforming};
-ghost use Rattle.vsi.specs.Partly.{BytesOf, Leaves};
-ghost use Rattle.vsi.specs.Failures.{TellsFault};
 ghost use Rattle.vsi_conform.specs.Beside.{IsInside, beside};
 ghost use Rattle.vsi_conform.specs.Reading.{IsReadAs};
 ghost use Rattle.vsi_conform.specs.Totals.{total_of};
-ghost use Rattle.vsi_devices.specs.Counted.{device_of, faults_of};
 ghost use Rattle.vsi.specs.Refusals.{NoOther, FailsBy};
-ghost use Rattle.vsi.specs.Reasons.{DiffersConform, RefusesBytes, RefusesConform};
-ghost use Rattle.vsi.specs.Undriven.{IsUnusable, RefusesAsked, RefusesPolicy};
+ghost use Rattle.vsi.specs.Reasons.{RefusesBytes, RefusesConform};
+ghost use Rattle.vsi.specs.Undriven.{IsUnusable, RefusesAsked};
 ghost use Rattle.vsi.specs.Failures.{status_of};
 ghost use Rattle.vsi.specs.Supplied.{IsSuppliedAs, TellsSupplied};
 ghost use Rattle.vsi.specs.Supplied as supplied;
 ghost use Rattle.vsi_answers.specs.Requests.{ReadsImage};
 
-use crate::failure::{Failure, write_answer};
+use crate::failure::Failure;
 use crate::files::Files;
 use crate::filing::{asked_files, lines_after, with_lines};
-use crate::reading::{InputCache, InputKind, bytes_in, declared_lattice, whole_in};
+use crate::reading::{InputCache, InputKind, bytes_in, whole_in};
 use crate::references::{reached_answer, with_reference};
+use crate::replies::Reply;
 use std::alloc::{AllocError, Global};
-use std::io::Write;
 use vsi_answers::judged_image;
 use vsi_arguments::{AnswerForm, Conformance};
 use vsi_audit::{AuditError, audit_in};
@@ -37,7 +33,6 @@ use vsi_conform::{
     is_within, path_beside, points_json, points_text, read_interface, unknown_class, unknown_cycle,
 };
 use vsi_conform_image::conform_image;
-use vsi_devices::Counted;
 use vsi_image::Image;
 use vsi_lattice::Lattice;
 use vsi_sarif::{image_sarif, points_sarif};
@@ -118,23 +113,6 @@ pub(crate) fn policy_bytes<'a, F: Files>(
     }
 }
 
-/// The lattice of an interface.
-pub(crate) fn lattice_of<'a, F: Files>(
-    cache: &mut InputCache,
-    interface: &str,
-    policy: &Policy,
-    files: &mut F,
-) -> Result<Lattice, Failure<'a>>
-    ensures kept { F.holds files.new ≡ F.holds files.old }
-    ensures declared { IfOk result (IsPolicyAt (F.holds files.old) interface.now policy.now) }
-    ensures failed { IfErr result
-        (FailsBy (RefusesPolicy (F.holds files.old) interface.now policy.now) NoOther) }
-{
-    let bytes = policy_bytes(cache, interface, policy, files)?;
-    let lattice = declared_lattice(cache.alloc, &bytes)?;
-    Ok(lattice)
-}
-
 /// The interface with these bytes.
 pub(crate) fn interface_of<'a>(alloc: Global, bytes: &[u8]) -> Result<InterfaceFile, Failure<'a>>
     ensures read { IfOk result (IsReadAs bytes.now) }
@@ -145,21 +123,6 @@ pub(crate) fn interface_of<'a>(alloc: Global, bytes: &[u8]) -> Result<InterfaceF
         Ok(asked) => Ok(asked),
         Err(error) => Err(unusable(alloc, error)),
     }
-}
-
-/// The interface of a file.
-pub(crate) fn interface_in<'a, F: Files>(
-    cache: &mut InputCache,
-    path: &'a str,
-    files: &mut F,
-) -> Result<InterfaceFile, Failure<'a>>
-    ensures kept { F.holds files.new ≡ F.holds files.old }
-    ensures asked { IfOk result (IsAskedAt (F.holds files.old) path.now) }
-    ensures failed { IfErr result (FailsBy (λ reason. ⊥) IsUnusable) }
-{
-    let bytes = bytes_in(cache, InputKind::Interface, path, files)?;
-    let found = interface_of(cache.alloc, &bytes)?;
-    Ok(found)
 }
 
 /// Judges the classes of the boundaries of an interface.
@@ -199,19 +162,30 @@ pub(crate) fn know_classes<'a>(
     Err(unusable(alloc, InterfaceError::UnknownClass(name)))
 }
 
-/// Judges the budgets of an interface's runs.
+/// Judges the budgets of an interface's runs, if one is given for them.
 pub(crate) fn know_budgets<'a>(
     alloc: Global,
     interface: &Interface,
-    budget: u64,
+    budget: Option<u64>,
 ) -> Result<(), Failure<'a>>
-    ensures within { OnOk result (total_of interface.now ≤ budget) }
+    ensures within { OnOk result (IfSome budget (λ most. total_of interface.now ≤ most)) }
     ensures failed { IfErr result (FailsBy (λ reason. ⊥) IsUnusable) }
 {
-    if is_within(interface, budget) {
+    match budget {
+        Some(most) => know_total(alloc, interface, most),
+        None => Ok(()),
+    }
+}
+
+/// Judges the budgets of an interface's runs, which take together at most this one.
+fn know_total<'a>(alloc: Global, interface: &Interface, most: u64) -> Result<(), Failure<'a>>
+    ensures within { OnOk result (total_of interface.now ≤ most) }
+    ensures failed { IfErr result (FailsBy (λ reason. ⊥) IsUnusable) }
+{
+    if is_within(interface, most) {
         return Ok(());
     }
-    Err(unusable(alloc, InterfaceError::AboveBudget(budget)))
+    Err(unusable(alloc, InterfaceError::AboveBudget(most)))
 }
 
 /// An answer as it is written.
@@ -234,7 +208,8 @@ fn answer_text(
     }
 }
 
-/// Whether an audit refuses the image of a text. A text that is accepted as steady has a steady image.
+/// Whether an audit refuses the image of a text. A text that is accepted as steady has a steady
+/// image.
 fn is_image_refused(
     alloc: Global,
     judgement: Judgement,
@@ -258,8 +233,8 @@ fn is_image_refused(
     }
 }
 
-/// Adds a warning if a text conforms, but an image built from it doesn't: variables that share a slot
-/// may be taken for one there.
+/// Adds a warning if a text conforms, but an image built from it doesn't: variables that share a
+/// slot may be taken for one there.
 fn warn_of_image(
     alloc: Global,
     lattice: &Lattice,
@@ -279,8 +254,8 @@ fn warn_of_image(
     Ok(())
 }
 
-/// The answer of a text as it is written, and whether it conforms. The note gets the warning about its
-/// image.
+/// The answer of a text as it is written, and whether it conforms. The note gets the warning about
+/// its image.
 fn answer_of<'a>(
     alloc: Global,
     form: AnswerForm,
@@ -407,19 +382,20 @@ fn bytes_answer<'a>(
     }
 }
 
-/// The interface of a file and its lattice, which has all classes that the interface names. Its runs
-/// take together at most the budget.
+/// The interface of a file and its lattice, which has all classes that the interface names. Its
+/// runs take together at most the budget, if one is given.
 pub(crate) fn asked_in<'a, F: Files>(
     cache: &mut InputCache,
     path: &'a str,
-    budget: u64,
+    budget: Option<u64>,
     files: &mut F,
 ) -> Result<(InterfaceFile, Lattice), Failure<'a>>
     ensures kept { F.holds files.new ≡ F.holds files.old }
     ensures asked { IfOk result (λ pair. IsAskedAt (F.holds files.old) path.now pair.0) }
     ensures declared { IfOk result
         (λ pair. IsPolicyAt (F.holds files.old) path.now pair.0.policy pair.1) }
-    ensures within { IfOk result (λ pair. total_of pair.0.interface ≤ budget) }
+    ensures within { IfOk result
+        (λ pair. IfSome budget (λ most. total_of pair.0.interface ≤ most)) }
     ensures failed { IfErr result
         (FailsBy (RefusesAsked (F.holds files.old) path.now) IsUnusable) }
 {
@@ -427,21 +403,22 @@ pub(crate) fn asked_in<'a, F: Files>(
     Ok((asked.found, asked.lattice))
 }
 
-/// Judges the source text or the image by the interface.
-fn judged<'a, F: Files>(
+/// Whether the source text or the image conforms to the interface, and where it differs. The note
+/// gets the warning about the image of a text.
+pub(crate) fn conform<'a, F: Files>(
     cache: &mut InputCache,
     asked: Conformance<'a>,
     files: &mut F,
     note: &mut Vec<u8>,
-) -> Result<(bool, Vec<u8>), Failure<'a>>
+) -> Result<Reply, Failure<'a>>
     ensures kept { F.holds files.new ≡ F.holds files.old }
     ensures warned { note.old.items ≡ [] → MayWarn note.new.items }
     ensures told { IfOk result
-        (λ pair. ConformsFiles (F.holds files.old) asked.entry pair.0 pair.1) }
+        (λ reply. ConformsFiles (F.holds files.old) asked.entry reply.is_good reply.text) }
     ensures failed { IfErr result
         (FailsBy (RefusesConform (F.holds files.old) asked.entry) IsUnusable) }
 {
-    let read = asked_files(cache, asked.interface, asked.budget, files)?;
+    let read = asked_files(cache, asked.interface, Some(asked.budget), files)?;
     let bytes = operand_in(cache, asked.source, files)?;
     let (fits, points) = bytes_answer(
         cache.alloc,
@@ -456,32 +433,8 @@ fn judged<'a, F: Files>(
     let (conforms, told) = with_reference(cache, asked, &read, &bytes, holds, answer, files)?;
     let lines = lines_after(cache.alloc, asked, conforms, &read, &bytes)?;
     let text = with_lines(told, &lines)?;
-    Ok((conforms, text))
-}
-
-/// Writes whether the source text or the image conforms to the interface, and where it differs. The
-/// note gets the warning about the image of a text.
-pub(crate) fn conform<'a, F: Files, W: Write>(
-    cache: &mut InputCache,
-    asked: Conformance<'a>,
-    files: &mut F,
-    output: &mut Counted<W>,
-    note: &mut Vec<u8>,
-) -> Result<(), Failure<'a>>
-    requires { faults_of output.old < u64.MAX }
-    ensures kept { F.holds files.new ≡ F.holds files.old }
-    ensures warned { note.old.items ≡ [] → MayWarn note.new.items }
-    ensures fault { TellsFault (faults_of output.old) (faults_of output.new) result }
-    ensures left { IfErr result (Leaves (BytesOf (λ text. (conforms : Bool)
-        × ConformsFiles (F.holds files.old) asked.entry conforms text)) 4
-        (W.contents (device_of output.old)) (W.contents (device_of output.new))) }
-    ensures performed { OnOk result (Writes (ConformsFiles (F.holds files.old) asked.entry true)
-        (W.contents (device_of output.old)) (W.contents (device_of output.new))) }
-    ensures failed { IfErr result
-        (FailsBy (RefusesConform (F.holds files.old) asked.entry)
-        (DiffersConform (F.holds files.old) asked.entry
-        (W.contents (device_of output.old)) (W.contents (device_of output.new)))) }
-{
-    let (conforms, text) = judged(cache, asked, files, note)?;
-    write_answer(&text, conforms, output)
+    Ok(Reply {
+        text,
+        is_good: conforms,
+    })
 }

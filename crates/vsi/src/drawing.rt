@@ -1,6 +1,6 @@
 //! Pages, pictures, and searches for leaks.
 
-ghost use Rattle.std.specs.Prelude.{◌≡◌, List, Some, IfErr, IfOk, IsSomeAnd, ◌⊎◌, IfSome};
+ghost use Rattle.std.specs.Prelude.{◌≡◌, List, Some, IfErr, IfOk, IsSomeAnd, IfSome};
 ghost use Rattle.vsi_lattice.specs.LatticeView.{class_named, order};
 ghost use Rattle.vsi_syntax.specs.Tree.{Whole};
 ghost use Rattle.vsi_scope.specs.Language.{Command};
@@ -8,44 +8,27 @@ ghost use Rattle.vsi_scope.specs.Resolving.{IsResolution};
 ghost use Rattle.vsi_compiler.specs.Source.{Reads};
 ghost use Rattle.vsi_compiler.specs.declared.error.CompileError.TheVariants.{Memory};
 ghost use Rattle.vsi_compiler.specs.Refusal.{RefusesProgram};
-ghost use Rattle.vsi.specs.Holding.{IsLatticeAt};
 ghost use Rattle.vsi.specs.Files.{OfFiles};
-ghost use Rattle.vsi.specs.Performed.{DrawsFiles, DrawsGraph, GraphOf, ToldPage, profile_of, LooksFor, SearchesFiles};
+ghost use Rattle.vsi.specs.Performed.{AreSought, DrawsFiles, DrawsGraph, GraphOf, ToldPage, profile_of, SearchesFiles, SearchesJson};
 ghost use Rattle.vsi_report.specs.Page.{HasPanel};
 ghost use Rattle.vsi_report.specs.Verdict.{HasVerdict};
-ghost use Rattle.vsi.specs.Refusals.{NoOther, RefusesLattice, RefusesProgramAt, FailsBy, LacksClass, RefusesSource};
-ghost use Rattle.vsi.specs.Reasons.{WhyDraw, OtherLeak};
+ghost use Rattle.vsi.specs.Refusals.{NoOther, RefusesLattice, RefusesProgramAt, FailsBy};
+ghost use Rattle.vsi.specs.Reasons.{LacksSought, OtherLeak, RefusesSearch, WhyDraw};
 ghost use Rattle.vsi_lattice.specs.Order.{IsClass};
 
 use crate::auditing::version;
 use crate::failure::Failure;
 use crate::files::Files;
-use crate::reading::{
-    InputCache, InputKind, bytes_in, class_in, declared_lattice, lattice_in, refused,
-};
+use crate::reading::{InputCache, InputKind, bytes_in, lattice_in, policy_in, refused, viewer_of};
+use crate::replies::Reply;
 use crate::subcommands::profile;
-use std::alloc::Global;
+use std::alloc::{AllocError, Global};
 use vsi_arguments::{Compilation, Drawing, Search};
 use vsi_compiler::CompileError;
-use vsi_lattice::{Class, Lattice};
+use vsi_documents::leak_json;
+use vsi_lattice::Lattice;
 use vsi_leak::{Effort, Finding, Wanted, leak_of_text, leak_text};
-use vsi_report::{Filing, ReportError, filed_page, flows_dot, lattice_dot, policy_dot};
-
-/// The bytes of a lattice file, and its lattice.
-fn policy_in<'a, F: Files>(
-    cache: &mut InputCache,
-    path: &'a str,
-    files: &mut F,
-) -> Result<(Vec<u8>, Lattice), Failure<'a>>
-    ensures kept { F.holds files.new ≡ F.holds files.old }
-    ensures read { IfOk result (λ policy. IsLatticeAt (F.holds files.old) path.now policy.1) }
-    ensures failed { IfErr result
-        (FailsBy (RefusesLattice (F.holds files.old) path.now) NoOther) }
-{
-    let bytes = bytes_in(cache, InputKind::Lattice, path, files)?;
-    let lattice = declared_lattice(cache.alloc, bytes.as_slice())?;
-    Ok((bytes, lattice))
-}
+use vsi_report::{Filing, filed_page, flows_dot, lattice_dot, policy_dot};
 
 /// The page of a source text over a lattice, with the names of both files.
 fn page_of(
@@ -54,7 +37,7 @@ fn page_of(
     policy: &[u8],
     classes: &Lattice,
     text: &[u8],
-) -> Result<Vec<u8>, ReportError>
+) -> Result<Vec<u8>, AllocError>
     ensures panel { IfOk result (λ page. HasPanel page.items text.now) }
     ensures verdict { IfOk result (λ page. HasVerdict classes.now
         (profile_of compilation.entry.is_strict) text.now page.items) }
@@ -180,20 +163,45 @@ pub(crate) fn draw<'a, F: Files>(
     Ok(graph)
 }
 
-/// The class of the viewer, if one is named.
-pub(crate) fn looking<'a>(
-    lattice: &Lattice,
-    name: Option<&'a str>,
-) -> Result<Option<Class>, Failure<'a>>
-    ensures within { IfOk result (λ class. IfSome class (IsClass (order lattice.now))) }
-    ensures looks { IfOk result (LooksFor lattice.now name.entry) }
-    ensures failed { IfErr result (FailsBy (λ reason. ⊥)
-        (λ failure. IsSomeAnd name.entry (λ n. LacksClass lattice.now n.now failure))) }
+/// What a search is about: a source text under a lattice, and what is wanted of it.
+#[derive(Drop)]
+pub(crate) struct Sought {
+    pub(crate) lattice: Lattice,
+    pub(crate) text: Vec<u8>,
+    pub(crate) wanted: Wanted,
+}
+
+/// Reads the files of a search.
+pub(crate) fn sought_in<'a, F: Files>(
+    cache: &mut InputCache,
+    search: Search<'a>,
+    files: &mut F,
+) -> Result<Sought, Failure<'a>>
+    ensures kept { F.holds files.new ≡ F.holds files.old }
+    ensures within { IfOk result
+        (λ sought. IfSome sought.wanted.class (IsClass (order sought.lattice))) }
+    ensures told { IfOk result (λ sought. AreSought (F.holds files.old) search.entry sought.lattice
+        sought.text.items sought.wanted) }
+    ensures failed { IfErr result (FailsBy (RefusesSearch (F.holds files.old) search.entry)
+        (LacksSought (F.holds files.old) search.entry)) }
 {
-    let Some(name) = name else {
-        return Ok(None);
-    };
-    Ok(Some(class_in(lattice, name)?))
+    let lattice = lattice_in(cache, search.lattice, files)?;
+    let class = viewer_of(&lattice, search.class)?;
+    let text = bytes_in(cache, InputKind::Source, search.source, files)?;
+    Ok(Sought {
+        lattice,
+        text,
+        wanted: Wanted {
+            class,
+            endings: search.has_endings,
+            steps: search.has_steps,
+            effort: Effort {
+                budget: search.budget,
+                tries: search.tries,
+                seed: search.seed,
+            },
+        },
+    })
 }
 
 /// Searches a source text for a leak, which is reported as a refusal. If none is found the line has
@@ -205,36 +213,48 @@ pub(crate) fn leak<'a, F: Files>(
 ) -> Result<Vec<u8>, Failure<'a>>
     ensures kept { F.holds files.new ≡ F.holds files.old }
     ensures told { IfOk result (SearchesFiles (F.holds files.old) search.entry) }
-    ensures failed { IfErr result (FailsBy (λ reason.
-        RefusesLattice (F.holds files.old) search.entry.lattice.now reason
-        ⊎ RefusesSource (F.holds files.old) search.entry.lattice.now search.entry.source.now reason)
+    ensures failed { IfErr result (FailsBy (RefusesSearch (F.holds files.old) search.entry)
         (OtherLeak (F.holds files.old) search.entry)) }
 {
-    let classes = lattice_in(cache, search.lattice, files)?;
-    let class = looking(&classes, search.class)?;
-    let text = bytes_in(cache, InputKind::Source, search.source, files)?;
-    let wanted = Wanted {
-        class,
-        endings: search.has_endings,
-        steps: search.has_steps,
-        effort: Effort {
-            budget: search.budget,
-            tries: search.tries,
-            seed: search.seed,
-        },
-    };
-    let (verified, finding) = match leak_of_text(cache.alloc, &classes, text.as_slice(), &wanted) {
+    let sought = sought_in(cache, search, files)?;
+    let lattice = &sought.lattice;
+    let text = sought.text.as_slice();
+    let (verified, finding) = match leak_of_text(cache.alloc, lattice, text, &sought.wanted) {
         Ok(found) => found,
-        Err(error) => return Err(refused(cache.alloc, &classes, text.as_slice(), error)),
+        Err(error) => return Err(refused(cache.alloc, lattice, text, error)),
     };
     match &finding {
         Finding::Leak(leak) => {
-            let shown = leak_text(cache.alloc, &classes, verified.image(), leak)?;
+            let shown = leak_text(cache.alloc, lattice, verified.image(), leak)?;
             Err(Failure::Refused(shown, None))
         }
         Finding::Nothing { pairs } => {
             let line = format!(in cache.alloc; "no leak in {pairs} pairs of runs\n")?;
             Ok(line.into_bytes())
         }
+    }
+}
+
+/// The line of JSON for a search of a source text, and whether it found no leak.
+pub(crate) fn leak_line<'a, F: Files>(
+    cache: &mut InputCache,
+    search: Search<'a>,
+    files: &mut F,
+) -> Result<Reply, Failure<'a>>
+    ensures kept { F.holds files.new ≡ F.holds files.old }
+    ensures told { IfOk result (λ reply.
+        SearchesJson (F.holds files.old) search.entry reply.is_good reply.text) }
+    ensures failed { IfErr result (FailsBy (RefusesSearch (F.holds files.old) search.entry)
+        (LacksSought (F.holds files.old) search.entry)) }
+{
+    let sought = sought_in(cache, search, files)?;
+    let lattice = &sought.lattice;
+    let text = sought.text.as_slice();
+    match leak_json(cache.alloc, lattice, text, &sought.wanted) {
+        Ok(told) => Ok(Reply {
+            text: told.line,
+            is_good: told.is_good,
+        }),
+        Err(error) => Err(refused(cache.alloc, lattice, text, error)),
     }
 }

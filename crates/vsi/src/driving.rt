@@ -83,14 +83,15 @@ pub(crate) fn drive<'a, F: Files, R: Read, W: Write>(
     let class = driving.class;
     let image = driving.execution.image;
     let path = first_path(driving, files);
-    let steering = steered(cache, policy, class, image, driving.is_unbounded, files)?;
+    let is_unbounded = driving.is_unbounded;
+    let steering = steered(cache, policy, class, image, true, is_unbounded, files)?;
     let mut words = first_store(cache, &steering.verified, path, driving.is_full, files)?;
     let budget = budget_of(cache.alloc, driving.execution.budget, &steering.verified)?;
     let names = names_in(cache.alloc, driving.policy, &steering.cycle)?;
     let controller = controller_of(cache, driving.policy, &names, &steering, budget)?;
     admit(
         cache.alloc,
-        driving.is_unbounded,
+        is_unbounded,
         &steering.lattice,
         &steering.verified,
         budget,
@@ -373,8 +374,8 @@ pub(crate) fn admit<'a>(
     }
 }
 
-/// A number of instructions within which an image halts from every store. Without one the failure says
-/// why none was found.
+/// A number of instructions within which an image halts from every store. Without one the failure
+/// says why none was found.
 fn bound_number<'a>(alloc: Global, verified: &Verified) -> Result<u64, Failure<'a>>
     ensures budget { IfOk result (IsBudgetOf Auto verified.now) }
     ensures failed { IfErr result (FailsBy (λ reason. ⊥) (LacksBound Auto verified.now)) }

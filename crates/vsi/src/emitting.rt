@@ -9,7 +9,7 @@ ghost use Rattle.vsi_answers.specs.Bounds.{IsBound};
 ghost use Rattle.vsi.specs.Reasons.{LacksEmitBound, WhyEmit};
 ghost use Rattle.vsi.specs.declared.failure.Failure.TheVariants as fails;
 
-use crate::auditing::{bounded, bounded_in_c, verified_in, version};
+use crate::auditing::{bound, bounded_in_c, verified_in, version};
 use crate::failure::Failure;
 use crate::files::Files;
 use crate::reading::{InputCache, InputKind, bytes_in};
@@ -85,8 +85,8 @@ fn function_name<'a>(name: Option<&'a str>, path: &'a str) -> &'a [u8]
     }
 }
 
-/// The bytes of the image of a source text, and the image, read from these bytes as if they were in a
-/// file.
+/// The bytes of the image of a source text, and the image, read from these bytes as if they were in
+/// a file.
 fn built_image<'a, F: Files>(
     cache: &mut InputCache,
     lattice: &'a str,
@@ -112,22 +112,6 @@ fn built_image<'a, F: Files>(
     }
 }
 
-/// The bytes of the file of an image, and the image.
-fn filed_image<'a, F: Files>(
-    cache: &mut InputCache,
-    file: &'a str,
-    files: &mut F,
-) -> Result<(Vec<u8>, Verified), Failure<'a>>
-    ensures kept { F.holds files.new ≡ F.holds files.old }
-    ensures told { IfOk result
-        (λ pair. IsEmittedAs (F.holds files.old) None file.entry pair.1 pair.0.items) }
-    ensures failed { IfErr result
-        (FailsBy (WhyEmit (F.holds files.old) None file.entry) NoOther) }
-{
-    let (bytes, verified) = verified_in(cache, file, files)?;
-    Ok((bytes, verified))
-}
-
 /// The bytes of the image of the file and the image, or with a lattice those of the source text.
 fn emitted_image<'a, F: Files>(
     cache: &mut InputCache,
@@ -143,7 +127,7 @@ fn emitted_image<'a, F: Files>(
 {
     match lattice {
         Some(lattice) => built_image(cache, lattice, file, files),
-        None => filed_image(cache, file, files),
+        None => verified_in(cache, file, files),
     }
 }
 
@@ -297,8 +281,8 @@ fn check_bound<'a, F: Files>(
         lattice: asked.lattice,
         file: asked.file,
     };
-    let found = bounded(cache, sought, files)?;
-    if found.is_bounded {
+    let found = bound(cache, sought, false, files)?;
+    if found.is_good {
         Ok(())
     } else {
         Err(Failure::Refused(found.text, None))

@@ -6,15 +6,13 @@ use crate::failure::{Failure, cause_diagnostic, failure_diagnostic};
 use crate::files::Files;
 use crate::objections::of_fault;
 use crate::reading::{InputCache, InputKind, Kept, TWO_CLASSES};
-use crate::subcommands::{profile, put_least_raise};
+use crate::subcommands::profile;
 use std::alloc::{AllocError, Global};
 use vsi_advice::advice;
 use vsi_answers::Cause;
 use vsi_arguments::{Colour, Document, Request};
-use vsi_audit::AuditError;
-use vsi_blame::refused_flows_of;
 use vsi_caret::ColourMode;
-use vsi_compiler::{CompileError, Source, read_source};
+use vsi_compiler::{CompileError, read_source};
 use vsi_conform::{
     InterfaceError, InterfaceFile, Judgement, Policy, flows_profile, judged, read_interface,
 };
@@ -25,7 +23,7 @@ use vsi_lattice::{Lattice, read_lattice};
 use vsi_steady::{SteadyError, UnsteadyError};
 use vsi_store::StoreError;
 use vsi_syntax::put_number;
-use vsi_telling::{RefusedFile, class_list, explanation};
+use vsi_telling::{RefusedFile, class_list, explanation, flows_explanation};
 use vsi_types::Profile;
 
 /// The advice for a run that is out of budget.
@@ -130,8 +128,7 @@ impl Explaining {
         match failure {
             Failure::Refused(_, Some(cause)) => self.of_cause(cache, cause),
             Failure::Interface(_, error) => self.of_interface(cache, error),
-            Failure::Audit(_, error) => self.of_audit(cache, error),
-            Failure::Unsteady(_, error) => self.of_unsteady(cache, error),
+            Failure::Audit(_, _) | Failure::Unsteady(_, _) => self.of_audit(cache, failure),
             Failure::FileFault(path) => of_fault(cache, files, path),
             Failure::LostFile(path) => of_fault(cache, files, path.as_str()),
             Failure::OutOfBudget => Vec::from_slice(cache.alloc, SPENT),
@@ -143,8 +140,9 @@ impl Explaining {
         }
     }
 
-    /// The explanation of a source text that isn't accepted as its interface requires, with the page
-    /// that says more. There is none if no text was read beside an interface, or if it is accepted.
+    /// The explanation of a source text that isn't accepted as its interface requires, with the
+    /// page that says more. There is none if no text was read beside an interface, or if it is
+    /// accepted.
     fn of_difference(self, cache: &InputCache) -> Result<Vec<u8>, AllocError> {
         let (Some(kept), Some(asked)) = (
             cache.last(InputKind::Source),
@@ -255,8 +253,7 @@ impl Explaining {
         let Ok(source) = read_source(alloc, lattice, &kept.bytes) else {
             return Err(AllocError);
         };
-        let path = str::from_utf8(&kept.path).unwrap_or("");
-        flow_lines(alloc, self.profile, path, &source)
+        flows_explanation(alloc, self.mode, self.profile, &kept.path, &source)
     }
 
     /// The explanation of a refused lattice file or image.
@@ -327,8 +324,8 @@ impl Explaining {
         advice(cache.alloc, self.mode, &kept.path, refused)
     }
 
-    /// The explanation of an image whose commands are refused.
-    fn of_audit(self, cache: &InputCache, error: &AuditError) -> Result<Vec<u8>, AllocError> {
+    /// The explanation of an image that an audit refuses.
+    fn of_audit(self, cache: &InputCache, failure: &Failure<'_>) -> Result<Vec<u8>, AllocError> {
         let (Some(kept), Some(image), Some(lattice)) = (
             cache.last(InputKind::Image),
             read_image(cache),
@@ -336,42 +333,22 @@ impl Explaining {
         ) else {
             return Err(AllocError);
         };
-        let refused = vsi_advice::RefusedInput::Audit {
-            lattice: &lattice,
-            image: &image,
-            error,
+        let (lattice, image) = (&lattice, &image);
+        let refused = match failure {
+            Failure::Audit(_, error) => vsi_advice::RefusedInput::Audit {
+                lattice,
+                image,
+                error,
+            },
+            Failure::Unsteady(_, error) => vsi_advice::RefusedInput::Steady {
+                lattice,
+                image,
+                error,
+            },
+            _ => return Ok(Vec::new(cache.alloc)),
         };
         advice(cache.alloc, self.mode, &kept.path, refused)
     }
-
-    /// The explanation of a refused image that isn't steady.
-    fn of_unsteady(self, cache: &InputCache, error: &SteadyError) -> Result<Vec<u8>, AllocError> {
-        let (Some(kept), Some(image), Some(lattice)) = (
-            cache.last(InputKind::Image),
-            read_image(cache),
-            policy(cache),
-        ) else {
-            return Err(AllocError);
-        };
-        let refused = vsi_advice::RefusedInput::Steady {
-            lattice: &lattice,
-            image: &image,
-            error,
-        };
-        advice(cache.alloc, self.mode, &kept.path, refused)
-    }
-}
-
-/// The explanation of a text that is refused for a flow: its refused flows, and the least raise.
-pub(crate) fn flow_lines(
-    alloc: Global,
-    profile: Profile,
-    path: &str,
-    source: &Source<'_>,
-) -> Result<Vec<u8>, AllocError> {
-    let mut lines = refused_flows_of(alloc, profile, path, source)?;
-    put_least_raise(alloc, &mut lines, profile, source)?;
-    Ok(lines)
 }
 
 /// Adds the line that names the page of a refusal.
@@ -437,8 +414,8 @@ fn read_policy(cache: &InputCache) -> Option<Lattice> {
     .ok()
 }
 
-/// The text that keeps a run from beginning: a setting, a list of names, the store file, or else the
-/// image.
+/// The text that keeps a run from beginning: a setting, a list of names, the store file, or else
+/// the image.
 fn faulty_start<'d>(cache: &'d InputCache, fault: StartFault) -> Option<&'d Kept> {
     match fault {
         StartFault::Setting(

@@ -23,7 +23,6 @@ use vsi_devices::{Counted, EngineError, write_out};
 use vsi_diagnostics::{Diagnostic, Field, fault_diagnostic, line_text, refusal_diagnostic};
 use vsi_documents::{refused_interface_json, refused_json};
 use vsi_drive::{BoundaryFault, LineFault, StartFault};
-use vsi_report::ReportError;
 use vsi_steady::SteadyError;
 
 /// Standard input and output, in a file fault.
@@ -32,8 +31,8 @@ pub(crate) const STREAM: &str = "-";
 /// The reason why a command line ended early.
 #[derive(Debug, Drop)]
 pub(crate) enum Failure<'a> {
-    /// With the fault text, and its cause if that can be explained. Without a cause it is a leak, or
-    /// a budget that is to be the bound of an image for which none was found.
+    /// With the fault text, and its cause if that can be explained. Without a cause it is a leak,
+    /// or a budget that is to be the bound of an image for which none was found.
     Refused(Vec<u8>, Option<Cause>),
     /// An interface file is refused, with the fault text.
     Interface(Vec<u8>, InterfaceError),
@@ -69,15 +68,6 @@ impl<T: Drop> From<AllocFailed<T>> for Failure<'_> {
     ghost from_gives = { λ _ e. e ≡ Memory };
 
     fn from(_error: AllocFailed<T>) -> Self {
-        Failure::Memory
-    }
-}
-
-impl From<ReportError> for Failure<'_> {
-    ghost from_gives = { λ _ e. e ≡ Memory };
-
-    // A page that is too long has no text of its own.
-    fn from(_error: ReportError) -> Self {
         Failure::Memory
     }
 }
@@ -120,8 +110,8 @@ impl Failure<'_> {
         matches!(self, Failure::Memory)
     }
 
-    /// This failure if an explanation could be added; otherwise lack of memory is the failure, unless
-    /// this is a fault of a file or a stream.
+    /// This failure if an explanation could be added; otherwise lack of memory is the failure,
+    /// unless this is a fault of a file or a stream.
     pub(crate) fn after(self, added: Result<(), AllocError>) -> Self
         ensures fault { status_of self.entry ≡ 4 → status_of result ≡ 4 }
         ensures kept { (result ≡ self.entry) ⊎ (result ≡ Memory) }
@@ -196,27 +186,6 @@ pub(crate) fn write_answer<'a, W: Write>(
     }
 }
 
-/// Writes an answer, and then fails in this way if it isn't good.
-pub(crate) fn write_document<'a, W: Write>(
-    text: &[u8],
-    is_good: bool,
-    otherwise: Failure<'a>,
-    output: &mut Counted<W>,
-) -> Result<(), Failure<'a>>
-    requires { faults_of output.old < u64.MAX }
-    ensures fault { TellsFault (faults_of output.old) (faults_of output.new) result }
-    ensures part { WritesPart text.now
-        (W.contents (device_of output.old)) (W.contents (device_of output.new)) }
-    ensures whole { OnOk result ((is_good ≡ true)
-        × Appends (W.contents (device_of output.old)) (W.contents (device_of output.new)) text.now) }
-    ensures failed { IfErr result (λ failure. ((failure ≡ otherwise.entry) × ((is_good ≡ false)
-        × Appends (W.contents (device_of output.old)) (W.contents (device_of output.new)) text.now))
-        ⊎ (status_of failure ≡ 4)) }
-{
-    write(text, output)?;
-    if is_good { Ok(()) } else { Err(otherwise) }
-}
-
 /// Writes the start and the name on a line.
 fn tell_line<E: Write>(start: &[u8], word: &str, error: &mut Counted<E>) -> Result<(), EngineError>
     requires { faults_of error.old < u64.MAX }
@@ -287,8 +256,8 @@ pub(crate) fn cause_diagnostic<'s>(source: &[u8], cause: &'s Cause) -> Option<Di
     }
 }
 
-/// The refusal that a failure is, if the source text that was read is this one; none if the failure has
-/// no number.
+/// The refusal that a failure is, if the source text that was read is this one; none if the failure
+/// has no number.
 pub(crate) fn failure_diagnostic<'s>(
     source: &[u8],
     failure: &'s Failure<'_>,
@@ -353,8 +322,8 @@ fn begins_with(text: &[u8], line: &[u8]) -> bool
     text.starts_with(line)
 }
 
-/// The line of JSON of the refusal with this cause and this text. An error means that memory ran out,
-/// or that the text isn't that of the cause, which it always is.
+/// The line of JSON of the refusal with this cause and this text. An error means that memory ran
+/// out, or that the text isn't that of the cause, which it always is.
 fn line_by(cache: &InputCache, cause: &Cause, text: &[u8]) -> Result<Vec<u8>, AllocError>
     ensures { IfOk result (λ line. faultyFiles_spec.IsLineBy cause.now text.now line.items) }
 {

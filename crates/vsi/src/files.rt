@@ -96,8 +96,8 @@ pub trait Files {
         false
     }
 
-    /// Takes note of the file whose store a drive keeps, before anything is read. A file that another
-    /// drive keeps isn't replaced.
+    /// Takes note of the file whose store a drive keeps, before anything is read. A file that
+    /// another drive keeps isn't replaced.
     fn claim(&mut self, _path: &str)
         ensures kept { holds self.new ≡ holds self.old }
     {}

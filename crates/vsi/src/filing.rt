@@ -1,6 +1,6 @@
 //! The evidence of a judgement by an interface, and the files that it names.
 
-ghost use Rattle.std.specs.Prelude.{◌≡◌, ◌≤◌, ◌++◌, IfErr, IfOk};
+ghost use Rattle.std.specs.Prelude.{◌≡◌, ◌≤◌, ◌++◌, IfErr, IfOk, IfSome};
 ghost use Rattle.vsi.specs.Filed.{Follows, HasBound, IsFiledBound, IsJudged};
 ghost use Rattle.vsi.specs.Filed as spec;
 ghost use Rattle.vsi.specs.Holding.{IsReadAt};
@@ -39,12 +39,12 @@ pub(crate) struct AskedFiles {
     pub(crate) lattice: Lattice,
 }
 
-/// The interface of a file and its lattice, which has all classes that the interface names. Its runs
-/// take together at most the budget.
+/// The interface of a file and its lattice, which has all classes that the interface names. Its
+/// runs take together at most the budget, if one is given.
 pub(crate) fn asked_files<'a, F: Files>(
     cache: &mut InputCache,
     path: &'a str,
-    budget: u64,
+    budget: Option<u64>,
     files: &mut F,
 ) -> Result<AskedFiles, Failure<'a>>
     ensures kept { F.holds files.new ≡ F.holds files.old }
@@ -54,7 +54,8 @@ pub(crate) fn asked_files<'a, F: Files>(
     ensures policy { IfOk result (λ asked. ArePolicyBytes (F.holds files.old) path.now
         asked.found.policy asked.policy.items) }
     ensures declared { IfOk result (λ asked. Declares asked.policy.items asked.lattice) }
-    ensures within { IfOk result (λ asked. total_of asked.found.interface ≤ budget) }
+    ensures within { IfOk result
+        (λ asked. IfSome budget (λ most. total_of asked.found.interface ≤ most)) }
     ensures failed { IfErr result
         (FailsBy (RefusesAsked (F.holds files.old) path.now) IsUnusable) }
 {
@@ -84,8 +85,8 @@ fn filed_profile(judgement: Judgement) -> AuditProfile
     }
 }
 
-/// The image that was judged: that of these bytes, or that of a source text. A file that conforms has
-/// one.
+/// The image that was judged: that of these bytes, or that of a source text. A file that conforms
+/// has one.
 fn image_judged(
     alloc: Global,
     is_image: bool,

@@ -1,13 +1,12 @@
 //! The globals that each class sees, sets, reads and releases under an interface.
 
 ghost use Rattle.std.specs.Prelude.{◌≡◌, Some, IfErr, IfOk, IsSomeAnd};
-ghost use Rattle.vsi.specs.Interfaces.{IsAskedAt, IsPolicyAt};
 ghost use Rattle.vsi.specs.Reasons.{WhyVisible};
 ghost use Rattle.vsi.specs.Refusals.{FailsBy};
 ghost use Rattle.vsi.specs.Undriven.{IsUnusable, RefusesAsked};
 ghost use Rattle.vsi.specs.Visible.{ShowsFiles, ToldVisible};
 
-use crate::conformance::{interface_in, know_classes, know_cycles, lattice_of};
+use crate::conformance::asked_in;
 use crate::failure::Failure;
 use crate::files::Files;
 use crate::reading::InputCache;
@@ -15,29 +14,7 @@ use std::alloc::{AllocError, Global};
 use vsi_arguments::Visibility;
 use vsi_conform::{Interface, InterfaceFile};
 use vsi_lattice::Lattice;
-use vsi_policy::policy_warnings;
-use vsi_visible::{unused_warnings, visible_changes, visible_table};
-
-/// The interface of a file and its lattice, which has all classes that the interface names. The
-/// budgets of its runs aren't judged, because none of them is run.
-fn known_in<'a, F: Files>(
-    cache: &mut InputCache,
-    path: &'a str,
-    files: &mut F,
-) -> Result<(InterfaceFile, Lattice), Failure<'a>>
-    ensures kept { F.holds files.new ≡ F.holds files.old }
-    ensures asked { IfOk result (λ pair. IsAskedAt (F.holds files.old) path.now pair.0) }
-    ensures declared { IfOk result
-        (λ pair. IsPolicyAt (F.holds files.old) path.now pair.0.policy pair.1) }
-    ensures failed { IfErr result
-        (FailsBy (RefusesAsked (F.holds files.old) path.now) IsUnusable) }
-{
-    let found = interface_in(cache, path, files)?;
-    let lattice = lattice_of(cache, path, &found.policy, files)?;
-    know_classes(cache.alloc, &lattice, &found.interface)?;
-    know_cycles(cache.alloc, &lattice, &found.cycles)?;
-    Ok((found, lattice))
-}
+use vsi_policy::{policy_warnings, unused_warnings, visible_changes, visible_table};
 
 /// The differences of an interface from that of an older file.
 fn changes<'a, F: Files>(
@@ -53,7 +30,7 @@ fn changes<'a, F: Files>(
     ensures failed { IfErr result
         (FailsBy (RefusesAsked (F.holds files.old) old.now) IsUnusable) }
 {
-    let (before, old_lattice) = known_in(cache, old, files)?;
+    let (before, old_lattice) = asked_in(cache, old, None, files)?;
     Ok(visible_changes(cache.alloc, lattice, asked, &old_lattice, &before)?)
 }
 
@@ -103,7 +80,7 @@ pub(crate) fn visible<'a, F: Files>(
     ensures failed { IfErr result (FailsBy
         (WhyVisible (F.holds files.old) asked.entry.interface.now asked.entry.old) IsUnusable) }
 {
-    let (found, lattice) = known_in(cache, asked.interface, files)?;
+    let (found, lattice) = asked_in(cache, asked.interface, None, files)?;
     let text = answered(cache, &found, &lattice, asked.old, files)?;
     put_warnings(cache.alloc, &lattice, &found.interface, note)?;
     Ok(text)

@@ -2,8 +2,8 @@
 
 ghost use Rattle.vsi.specs.Laws.{BuiltIsSeenAlike, CheckedIsAccepted, LeftIsSeenAlike};
 
-/// If the arguments `check`, a lattice file and a source text are carried out to the end, the files at
-/// these paths hold a lattice and a text that is accepted under it.
+/// If the arguments `check`, a lattice file and a source text are carried out to the end, the files
+/// at these paths hold a lattice and a text that is accepted under it.
 pub fn checked_is_accepted()
     ensures { CheckedIsAccepted }
 {}
@@ -14,8 +14,8 @@ pub fn built_is_seen_alike()
     ensures { BuiltIsSeenAlike }
 {}
 
-/// If `build` is carried out, and `view` then shows a class two runs of the image file under the same
-/// lattice file, from stores that agree at and below the class, both runs show the same text.
+/// If `build` is carried out, and `view` then shows a class two runs of the image file under the
+/// same lattice file, from stores that agree at and below the class, both runs show the same text.
 pub fn left_is_seen_alike()
     ensures { LeftIsSeenAlike }
 {}

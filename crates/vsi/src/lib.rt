@@ -4,17 +4,19 @@
 //! text; `run_source` runs it. `audit_in` judges an image, whoever made it, and `source_text`
 //! writes it as a text. `read_lattice` gives the lattice that they need. `read_all`, `write_out`
 //! and `Counted` move texts through devices, and `refusal_text` and `fault_text` say why a text or
-//! a file is refused. `command` carries out the arguments of a command line. The types inside errors,
-//! such as `LexError` or a `Walk` of `Step`s, are exported here too.
+//! a file is refused. `command` carries out the arguments of a command line. The types inside
+//! errors, such as `LexError` or a `Walk` of `Step`s, are exported here too.
 //!
-//! To be believed: of `specs/` `Words`, `Holding`, `Loading`, `Driven`, `State`, `Tried`, `Shaping`,
-//! `Seeing`, `Laying`, `Raises`, `Documents`, `Admitted`, `Served`, `Files`, `Interfaces`,
-//! `Filed`, `Visible`, `Boundaries`, `Steering`, `Feeding`, `Viewing`, `Performed`, `Refusals`,
-//! `Undriven`, `Reasons`, `Partly`, `FaultyFiles`, `Diagnosing`, `Done`, `Screen`, `Objections`,
-//! `Input` and `Laws`, of `Failures` all but `FailsFor`, of `Noted` all but `Notes`, and of `Saved` its
-//! second part; its first part and `Walked` are stepping stones of proofs.
+//! To be believed: of `specs/` `Words`, `Holding`, `Loading`, `Driven`, `State`, `Tried`,
+//! `Shaping`, `Seeing`, `Laying`, `Raises`, `Documents`, `Admitted`, `Served`, `Files`,
+//! `Interfaces`, `Filed`, `Visible`, `Boundaries`, `Steering`, `Feeding`, `Viewing`, `Performed`,
+//! `Refusals`, `Undriven`, `Reasons`, `Partly`, `FaultyFiles`, `Diagnosing`, `Done`, `Screen`,
+//! `Objections`, `Works`, `Input` and `Laws`, of `Failures` all but `FailsFor`, of `Noted` all but
+//! `Notes` and `NotesAnswer`, and of `Saved` its second part; its first part and `Walked` are
+//! stepping stones of proofs.
 #![tactic(auto)]
 
+mod answering;
 mod auditing;
 mod boundaries;
 mod carrying_out;
@@ -36,8 +38,8 @@ mod objections;
 mod policies;
 mod reading;
 mod references;
+mod replies;
 mod running;
-mod sarif_documents;
 mod steering;
 mod subcommands;
 mod trying;
@@ -147,7 +149,6 @@ pub use vsi_machine::Machine;
 pub use vsi_machine::Outcome;
 pub use vsi_machine::StartError;
 pub use vsi_report::Filing;
-pub use vsi_report::ReportError;
 pub use vsi_report::filed_page;
 pub use vsi_report::flows_dot;
 pub use vsi_report::lattice_dot;

@@ -165,8 +165,8 @@ fn prepare<F: Files>(request: &Request<'_>, manner: Manner, system: &mut F)
     system.expect(writing_of(request, manner));
 }
 
-/// Reads each file that the arguments name and the request reads, in the order in which it does, and
-/// none after the first one that can't be read. A file that the request replaces is left out.
+/// Reads each file that the arguments name and the request reads, in the order in which it does,
+/// and none after the first one that can't be read. A file that the request replaces is left out.
 ///
 /// # Errors
 ///
@@ -275,8 +275,9 @@ impl<F: Files> Files for Loaded<F> {
 /// The most files that a request names to read.
 pub(crate) const MOST_READ: usize = 4;
 
-/// The paths of the files that a request reads, in the order in which it does. The lattice file that
-/// an interface or a text names isn't among them, nor is that of `lsp`, which reads it again and again.
+/// The paths of the files that a request reads, in the order in which it does. The lattice file
+/// that an interface or a text names isn't among them, nor is that of `lsp`, which reads it again
+/// and again.
 pub(crate) fn paths_of<'a>(request: &Request<'a>) -> [Option<&'a str>; MOST_READ] {
     match request {
         Request::Check(judging) | Request::Document(Document::Sarif(judging)) => {

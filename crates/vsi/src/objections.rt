@@ -52,8 +52,8 @@ fn put_sentence(lines: &mut Vec<u8>, path: &str, sentence: &str) -> Result<(), A
     lines.extend_from_slice(b"\n")
 }
 
-/// Why a file isn't used, where each user has to know: its checksum is wrong, or it would be replaced
-/// and is of another kind.
+/// Why a file isn't used, where each user has to know: its checksum is wrong, or it would be
+/// replaced and is of another kind.
 fn objection_to<F: Files>(cache: &InputCache, files: &mut F) -> Option<&'static str>
     ensures kept { F.holds files.new ≡ F.holds files.old }
     ensures known { IfSome result (λ sentence. Contains OBJECTIONS sentence.now

@@ -1,23 +1,19 @@
 //! The classes that each class sees under a lattice, and lattice files.
 
-ghost use Rattle.std.specs.Prelude.{◌≡◌, ◌⊎◌, Some, IfErr, IfOk, IsSomeAnd, ◌<◌};
-ghost use Rattle.vsi.specs.Refusals.{NoOther, RefusesLattice, FailsBy, LacksClassAt, RefusesImage};
+ghost use Rattle.std.specs.Prelude.{◌≡◌, Some, IfErr, IfOk, IsSomeAnd};
+ghost use Rattle.vsi.specs.Refusals.{NoOther, RefusesLattice, FailsBy};
 ghost use Rattle.vsi.specs.Reasons.{WhyPolicy};
 ghost use Rattle.vsi.specs.Seeing.{SeesFiles, ToldPolicy};
 ghost use Rattle.vsi.specs.Shaping.{ShapedText};
-ghost use Rattle.vsi.specs.Holding.{IsImageAt, IsLatticeAt};
-ghost use Rattle.vsi.specs.Files.{LooksAt};
+ghost use Rattle.vsi.specs.Holding.{IsLatticeAt};
 
 use crate::failure::Failure;
 use crate::files::Files;
-use crate::reading::{
-    InputCache, InputKind, bytes_in, class_in, declared_lattice, image_in, lattice_in,
-};
+use crate::reading::{InputCache, InputKind, bytes_in, declared_lattice, lattice_in};
 use std::alloc::{AllocError, Global};
 use vsi_arguments::Looking;
 use vsi_caret::put_safe;
-use vsi_image::Verified;
-use vsi_lattice::{Class, Lattice};
+use vsi_lattice::Lattice;
 use vsi_policy::{Shape, ShapeError, lattice_text, policy_warnings, seen_changes, seen_table};
 
 /// The differences of a lattice from that of an older file.
@@ -167,10 +163,11 @@ fn exchanged<'a>(alloc: Global) -> Failure<'a>
     }
 }
 
-/// The lattice of a file that comes before an image.
-fn first_lattice<'a, F: Files>(
+/// The lattice of a file that comes before an image, which a drive may not give in its place.
+pub(crate) fn first_lattice<'a, F: Files>(
     cache: &mut InputCache,
     path: &'a str,
+    is_drive: bool,
     files: &mut F,
 ) -> Result<Lattice, Failure<'a>>
     ensures kept { F.holds files.new ≡ F.holds files.old }
@@ -179,32 +176,9 @@ fn first_lattice<'a, F: Files>(
         (FailsBy (RefusesLattice (F.holds files.old) path.now) NoOther) }
 {
     let bytes = bytes_in(cache, InputKind::Lattice, path, files)?;
-    if begins_image(bytes.as_slice()) {
+    let is_exchanged = is_drive && begins_image(bytes.as_slice());
+    if is_exchanged {
         return Err(exchanged(cache.alloc));
     }
     declared_lattice(cache.alloc, bytes.as_slice())
-}
-
-/// The lattice of a file, the class of the driver, and the image that it drives. The image is read
-/// only if the lattice has the class.
-pub(crate) fn policy_before_image<'a, F: Files>(
-    cache: &mut InputCache,
-    lattice: &'a str,
-    class: &'a str,
-    image: &'a str,
-    files: &mut F,
-) -> Result<(Lattice, Class, Verified), Failure<'a>>
-    ensures kept { F.holds files.new ≡ F.holds files.old }
-    ensures looks { IfOk result
-        (λ seen. LooksAt (F.holds files.old) lattice.now class.now seen.0 seen.1) }
-    ensures held { IfOk result (λ seen. IsImageAt (F.holds files.old) image.now seen.2) }
-    ensures failed { IfErr result (FailsBy (λ reason.
-        RefusesLattice (F.holds files.old) lattice.now reason
-        ⊎ RefusesImage (F.holds files.old) image.now reason)
-        (LacksClassAt (F.holds files.old) lattice.now class.now)) }
-{
-    let classes = first_lattice(cache, lattice, files)?;
-    let driver = class_in(&classes, class)?;
-    let verified = image_in(cache, image, files)?;
-    Ok((classes, driver, verified))
 }

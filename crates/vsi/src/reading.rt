@@ -1,10 +1,10 @@
 //! Files as requests read them, each once.
 
-ghost use Rattle.std.specs.Prelude.{◌≡◌, ◌<◌, ◌⊎◌, false, Some, IfOk, IfErr, Ok, Err, MatchResult};
+ghost use Rattle.std.specs.Prelude.{◌≡◌, ◌<◌, ◌⊎◌, false, Some, IfOk, IfErr, IfSome, Ok, Err, MatchResult};
 ghost use Rattle.vsi.specs.Holding.{IsImageAt, IsLatticeAt, IsReadAt, IsStoreAt};
 ghost use Rattle.vsi.specs.Input.{two_classes};
-ghost use Rattle.vsi.specs.Files.{LooksAt};
-ghost use Rattle.vsi.specs.Refusals.{IsNoMemory, LacksClass, LacksClassAt, NoOther, RefusesImage, RefusesLattice, FailsBy};
+ghost use Rattle.vsi.specs.Files.{LooksAt, LooksFor};
+ghost use Rattle.vsi.specs.Refusals.{IsNoMemory, LacksClass, LacksClassAt, LacksGiven, NoOther, RefusesImage, RefusesLattice, FailsBy};
 ghost use Rattle.vsi.specs.Failures.{status_of, failure_of};
 ghost use Rattle.vsi_answers.specs.Answers.{Because};
 ghost use Rattle.vsi_answers.specs.Judged.{Declares, TellsFault, TellsSource};
@@ -14,17 +14,19 @@ ghost use Rattle.vsi_lattice.specs.LatticeView.{class_named, order};
 ghost use Rattle.vsi_lattice.specs.Order.{IsClass};
 ghost use Rattle.vsi.specs.declared.failure.Failure.TheVariants as fails;
 
-use crate::explaining::flow_lines;
 use crate::failure::{Failure, STREAM};
 use crate::files::Files;
+use crate::policies::first_lattice;
 use std::alloc::{AllocError, Global};
 use vsi_answers::{Observer, Unanswered, judged_image, refused_file, refused_source};
+use vsi_caret::ColourMode;
 use vsi_compiler::{CompileError, Source};
 use vsi_devices::{Counted, EngineError, READ_LIMIT, read_all};
 use vsi_diagnostics::Fault;
 use vsi_image::{DecodeError, Verified};
 use vsi_lattice::{Class, Lattice, LatticeError};
 use vsi_store::{StoreError, ViewError, is_whole};
+use vsi_telling::flows_explanation;
 use vsi_types::Profile;
 use vsi_warnings::warning_lines;
 
@@ -193,6 +195,24 @@ pub(crate) fn lattice_in<'a, F: Files>(
     declared_lattice(cache.alloc, bytes.as_slice())
 }
 
+/// The bytes of a lattice file, and its lattice.
+pub(crate) fn policy_in<'a, F: Files>(
+    cache: &mut InputCache,
+    path: &'a str,
+    files: &mut F,
+) -> Result<(Vec<u8>, Lattice), Failure<'a>>
+    ensures kept { F.holds files.new ≡ F.holds files.old }
+    ensures read { IfOk result
+        (λ pair. IsReadAt (F.holds files.old) path.now pair.0.items) }
+    ensures declared { IfOk result (λ pair. Declares pair.0.items pair.1) }
+    ensures failed { IfErr result
+        (FailsBy (RefusesLattice (F.holds files.old) path.now) NoOther) }
+{
+    let bytes = bytes_in(cache, InputKind::Lattice, path, files)?;
+    let lattice = declared_lattice(cache.alloc, bytes.as_slice())?;
+    Ok((bytes, lattice))
+}
+
 /// The class of this name.
 pub(crate) fn class_in<'a>(lattice: &Lattice, name: &'a str) -> Result<Class, Failure<'a>>
     ensures within { IfOk result (IsClass (order lattice.now)) }
@@ -203,6 +223,21 @@ pub(crate) fn class_in<'a>(lattice: &Lattice, name: &'a str) -> Result<Class, Fa
         Some(class) => Ok(class),
         None => Err(Failure::NoClass(name)),
     }
+}
+
+/// The class of the viewer, if one is named.
+pub(crate) fn viewer_of<'a>(
+    lattice: &Lattice,
+    name: Option<&'a str>,
+) -> Result<Option<Class>, Failure<'a>>
+    ensures within { IfOk result (λ class. IfSome class (IsClass (order lattice.now))) }
+    ensures looks { IfOk result (LooksFor lattice.now name.entry) }
+    ensures failed { IfErr result (FailsBy (λ reason. ⊥) (LacksGiven lattice.now name.entry)) }
+{
+    let Some(name) = name else {
+        return Ok(None);
+    };
+    Ok(Some(class_in(lattice, name)?))
 }
 
 /// The verified image of a file.
@@ -221,13 +256,14 @@ pub(crate) fn image_in<'a, F: Files>(
     Ok(verified)
 }
 
-/// The lattice of a file, the class of the viewer, and the image that it views. The image is read
-/// only if the lattice has the class.
+/// The lattice of a file, the class of the viewer or the driver, and the image that it views or
+/// drives. The image is read only if the lattice has the class.
 pub(crate) fn policy_and_image<'a, F: Files>(
     cache: &mut InputCache,
     lattice: &'a str,
     class: &'a str,
     image: &'a str,
+    is_drive: bool,
     files: &mut F,
 ) -> Result<(Lattice, Class, Verified), Failure<'a>>
     ensures kept { F.holds files.new ≡ F.holds files.old }
@@ -239,7 +275,7 @@ pub(crate) fn policy_and_image<'a, F: Files>(
         ⊎ RefusesImage (F.holds files.old) image.now reason)
         (LacksClassAt (F.holds files.old) lattice.now class.now)) }
 {
-    let classes = lattice_in(cache, lattice, files)?;
+    let classes = first_lattice(cache, lattice, is_drive, files)?;
     let viewer = class_in(&classes, class)?;
     let verified = image_in(cache, image, files)?;
     Ok((classes, viewer, verified))
@@ -287,8 +323,8 @@ pub(crate) struct InputCache {
     pub(crate) keeps_files: bool,
     /// Whether a store file was read whose checksum isn't that of the rest.
     pub(crate) is_broken: bool,
-    /// Whether refusals are explained.
-    explains: bool,
+    /// How explanations of refusals are shown, if they are requested.
+    mode: Option<ColourMode>,
     /// The explanation of a refused flow, made while its source text was at hand.
     flow_lines: Option<Result<Vec<u8>, AllocError>>,
     kept: Vec<Kept>,
@@ -296,12 +332,12 @@ pub(crate) struct InputCache {
 
 impl InputCache {
     /// An empty cache, which keeps files for explanations or for positions in lines of JSON.
-    pub(crate) fn new(alloc: Global, explains: bool, answers_json: bool) -> InputCache {
+    pub(crate) fn new(alloc: Global, mode: Option<ColourMode>, answers_json: bool) -> InputCache {
         InputCache {
             alloc,
-            keeps_files: explains || answers_json,
+            keeps_files: mode.is_some() || answers_json,
             is_broken: false,
-            explains,
+            mode,
             flow_lines: None,
             kept: Vec::new(alloc),
         }
@@ -326,19 +362,13 @@ impl InputCache {
         Ok(())
     }
 
-    /// Keeps the explanation of a source text that is refused for a flow under a profile, if refusals
-    /// are explained.
+    /// Keeps the explanation of a source text that is refused for a flow under a profile, if
+    /// refusals are explained.
     pub(crate) fn explain_flow(&mut self, profile: Profile, source: &Source<'_>) {
-        if !self.explains {
+        let (Some(mode), Some(kept)) = (self.mode, self.last(InputKind::Source)) else {
             return;
-        }
-        let lines = match self.last(InputKind::Source) {
-            Some(kept) => {
-                let path = str::from_utf8(&kept.path).unwrap_or("");
-                flow_lines(self.alloc, profile, path, source)
-            }
-            None => return,
         };
+        let lines = flows_explanation(self.alloc, mode, profile, &kept.path, source);
         self.flow_lines = Some(lines);
     }
 
@@ -351,8 +381,8 @@ impl InputCache {
         }
     }
 
-    /// The last file of this kind that was read. A lattice file that was read before an interface is
-    /// that of an older interface, and doesn't count.
+    /// The last file of this kind that was read. A lattice file that was read before an interface
+    /// is that of an older interface, and doesn't count.
     pub(crate) fn last(&self, kind: InputKind) -> Option<&Kept> {
         let mut found = None;
         for kept in &self.kept {

@@ -3,29 +3,34 @@
 ghost use Rattle.std.specs.Prelude.{◌≡◌, ◌<◌, ◌⊎◌, [], true, length, IfOk, IfErr, OnOk, Ok, Err};
 ghost use Rattle.vsi.specs.Files.{BeginsAt};
 ghost use Rattle.vsi.specs.Noted.{Counts, CountsRun, NotesCompare};
-ghost use Rattle.vsi.specs.Performed.{PerformsRun, PerformsView, ViewsFiles, ComparesFiles, PerformsCompare};
-ghost use Rattle.vsi.specs.Partly.{AnswersRun, AnswersView, Leaves, AnswersCompare};
+ghost use Rattle.vsi.specs.Performed.{AreCompared, PerformsRun, TellsComparison, ToldComparison, ViewsFiles};
+ghost use Rattle.vsi.specs.Partly.{AnswersRun, Leaves};
 ghost use Rattle.vsi.specs.State.{StaysBeside};
 ghost use Rattle.vsi.specs.Failures.{TellsFault, status_of};
 ghost use Rattle.vsi.specs.declared.failure.Failure.TheVariants.{Memory};
-ghost use Rattle.vsi_answers.specs.Requests.{BeginsWith};
+ghost use Rattle.vsi_answers.specs.Requests.{BeginsWith, ComparesTo};
 ghost use Rattle.vsi_devices.specs.Counted.{device_of, faults_of};
+ghost use Rattle.vsi_lattice.specs.LatticeView.{order};
 ghost use Rattle.vsi_lattice.specs.NamePlaces.{texts};
+ghost use Rattle.vsi_lattice.specs.Order.{IsClass};
 ghost use Rattle.vsi_machine.specs.Counting.{Halts};
 ghost use Rattle.vsi_machine.specs.Runs.{run_of};
 ghost use Rattle.vsi.specs.Refusals.{LacksBoundAt, LacksEither, NoOther, RefusesImage, RefusesStart, FailsBy};
-ghost use Rattle.vsi.specs.Reasons.{WhyRun, WhyView, LacksCompare, OtherCompare, WhyCompare};
+ghost use Rattle.vsi.specs.Reasons.{WhyRun, WhyView, LacksCompare, WhyCompare};
 
 use crate::driving::{admit, budget_of, stored_words};
-use crate::failure::{Failure, write_answer};
+use crate::failure::Failure;
 use crate::files::{Files, deliver};
 use crate::reading::{InputCache, InputKind, device_failure, image_in, policy_and_image, store_in};
+use crate::replies::Reply;
 use std::alloc::Global;
 use std::io::Write;
-use vsi_answers::start_words;
+use vsi_answers::{Unanswered, start_words};
 use vsi_arguments::{Comparison, Execution, InitialStore};
 use vsi_devices::{Counted, run_words};
+use vsi_documents::compare_json;
 use vsi_image::Verified;
+use vsi_lattice::{Class, Lattice};
 use vsi_machine::{Outcome, count_text, counted, stop_text};
 
 /// The text in place of a path in a message about a setting.
@@ -200,7 +205,7 @@ pub(crate) fn run<'a, F: Files, W: Write>(
 }
 
 /// The lines of the final store of a run of an image file that a class may see.
-fn seen<'a, F: Files>(
+pub(crate) fn view<'a, F: Files>(
     cache: &mut InputCache,
     lattice: &'a str,
     class: &'a str,
@@ -220,6 +225,7 @@ fn seen<'a, F: Files>(
         lattice,
         class,
         execution.image,
+        false,
         files,
     )?;
     let file = store_in(cache, execution.store, files)?;
@@ -228,46 +234,33 @@ fn seen<'a, F: Files>(
     Ok(vsi_answers::view(cache.alloc, &classes, &verified, viewer, &words, budget)?)
 }
 
-/// Runs an image file and writes the lines of the store that a class may see.
-pub(crate) fn view<'a, F: Files, W: Write>(
-    cache: &mut InputCache,
-    lattice: &'a str,
-    class: &'a str,
-    execution: Execution<'a>,
-    initial_store: &InitialStore<'a>,
-    files: &mut F,
-    output: &mut Counted<W>,
-) -> Result<(), Failure<'a>>
-    requires { faults_of output.old < u64.MAX }
-    ensures unfilled { IfErr result (λ failure. status_of failure < 4
-        → F.holds files.new ≡ F.holds files.old) }
-    ensures fault { TellsFault (faults_of output.old) (faults_of output.new) result }
-    ensures left { IfErr result (Leaves (AnswersView (F.holds files.old) lattice.now class.now
-        execution.entry initial_store.now) 4
-        (W.contents (device_of output.old)) (W.contents (device_of output.new))) }
-    ensures performed { OnOk result (PerformsView (F.holds files.old) lattice.now class.now
-        execution.entry initial_store.now (F.holds files.new)
-        (W.contents (device_of output.old)) (W.contents (device_of output.new))) }
-    ensures state { IfErr result
-        (λ _. StaysBeside initial_store.now.out (F.holds files.old) (F.holds files.new)) }
-    ensures failed { IfErr result (FailsBy (WhyView (F.holds files.old) lattice.now class.now
-        execution.entry initial_store.now) (LacksEither (F.holds files.old) lattice.now class.now
-        execution.entry.image.now execution.entry.budget)) }
-{
-    let text = seen(cache, lattice, class, execution, initial_store, files)?;
-    deliver(cache.alloc, &text, initial_store.out, files, output)
+/// What a comparison is about: an image, the words of two store files, and the class that compares
+/// the runs from them.
+#[derive(Drop)]
+struct TwoRuns {
+    lattice: Lattice,
+    viewer: Class,
+    verified: Verified,
+    first: Vec<i64>,
+    second: Vec<i64>,
+    budget: u64,
 }
 
-/// Runs an image file from two store files, and returns the comparison that a class makes of both
-/// runs. The note gets a line if the budget isn't enough and is taken all the same.
-fn compared<'a, F: Files>(
+/// Reads the files of a comparison. The note gets a line if the budget isn't enough and is taken
+/// all the same.
+fn runs_in<'a, F: Files>(
     cache: &mut InputCache,
     asked: Comparison<'a>,
     files: &mut F,
     note: &mut Vec<u8>,
-) -> Result<vsi_store::Comparison, Failure<'a>>
+) -> Result<TwoRuns, Failure<'a>>
     ensures kept { F.holds files.new ≡ F.holds files.old }
-    ensures told { IfOk result (ComparesFiles (F.holds files.old) asked.entry) }
+    ensures first { IfOk result
+        (λ read. length read.first.items ≡ length read.verified.globals.items) }
+    ensures second { IfOk result
+        (λ read. length read.second.items ≡ length read.verified.globals.items) }
+    ensures told { IfOk result (λ read. AreCompared (F.holds files.old) asked.entry read.lattice
+        read.viewer read.verified read.first.items read.second.items read.budget) }
     ensures noted { note.old.items ≡ [] → OnOk result
         (NotesCompare (F.holds files.old) asked.entry note.new.items) }
     ensures hushed { note.old.items ≡ [] → IfErr result (λ _.
@@ -275,11 +268,12 @@ fn compared<'a, F: Files>(
     ensures failed { IfErr result (FailsBy (WhyCompare (F.holds files.old) asked.entry)
         (LacksCompare (F.holds files.old) asked.entry)) }
 {
-    let (classes, class, verified) = policy_and_image(
+    let (lattice, viewer, verified) = policy_and_image(
         cache,
         asked.lattice,
         asked.class,
         asked.image,
+        false,
         files,
     )?;
     let first = stored_words(cache, &verified, Some(asked.stores.0), files)?;
@@ -288,46 +282,82 @@ fn compared<'a, F: Files>(
     admit(
         cache.alloc,
         asked.is_unbounded,
-        &classes,
+        &lattice,
         &verified,
         budget,
         note,
     )?;
-    let found = vsi_answers::compare(
-        cache.alloc,
-        &classes,
-        &verified,
-        class,
-        &first,
-        &second,
+    Ok(TwoRuns {
+        lattice,
+        viewer,
+        verified,
+        first,
+        second,
         budget,
-    )?;
-    Ok(found)
+    })
 }
 
-/// Writes the comparison that a class makes of the runs of an image file from two store files.
-pub(crate) fn compare<'a, F: Files, W: Write>(
+/// Compares two runs, or says why they aren't compared.
+fn compare_runs(alloc: Global, is_json: bool, runs: &TwoRuns) -> Result<Reply, Unanswered>
+    requires first { length runs.now.first.items ≡ length runs.now.verified.globals.items }
+    requires second { length runs.now.second.items ≡ length runs.now.verified.globals.items }
+    requires viewer { IsClass (order runs.now.lattice) runs.now.viewer }
+    ensures told { IfOk result (λ reply. ToldComparison is_json runs.now.lattice runs.now.viewer
+        runs.now.verified runs.now.first.items runs.now.second.items runs.now.budget reply.is_good
+        reply.text) }
+    ensures failed { IfErr result (λ reason. ComparesTo runs.now.lattice runs.now.viewer
+        runs.now.verified runs.now.first.items runs.now.second.items runs.now.budget (Err reason)) }
+{
+    if is_json {
+        let told = compare_json(
+            alloc,
+            &runs.lattice,
+            &runs.verified,
+            runs.viewer,
+            &runs.first,
+            &runs.second,
+            runs.budget,
+        )?;
+        return Ok(Reply {
+            text: told.line,
+            is_good: told.is_good,
+        });
+    }
+    let found = vsi_answers::compare(
+        alloc,
+        &runs.lattice,
+        &runs.verified,
+        runs.viewer,
+        &runs.first,
+        &runs.second,
+        runs.budget,
+    )?;
+    Ok(Reply {
+        text: found.text,
+        is_good: found.is_same,
+    })
+}
+
+/// The comparison that a class makes of the runs of an image file from two store files, as lines or
+/// as a line of JSON. The note gets a line if the budget isn't enough and is taken all the same.
+pub(crate) fn compare<'a, F: Files>(
     cache: &mut InputCache,
     asked: Comparison<'a>,
+    is_json: bool,
     files: &mut F,
-    output: &mut Counted<W>,
     note: &mut Vec<u8>,
-) -> Result<(), Failure<'a>>
-    requires { faults_of output.old < u64.MAX }
+) -> Result<Reply, Failure<'a>>
     ensures kept { F.holds files.new ≡ F.holds files.old }
-    ensures fault { TellsFault (faults_of output.old) (faults_of output.new) result }
-    ensures left { IfErr result (Leaves (AnswersCompare (F.holds files.old) asked.entry) 4
-        (W.contents (device_of output.old)) (W.contents (device_of output.new))) }
-    ensures performed { OnOk result (PerformsCompare (F.holds files.old) asked.entry
-        (W.contents (device_of output.old)) (W.contents (device_of output.new))) }
+    ensures told { IfOk result (λ reply.
+        TellsComparison is_json (F.holds files.old) asked.entry reply.is_good reply.text) }
     ensures noted { note.old.items ≡ [] → OnOk result
         (NotesCompare (F.holds files.old) asked.entry note.new.items) }
     ensures hushed { note.old.items ≡ [] → IfErr result (λ _.
         (note.new.items ≡ []) ⊎ NotesCompare (F.holds files.old) asked.entry note.new.items) }
     ensures failed { IfErr result (FailsBy (WhyCompare (F.holds files.old) asked.entry)
-        (OtherCompare (F.holds files.old) asked.entry
-        (W.contents (device_of output.old)) (W.contents (device_of output.new)))) }
+        (LacksCompare (F.holds files.old) asked.entry)) }
 {
-    let found = compared(cache, asked, files, note)?;
-    write_answer(&found.text, found.is_same, output)
+    let runs = runs_in(cache, asked, files, note)?;
+    let reply = compare_runs(cache.alloc, is_json, &runs)?;
+    Ok(reply)
 }

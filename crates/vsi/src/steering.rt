@@ -1,6 +1,6 @@
 //! The class that drives or views an image, by a lattice file or by an interface with boundaries.
 
-ghost use Rattle.std.specs.Prelude.{◌≡◌, ◌⊎◌, Some, false, map, option_map, true, IfErr, IfOk, OnOk, ◌<◌, [], None, length};
+ghost use Rattle.std.specs.Prelude.{◌≡◌, ◌⊎◌, Some, false, map, option_map, true, IfErr, IfOk, OnOk, [], None, length};
 ghost use Rattle.vsi_conform.specs.Bounded.{demands_bound};
 ghost use Rattle.vsi_conform_image.specs.Conforms.{Conforms};
 ghost use Rattle.vsi_lattice.specs.Order.{IsClass};
@@ -13,12 +13,8 @@ ghost use Rattle.vsi.specs.Undriven.{LacksCycle, LacksGoverned, LacksPolicy, Ref
 ghost use Rattle.vsi.specs.Refusals.{LacksClassAt, RefusesImage, RefusesLattice, FailsBy, NoOther};
 ghost use Rattle.vsi.specs.Steering.{IsGoverned, IsSteeredBy, insisting_line, no_cycle_line};
 ghost use Rattle.vsi.specs.Noted.{NotesView};
-ghost use Rattle.vsi.specs.Viewing.{AnswersViewWithin, PerformsViewWithin, ViewsWithin};
-ghost use Rattle.vsi.specs.Partly.{Leaves};
-ghost use Rattle.vsi.specs.State.{StaysBeside};
-ghost use Rattle.vsi.specs.Failures.{TellsFault, status_of};
+ghost use Rattle.vsi.specs.Viewing.{ViewsWithin};
 ghost use Rattle.vsi.specs.Reasons.{WhyViewWithin};
-ghost use Rattle.vsi_devices.specs.Counted.{device_of, faults_of};
 ghost use Rattle.vsi_drive.specs.Control.{control};
 ghost use Rattle.vsi_drive.specs.Views.{view_of};
 ghost use Rattle.vsi_conform.specs.Reading as reading;
@@ -28,16 +24,13 @@ use crate::boundaries::{controller_of, feed, names_in};
 use crate::conformance::asked_in;
 use crate::driving::{admit, budget_of};
 use crate::failure::Failure;
-use crate::files::{Files, deliver};
-use crate::policies::policy_before_image;
+use crate::files::Files;
 use crate::reading::{InputCache, class_in, image_in, policy_and_image, store_in};
 use crate::running::words_in;
 use std::alloc::{AllocError, Global};
-use std::io::Write;
 use vsi_arguments::{DrivePolicy, RUNS_BUDGET, Viewing};
 use vsi_conform::{Cycle, Interface, InterfaceFile, are_within, with_reached_lines};
 use vsi_conform_image::{conform_image, image_reaches, points_text};
-use vsi_devices::Counted;
 use vsi_drive::Controller;
 use vsi_image::Verified;
 use vsi_lattice::{Class, Lattice};
@@ -151,12 +144,13 @@ fn cycle_for<'a>(
     }
 }
 
-/// The class that drives an image by a lattice file.
+/// The class that drives or views an image by a lattice file.
 fn by_lattice<'a, F: Files>(
     cache: &mut InputCache,
     lattice: &'a str,
     class: &'a str,
     image: &'a str,
+    is_drive: bool,
     files: &mut F,
 ) -> Result<Steering, Failure<'a>>
     ensures kept { F.holds files.new ≡ F.holds files.old }
@@ -169,34 +163,9 @@ fn by_lattice<'a, F: Files>(
         ⊎ RefusesImage (F.holds files.old) image.now reason)
         (LacksClassAt (F.holds files.old) lattice.now class.now)) }
 {
-    let (lattice, driver, verified) = policy_before_image(cache, lattice, class, image, files)?;
-    Ok(Steering {
-        lattice,
-        driver,
-        verified,
-        cycle: None,
-    })
-}
-
-/// The class that views an image by a lattice file.
-fn views_by_lattice<'a, F: Files>(
-    cache: &mut InputCache,
-    lattice: &'a str,
-    class: &'a str,
-    image: &'a str,
-    files: &mut F,
-) -> Result<Steering, Failure<'a>>
-    ensures kept { F.holds files.new ≡ F.holds files.old }
-    ensures looks { IfOk result (λ steering.
-        LooksAt (F.holds files.old) lattice.now class.now steering.lattice steering.driver) }
-    ensures held { IfOk result
-        (λ steering. IsImageAt (F.holds files.old) image.now steering.verified) }
-    ensures failed { IfErr result (FailsBy (λ reason.
-        RefusesLattice (F.holds files.old) lattice.now reason
-        ⊎ RefusesImage (F.holds files.old) image.now reason)
-        (LacksClassAt (F.holds files.old) lattice.now class.now)) }
-{
-    let (lattice, driver, verified) = policy_and_image(cache, lattice, class, image, files)?;
+    let (lattice, driver, verified) = policy_and_image(
+        cache, lattice, class, image, is_drive, files,
+    )?;
     Ok(Steering {
         lattice,
         driver,
@@ -225,7 +194,7 @@ fn by_interface<'a, F: Files>(
         ⊎ RefusesImage (F.holds files.old) image.now reason)
         (LacksGoverned (F.holds files.old) interface.now class.now image.now is_unbounded)) }
 {
-    let (asked, lattice) = asked_in(cache, interface, RUNS_BUDGET, files)?;
+    let (asked, lattice) = asked_in(cache, interface, Some(RUNS_BUDGET), files)?;
     insist(cache.alloc, is_unbounded, &asked.interface)?;
     let driver = class_in(&lattice, class)?;
     let verified = image_in(cache, image, files)?;
@@ -239,12 +208,13 @@ fn by_interface<'a, F: Files>(
     })
 }
 
-/// The class that drives an image by a policy, its lattice and its boundary.
+/// The class that drives or views an image by a policy, its lattice and its boundary.
 pub(crate) fn steered<'a, F: Files>(
     cache: &mut InputCache,
     policy: DrivePolicy<'a>,
     class: &'a str,
     image: &'a str,
+    is_drive: bool,
     is_unbounded: bool,
     files: &mut F,
 ) -> Result<Steering, Failure<'a>>
@@ -261,36 +231,7 @@ pub(crate) fn steered<'a, F: Files>(
         (LacksPolicy (F.holds files.old) class.now image.now policy.entry is_unbounded)) }
 {
     match policy {
-        DrivePolicy::Lattice(path, _) => by_lattice(cache, path, class, image, files),
-        DrivePolicy::Interface(path) => {
-            by_interface(cache, path, class, image, is_unbounded, files)
-        }
-    }
-}
-
-/// The class that views an image by a policy, its lattice and its boundary.
-pub(crate) fn viewed<'a, F: Files>(
-    cache: &mut InputCache,
-    policy: DrivePolicy<'a>,
-    class: &'a str,
-    image: &'a str,
-    is_unbounded: bool,
-    files: &mut F,
-) -> Result<Steering, Failure<'a>>
-    ensures kept { F.holds files.new ≡ F.holds files.old }
-    ensures class { IfOk result (λ steering. IsClass (order steering.lattice) steering.driver) }
-    ensures steered { IfOk result (λ steering. IsSteeredBy (F.holds files.old) class.now policy.entry
-        is_unbounded steering.lattice steering.driver steering.verified
-        (boundary_for policy.entry steering.cycle)) }
-    ensures held { IfOk result
-        (λ steering. IsImageAt (F.holds files.old) image.now steering.verified) }
-    ensures failed { IfErr result (FailsBy (λ reason.
-        RefusesSteering (F.holds files.old) policy.entry reason
-        ⊎ RefusesImage (F.holds files.old) image.now reason)
-        (LacksPolicy (F.holds files.old) class.now image.now policy.entry is_unbounded)) }
-{
-    match policy {
-        DrivePolicy::Lattice(path, _) => views_by_lattice(cache, path, class, image, files),
+        DrivePolicy::Lattice(path, _) => by_lattice(cache, path, class, image, is_drive, files),
         DrivePolicy::Interface(path) => {
             by_interface(cache, path, class, image, is_unbounded, files)
         }
@@ -318,7 +259,7 @@ fn written_lines<'a>(
 
 /// The lines of the final store of a run of an image file that are written within its boundary. The
 /// note gets a line if the budget isn't enough and is taken all the same.
-fn seen_within<'a, F: Files>(
+pub(crate) fn view_within<'a, F: Files>(
     cache: &mut InputCache,
     asked: &Viewing<'a>,
     files: &mut F,
@@ -336,7 +277,8 @@ fn seen_within<'a, F: Files>(
     let policy = asked.policy;
     let class = asked.class;
     let image = asked.execution.image;
-    let steering = viewed(cache, policy, class, image, asked.is_unbounded, files)?;
+    let is_unbounded = asked.is_unbounded;
+    let steering = steered(cache, policy, class, image, false, is_unbounded, files)?;
     let file = store_in(cache, asked.execution.store, files)?;
     let words = words_in(cache, &steering.verified, &file, &asked.initial_store)?;
     let budget = budget_of(cache.alloc, asked.execution.budget, &steering.verified)?;
@@ -352,7 +294,7 @@ fn seen_within<'a, F: Files>(
     )?;
     admit(
         cache.alloc,
-        asked.is_unbounded,
+        is_unbounded,
         &steering.lattice,
         &steering.verified,
         budget,
@@ -360,33 +302,4 @@ fn seen_within<'a, F: Files>(
     )?;
     let text = written_lines(cache.alloc, &controller, &words)?;
     Ok(text)
-}
-
-/// Runs an image file and writes the lines of the store that its boundary admits.
-pub(crate) fn view_within<'a, F: Files, W: Write>(
-    cache: &mut InputCache,
-    asked: &Viewing<'a>,
-    files: &mut F,
-    output: &mut Counted<W>,
-    note: &mut Vec<u8>,
-) -> Result<(), Failure<'a>>
-    requires { faults_of output.old < u64.MAX }
-    ensures unfilled { IfErr result (λ failure. status_of failure < 4
-        → F.holds files.new ≡ F.holds files.old) }
-    ensures fault { TellsFault (faults_of output.old) (faults_of output.new) result }
-    ensures left { IfErr result (Leaves (AnswersViewWithin (F.holds files.old) asked.now) 4
-        (W.contents (device_of output.old)) (W.contents (device_of output.new))) }
-    ensures performed { OnOk result (PerformsViewWithin (F.holds files.old) asked.now
-        (F.holds files.new) (W.contents (device_of output.old)) (W.contents (device_of output.new))) }
-    ensures noted { note.old.items ≡ [] → OnOk result
-        (NotesView (F.holds files.old) asked.now note.new.items) }
-    ensures hushed { note.old.items ≡ [] → IfErr result (λ _.
-        (note.new.items ≡ []) ⊎ NotesView (F.holds files.old) asked.now note.new.items) }
-    ensures state { IfErr result
-        (λ _. StaysBeside asked.now.initial_store.out (F.holds files.old) (F.holds files.new)) }
-    ensures failed { IfErr result (FailsBy (WhyViewWithin (F.holds files.old) asked.now)
-        (LacksView (F.holds files.old) asked.now)) }
-{
-    let text = seen_within(cache, asked, files, note)?;
-    deliver(cache.alloc, &text, asked.initial_store.out, files, output)
 }

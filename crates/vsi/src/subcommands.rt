@@ -1,33 +1,27 @@
 //! The answers of the subcommands that run nothing: the text to write, or why there is none.
 
-ghost use Rattle.std.specs.Prelude.{◌≡◌, ◌<◌, true, false, IfErr, IfOk, OnOk, ◌≤◌, length};
+ghost use Rattle.std.specs.Prelude.{◌≡◌, IfErr, IfOk, false};
 ghost use Rattle.vsi.specs.Laying.{ToldCanonical};
-ghost use Rattle.vsi.specs.Holding.{KeepsOthers};
-ghost use Rattle.vsi.specs.Files.{AreFiles, OfFile, OfFiles, Writes};
-ghost use Rattle.vsi.specs.Performed.{BuildsFile, PerformsMend, ToldAccepted, ToldClasses, ToldFlows, ToldImage, ToldJson, ToldListing, ToldRaises, judgement_of, profile_of};
+ghost use Rattle.vsi.specs.Files.{AreFiles, OfFile, OfFiles};
+ghost use Rattle.vsi.specs.Performed.{TellsCheck, TellsMend, ToldClasses, ToldFlows, ToldImage, ToldListing, judgement_of, profile_of};
+ghost use Rattle.vsi.specs.Raises.{ToldMendedJson};
 ghost use Rattle.vsi.specs.Refusals.{AsksCanonical, AsksCheck, AsksClasses, AsksFlows, AsksImage, AsksMend, NoOther, RefusesFile, RefusesFiles, RefusesLattice, FailsBy};
-ghost use Rattle.vsi.specs.Reasons.{ToldRefusal, WhyCheck, WhyMend};
-ghost use Rattle.vsi.specs.Raises.{ToldUnserved};
-ghost use Rattle.vsi.specs.Partly.{AnswersCheck, AnswersMend, BytesOf, Leaves};
-ghost use Rattle.vsi.specs.Failures.{TellsFault, status_of};
+ghost use Rattle.vsi.specs.Reasons.{RefusesCheck, RefusesMend};
+ghost use Rattle.vsi.specs.declared.failure.Failure.TheVariants.{Memory};
 ghost use Rattle.vsi_answers.specs.Requests.{ListsTo};
-ghost use Rattle.vsi_devices.specs.Counted.{device_of, faults_of};
+ghost use Rattle.vsi_conform.specs.Checking.{TellsAnswer};
 
-use crate::failure::{Failure, write_answer};
-use crate::files::{Files, fill};
+use crate::failure::Failure;
+use crate::files::Files;
 use crate::reading::{
     CheckObserver, InputCache, InputKind, answered, bytes_in, lattice_in, two_classes,
 };
-use std::alloc::{AllocError, Global};
-use std::io::Write;
+use crate::replies::{Reply, good};
+use std::alloc::Global;
 use vsi_answers::{Observer, Unanswered};
 use vsi_arguments::{Compilation, Judging, Mending};
-use vsi_caret::put_text;
-use vsi_compiler::{CompileError, Source};
-use vsi_conform::{Checked, Judgement, check_json_for};
-use vsi_devices::Counted;
-use vsi_documents::{Mended, mend_json};
-use vsi_flows::raise_lines_of;
+use vsi_conform::{Judgement, check_json_for};
+use vsi_documents::mend_json;
 use vsi_lattice::Lattice;
 use vsi_types::Profile;
 
@@ -77,32 +71,6 @@ fn checked<O: Observer>(
     vsi_answers::check(alloc, profile, classes, text, observer)
 }
 
-/// `accepted`, if the source text is accepted as requested. The note gets the warnings about the
-/// text.
-pub(crate) fn check<'a, F: Files>(
-    cache: &mut InputCache,
-    asked: Judging<'a>,
-    files: &mut F,
-    note: &mut Vec<u8>,
-) -> Result<Vec<u8>, Failure<'a>>
-    ensures kept { F.holds files.new ≡ F.holds files.old }
-    ensures told { IfOk result (OfFiles (F.holds files.old) asked.entry.compilation
-        (ToldAccepted asked.entry.is_steady asked.entry.compilation.is_strict)) }
-    ensures failed { IfErr result
-        (FailsBy (RefusesFiles (F.holds files.old) asked.entry.compilation
-        (AsksCheck asked.entry.is_steady asked.entry.compilation.is_strict)) NoOther) }
-{
-    let (classes, text) = policy_and_text(cache, asked.compilation, files)?;
-    let alloc = cache.alloc;
-    let has_warnings = asked.has_warnings;
-    let mut observer = CheckObserver {
-        cache,
-        note,
-        has_warnings,
-    };
-    answered(checked(alloc, asked, &classes, text.as_slice(), &mut observer))
-}
-
 /// The judgement that the source text must pass.
 pub(crate) fn judgement(asked: Judging<'_>) -> Judgement
     ensures { result ≡ judgement_of asked.entry }
@@ -116,22 +84,19 @@ pub(crate) fn judgement(asked: Judging<'_>) -> Judgement
     }
 }
 
-/// The same answer as a line of JSON, and whether the text is accepted. The note gets the warnings
-/// about the text.
-fn checked_line<'a, F: Files>(
+/// `accepted`, if the source text is accepted as requested, or a line of JSON that says whether it
+/// is. The note gets the warnings about the text.
+pub(crate) fn check<'a, F: Files>(
     cache: &mut InputCache,
     asked: Judging<'a>,
     files: &mut F,
     note: &mut Vec<u8>,
-) -> Result<Checked, Failure<'a>>
+) -> Result<Reply, Failure<'a>>
     ensures kept { F.holds files.new ≡ F.holds files.old }
-    ensures told { IfOk result (λ checked. checked.is_accepted ≡ true → OfFiles (F.holds files.old)
-        asked.entry.compilation (ToldJson (judgement_of asked.entry)) checked.line) }
-    ensures refused { IfOk result (λ checked. checked.is_accepted ≡ false
-        → OfFiles (F.holds files.old) asked.entry.compilation
-        (ToldRefusal (judgement_of asked.entry)) checked.line) }
-    ensures failed { IfErr result (FailsBy
-        (RefusesLattice (F.holds files.old) asked.entry.compilation.lattice.now) NoOther) }
+    ensures told { IfOk result (λ reply. TellsCheck asked.entry.is_json (F.holds files.old)
+        asked.entry reply.is_good reply.text) }
+    ensures failed { IfErr result
+        (FailsBy (RefusesCheck (F.holds files.old) asked.entry) NoOther) }
 {
     let (classes, text) = policy_and_text(cache, asked.compilation, files)?;
     let alloc = cache.alloc;
@@ -141,37 +106,29 @@ fn checked_line<'a, F: Files>(
         note,
         has_warnings,
     };
-    let checked = check_json_for(
-        alloc,
-        judgement(asked),
-        &classes,
-        text.as_slice(),
-        &mut observer,
-    )?;
-    Ok(checked)
+    if asked.is_json {
+        return checked_line(alloc, asked, &classes, text.as_slice(), &mut observer);
+    }
+    good(answered(checked(alloc, asked, &classes, text.as_slice(), &mut observer)))
 }
 
-/// Writes whether the source text is accepted as a line of JSON.
-pub(crate) fn check_as_json<'a, F: Files, W: Write>(
-    cache: &mut InputCache,
-    asked: Judging<'a>,
-    files: &mut F,
-    output: &mut Counted<W>,
-    note: &mut Vec<u8>,
-) -> Result<(), Failure<'a>>
-    requires { faults_of output.old < u64.MAX }
-    ensures kept { F.holds files.new ≡ F.holds files.old }
-    ensures fault { TellsFault (faults_of output.old) (faults_of output.new) result }
-    ensures left { IfErr result (Leaves (BytesOf (AnswersCheck true (F.holds files.old) asked.entry)) 4
-        (W.contents (device_of output.old)) (W.contents (device_of output.new))) }
-    ensures performed { OnOk result (Writes (OfFiles (F.holds files.old) asked.entry.compilation
-        (ToldJson (judgement_of asked.entry)))
-        (W.contents (device_of output.old)) (W.contents (device_of output.new))) }
-    ensures failed { IfErr result (WhyCheck true (F.holds files.old) asked.entry
-        (W.contents (device_of output.old)) (W.contents (device_of output.new))) }
+/// Whether a text is accepted under a lattice as requested, as a line of JSON.
+fn checked_line<'a, O: Observer>(
+    alloc: Global,
+    asked: Judging<'_>,
+    classes: &Lattice,
+    text: &[u8],
+    observer: &mut O,
+) -> Result<Reply, Failure<'a>>
+    ensures told { IfOk result (λ reply. TellsAnswer classes.now (judgement_of asked.entry) text.now
+        reply.is_good reply.text.items) }
+    ensures failed { IfErr result (λ failure. failure ≡ Memory) }
 {
-    let checked = checked_line(cache, asked, files, note)?;
-    write_answer(&checked.line, checked.is_accepted, output)
+    let checked = check_json_for(alloc, judgement(asked), classes, text, observer)?;
+    Ok(Reply {
+        text: checked.line,
+        is_good: checked.is_accepted,
+    })
 }
 
 /// The class of each declaration of the source text.
@@ -226,72 +183,44 @@ fn raised(
     vsi_answers::mend(alloc, profile, classes, text)
 }
 
-/// A line for each class of the source text that has to rise, or the text with these classes if
-/// requested.
+/// A line for each class of the source text that has to rise, the text with these classes, or a
+/// line of JSON about them, as requested.
 pub(crate) fn mend<'a, F: Files>(
     cache: &mut InputCache,
-    compilation: Compilation<'a>,
-    is_applied: bool,
-    files: &mut F,
-) -> Result<Vec<u8>, Failure<'a>>
-    ensures kept { F.holds files.new ≡ F.holds files.old }
-    ensures told { IfOk result (OfFiles (F.holds files.old) compilation.entry
-        (ToldRaises false is_applied compilation.entry.is_strict)) }
-    ensures failed { IfErr result (FailsBy (RefusesFiles (F.holds files.old) compilation.entry
-        (AsksMend is_applied compilation.entry.is_strict)) NoOther) }
-{
-    let (classes, text) = policy_and_text(cache, compilation, files)?;
-    let source = text.as_slice();
-    answered(raised(
-        cache.alloc,
-        is_applied,
-        compilation.is_strict,
-        &classes,
-        source,
-    ))
-}
-
-/// The raises as a line of JSON, and whether they serve.
-fn mended_line<'a, F: Files>(
-    cache: &mut InputCache,
     asked: Mending<'a>,
     files: &mut F,
-) -> Result<Mended, Failure<'a>>
+) -> Result<Reply, Failure<'a>>
     ensures kept { F.holds files.new ≡ F.holds files.old }
-    ensures told { IfOk result (λ mended. mended.is_served ≡ true → OfFiles (F.holds files.old)
-        asked.entry.compilation (ToldRaises true asked.entry.is_applied
-        asked.entry.compilation.is_strict) mended.line) }
-    ensures unserved { IfOk result (λ mended. mended.is_served ≡ false
-        → OfFiles (F.holds files.old) asked.entry.compilation
-        (ToldUnserved (profile_of asked.entry.compilation.is_strict)) mended.line) }
-    ensures failed { IfErr result (FailsBy
-        (RefusesLattice (F.holds files.old) asked.entry.compilation.lattice.now) NoOther) }
+    ensures told { IfOk result (λ reply. TellsMend asked.entry.is_json (F.holds files.old)
+        asked.entry reply.is_good reply.text) }
+    ensures failed { IfErr result
+        (FailsBy (RefusesMend (F.holds files.old) asked.entry) NoOther) }
 {
     let (classes, text) = policy_and_text(cache, asked.compilation, files)?;
-    let profile = profile(asked.compilation.is_strict);
-    let mended = mend_json(cache.alloc, profile, &classes, text.as_slice())?;
-    Ok(mended)
+    let source = text.as_slice();
+    let is_strict = asked.compilation.is_strict;
+    if asked.is_json {
+        return mended_line(cache.alloc, is_strict, &classes, source);
+    }
+    good(answered(raised(cache.alloc, asked.is_applied, is_strict, &classes, source)))
 }
 
-/// Writes the raises as a line of JSON.
-pub(crate) fn mend_as_json<'a, F: Files, W: Write>(
-    cache: &mut InputCache,
-    asked: Mending<'a>,
-    files: &mut F,
-    output: &mut Counted<W>,
-) -> Result<(), Failure<'a>>
-    requires { faults_of output.old < u64.MAX }
-    ensures kept { F.holds files.new ≡ F.holds files.old }
-    ensures fault { TellsFault (faults_of output.old) (faults_of output.new) result }
-    ensures left { IfErr result (Leaves (BytesOf (AnswersMend true (F.holds files.old) asked.entry)) 4
-        (W.contents (device_of output.old)) (W.contents (device_of output.new))) }
-    ensures performed { OnOk result (PerformsMend true (F.holds files.old) asked.entry
-        (W.contents (device_of output.old)) (W.contents (device_of output.new))) }
-    ensures failed { IfErr result (WhyMend true (F.holds files.old) asked.entry
-        (W.contents (device_of output.old)) (W.contents (device_of output.new))) }
+/// The raises of a text as a line of JSON, and whether they serve.
+fn mended_line<'a>(
+    alloc: Global,
+    is_strict: bool,
+    classes: &Lattice,
+    text: &[u8],
+) -> Result<Reply, Failure<'a>>
+    ensures told { IfOk result (λ reply. ToldMendedJson (profile_of is_strict) reply.is_good
+        classes.now text.now reply.text) }
+    ensures failed { IfErr result (λ failure. failure ≡ Memory) }
 {
-    let mended = mended_line(cache, asked, files)?;
-    write_answer(&mended.line, mended.is_served, output)
+    let mended = mend_json(alloc, profile(is_strict), classes, text)?;
+    Ok(Reply {
+        text: mended.line,
+        is_good: mended.is_served,
+    })
 }
 
 /// The bytes of the image of the source text.
@@ -310,25 +239,6 @@ pub(crate) fn built<'a, F: Files>(
     let profile = profile(compilation.is_strict);
     let alloc = cache.alloc;
     answered(vsi_answers::build(alloc, profile, &classes, text.as_slice(), cache))
-}
-
-/// Compiles the source text, and then fills the image file with the image's bytes.
-pub(crate) fn build<'a, F: Files>(
-    cache: &mut InputCache,
-    compilation: Compilation<'a>,
-    image: &'a str,
-    files: &mut F,
-) -> Result<(), Failure<'a>>
-    ensures unfilled { IfErr result (λ failure. status_of failure < 4
-        → F.holds files.new ≡ F.holds files.old) }
-    ensures filled { OnOk result
-        (BuildsFile (F.holds files.old) compilation.entry image.now (F.holds files.new)) }
-    ensures others { KeepsOthers image.now (F.holds files.old) (F.holds files.new) }
-    ensures failed { IfErr result (FailsBy (RefusesFiles (F.holds files.old) compilation.entry
-        (AsksImage compilation.entry.is_strict)) NoOther) }
-{
-    let bytes = built(cache, compilation, files)?;
-    fill(bytes.as_slice(), image, files)
 }
 
 /// The listing of the image.
@@ -360,64 +270,4 @@ pub(crate) fn format<'a, F: Files>(
     let bytes = bytes_in(cache, InputKind::Source, source, files)?;
     let classes = two_classes(cache.alloc)?;
     answered(vsi_answers::format(cache.alloc, &classes, bytes.as_slice()))
-}
-
-/// The largest number of raises that are listed.
-const LISTED: usize = 20;
-
-/// The line before the raises.
-const BEFORE: &[u8] =
-    b"The least raise of classes under which the text is accepted (`vsi mend`):\n";
-
-/// The meaning of a raise.
-const MEANING: &[u8] = b"Whoever sees only the class before `->` no longer sees the variable.\n";
-
-/// The line for raises that are left out.
-const LEFT: &[u8] = b"`vsi mend` prints the others, too.\n";
-
-/// The line for a text that no raise makes accepted.
-const NONE: &[u8] = b"No raise of declared classes makes the text accepted.\n";
-
-/// The number of bytes of the first lines that are listed.
-fn listed_length(lines: &[u8]) -> usize
-    ensures { result ≤ length lines.now }
-{
-    let mut count: usize = 0;
-    for place in 0..lines.len() {
-        if lines[place] == b'\n' {
-            count = count.saturating_add(1);
-        }
-        if count == LISTED {
-            return place + 1;
-        }
-    }
-    lines.len()
-}
-
-/// Adds these raises and their meaning, if there are any.
-fn put_raises(text: &mut Vec<u8>, lines: &[u8]) -> Result<(), AllocError> {
-    if lines.is_empty() {
-        return Ok(());
-    }
-    let length = listed_length(lines);
-    text.extend_from_slice(BEFORE)?;
-    put_text(text, &lines[..length])?;
-    if length < lines.len() {
-        text.extend_from_slice(LEFT)?;
-    }
-    text.extend_from_slice(MEANING)
-}
-
-/// Adds the least raise of a text that is refused for a flow, or that there is none.
-pub(crate) fn put_least_raise(
-    alloc: Global,
-    text: &mut Vec<u8>,
-    profile: Profile,
-    source: &Source<'_>,
-) -> Result<(), AllocError> {
-    match raise_lines_of(alloc, profile, source) {
-        Ok(lines) => put_raises(text, &lines),
-        Err(CompileError::Memory) => Err(AllocError),
-        Err(_) => text.extend_from_slice(NONE),
-    }
 }

@@ -2,8 +2,8 @@
 
 ghost use Rattle.std.specs.Prelude.{◌≡◌, IfErr, IfOk, IfSome, Ok, Err, length, ◌<◌, OnOk};
 ghost use Rattle.vsi.specs.Refusals.{NoOther, RefusesLattice, FailsBy};
-ghost use Rattle.vsi.specs.Reasons.{LacksGiven, LacksTried, RefusesNamed, RefusesRun, RefusesUnder, WhyTry};
-ghost use Rattle.vsi.specs.Tried.{BeginsSet, IsMade, IsNamedLattice, IsTriedUnder, Looks, RunsMade, ShowsTo, TriesFile, policy_path};
+ghost use Rattle.vsi.specs.Reasons.{LacksTried, RefusesNamed, RefusesRun, RefusesUnder, WhyTry};
+ghost use Rattle.vsi.specs.Tried.{BeginsSet, IsMade, IsNamedLattice, IsTriedUnder, RunsMade, ShowsTo, TriesFile, policy_path};
 ghost use Rattle.vsi.specs.Holding.{IsLatticeAt};
 ghost use Rattle.vsi_answers.specs.Requests.{BuildsTo};
 ghost use Rattle.vsi_lattice.specs.LatticeView.{order};
@@ -21,8 +21,8 @@ use crate::conformance::named_bytes;
 use crate::failure::{Failure, STREAM, write};
 use crate::files::Files;
 use crate::reading::{
-    InputCache, InputKind, answered, bytes_in, class_in, declared_lattice, lattice_in, two_classes,
-    whole_in,
+    InputCache, InputKind, answered, bytes_in, declared_lattice, lattice_in, two_classes,
+    viewer_of, whole_in,
 };
 use crate::running::keep_settings;
 use std::alloc::{AllocError, Global};
@@ -89,21 +89,6 @@ fn lattice_for<'a, F: Files>(
     match lattice {
         Some(path) => lattice_in(cache, path, files),
         None => own_lattice(cache, source, text, files),
-    }
-}
-
-/// The class of the viewer, if one is given.
-fn viewer_of<'a>(lattice: &Lattice, name: Option<&'a str>) -> Result<Option<Class>, Failure<'a>>
-    ensures within { IfOk result (λ viewer. IfSome viewer (IsClass (order lattice.now))) }
-    ensures looks { IfOk result (Looks lattice.now name.entry) }
-    ensures failed { IfErr result (FailsBy (λ reason. ⊥) (LacksGiven lattice.now name.entry)) }
-{
-    match name {
-        Some(name) => {
-            let class = class_in(lattice, name)?;
-            Ok(Some(class))
-        }
-        None => Ok(None),
     }
 }
 

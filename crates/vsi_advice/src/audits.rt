@@ -2,18 +2,19 @@
 
 use std::alloc::{AllocError, Global};
 use vsi_audit::AuditError;
+use vsi_caret::{Part, say};
 use vsi_image::{Image, Instr};
 use vsi_infer::Walk;
 use vsi_lattice::{Classes, Lattice};
 use vsi_steady::{SteadyError, chain_source};
-use vsi_telling::names::{Part, class_names, put_parts, say};
+use vsi_telling::names::class_names;
 
 /// A refused image, and the lattice by which it was judged.
 #[derive(Clone, Copy)]
 pub(crate) struct Judged<'a> {
-    pub(crate) alloc: Global,
-    pub(crate) lattice: &'a Lattice,
-    pub(crate) image: &'a Image,
+    alloc: Global,
+    lattice: &'a Lattice,
+    image: &'a Image,
 }
 
 /// The rule for an instruction in an image's commands.
@@ -43,15 +44,40 @@ fn rule_of(instruction: Option<&Instr>) -> &'static str {
     }
 }
 
-impl Judged<'_> {
-    /// Adds the line of an instruction as a listing has it, if there is one with this number.
-    fn put_line(&self, words: &mut Vec<u8>, number: usize) -> Result<(), AllocError> {
-        let Some(instruction) = self.image.code.get(number) else {
-            return Ok(());
-        };
-        say(words, "  %: ", &[Part::Number(number)])?;
-        instruction.write_to(words)?;
-        words.extend_from_slice(b"\n")
+impl<'a> Judged<'a> {
+    /// An image and its lattice.
+    pub(crate) fn new(alloc: Global, lattice: &'a Lattice, image: &'a Image) -> Judged<'a> {
+        Judged {
+            alloc,
+            lattice,
+            image,
+        }
+    }
+
+    /// The line of an instruction as a listing has it, if there is one with this number.
+    fn line(&self, number: usize) -> Result<Vec<u8>, AllocError> {
+        let mut line = Vec::new(self.alloc);
+        if let Some(instruction) = self.image.code.get(number) {
+            say(&mut line, "  %: ", &[Part::Number(number)])?;
+            instruction.write_to(&mut line)?;
+            line.push(b'\n')?;
+        }
+        Ok(line)
+    }
+
+    /// Adds a sentence with the line of an instruction at its end, and another one after it.
+    fn tell(
+        &self,
+        words: &mut Vec<u8>,
+        sentence: &str,
+        part: Part<'_>,
+        number: usize,
+        rest: &str,
+    ) -> Result<(), AllocError> {
+        let line = self.line(number)?;
+        say(words, sentence, &[part])?;
+        words.extend_from_slice(&line)?;
+        words.extend_from_slice(rest.as_bytes())
     }
 
     /// Adds the explanation of a global whose class the lattice lacks.
@@ -60,44 +86,27 @@ impl Judged<'_> {
             return Ok(());
         };
         let classes = class_names(self.alloc, self.lattice)?;
-        say(words, "The global % has ", &[Part::Quoted(name)])?;
         say(
             words,
-            "the class %, which the lattice file lacks: ",
-            &[Part::Quoted(class)],
-        )?;
-        say(
-            words,
-            "its classes are %.\nHint: give the lattice file with which the image was built; `vsi \
-            list IMAGE` shows each global with its class.\n",
-            &[Part::Names(&classes)],
+            "The global % has the class %, which the lattice file lacks: its classes are %.\n\
+            Hint: give the lattice file with which the image was built; `vsi list IMAGE` shows \
+            each global with its class.\n",
+            &[
+                Part::Quoted(name),
+                Part::Quoted(class),
+                Part::Names(&classes),
+            ],
         )
     }
 
     /// Adds the explanation of code that doesn't consist of commands.
     fn put_code(&self, words: &mut Vec<u8>, number: usize) -> Result<(), AllocError> {
-        words.extend_from_slice(
-            b"The image is valid, but its code isn't that of commands from here on:\n",
-        )?;
-        self.put_line(words, number)?;
-        words.extend_from_slice(rule_of(self.image.code.get(number)).as_bytes())?;
+        let rule = rule_of(self.image.code.get(number));
+        let sentence = "The image is valid, but its code isn't that of commands from here on:\n";
+        self.tell(words, sentence, Part::Text(b""), number, rule)?;
         words.extend_from_slice(
             b"Hint: build the image again from its source text. Code without commands is judged by \
             `vsi audit LATTICE IMAGE --steady`.\n",
-        )
-    }
-
-    /// Adds the explanation of fields that the code doesn't need.
-    fn put_fields(&self, words: &mut Vec<u8>) -> Result<(), AllocError> {
-        say(
-            words,
-            "The image has the fields slots % and stack %, but its commands need another number for \
-            one of them.\nHint: `vsi source IMAGE` prints the commands as a text; build an image \
-            from that.\n",
-            &[
-                Part::Number(self.image.slots as usize),
-                Part::Number(self.image.stack as usize),
-            ],
         )
     }
 
@@ -107,11 +116,10 @@ impl Judged<'_> {
             return Ok(());
         };
         let (from, to) = (first.read.start, last.written.start);
-        words.extend_from_slice(b"The numbers are those of instructions. The flow begins at\n")?;
-        self.put_line(words, from)?;
+        let sentence = "The numbers are those of instructions. The flow begins at\n";
+        self.tell(words, sentence, Part::Text(b""), from, "")?;
         if to != from {
-            words.extend_from_slice(b"and ends at\n")?;
-            self.put_line(words, to)?;
+            self.tell(words, "and ends at\n", Part::Text(b""), to, "")?;
         }
         words.extend_from_slice(
             b"Hint: `vsi source IMAGE` prints the image as a text, and `vsi check LATTICE TEXT \
@@ -129,8 +137,7 @@ impl Judged<'_> {
         };
         match global {
             Some((name, class)) => {
-                let parts = [Part::Text(name), Part::Text(b" : "), Part::Text(class)];
-                put_parts(&mut text, &parts)?;
+                say(&mut text, "% : %", &[Part::Text(name), Part::Text(class)])?;
             }
             None => text.extend_from_slice(b"(something)")?,
         }
@@ -140,17 +147,18 @@ impl Judged<'_> {
     /// Adds the explanation of a jump or a global with a forbidden flow into it.
     fn put_unsteady(&self, words: &mut Vec<u8>, number: usize) -> Result<(), AllocError> {
         let source = self.source_of(number)?;
+        let source = Part::Quoted(&source);
         if let Some(Instr::Store(_)) = self.image.code.get(number) {
-            let told = "This instruction writes a value that depends on %:\n";
-            say(words, told, &[Part::Quoted(&source)])?;
-            self.put_line(words, number)?;
-            return words.extend_from_slice(
-                b"Hint: give the global that it writes a class at or above that one, or write a \
+            return self.tell(
+                words,
+                "This instruction writes a value that depends on %:\n",
+                source,
+                number,
+                "Hint: give the global that it writes a class at or above that one, or write a \
                 value there that doesn't depend on it.\n",
             );
         }
-        say(words, "This jump depends on %:\n", &[Part::Quoted(&source)])?;
-        self.put_line(words, number)?;
+        self.tell(words, "This jump depends on %:\n", source, number, "")?;
         say(
             words,
             "With --steady a jump depends on nothing above the least class, which is %.\nHint: \
@@ -159,36 +167,45 @@ impl Judged<'_> {
             &[Part::Quoted(self.lattice.name(self.lattice.bottom()))],
         )
     }
-}
 
-/// Adds the explanation of an image whose commands are judged.
-pub(crate) fn put_audit(
-    judged: &Judged,
-    words: &mut Vec<u8>,
-    error: &AuditError,
-) -> Result<(), AllocError> {
-    match error {
-        AuditError::Memory => Err(AllocError),
-        AuditError::UnknownClass(number) => judged.put_class(words, *number),
-        AuditError::Unstructured(number) => judged.put_code(words, *number),
-        AuditError::WrongFields => judged.put_fields(words),
-        AuditError::NoText => words.extend_from_slice(
-            b"The code has more commands, or nests them deeper, than a text may.\n\
-            Hint: `vsi list IMAGE` shows the instructions.\n",
-        ),
-        AuditError::Flow(walk) => judged.put_flow(words, walk),
+    /// Adds the explanation of an image whose commands are judged.
+    pub(crate) fn put_audit(
+        &self,
+        words: &mut Vec<u8>,
+        error: &AuditError,
+    ) -> Result<(), AllocError> {
+        match error {
+            AuditError::Memory => Err(AllocError),
+            AuditError::UnknownClass(number) => self.put_class(words, *number),
+            AuditError::Unstructured(number) => self.put_code(words, *number),
+            AuditError::WrongFields => say(
+                words,
+                "The image has the fields slots % and stack %, but its commands need another \
+                number for one of them.\nHint: `vsi source IMAGE` prints the commands as a text; \
+                build an image from that.\n",
+                &[
+                    Part::Number(self.image.slots as usize),
+                    Part::Number(self.image.stack as usize),
+                ],
+            ),
+            AuditError::NoText => words.extend_from_slice(
+                b"The code has more commands, or nests them deeper, than a text may.\n\
+                Hint: `vsi list IMAGE` shows the instructions.\n",
+            ),
+            AuditError::Flow(walk) => self.put_flow(words, walk),
+        }
     }
-}
 
-/// Adds the explanation of an image that isn't steady.
-pub(crate) fn put_steady(
-    judged: &Judged,
-    words: &mut Vec<u8>,
-    error: &SteadyError,
-) -> Result<(), AllocError> {
-    match error {
-        SteadyError::Memory => Err(AllocError),
-        SteadyError::UnknownClass(number) => judged.put_class(words, *number),
-        SteadyError::Flow(number) => judged.put_unsteady(words, *number),
+    /// Adds the explanation of an image that isn't steady.
+    pub(crate) fn put_steady(
+        &self,
+        words: &mut Vec<u8>,
+        error: &SteadyError,
+    ) -> Result<(), AllocError> {
+        match error {
+            SteadyError::Memory => Err(AllocError),
+            SteadyError::UnknownClass(number) => self.put_class(words, *number),
+            SteadyError::Flow(number) => self.put_unsteady(words, *number),
+        }
     }
 }

@@ -7,12 +7,6 @@ use vsi_telling::finding::{key_place, quoted_place};
 use vsi_telling::names::part_of;
 use vsi_telling::tables::{array_in, value_in};
 
-/// The header of each run.
-const RUN: &[u8] = b"[[runs]]";
-
-/// The header of each boundary.
-const CYCLE: &[u8] = b"[[cycle]]";
-
 /// A part of a file, found after this many bytes.
 fn behind(from: usize, span: Span) -> Span {
     Span {
@@ -97,35 +91,8 @@ pub(crate) fn global_names(alloc: Global, table: &Table) -> Result<Vec<&[u8]>, A
     Ok(names)
 }
 
-/// The beginning of the run with this number, from 1.
-pub(crate) fn run_place(bytes: &[u8], number: usize) -> Option<Span> {
-    header_place(bytes, RUN, number)
-}
-
-/// The beginning of the boundary with this number, from 1.
-pub(crate) fn cycle_place(bytes: &[u8], number: usize) -> Option<Span> {
-    header_place(bytes, CYCLE, number)
-}
-
-/// The position of a key of a boundary, or else the beginning of the boundary.
-pub(crate) fn cycle_key_place(bytes: &[u8], number: usize, key: &[u8]) -> Option<Span> {
-    let cycle = cycle_place(bytes, number)?;
-    let stop = match cycle_place(bytes, number.saturating_add(1)) {
-        Some(next) => next.start,
-        None => bytes.len(),
-    };
-    let part = Span {
-        start: cycle.stop,
-        stop,
-    };
-    match key_place(part_of(bytes, part), key) {
-        Some(found) => Some(behind(part.start, found)),
-        None => Some(cycle),
-    }
-}
-
 /// The position of the header with this number, from 1.
-fn header_place(bytes: &[u8], header: &[u8], number: usize) -> Option<Span> {
+pub(crate) fn header_place(bytes: &[u8], header: &[u8], number: usize) -> Option<Span> {
     let mut left = number;
     let mut is_at_beginning = true;
     for at in 0..bytes.len() {
@@ -147,25 +114,22 @@ fn header_place(bytes: &[u8], header: &[u8], number: usize) -> Option<Span> {
     None
 }
 
-/// The content of the run with this number.
-fn run_part(bytes: &[u8], number: usize) -> Option<Span> {
-    let run = run_place(bytes, number)?;
-    let stop = match run_place(bytes, number.saturating_add(1)) {
+/// The content below the header with this number.
+fn content(bytes: &[u8], header: &[u8], number: usize) -> Option<Span> {
+    let start = header_place(bytes, header, number)?.stop;
+    let stop = match header_place(bytes, header, number.saturating_add(1)) {
         Some(next) => next.start,
         None => bytes.len(),
     };
-    Some(Span {
-        start: run.stop,
-        stop,
-    })
+    Some(Span { start, stop })
 }
 
-/// The position of a key of a run, or else the beginning of the run.
-pub(crate) fn run_key_place(bytes: &[u8], number: usize, key: &[u8]) -> Option<Span> {
-    let part = run_part(bytes, number)?;
+/// The position of a key below the header with this number, or else that of the header.
+pub(crate) fn key_below(bytes: &[u8], header: &[u8], number: usize, key: &[u8]) -> Option<Span> {
+    let part = content(bytes, header, number)?;
     match key_place(part_of(bytes, part), key) {
         Some(found) => Some(behind(part.start, found)),
-        None => run_place(bytes, number),
+        None => header_place(bytes, header, number),
     }
 }
 
@@ -181,9 +145,10 @@ fn begins_entry(bytes: &[u8], name: &[u8]) -> bool {
     rest.trim_ascii_start().first() == Some(&b'=')
 }
 
-/// The position where a run gives a name a word, or else the beginning of the run.
-pub(crate) fn entry_place(bytes: &[u8], number: usize, name: &[u8]) -> Option<Span> {
-    let part = run_part(bytes, number)?;
+/// The position of a name with a value below the header with this number, or else that of the
+/// header.
+pub(crate) fn entry_below(bytes: &[u8], header: &[u8], number: usize, name: &[u8]) -> Option<Span> {
+    let part = content(bytes, header, number)?;
     let text = part_of(bytes, part);
     let mut is_within = false;
     for at in 0..text.len() {
@@ -196,5 +161,5 @@ pub(crate) fn entry_place(bytes: &[u8], number: usize, name: &[u8]) -> Option<Sp
         }
         is_within = text[at].is_ascii_alphanumeric() || text[at] == b'_';
     }
-    run_place(bytes, number)
+    header_place(bytes, header, number)
 }

@@ -3,18 +3,19 @@
 use crate::interface_cycles::of_cycle;
 use crate::interface_places::{pair_in, pair_named, pair_place, pairs_in, text_in};
 use crate::interface_runs::of_run;
+use crate::interface_tables::RUN_KEYS;
 use std::alloc::{AllocError, Global};
 use toml::{Table, Value};
+use vsi_caret::Part;
 use vsi_conform::InterfaceError;
 use vsi_lattice::Lattice;
-use vsi_syntax::Span;
 use vsi_telling::finding::{key_place, quoted_place};
-use vsi_telling::names::{Part, class_names, say};
-use vsi_telling::nearest::put_nearest_or;
+use vsi_telling::names::class_names;
 use vsi_telling::tables::{put_syntax, table_in, value_in};
+use vsi_telling::{Tail, Telling, Told};
 
 /// An example of the head of an interface.
-const SHAPE: &[u8] = b"An interface begins like this:\n  lattice = \"two.toml\"\n  \
+const SHAPE: &str = "An interface begins like this:\n  lattice = \"two.toml\"\n  \
     profile = \"base\"\n  globals = [[\"key\", \"H\"], [\"out\", \"L\"]]\n";
 
 /// The keys of an interface.
@@ -31,19 +32,6 @@ const KEYS: [&[u8]; 10] = [
     b"reference",
 ];
 
-/// The keys of a run.
-pub(crate) const RUN_KEYS: [&[u8]; 4] = [b"store", b"budget", b"expect", b"halts"];
-
-/// Whether a key is valid in a run.
-pub(crate) fn is_run_key(key: &[u8]) -> bool {
-    for known in RUN_KEYS {
-        if known == key {
-            return true;
-        }
-    }
-    false
-}
-
 /// The profiles.
 const PROFILES: [&[u8]; 3] = [b"base", b"strict", b"steady"];
 
@@ -53,6 +41,9 @@ const ORDERS: [&[u8]; 2] = [b"exact", b"set"];
 /// The most globals of a program.
 const MOST_GLOBALS: usize = 256;
 
+/// The most classes of a lattice.
+const MOST_CLASSES: usize = 64;
+
 /// Whether a value is an array of more globals than a program has.
 fn is_long(value: &Value) -> bool {
     match value.as_array() {
@@ -61,290 +52,17 @@ fn is_long(value: &Value) -> bool {
     }
 }
 
-/// A refused interface file, and its explanation so far.
-#[derive(Drop)]
-pub(crate) struct InterfaceAdvice<'p> {
-    pub(crate) alloc: Global,
-    pub(crate) bytes: &'p [u8],
-    pub(crate) table: &'p Table,
-    pub(crate) words: &'p mut Vec<u8>,
-}
-
-/// Adds the explanation if the file isn't TOML, and returns its position.
-fn put_not_toml(
+/// The classes of the lattice that an interface names, or those that it has of its own.
+pub(crate) fn classes_of<'t>(
     alloc: Global,
-    words: &mut Vec<u8>,
-    bytes: &[u8],
-) -> Result<Option<Span>, AllocError> {
-    let place = put_syntax(alloc, words, bytes)?;
-    let start = bytes.trim_ascii_start();
-    if start.starts_with(b"VSI") {
-        words.extend_from_slice(b"Hint: this is an image. The interface comes first.\n")?;
-    } else if start.starts_with(b"var") || start.starts_with(b"letvar") {
-        words.extend_from_slice(
-            b"Hint: this looks like a source text. The interface comes first, and the source \
-            text after it: `vsi conform INTERFACE SOURCE`.\n",
-        )?;
+    table: &'t Table,
+    lattice: Option<&'t Lattice>,
+) -> Result<Vec<&'t [u8]>, AllocError> {
+    if let Some(lattice) = lattice {
+        return class_names(alloc, lattice);
     }
-    words.extend_from_slice(SHAPE)?;
-    Ok(place)
-}
-
-impl InterfaceAdvice<'_> {
-    /// Adds a text.
-    pub(crate) fn put(&mut self, text: &str) -> Result<(), AllocError> {
-        self.words.extend_from_slice(text.as_bytes())
-    }
-
-    /// Adds a sentence, with a part in place of each `%`.
-    pub(crate) fn say(&mut self, sentence: &str, parts: &[Part<'_>]) -> Result<(), AllocError> {
-        say(self.words, sentence, parts)
-    }
-
-    /// Adds which of the names was perhaps meant, or else a hint.
-    pub(crate) fn hint(
-        &mut self,
-        written: &[u8],
-        choices: &[&[u8]],
-        otherwise: &str,
-    ) -> Result<(), AllocError> {
-        put_nearest_or(
-            self.alloc,
-            self.words,
-            written,
-            choices,
-            otherwise.as_bytes(),
-        )
-    }
-
-    /// Explains a key that no interface has.
-    fn key(&mut self, key: &[u8]) -> Result<Option<Span>, AllocError> {
-        let quoted = Part::Quoted(key);
-        if is_run_key(key) {
-            self.say(
-                "An interface has no key % of its own. Hint: it is a key of a run, and goes after a \
-                line `[[runs]]`.\n",
-                &[quoted],
-            )?;
-            return Ok(key_place(self.bytes, key));
-        }
-        self.say("An interface has no key %: its keys are ", &[quoted])?;
-        let (some, others) = (Part::Names(&KEYS[..5]), Part::Names(&KEYS[5..]));
-        self.say("%, %.\n", &[some, others])?;
-        self.hint(key, &KEYS, "Hint: remove the line.\n")?;
-        Ok(key_place(self.bytes, key))
-    }
-
-    /// Whether the interface has a key of a lattice file.
-    fn has_tables(&self) -> bool {
-        self.table.get("classes").is_some() || self.table.get("below").is_some()
-    }
-
-    /// Whether the interface has a text at `lattice`.
-    fn names_file(&self) -> bool {
-        match self.table.get("lattice") {
-            Some(value) => value.as_str().is_some(),
-            None => false,
-        }
-    }
-
-    /// Explains a lattice that is missing, named twice, not a text or outside the folder.
-    fn lattice(&mut self) -> Result<Option<Span>, AllocError> {
-        if self.table.get("lattice").is_none() {
-            self.put(
-                "The interface has no lattice. Hint: name a lattice file in the same folder, as \
-                in `lattice = \"two.toml\"`, or write `classes` and `below` as in such a file.\n",
-            )?;
-            self.words.extend_from_slice(SHAPE)?;
-            return Ok(None);
-        }
-        if self.names_file() && !self.has_tables() {
-            self.put(
-                "The path of the lattice file leads out of the folder of the interface. Hint: put \
-                the lattice file into that folder, or into one in it, and write its path without \
-                `..` and without `/` at the beginning.\n",
-            )?;
-        } else if self.has_tables() {
-            self.put(
-                "The interface names a lattice file and also has classes of its own. Hint: leave \
-                out `lattice`, or leave out `classes` and `below`.\n",
-            )?;
-        } else {
-            self.put(
-                "The value of `lattice` isn't a text. Hint: write the path of a lattice file \
-                between quotes, as in `lattice = \"two.toml\"`.\n",
-            )?;
-        }
-        Ok(key_place(self.bytes, b"lattice"))
-    }
-
-    /// Explains a reference that isn't a text or is outside the folder.
-    fn reference(&mut self) -> Result<Option<Span>, AllocError> {
-        if text_at(self.table, "reference").is_some() {
-            self.put(
-                "The path of the reference leads out of the folder of the interface. Hint: put the \
-                reference into that folder, or into one in it, and write its path without `..` and \
-                without `/` at the beginning.\n",
-            )?;
-        } else {
-            self.put(
-                "The value of `reference` isn't a text. Hint: write the path of a source text \
-                between quotes, as in `reference = \"lock.vsi\"`.\n",
-            )?;
-        }
-        Ok(key_place(self.bytes, b"reference"))
-    }
-
-    /// Explains a reference that isn't accepted.
-    fn refused_reference(&mut self) -> Result<Option<Span>, AllocError> {
-        self.put(
-            "The reference of the interface isn't accepted under its lattice and its profile. \
-            Hint: `vsi check --explain` says more about it.\n",
-        )?;
-        Ok(key_place(self.bytes, b"reference"))
-    }
-
-    /// Explains a key whose value isn't a text and should be one of the choices.
-    fn no_choice(&mut self, key: &str, choices: &[&[u8]]) -> Result<Option<Span>, AllocError> {
-        let fault = match self.table.get(key) {
-            Some(_) => "The key `%` must be one of ",
-            None => "The key `%` is missing. It must be one of ",
-        };
-        self.say(fault, &[Part::Text(key.as_bytes())])?;
-        self.say("%, between quotes.\n", &[Part::Names(choices)])?;
-        self.words.extend_from_slice(SHAPE)?;
-        Ok(key_place(self.bytes, key.as_bytes()))
-    }
-
-    /// Explains a text that isn't one of the choices.
-    fn other_choice(
-        &mut self,
-        text: &[u8],
-        noun: &str,
-        choices: &[&[u8]],
-    ) -> Result<Option<Span>, AllocError> {
-        self.say("%", &[Part::Quoted(text)])?;
-        self.put(noun)?;
-        self.say("%.\n", &[Part::Names(choices)])?;
-        self.hint(text, choices, "")?;
-        Ok(quoted_place(self.bytes, text, 0))
-    }
-
-    /// Explains a key whose value isn't one of the choices.
-    fn choice(
-        &mut self,
-        key: &str,
-        noun: &str,
-        choices: &[&[u8]],
-    ) -> Result<Option<Span>, AllocError> {
-        match text_at(self.table, key) {
-            Some(text) => self.other_choice(text.as_bytes(), noun, choices),
-            None => self.no_choice(key, choices),
-        }
-    }
-
-    /// Explains a value of `bounded` that is neither `true` nor `false` nor a maximum.
-    fn bounded(&mut self) -> Result<Option<Span>, AllocError> {
-        self.put(
-            "The value of `bounded` must be `true`, `false` or a number of at least 1, without \
-            quotes. Hint: write `bounded = true` if `vsi bound` must find a number of \
-            instructions within which every run halts, `bounded = 200` if the number must be at \
-            most 200, or leave out the key.\n",
-        )?;
-        Ok(key_place(self.bytes, b"bounded"))
-    }
-
-    /// Explains `globals` that aren't an array of at most 256 pairs of texts.
-    fn globals(&mut self) -> Result<Option<Span>, AllocError> {
-        let Some(value) = self.table.get("globals") else {
-            self.put(
-                "The key `globals` is missing. Hint: name each global with its class, in the order \
-                in which a text must declare them.\n",
-            )?;
-            self.words.extend_from_slice(SHAPE)?;
-            return Ok(None);
-        };
-        if is_long(value) {
-            self.put("`globals` has more than 256 entries. Hint: no program has more globals.\n")?;
-            return Ok(key_place(self.bytes, b"globals"));
-        }
-        let is_array = value.as_array().is_some();
-        if is_array {
-            let number = Part::Number(faulty_pair(self.table).saturating_add(1));
-            self.say(
-                "Entry % of `globals` isn't a pair of a name and a class.",
-                &[number],
-            )?;
-        } else {
-            self.put("The value of `globals` isn't an array.")?;
-        }
-        self.put(" Hint: write `[\"x\", \"L\"]` for each global `var x : L`.\n")?;
-        self.words.extend_from_slice(SHAPE)?;
-        Ok(key_place(self.bytes, b"globals"))
-    }
-
-    /// Explains a name of a global.
-    fn name(&mut self, name: &[u8], others: usize, text: &str) -> Result<Option<Span>, AllocError> {
-        self.say("%", &[Part::Quoted(name)])?;
-        self.put(text)?;
-        let Some(number) = pair_named(self.table, name, others) else {
-            return Ok(None);
-        };
-        Ok(pair_place(self.bytes, self.table, number, 0))
-    }
-
-    /// Adds that a class of a global isn't one of these.
-    fn other_class(
-        &mut self,
-        name: &[u8],
-        class: &[u8],
-        classes: &[&[u8]],
-    ) -> Result<(), AllocError> {
-        self.say("The class % of the global ", &[Part::Quoted(class)])?;
-        self.say("% isn't in the lattice. ", &[Part::Quoted(name)])?;
-        self.say("Its classes are %.\n", &[Part::Names(classes)])?;
-        self.hint(
-            class,
-            classes,
-            "Hint: give the global one of these, or declare the class in the lattice.\n",
-        )
-    }
-
-    /// Adds that the class of a global isn't a class of the lattice.
-    fn no_class(
-        &mut self,
-        name: &[u8],
-        class: &[u8],
-        lattice: Option<&Lattice>,
-    ) -> Result<(), AllocError> {
-        let classes = match lattice {
-            Some(lattice) => class_names(self.alloc, lattice)?,
-            None => own_classes(self.alloc, self.table)?,
-        };
-        self.other_class(name, class, &classes)
-    }
-
-    /// Explains the class of a global that isn't a class.
-    fn class(
-        &mut self,
-        name: &[u8],
-        lattice: Option<&Lattice>,
-    ) -> Result<Option<Span>, AllocError> {
-        let Some(number) = pair_named(self.table, name, 0) else {
-            return Ok(None);
-        };
-        let Some(class) = text_in(self.table, number, 1) else {
-            return Ok(None);
-        };
-        self.no_class(name, class, lattice)?;
-        Ok(pair_place(self.bytes, self.table, number, 1))
-    }
-}
-
-/// The classes that an interface has of its own.
-pub(crate) fn own_classes(alloc: Global, table: &Table) -> Result<Vec<&[u8]>, AllocError> {
     let mut names = Vec::new(alloc);
-    for place in 0..64 {
+    for place in 0..MOST_CLASSES {
         let Some(value) = value_in(table, "classes", place) else {
             break;
         };
@@ -381,76 +99,260 @@ fn text_at<'t>(table: &'t Table, key: &str) -> Option<&'t str> {
     table.get(key)?.as_str()
 }
 
-/// Adds the explanation of a fault, and returns its position.
-fn put_fault(
-    advice: &mut InterfaceAdvice,
-    lattice: Option<&Lattice>,
-    error: &InterfaceError,
-) -> Result<Option<Span>, AllocError> {
+/// Adds the explanation if the file isn't TOML, and returns the position of the fault.
+fn not_toml(telling: &mut Telling<'_>) -> Told {
+    let place = put_syntax(telling.alloc, &mut telling.words, telling.bytes)?;
+    let start = telling.bytes.trim_ascii_start();
+    let hint = if start.starts_with(b"VSI") {
+        "Hint: this is an image. The interface comes first.\n"
+    } else if start.starts_with(b"var") || start.starts_with(b"letvar") {
+        "Hint: this looks like a source text. The interface comes first, and the source text after \
+        it: `vsi conform INTERFACE SOURCE`.\n"
+    } else {
+        ""
+    };
+    telling.tell(hint, &[], Tail::Text(SHAPE), place)
+}
+
+/// Explains a key that no interface has.
+fn unknown_key(telling: &mut Telling<'_>, key: &[u8]) -> Told {
+    let place = key_place(telling.bytes, key);
+    let quoted = Part::Quoted(key);
+    if RUN_KEYS.contains(&key) {
+        return telling.tell(
+            "An interface has no key % of its own. Hint: it is a key of a run, and goes after a \
+            line `[[runs]]`.\n",
+            &[quoted],
+            Tail::Nothing,
+            place,
+        );
+    }
+    telling.tell(
+        "An interface has no key %: its keys are %, %.\n",
+        &[quoted, Part::Names(&KEYS[..5]), Part::Names(&KEYS[5..])],
+        Tail::Nearest(key, &KEYS, "Hint: remove the line.\n"),
+        place,
+    )
+}
+
+/// The sentence about a lattice that is missing, named twice, not a text or outside the folder.
+fn lattice_sentence(table: &Table) -> &'static str {
+    let has_classes = table.get("classes").is_some() || table.get("below").is_some();
+    if table.get("lattice").is_none() {
+        "The interface has no lattice. Hint: name a lattice file in the same folder, as in \
+        `lattice = \"two.toml\"`, or write `classes` and `below` as in such a file.\n"
+    } else if has_classes {
+        "The interface names a lattice file and also has classes of its own. Hint: leave out \
+        `lattice`, or leave out `classes` and `below`.\n"
+    } else if text_at(table, "lattice").is_some() {
+        "The path of the lattice file leads out of the folder of the interface. Hint: put the \
+        lattice file into that folder, or into one in it, and write its path without `..` and \
+        without `/` at the beginning.\n"
+    } else {
+        "The value of `lattice` isn't a text. Hint: write the path of a lattice file between \
+        quotes, as in `lattice = \"two.toml\"`.\n"
+    }
+}
+
+/// The sentence about a reference that isn't accepted, isn't a text or is outside the folder.
+fn reference_sentence(table: &Table, error: &InterfaceError) -> &'static str {
+    if let InterfaceError::RefusedReference(_) = error {
+        "The reference of the interface isn't accepted under its lattice and its profile. Hint: \
+        `vsi check --explain` says more about it.\n"
+    } else if text_at(table, "reference").is_some() {
+        "The path of the reference leads out of the folder of the interface. Hint: put the \
+        reference into that folder, or into one in it, and write its path without `..` and without \
+        `/` at the beginning.\n"
+    } else {
+        "The value of `reference` isn't a text. Hint: write the path of a source text between \
+        quotes, as in `reference = \"lock.vsi\"`.\n"
+    }
+}
+
+/// Explains a key whose value isn't one of the choices; the sentence is about a text that isn't
+/// one.
+fn choice(
+    telling: &mut Telling<'_>,
+    table: &Table,
+    key: &str,
+    sentence: &str,
+    choices: &[&[u8]],
+) -> Told {
+    let bytes = telling.bytes;
+    if let Some(text) = text_at(table, key) {
+        let text = text.as_bytes();
+        return telling.tell(
+            sentence,
+            &[Part::Quoted(text), Part::Names(choices)],
+            Tail::Nearest(text, choices, ""),
+            quoted_place(bytes, text, 0),
+        );
+    }
+    let fault = match table.get(key) {
+        Some(_) => "The key `%` must be one of %, between quotes.\n",
+        None => "The key `%` is missing. It must be one of %, between quotes.\n",
+    };
+    let key = key.as_bytes();
+    telling.tell(
+        fault,
+        &[Part::Text(key), Part::Names(choices)],
+        Tail::Text(SHAPE),
+        key_place(bytes, key),
+    )
+}
+
+/// Explains `globals` that aren't an array of at most 256 pairs of texts.
+fn globals(telling: &mut Telling<'_>, table: &Table) -> Told {
+    let mut place = key_place(telling.bytes, b"globals");
+    let number = Part::Number(faulty_pair(table).saturating_add(1));
+    if table.get("globals").is_none() {
+        place = None;
+    }
+    let (sentence, tail) = match table.get("globals") {
+        None => (
+            "The key `globals` is missing. Hint: name each global with its class, in the order in \
+            which a text must declare them.\n",
+            Tail::Text(SHAPE),
+        ),
+        Some(value) if is_long(value) => (
+            "`globals` has more than 256 entries. Hint: no program has more globals.\n",
+            Tail::Nothing,
+        ),
+        Some(value) if value.as_array().is_some() => (
+            "Entry % of `globals` isn't a pair of a name and a class. Hint: write `[\"x\", \"L\"]` \
+            for each global `var x : L`.\n",
+            Tail::Text(SHAPE),
+        ),
+        Some(_) => (
+            "The value of `globals` isn't an array. Hint: write `[\"x\", \"L\"]` for each global \
+            `var x : L`.\n",
+            Tail::Text(SHAPE),
+        ),
+    };
+    telling.tell(sentence, &[number], tail, place)
+}
+
+/// Explains a name of a global, after this many others of the same name.
+fn bad_name(
+    telling: &mut Telling<'_>,
+    table: &Table,
+    name: &[u8],
+    others: usize,
+    sentence: &str,
+) -> Told {
+    let place = match pair_named(table, name, others) {
+        Some(number) => pair_place(telling.bytes, table, number, 0),
+        None => None,
+    };
+    telling.tell(sentence, &[Part::Quoted(name)], Tail::Nothing, place)
+}
+
+/// Explains the class of a global that isn't a class of the lattice.
+fn unknown_class<'x>(
+    telling: &mut Telling<'_>,
+    table: &'x Table,
+    lattice: Option<&'x Lattice>,
+    name: &'x [u8],
+) -> Told {
+    let Some(number) = pair_named(table, name, 0) else {
+        return Ok(None);
+    };
+    let Some(class) = text_in(table, number, 1) else {
+        return Ok(None);
+    };
+    let classes = classes_of(telling.alloc, table, lattice)?;
+    let otherwise = "Hint: give the global one of these, or declare the class in the lattice.\n";
+    let place = pair_place(telling.bytes, table, number, 1);
+    telling.tell(
+        "The class % of the global % isn't in the lattice. Its classes are %.\n",
+        &[
+            Part::Quoted(class),
+            Part::Quoted(name),
+            Part::Names(&classes),
+        ],
+        Tail::Nearest(class, &classes, otherwise),
+        place,
+    )
+}
+
+/// Explains a fault of a key of the whole interface, other than that of a global, or else of a run.
+fn of_key(telling: &mut Telling<'_>, table: &Table, error: &InterfaceError) -> Told {
+    let bytes = telling.bytes;
     match error {
-        InterfaceError::UnknownKey(key) => advice.key(key),
-        InterfaceError::BadLattice => advice.lattice(),
+        InterfaceError::UnknownKey(key) => unknown_key(telling, key),
+        InterfaceError::BadLattice => {
+            let (tail, place) = match table.get("lattice") {
+                Some(_) => (Tail::Nothing, key_place(bytes, b"lattice")),
+                None => (Tail::Text(SHAPE), None),
+            };
+            telling.tell(lattice_sentence(table), &[], tail, place)
+        }
         InterfaceError::BadProfile => {
-            advice.choice("profile", " isn't a profile: the profiles are ", &PROFILES)
+            let sentence = "% isn't a profile: the profiles are %.\n";
+            choice(telling, table, "profile", sentence, &PROFILES)
         }
-        InterfaceError::BadOrder => advice.choice(
-            "order",
-            " isn't an order: the orders are ",
-            &ORDERS,
+        InterfaceError::BadOrder => {
+            let sentence = "% isn't an order: the orders are %.\n";
+            choice(telling, table, "order", sentence, &ORDERS)
+        }
+        InterfaceError::BadBounded => telling.tell(
+            "The value of `bounded` must be `true`, `false` or a number of at least 1, without \
+            quotes. Hint: write `bounded = true` if `vsi bound` must find a number of \
+            instructions within which every run halts, `bounded = 200` if the number must be at \
+            most 200, or leave out the key.\n",
+            &[],
+            Tail::Nothing,
+            key_place(bytes, b"bounded"),
         ),
-        InterfaceError::BadBounded => advice.bounded(),
-        InterfaceError::BadGlobals => advice.globals(),
-        InterfaceError::BadName(name) => advice.name(
-            name,
-            0,
-            " isn't a valid name. Hint: a name begins with a letter, continues with letters, \
-            digits and `_`, has at most 32 of them, and isn't a keyword.\n",
-        ),
-        InterfaceError::RepeatedGlobal(name) => {
-            advice.name(name, 1, " is in `globals` twice. Hint: leave one out.\n")
+        InterfaceError::BadReference | InterfaceError::RefusedReference(_) => {
+            let place = key_place(bytes, b"reference");
+            telling.tell(reference_sentence(table, error), &[], Tail::Nothing, place)
         }
-        InterfaceError::UnknownClass(name) => advice.class(name, lattice),
-        InterfaceError::BadCycle(_) | InterfaceError::UnknownInCycle(_, _) => {
-            of_cycle(advice, lattice, error)
-        }
-        InterfaceError::BadReference => advice.reference(),
-        InterfaceError::RefusedReference(_) => advice.refused_reference(),
-        other => of_run(advice, other),
+        other => of_run(telling, table, other),
     }
 }
 
 /// Adds the explanation of a fault in an interface that is a table, and returns its position.
-fn put_table_fault(
-    alloc: Global,
-    words: &mut Vec<u8>,
-    bytes: &[u8],
+fn of_table(
+    telling: &mut Telling<'_>,
     table: &Table,
     lattice: Option<&Lattice>,
     error: &InterfaceError,
-) -> Result<Option<Span>, AllocError> {
-    let mut advice = InterfaceAdvice {
-        alloc,
-        bytes,
-        table,
-        words,
-    };
-    put_fault(&mut advice, lattice, error)
+) -> Told {
+    match error {
+        InterfaceError::BadGlobals => globals(telling, table),
+        InterfaceError::BadName(name) => bad_name(
+            telling,
+            table,
+            name,
+            0,
+            "% isn't a valid name. Hint: a name begins with a letter, continues with letters, \
+            digits and `_`, has at most 32 of them, and isn't a keyword.\n",
+        ),
+        InterfaceError::RepeatedGlobal(name) => {
+            let sentence = "% is in `globals` twice. Hint: leave one out.\n";
+            bad_name(telling, table, name, 1, sentence)
+        }
+        InterfaceError::UnknownClass(name) => unknown_class(telling, table, lattice, name),
+        InterfaceError::BadCycle(_) | InterfaceError::UnknownInCycle(_, _) => {
+            of_cycle(telling, table, lattice, error)
+        }
+        other => of_key(telling, table, other),
+    }
 }
 
 /// Adds the explanation of a refused interface file, and returns the position of the fault. The
 /// lattice is that of the file that it names.
-pub(crate) fn put_interface(
-    alloc: Global,
-    words: &mut Vec<u8>,
-    bytes: &[u8],
+pub(crate) fn of_interface(
+    telling: &mut Telling<'_>,
     lattice: Option<&Lattice>,
     error: &InterfaceError,
-) -> Result<Option<Span>, AllocError> {
+) -> Told {
     if let InterfaceError::Memory = error {
         return Err(AllocError);
     }
-    match table_in(alloc, bytes)? {
-        None => put_not_toml(alloc, words, bytes),
-        Some(table) => put_table_fault(alloc, words, bytes, &table, lattice, error),
+    match table_in(telling.alloc, telling.bytes)? {
+        None => not_toml(telling),
+        Some(table) => of_table(telling, &table, lattice, error),
     }
 }

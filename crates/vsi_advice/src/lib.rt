@@ -1,11 +1,11 @@
-//! The explanation that follows the refusal of an interface, of a setting, of a judged image, or of a
-//! text whose image isn't steady: where it is wrong, what belongs there, and what to do.
+//! The explanation that follows the refusal of an interface, of a setting, of a judged image, or of
+//! a text whose image isn't steady: where it is wrong, what belongs there, and what to do.
 //!
 //! Its sentences are free text. `advice` passes them to `vsi_telling::shown`, whose clause says
 //! that no byte of a file controls a terminal.
 #![tactic(auto)]
 
-ghost use Rattle.std.specs.Prelude.{◌≡◌, IfOk, IfSome, true};
+ghost use Rattle.std.specs.Prelude.{◌≡◌, IfOk, true};
 ghost use Rattle.vsi_caret.specs.declared.colour_mode.ColourMode.TheVariants.{Plain};
 ghost use Rattle.vsi_caret.specs.Safe.{all_plain};
 
@@ -14,14 +14,15 @@ mod boundaries;
 mod interface_cycles;
 mod interface_places;
 mod interface_runs;
+mod interface_tables;
 mod interfaces;
 mod settings;
 mod shared;
 
-use audits::{Judged, put_audit, put_steady};
-use interfaces::put_interface;
-use settings::put_start;
-use shared::put_shared;
+use audits::Judged;
+use interfaces::of_interface;
+use settings::of_start;
+use shared::of_shared;
 use std::alloc::{AllocError, Global};
 use vsi_audit::AuditError;
 use vsi_caret::ColourMode;
@@ -30,8 +31,7 @@ use vsi_drive::StartFault;
 use vsi_image::Image;
 use vsi_lattice::Lattice;
 use vsi_steady::SteadyError;
-use vsi_syntax::Span;
-use vsi_telling::shown;
+use vsi_telling::{Telling, Told, shown};
 
 /// A refusal: the refused file or image, and the reason.
 #[derive(Clone, Copy)]
@@ -69,79 +69,29 @@ pub enum RefusedInput<'a> {
     },
 }
 
-/// The explanation of a refusal: a part of the file, if one is known, and a text.
-#[derive(Drop)]
-pub(crate) struct InputAdvice {
-    pub(crate) place: Option<Span>,
-    pub(crate) words: Vec<u8>,
-}
-
-/// Adds the explanation of an interface, of a run that doesn't begin or of a text, and returns the
-/// position of the fault. Adds nothing for a judged image.
-fn put_file(
-    alloc: Global,
-    words: &mut Vec<u8>,
-    refused: RefusedInput,
-) -> Result<Option<Span>, AllocError> {
+/// Adds the explanation of a refusal, and returns the position of the fault in the file.
+fn put_refusal(telling: &mut Telling<'_>, refused: RefusedInput) -> Told {
     match refused {
-        RefusedInput::Interface {
-            bytes,
-            lattice,
-            error,
-        } => put_interface(alloc, words, bytes, lattice, error),
-        RefusedInput::Start {
-            bytes,
-            image,
-            fault,
-        } => put_start(alloc, words, bytes, image, fault),
-        RefusedInput::Text {
-            lattice,
-            bytes,
-            error,
-        } => put_shared(alloc, words, lattice, bytes, error),
-        RefusedInput::Audit { .. } | RefusedInput::Steady { .. } => Ok(None),
-    }
-}
-
-/// Adds the explanation of a judged image. Adds nothing for a file.
-fn put_judged(alloc: Global, words: &mut Vec<u8>, refused: RefusedInput) -> Result<(), AllocError> {
-    match refused {
+        RefusedInput::Interface { lattice, error, .. } => of_interface(telling, lattice, error),
+        RefusedInput::Start { image, fault, .. } => of_start(telling, image, fault),
+        RefusedInput::Text { lattice, error, .. } => of_shared(telling, lattice, error),
         RefusedInput::Audit {
             lattice,
             image,
             error,
         } => {
-            let judged = Judged {
-                alloc,
-                lattice,
-                image,
-            };
-            put_audit(&judged, words, error)
+            Judged::new(telling.alloc, lattice, image).put_audit(&mut telling.words, error)?;
+            Ok(None)
         }
         RefusedInput::Steady {
             lattice,
             image,
             error,
         } => {
-            let judged = Judged {
-                alloc,
-                lattice,
-                image,
-            };
-            put_steady(&judged, words, error)
-        }
-        RefusedInput::Interface { .. } | RefusedInput::Start { .. } | RefusedInput::Text { .. } => {
-            Ok(())
+            Judged::new(telling.alloc, lattice, image).put_steady(&mut telling.words, error)?;
+            Ok(None)
         }
     }
-}
-
-/// The explanation of a refusal.
-fn advice_of(alloc: Global, refused: RefusedInput) -> Result<InputAdvice, AllocError> {
-    let mut words = Vec::new(alloc);
-    let place = put_file(alloc, &mut words, refused)?;
-    put_judged(alloc, &mut words, refused)?;
-    Ok(InputAdvice { place, words })
 }
 
 /// The bytes to which the positions of a refusal refer; an image has none.
@@ -166,13 +116,8 @@ pub fn advice(
     // Without colours no byte controls a terminal.
     ensures plain { mode ≡ Plain → IfOk result (λ text. all_plain text.items ≡ true) }
 {
-    let advice = advice_of(alloc, refused)?;
-    shown(
-        alloc,
-        mode,
-        path,
-        bytes_of(refused),
-        advice.place,
-        &advice.words,
-    )
+    let bytes = bytes_of(refused);
+    let mut telling = Telling::new(alloc, path, bytes);
+    let place = put_refusal(&mut telling, refused)?;
+    shown(alloc, mode, path, bytes, place, &telling.words)
 }

@@ -1,13 +1,12 @@
 //! The explanation of a run that doesn't begin: of a setting, and of a store that isn't full.
 
-use crate::boundaries::put_boundary;
-use std::alloc::{AllocError, Global};
+use crate::boundaries::of_boundary;
+use vsi_caret::Part;
 use vsi_drive::{LineFault, StartFault};
 use vsi_image::Image;
 use vsi_syntax::Span;
-use vsi_telling::names::{Part, part_of, say};
-use vsi_telling::nearest::put_nearest_or;
-use vsi_telling::stores::{names_of, put_no_global};
+use vsi_telling::names::part_of;
+use vsi_telling::{Tail, Telling, Told};
 
 /// The part of a setting without blanks at its ends.
 fn trimmed(setting: &[u8], part: Span) -> Span {
@@ -78,114 +77,71 @@ fn number_hint(value: &[u8]) -> &'static str {
     or an expression.\n"
 }
 
-/// Adds the explanation of a setting that doesn't have the required form.
-fn put_form(words: &mut Vec<u8>, setting: &[u8]) -> Result<Option<Span>, AllocError> {
+/// Explains a setting that doesn't have the required form.
+fn bad_form(telling: &mut Telling<'_>) -> Told {
+    let setting = telling.bytes;
     let (name, value) = sides(setting);
-    words.extend_from_slice(
-        b"A setting is NAME=NUMBER: the name of a global, `=`, and a whole number.\n",
-    )?;
     let hint = form_hint(setting, part_of(setting, name), part_of(setting, value));
-    words.extend_from_slice(hint.as_bytes())?;
-    Ok(Some(Span {
+    let whole = Span {
         start: 0,
         stop: setting.len(),
-    }))
-}
-
-/// Adds the explanation of a name that no global of an image has.
-fn put_unknown(
-    alloc: Global,
-    words: &mut Vec<u8>,
-    image: &Image,
-    name: &[u8],
-) -> Result<(), AllocError> {
-    let names = names_of(alloc, &image.globals)?;
-    put_no_global(words, name, &names)?;
-    put_nearest_or(
-        alloc,
-        words,
-        name,
-        &names,
-        b"Hint: leave out the setting; a local variable has no value before the run.\n",
+    };
+    telling.tell(
+        "A setting is NAME=NUMBER: the name of a global, `=`, and a whole number.\n",
+        &[],
+        Tail::Text(hint),
+        Some(whole),
     )
 }
 
-/// Adds the explanation of a setting whose name isn't a global.
-fn put_name(
-    alloc: Global,
-    words: &mut Vec<u8>,
-    setting: &[u8],
-    image: &Image,
-) -> Result<Option<Span>, AllocError> {
-    let (place, _value) = sides(setting);
-    put_unknown(alloc, words, image, part_of(setting, place))?;
-    Ok(Some(place))
-}
-
-/// Adds the explanation of a setting whose number isn't valid.
-fn put_number(words: &mut Vec<u8>, setting: &[u8]) -> Result<Option<Span>, AllocError> {
-    let (_name, place) = sides(setting);
-    let value = part_of(setting, place);
-    say(
-        words,
-        "% isn't a whole number from -9223372036854775808 to 9223372036854775807.\n",
-        &[Part::Quoted(value)],
-    )?;
-    words.extend_from_slice(number_hint(value).as_bytes())?;
-    Ok(Some(place))
-}
-
-/// Adds the explanation of a setting of a global that isn't an input.
-fn put_no_input(words: &mut Vec<u8>, setting: &[u8]) -> Result<Option<Span>, AllocError> {
-    let (place, _value) = sides(setting);
-    say(
-        words,
-        "% isn't an input. With --interface a setting sets only the inputs of the class.\nHint: \
-        leave the setting out, or give the number in the store file of --store.\n",
-        &[Part::Quoted(part_of(setting, place))],
-    )?;
-    Ok(Some(place))
-}
-
-/// The name of the global with a number.
-fn global_name(image: &Image, number: usize) -> &[u8] {
-    match image.globals.get(number) {
-        Some(global) => global.0.as_slice(),
-        None => b"",
+/// Explains a setting with this fault.
+fn bad_setting(telling: &mut Telling<'_>, image: &Image, fault: LineFault) -> Told {
+    let setting = telling.bytes;
+    let (before, after) = sides(setting);
+    let (name, value) = (part_of(setting, before), part_of(setting, after));
+    match fault {
+        LineFault::UnknownGlobal(_) => telling.put_no_global(
+            &image.globals,
+            name,
+            "Hint: leave out the setting; a local variable has no value before the run.\n",
+            Some(before),
+        ),
+        LineFault::NotANumber(_) => telling.tell(
+            "% isn't a whole number from -9223372036854775808 to 9223372036854775807.\n",
+            &[Part::Quoted(value)],
+            Tail::Text(number_hint(value)),
+            Some(after),
+        ),
+        LineFault::AboveClass(_) | LineFault::NotAnInput(_) => telling.tell(
+            "% isn't an input. With --interface a setting sets only the inputs of the class.\n\
+            Hint: leave the setting out, or give the number in the store file of --store.\n",
+            &[Part::Quoted(name)],
+            Tail::Nothing,
+            Some(before),
+        ),
+        LineFault::BadSetting(_) | LineFault::TooLong => bad_form(telling),
     }
-}
-
-/// Adds the explanation of a global that has no word.
-fn put_unnamed(words: &mut Vec<u8>, name: &[u8]) -> Result<(), AllocError> {
-    say(
-        words,
-        "The global % has no value. With --full-store each global needs a line in the store file or \
-        a `--set`.\nHint: add `--set %=0` to the command, or the line `% = 0` to a store file, with \
-        the value that you mean.\n",
-        &[Part::Quoted(name), Part::Text(name), Part::Text(name)],
-    )
 }
 
 /// Adds the explanation of a run of an image that doesn't begin, and returns the position of the
 /// fault in its setting.
-pub(crate) fn put_start(
-    alloc: Global,
-    words: &mut Vec<u8>,
-    setting: &[u8],
-    image: &Image,
-    fault: StartFault,
-) -> Result<Option<Span>, AllocError> {
+pub(crate) fn of_start(telling: &mut Telling<'_>, image: &Image, fault: StartFault) -> Told {
     match fault {
         StartFault::Unnamed(number) => {
-            put_unnamed(words, global_name(image, number))?;
-            Ok(None)
+            let name: &[u8] = match image.globals.get(number) {
+                Some(global) => global.0.as_slice(),
+                None => b"",
+            };
+            telling.tell(
+                "The global % has no value. With --full-store each global needs a line in the \
+                store file or a `--set`.\nHint: add `--set %=0` to the command, or the line \
+                `% = 0` to a store file, with the value that you mean.\n",
+                &[Part::Quoted(name), Part::Text(name), Part::Text(name)],
+                Tail::Nothing,
+                None,
+            )
         }
-        StartFault::Boundary(fault) => put_boundary(alloc, words, setting, image, fault),
-        StartFault::Setting(LineFault::UnknownGlobal(_)) => put_name(alloc, words, setting, image),
-        StartFault::Setting(LineFault::NotANumber(_)) => put_number(words, setting),
-        StartFault::Setting(LineFault::AboveClass(_) | LineFault::NotAnInput(_)) => {
-            put_no_input(words, setting)
-        }
-        StartFault::Setting(_) => put_form(words, setting),
+        StartFault::Boundary(fault) => of_boundary(telling, image, fault),
+        StartFault::Setting(fault) => bad_setting(telling, image, fault),
     }
 }

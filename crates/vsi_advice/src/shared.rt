@@ -2,6 +2,7 @@
 //! variables have the same slot of the image.
 
 use std::alloc::{AllocError, Global};
+use vsi_caret::Part;
 use vsi_compiler::{CompileError, Source, image_of, read_source};
 use vsi_image::Instr;
 use vsi_lattice::Lattice;
@@ -9,7 +10,8 @@ use vsi_opt::optimise;
 use vsi_scope::{Cmd, Ex, Resolved};
 use vsi_steady::{SteadyError, chain_source};
 use vsi_syntax::{Span, line_column};
-use vsi_telling::names::{Part, part_of, say};
+use vsi_telling::names::part_of;
+use vsi_telling::{Tail, Telling, Told};
 
 /// A flow from a variable to another one, or to a jump. Variables have numbers, globals first.
 #[derive(Clone, Copy)]
@@ -21,6 +23,7 @@ struct Flow {
 /// The flows of a program by assignments and guards.
 #[derive(Drop)]
 struct Flows {
+    globals: usize,
     steps: Vec<Flow>,
     /// The slot of each variable.
     slots: Vec<usize>,
@@ -28,16 +31,9 @@ struct Flows {
     scope: Vec<usize>,
 }
 
-/// How a variable is reached from a global.
-#[derive(Clone, Copy)]
-enum Reached {
-    Not,
-    First,
-    /// By a flow from this variable.
-    Flow(usize),
-    /// Since it has the slot of this variable.
-    Slot(usize),
-}
+/// How a variable is reached: from another one, and whether it has the slot of that one. The first
+/// variable is reached from itself.
+type Reached = Option<(usize, bool)>;
 
 /// Adds the flows from the variables of an expression.
 fn put_reads(e: &Ex, to: Option<usize>, flows: &mut Flows) -> Result<(), AllocError> {
@@ -104,6 +100,7 @@ fn put_one(c: &Cmd, flows: &mut Flows) -> Result<(), AllocError> {
 /// The flows of a program.
 fn flows_of(alloc: Global, program: &Resolved<'_>) -> Result<Flows, AllocError> {
     let mut flows = Flows {
+        globals: program.globals().len(),
         steps: Vec::new(alloc),
         slots: Vec::new(alloc),
         scope: Vec::new(alloc),
@@ -117,26 +114,21 @@ fn flows_of(alloc: Global, program: &Resolved<'_>) -> Result<Flows, AllocError> 
 
 /// Whether a variable is reached.
 fn is_reached(reached: &[Reached], variable: usize) -> bool {
-    !matches!(reached.get(variable), Some(Reached::Not) | None)
+    matches!(reached.get(variable), Some(Some(_)))
 }
 
-/// Marks a variable above the globals, and says whether it wasn't reached before.
-fn mark(reached: &mut [Reached], globals: usize, variable: usize, how: Reached) -> bool {
-    if variable < globals || is_reached(reached, variable) || variable >= reached.len() {
+/// Marks a local variable that isn't reached yet, and says whether it was one.
+fn mark(flows: &Flows, reached: &mut [Reached], variable: usize, how: (usize, bool)) -> bool {
+    if variable < flows.globals || is_reached(reached, variable) || variable >= reached.len() {
         return false;
     }
-    reached[variable] = how;
+    reached[variable] = Some(how);
     true
 }
 
 /// Goes on along the flows until nothing changes, or a flow reaches the target: then returns the
 /// variable that it comes from.
-fn follow(
-    flows: &Flows,
-    reached: &mut [Reached],
-    globals: usize,
-    target: Option<usize>,
-) -> Option<usize> {
+fn follow(flows: &Flows, reached: &mut [Reached], target: Option<usize>) -> Option<usize> {
     for _ in 0..=flows.slots.len() {
         let mut has_changed = false;
         for step in &flows.steps {
@@ -147,7 +139,7 @@ fn follow(
                 return Some(step.from);
             }
             if let Some(to) = step.to {
-                let is_new = mark(reached, globals, to, Reached::Flow(step.from));
+                let is_new = mark(flows, reached, to, (step.from, false));
                 has_changed = has_changed | is_new;
             }
         }
@@ -158,16 +150,16 @@ fn follow(
     None
 }
 
-/// Goes on from each variable to those with the same slot, and says whether one was reached.
-fn share(flows: &Flows, reached: &mut [Reached], globals: usize) -> bool {
+/// Goes on from each local variable to those with the same slot, and says whether one was reached.
+fn share(flows: &Flows, reached: &mut [Reached]) -> bool {
     let mut has_changed = false;
-    for variable in globals..flows.slots.len() {
+    for variable in flows.globals..flows.slots.len() {
         if !is_reached(reached, variable) {
             continue;
         }
-        for other in globals..flows.slots.len() {
+        for other in flows.globals..flows.slots.len() {
             if flows.slots.get(other) == flows.slots.get(variable) {
-                let is_new = mark(reached, globals, other, Reached::Slot(variable));
+                let is_new = mark(flows, reached, other, (variable, true));
                 has_changed = has_changed | is_new;
             }
         }
@@ -179,11 +171,11 @@ fn share(flows: &Flows, reached: &mut [Reached], globals: usize) -> bool {
 fn pair_before(reached: &[Reached], variable: usize) -> Option<(usize, usize)> {
     let mut at = variable;
     for _ in 0..reached.len() {
-        match reached.get(at) {
-            Some(Reached::Flow(before)) => at = *before,
-            Some(Reached::Slot(other)) => return Some((*other, at)),
-            _ => return None,
+        let (before, is_shared) = reached.get(at).copied().flatten()?;
+        if is_shared {
+            return Some((before, at));
         }
+        at = before;
     }
     None
 }
@@ -192,20 +184,19 @@ fn pair_before(reached: &[Reached], variable: usize) -> Option<(usize, usize)> {
 fn shared_pair(
     alloc: Global,
     flows: &Flows,
-    globals: usize,
     first: usize,
     target: Option<usize>,
 ) -> Result<Option<(usize, usize)>, AllocError> {
     let mut reached: Vec<Reached> = Vec::new(alloc);
-    reached.resize(flows.slots.len(), Reached::Not)?;
+    reached.resize(flows.slots.len(), None)?;
     if first < reached.len() {
-        reached[first] = Reached::First;
+        reached[first] = Some((first, false));
     }
     for _ in 0..=flows.slots.len() {
-        if let Some(last) = follow(flows, &mut reached, globals, target) {
+        if let Some(last) = follow(flows, &mut reached, target) {
             return Ok(pair_before(&reached, last));
         }
-        if !share(flows, &mut reached, globals) {
+        if !share(flows, &mut reached) {
             return Ok(None);
         }
     }
@@ -230,61 +221,45 @@ fn sharers(
     };
     let program = optimise(alloc, source.resolved())?;
     let flows = flows_of(alloc, &program)?;
-    let globals = program.globals().len();
-    let Some((one, other)) = shared_pair(alloc, &flows, globals, first as usize, target)? else {
+    let Some((one, other)) = shared_pair(alloc, &flows, first as usize, target)? else {
         return Ok(None);
     };
     let numbers = (one.min(other), one.max(other));
     let entries = program.letvars();
-    let first = entries.get(numbers.0.saturating_sub(globals));
-    let second = entries.get(numbers.1.saturating_sub(globals));
+    let first = entries.get(numbers.0.saturating_sub(flows.globals));
+    let second = entries.get(numbers.1.saturating_sub(flows.globals));
     match (first, second) {
         (Some(first), Some(second)) => Ok(Some((first.span, second.span))),
         _ => Ok(None),
     }
 }
 
-/// Adds which variables share a slot, and what helps.
-fn put_sharers(
-    words: &mut Vec<u8>,
-    text: &[u8],
-    first: Span,
-    second: Span,
-) -> Result<(), AllocError> {
-    say(
-        words,
+/// Adds the explanation of a text whose flows are allowed, but whose image isn't steady, and
+/// returns the position of the second variable that has the slot.
+pub(crate) fn of_shared(telling: &mut Telling<'_>, lattice: &Lattice, error: &SteadyError) -> Told {
+    let SteadyError::Flow(place) = error else {
+        return Ok(None);
+    };
+    let text = telling.bytes;
+    let source = match read_source(telling.alloc, lattice, text) {
+        Ok(source) => source,
+        Err(CompileError::Memory) => return Err(AllocError),
+        Err(_) => return Ok(None),
+    };
+    let Some((first, second)) = sharers(telling.alloc, &source, *place)? else {
+        return Ok(None);
+    };
+    telling.tell(
         "The flows of the text are allowed, but its image isn't steady: % (line %) and % (line %) \
-        have the same slot of the image, one after the other, and a slot has one class for the whole \
-        code.\nHint: nest one `letvar` in the other, and each has a slot of its own.\n",
+        have the same slot of the image, one after the other, and a slot has one class for the \
+        whole code.\nHint: nest one `letvar` in the other, and each has a slot of its own.\n",
         &[
             Part::Quoted(part_of(text, first)),
             Part::Number(line_column(text, first.start).0),
             Part::Quoted(part_of(text, second)),
             Part::Number(line_column(text, second.start).0),
         ],
+        Tail::Nothing,
+        Some(second),
     )
-}
-
-/// Adds the explanation of a text whose flows are allowed, but whose image isn't steady, and returns
-/// the position of the second variable that has the slot.
-pub(crate) fn put_shared(
-    alloc: Global,
-    words: &mut Vec<u8>,
-    lattice: &Lattice,
-    text: &[u8],
-    error: &SteadyError,
-) -> Result<Option<Span>, AllocError> {
-    let SteadyError::Flow(place) = error else {
-        return Ok(None);
-    };
-    let source = match read_source(alloc, lattice, text) {
-        Ok(source) => source,
-        Err(CompileError::Memory) => return Err(AllocError),
-        Err(_) => return Ok(None),
-    };
-    let Some((first, second)) = sharers(alloc, &source, *place)? else {
-        return Ok(None);
-    };
-    put_sharers(words, text, first, second)?;
-    Ok(Some(second))
 }

@@ -1,6 +1,6 @@
 //! A position of a text, its line and its carets.
 
-ghost use Rattle.std.specs.Prelude.{◌≡◌, ◌++◌, ◌≤◌, ◌<◌, OnOk, IfOk, true, length, replicate, ℕ};
+ghost use Rattle.std.specs.Prelude.{◌≡◌, ◌++◌, ◌≤◌, ◌<◌, OnOk, IfOk, true, length, replicate};
 ghost use Rattle.std.specs.Prelude.{max};
 ghost use Rattle.vsi_caret.specs.declared.window.Window.{Window};
 ghost use Rattle.vsi_caret.specs.declared.colour_mode.ColourMode.TheVariants.{Plain};
@@ -162,20 +162,4 @@ pub fn put_place_in(
     put_heading(text, path, line, column)?;
     put_lines(text, mode, source, window, line)?;
     Ok(())
-}
-
-/// Appends a position of a text without colours.
-pub fn put_place(
-    text: &mut Vec<u8>,
-    path: &[u8],
-    source: &[u8],
-    start: usize,
-    stop: usize,
-) -> Result<(), AllocError>
-    ensures placed { OnOk result ((w : Window) × (IsWindow source.now start w
-        × (text.new.items ≡ text.old.items ++ spec.placed Plain path.now source.now w))) }
-    ensures plain { all_plain text.old.items ≡ true
-        → OnOk result (all_plain text.new.items ≡ true) }
-{
-    put_place_in(text, ColourMode::Plain, path, source, start, stop)
 }

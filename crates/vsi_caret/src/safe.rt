@@ -66,11 +66,8 @@ pub fn put_text(text: &mut Vec<u8>, bytes: &[u8]) -> Result<(), AllocError>
 }
 
 /// Appends a number in decimal.
-pub fn put_number(text: &mut Vec<u8>, number: usize) -> Result<(), AllocError>
-    ensures shown { OnOk result
-        (text.new.items ≡ text.old.items ++ spec.shown (decimal number)) }
-    ensures plain { spec.all_plain text.old.items ≡ true
-        → OnOk result (spec.all_plain text.new.items ≡ true) }
+pub(crate) fn put_number(text: &mut Vec<u8>, number: usize) -> Result<(), AllocError>
+    ensures { OnOk result (text.new.items ≡ text.old.items ++ spec.shown (decimal number)) }
 {
     let mut buffer = Buffer::new();
     put_safe(text, buffer.format(number).as_bytes())

@@ -1,7 +1,7 @@
 -- The beginnings of lines, and of characters.
-use Rattle.std.proofs.Common.{◌≡◌, ◌<◌, ◌+◌, ◌-◌, ◌||◌, ◌∷◌, ℕ, zero, suc, List, [], Bool, true, false, length, drop, refl, ap, arith, nat_lt, nat_eq}
+use Rattle.std.proofs.Common.{◌≡◌, ◌<◌, ◌+◌, ◌-◌, ◌∷◌, ℕ, zero, suc, List, [], length, drop, refl, arith}
 use Rattle.vsi_client.specs.declared.places.Encoding.{Encoding}
-use Rattle.vsi_client.specs.Places.{BeginsCharacter, in_line, is_break, line_size, line_start, units}
+use Rattle.vsi_client.specs.Places.{BeginsCharacter, in_line, line_size, line_start, units}
 
 -- There are no bytes before a line of no text.
 pub line_start_nil : (n : ℕ) → line_start n [] ≡ 0

@@ -1,9 +1,9 @@
 -- Positions of bytes.
-use Rattle.std.proofs.Common.{◌≡◌, ◌≢◌, ◌<◌, ◌≤◌, ◌+◌, ◌-◌, ◌*◌, ◌^◌, ◌||◌, ◌&&◌, ◌==◌, ◌∷◌, ◌∙◌, ℕ, zero, suc, List, [], Bool, true, false, length, take, drop, refl, sym, ap, subst, arith, nat_lt, nat_eq, if◌then◌else◌}
+use Rattle.std.proofs.Common.{◌≡◌, ◌<◌, ◌≤◌, ◌+◌, ◌-◌, ◌∷◌, ◌∙◌, ℕ, zero, suc, List, [], false, length, take, drop, refl, sym, ap, subst, arith}
 use Rattle.std.proofs.lemmas.List.{drop-drop, length-drop}
 use Rattle.vsi_client.specs.declared.places.Encoding.{Encoding}
 use Rattle.vsi_client.specs.declared.places.Encoding.TheVariants.{Utf8, Utf16}
-use Rattle.vsi_client.specs.Places.{BeginsCharacter, IsPlaced, begins, content_size, feed_size, in_line, is_break, line_size, line_start, long_units, offset_at, splits_end, units, units_in}
+use Rattle.vsi_client.specs.Places.{BeginsCharacter, IsPlaced, begins, content_size, feed_size, in_line, line_size, line_start, long_units, offset_at, splits_end, units, units_in}
 
 -- A character of several bytes has at least one code unit.
 long_units_some : (encoding : Encoding) (byte : ℕ) → 0 < long_units encoding byte

@@ -1,5 +1,5 @@
 -- Positions in a text: a line, and the code units before a place in that line, both from 0.
-use Rattle.std.specs.Prelude.{◌≡◌, ◌≢◌, ℕ, zero, suc, ◌+◌, ◌-◌, ◌==◌, ◌||◌, ◌&&◌, ◌≤◌, length, List, [], ◌∷◌, Bool, true, false, drop, nat_lt, if◌then◌else◌}
+use Rattle.std.specs.Prelude.{◌≡◌, ℕ, zero, suc, ◌+◌, ◌-◌, ◌==◌, ◌||◌, ◌&&◌, ◌≤◌, length, List, [], ◌∷◌, Bool, true, false, drop, nat_lt, if◌then◌else◌}
 use Rattle.vsi_client.specs.declared.places.Encoding.{Encoding}
 use Rattle.vsi_client.specs.declared.places.Encoding.TheVariants.{Utf8, Utf16}
 use Rattle.vsi_client.specs.declared.places.Place.{Place}

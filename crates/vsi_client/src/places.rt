@@ -117,6 +117,36 @@ fn in_line(encoding: Encoding, text: &[u8], character: usize) -> usize
     count
 }
 
+/// The beginning of a line of a text: the line's number, and the bytes before it.
+#[derive(Clone, Copy)]
+pub(crate) struct Line {
+    pub(crate) number: usize,
+    pub(crate) start: usize,
+}
+
+/// The beginning of a line that isn't before this one.
+pub(crate) fn line_after(text: &[u8], line: Line, number: usize) -> Option<Line>
+    requires line { line.start ≡ spec.line_start line.number text.now }
+    requires within { line.start ≤ length text.now }
+    ensures number { IfSome result (λ found. found.number ≡ number) }
+    ensures start { IfSome result (λ found. found.start ≡ spec.line_start number text.now) }
+    ensures within { IfSome result (λ found. found.start ≤ length text.now) }
+{
+    let more = number.checked_sub(line.number)?;
+    let start = line.start + line_start(after(text, line.start), more);
+    Some(Line { number, start })
+}
+
+/// The bytes before a place in a line.
+pub(crate) fn offset_in_line(encoding: Encoding, text: &[u8], line: Line, character: usize) -> usize
+    requires line { line.start ≡ spec.line_start line.number text.now }
+    requires within { line.start ≤ length text.now }
+    ensures offset { result ≡ spec.offset_at encoding text.now line.number character }
+    ensures within { result ≤ length text.now }
+{
+    line.start + in_line(encoding, after(text, line.start), character)
+}
+
 /// The bytes before a position. A position past the end of its line is the end of that line, and one
 /// inside of a character is the beginning of that character.
 pub fn offset_of(encoding: Encoding, text: &[u8], place: Place) -> usize

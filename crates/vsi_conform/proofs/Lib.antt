@@ -5,9 +5,7 @@ pub mod Converse
 pub mod Numbers
 pub mod Paths
 pub mod Pushed
-pub mod Begins
 pub mod Tables
 pub mod Readable
-pub mod Told
 pub mod Allowed
 pub mod Profiles

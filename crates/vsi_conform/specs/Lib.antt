@@ -10,6 +10,7 @@ pub mod Reaching
 pub mod ReachedLines
 pub mod Beside
 pub mod Shown
+pub mod Rows
 pub mod Lines
 pub mod Json
 pub mod Checking

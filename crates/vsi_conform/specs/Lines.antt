@@ -1,11 +1,10 @@
 -- The lines of an answer.
-use Rattle.std.specs.Prelude.{◌≡◌, ℕ, ℤ, Bool, true, false, List, [], ◌++◌, codes, decimal, Option, Some, None, slice_get}
+use Rattle.std.specs.Prelude.{◌≡◌, ℕ, ℤ, Bool, true, false, List, [], ◌∷◌, ◌++◌, codes, decimal, Option, Some, None}
 use Rattle.std.specs.Fmt.{signed_decimal}
 use Rattle.std.specs.Global.{Vec}
 use Rattle.std.specs.List.{flat_map}
 use Rattle.vsi_syntax.specs.Tree.{Declared}
 use Rattle.vsi_lattice.specs.declared.lattice.Lattice.{Lattice}
-use Rattle.vsi_image.specs.Fields.{Global}
 use Rattle.vsi_compiler.specs.declared.error.CompileError.{CompileError}
 use Rattle.vsi_compiler.specs.declared.error.CompileError.TheVariants as compiler
 use Rattle.vsi_steady.specs.declared.unsteady.UnsteadyError.{UnsteadyError}
@@ -15,68 +14,65 @@ use Rattle.vsi_answers.specs.Judged.{IsImageText, IsLoopedText}
 use Rattle.vsi_conform.specs.declared.interface.Interface.{Interface}
 use Rattle.vsi_conform.specs.declared.interface.Judgement.{Judgement}
 use Rattle.vsi_conform.specs.declared.interface.Judgement.TheVariants.{Base, Strict, Steady}
-use Rattle.vsi_conform.specs.declared.interface.Trial.{Trial}
 use Rattle.vsi_conform.specs.declared.interface.Answer.{Answer}
-use Rattle.vsi_conform.specs.declared.interface.Point.{Point}
-use Rattle.vsi_conform.specs.declared.interface.Point.TheVariants.{Missing, Unexpected, WrongClass, WrongOrder, OutOfBudget, WrongWord, NoWord}
-use Rattle.vsi_conform.specs.Points.{Entry, is_conforming}
-use Rattle.vsi_conform.specs.Shown.{asked, expected, run_number, Declares, Shown, Page, by_name, by_class}
+use Rattle.vsi_conform.specs.declared.rows.Kind.{Kind}
+use Rattle.vsi_conform.specs.declared.rows.Kind.TheVariants as kind
+use Rattle.vsi_conform.specs.Rows.{Detail, Row, Lines, Global, Spent, Ended, rows_of, text_held, word_of}
+use Rattle.vsi_conform.specs.Shown.{Declares}
 
--- ---- lines of points.
+-- ---- the line of a point.
 
--- `LINE:COLUMN`
-abbrev pub place : Shown → List ℕ
-place s = decimal s.line ++ codes ":" ++ decimal s.column
+-- `LINE:COLUMN ` if there is a position.
+abbrev pub begun : Option (ℕ × ℕ) → List ℕ
+begun None = []
+begun (Some place) = decimal place.0 ++ codes ":" ++ decimal place.1 ++ codes " "
 
--- `missing NAME : CLASS`
-abbrev pub missing_line : Global → List ℕ
-missing_line g = codes "missing " ++ g.0 ++ codes " : " ++ g.1 ++ codes "\n"
+-- ` : CLASS`. A point about the order names no class.
+abbrev pub class_text : Kind → List ℕ → List ℕ
+class_text kind.Refused class = codes " : " ++ class
+class_text kind.Missing class = codes " : " ++ class
+class_text kind.Unexpected class = codes " : " ++ class
+class_text kind.Class class = codes " : " ++ class
+class_text kind.Order class = []
+class_text kind.Budget class = codes " : " ++ class
+class_text kind.Word class = codes " : " ++ class
+class_text kind.Bound class = codes " : " ++ class
 
--- `LINE:COLUMN unexpected NAME : CLASS`
-abbrev pub unexpected_line : Shown → List ℕ
-unexpected_line s = place s ++ codes " unexpected " ++ s.name ++ codes " : " ++ s.class ++ codes "\n"
-
--- `LINE:COLUMN class NAME : CLASS, expected CLASS`
-abbrev pub class_line : Shown → List ℕ → List ℕ
-class_line s class =
-    place s ++ codes " class " ++ s.name ++ codes " : " ++ s.class ++ codes ", expected " ++ class ++ codes "\n"
-
--- `LINE:COLUMN order NAME, expected NAME`
-abbrev pub order_line : Shown → List ℕ → List ℕ
-order_line s name = place s ++ codes " order " ++ s.name ++ codes ", expected " ++ name ++ codes "\n"
+-- `, expected NAME` or `, expected CLASS`, if anything is expected.
+abbrev pub expected_text : Option (List ℕ) → List ℕ
+expected_text None = []
+expected_text (Some e) = codes ", expected " ++ e
 
 -- `run N`
 abbrev pub run_text : ℕ → List ℕ
-run_text run = codes "run " ++ decimal (run_number run)
+run_text run = codes "run " ++ decimal run
 
 -- The budget of a run.
-abbrev pub budget_text : Option Trial → List ℕ
+abbrev pub budget_text : Option ℕ → List ℕ
 budget_text None = []
-budget_text (Some t) = decimal t.budget
-
--- `run N out of budget BUDGET`
-abbrev pub budget_line : ℕ → Option Trial → List ℕ
-budget_line run t = run_text run ++ codes " out of budget " ++ budget_text t ++ codes "\n"
+budget_text (Some budget) = decimal budget
 
 -- ` NAME = NUMBER`, or ` no NAME`.
 abbrev pub found_text : List ℕ → Option ℤ → List ℕ
 found_text name None = codes " no " ++ name
 found_text name (Some word) = codes " " ++ name ++ codes " = " ++ signed_decimal word
 
--- `run N NAME = NUMBER, expected NUMBER`, or `run N no NAME, expected NUMBER`.
-abbrev pub word_line : ℕ → Entry → Option ℤ → List ℕ
-word_line run e word =
-    run_text run ++ found_text e.0 word ++ codes ", expected " ++ signed_decimal e.1 ++ codes "\n"
+-- `KIND NAME : CLASS, expected CLASS`, with the word of the kind.
+abbrev pub global_text : Kind → List ℕ → List ℕ → Option (List ℕ) → List ℕ
+global_text k name class expected =
+    (word_of k ++ codes " " ++ name) ++ class_text k class ++ expected_text expected ++ codes "\n"
 
--- The line of a point.
-abbrev pub line_of_point : Page → Point → List ℕ
-line_of_point p (Missing n) = missing_line (asked p.interface n)
-line_of_point p (Unexpected place) = unexpected_line (by_name p place)
-line_of_point p (WrongClass place n) = class_line (by_class p place) (asked p.interface n).1
-line_of_point p (WrongOrder place) = order_line (by_name p place) (asked p.interface place).0
-line_of_point p (OutOfBudget run) = budget_line run (slice_get p.interface.trials.items run)
-line_of_point p (WrongWord run n word) = word_line run (expected p.interface run n) (Some word)
-line_of_point p (NoWord run n) = word_line run (expected p.interface run n) None
+-- The lines; the global; `run N out of budget BUDGET`; or `run N NAME = NUMBER, expected NUMBER`.
+abbrev pub detail_text : Kind → Detail → List ℕ
+detail_text k (Lines lines) = lines
+detail_text k (Global name class expected) = global_text k name class expected
+detail_text k (Spent run budget) = run_text run ++ codes " out of budget " ++ budget_text budget ++ codes "\n"
+detail_text k (Ended run name expected found) =
+    run_text run ++ found_text name found ++ codes ", expected " ++ signed_decimal expected ++ codes "\n"
+
+-- The line of a row.
+abbrev pub line : Row → List ℕ
+line r = begun r.place ++ detail_text r.kind r.detail
 
 -- ---- the refusal.
 
@@ -102,31 +98,30 @@ is_steady Strict = false
 is_steady Steady = true
 
 -- The lines of the refusal, if there is one.
-abbrev pub AreFirst : Lattice → List ℕ → Interface → Option UnsteadyError → List ℕ → Type 0
-AreFirst l text i None out = out ≡ []
-AreFirst l text i (Some e) out = IsRefusalLines l text (is_steady i.judgement) e out
+abbrev pub AreFirst : Lattice → List ℕ → Interface → Option UnsteadyError → Option (Vec ℕ) → Type 0
+AreFirst l text i None None = Unit {0}
+AreFirst l text i None (Some lines) = ⊥
+AreFirst l text i (Some e) None = ⊥
+AreFirst l text i (Some e) (Some lines) = IsRefusalLines l text (is_steady i.judgement) e lines.items
 
 -- ---- the whole answer.
 
--- The page of a text with these globals.
-abbrev pub page_of : List ℕ → List Declared → Interface → Page
-page_of text ds i = record { text = text; globals = ds; interface = i }
-
--- The line about the bound, if there is one.
-abbrev pub bound_lines : Option (Vec ℕ) → List ℕ
-bound_lines None = []
-bound_lines (Some line) = line.items
-
--- The lines of the refusal, one line for each point, in order, and the line about the bound.
-pub record TellsLines (l : Lattice) (text : List ℕ) (i : Interface) (a : Answer) (out : List ℕ) : Type 0 where
+-- These are the rows of an answer: of the refusal, of each point, with the globals that the text declares, and of the
+-- bound. There are none exactly if nothing differs.
+pub record AreTextRows (l : Lattice) (text : List ℕ) (i : Interface) (a : Answer) (rows : List Row) : Type 0 where
   pub globals : List Declared
   pub declares : Declares text globals
-  pub first : List ℕ
+  pub first : Option (Vec ℕ)
   pub refusal : AreFirst l text i a.refusal first
-  pub lines : out ≡ first ++ flat_map (line_of_point (page_of text globals i)) a.points.items
-      ++ bound_lines a.unbounded
+  pub are : rows ≡ rows_of i (text_held text globals) first a.points.items a.unbounded
+
+-- The text of rows: `conforms` if there are none, or their lines.
+abbrev pub rows_text : List Row → List ℕ
+rows_text [] = codes "conforms\n"
+rows_text (r ∷ rs) = flat_map line (r ∷ rs)
 
 -- The text of an answer: `conforms`, or the differences.
 pub record IsConformText (l : Lattice) (text : List ℕ) (i : Interface) (a : Answer) (out : List ℕ) : Type 0 where
-  pub conforms : is_conforming a ≡ true → out ≡ codes "conforms\n"
-  pub differs : is_conforming a ≡ false → TellsLines l text i a out
+  pub rows : List Row
+  pub tells : AreTextRows l text i a rows
+  pub is : out ≡ rows_text rows

@@ -83,25 +83,6 @@ pub fn judgement_by(profile: Profile) -> Judgement
     }
 }
 
-/// The line of a refused text, which has no program.
-fn refused_line(
-    alloc: Global,
-    judgement: Judgement,
-    lattice: &Lattice,
-    text: &[u8],
-    error: &UnsteadyError,
-) -> Result<Vec<u8>, AllocError>
-    ensures { IfOk result (λ out.
-        spec.WritesRefusal lattice.now judgement text.now error.now out.items) }
-{
-    let Some(diagnostic) = unsteady_diagnostic(text, error) else {
-        return Err(AllocError);
-    };
-    let lines = refusal_lines(alloc, lattice, text, error, is_steady(judgement))?;
-    let line = refusal_json(alloc, lattice, text, &diagnostic, &lines)?;
-    Ok(line)
-}
-
 /// The answer for an accepted text.
 fn accepted(alloc: Global) -> Result<Checked, AllocError>
     ensures accepted { IfOk result (λ checked. checked.is_accepted ≡ true) }
@@ -173,7 +154,12 @@ pub fn unread_json(
         lattice.now judgement text.now (unsteady.Compile error) out.items) }
 {
     let error = UnsteadyError::Compile(error);
-    refused_line(alloc, judgement, lattice, text, &error)
+    let Some(diagnostic) = unsteady_diagnostic(text, &error) else {
+        return Err(AllocError);
+    };
+    let lines = refusal_lines(alloc, lattice, text, &error, is_steady(judgement))?;
+    let line = refusal_json(alloc, lattice, text, &diagnostic, &lines)?;
+    Ok(line)
 }
 
 /// The answer of `vsi check` to a text as a line of JSON: an object with `accepted` and, for a

@@ -35,24 +35,6 @@ pub struct Cycle {
     pub from: Option<Vec<Vec<u8>>>,
 }
 
-/// A name, if it is that of a global.
-fn known_name(
-    alloc: Global,
-    number: usize,
-    name: &[u8],
-    globals: &[(Vec<u8>, Vec<u8>)],
-) -> Result<Vec<u8>, InterfaceError>
-    ensures name { IfOk result (λ known. known.items ≡ name.now) }
-    ensures known { IfOk result
-        (λ known. spec.IsKnown (image.globals globals.now) known.items) }
-{
-    let known = Vec::from_slice(alloc, name)?;
-    if !is_named(globals, name) {
-        return Err(InterfaceError::UnknownInCycle(number, known));
-    }
-    Ok(known)
-}
-
 /// The name of a value that is a text, if it is that of a global.
 fn name_of(
     alloc: Global,
@@ -64,10 +46,12 @@ fn name_of(
     ensures known { IfOk result
         (λ name. spec.IsKnown (image.globals globals.now) name.items) }
 {
-    match value.as_str() {
-        Some(name) => known_name(alloc, number, name.as_bytes(), globals),
-        None => Err(InterfaceError::BadCycle(number)),
+    let name = value.as_str().ok_or(InterfaceError::BadCycle(number))?;
+    let known = Vec::from_slice(alloc, name.as_bytes())?;
+    if !is_named(globals, name.as_bytes()) {
+        return Err(InterfaceError::UnknownInCycle(number, known));
     }
+    Ok(known)
 }
 
 /// The names of an array.
@@ -102,10 +86,8 @@ fn names_in(
     ensures known { IfOk result
         (λ names. All (spec.IsKnown (image.globals globals.now)) (spec.bytes_of names.items)) }
 {
-    match value.as_array() {
-        Some(array) => names_of(alloc, number, array.as_slice(), globals),
-        None => Err(InterfaceError::BadCycle(number)),
-    }
+    let array = value.as_array().ok_or(InterfaceError::BadCycle(number))?;
+    names_of(alloc, number, array.as_slice(), globals)
 }
 
 /// The names at a key, if it is there.
@@ -152,10 +134,8 @@ fn class_in(alloc: Global, number: usize, table: &Table) -> Result<Vec<u8>, Inte
     ensures { IfOk result
         (λ class. spec.text_at (codes "class") (table_view table.now) ≡ Some class.items) }
 {
-    match text_at(table, "class") {
-        Some(class) => Ok(Vec::from_slice(alloc, class.as_bytes())?),
-        None => Err(InterfaceError::BadCycle(number)),
-    }
+    let class = text_at(table, "class").ok_or(InterfaceError::BadCycle(number))?;
+    Ok(Vec::from_slice(alloc, class.as_bytes())?)
 }
 
 /// The table of a boundary, if it has only the keys of one.
@@ -164,9 +144,7 @@ fn cycle_table(number: usize, value: &Value) -> Result<&Table, InterfaceError>
     ensures keys { IfOk result
         (λ table. spec.has_keys spec.cycle_keys (table_view table.now) ≡ true) }
 {
-    let Some(table) = value.as_table() else {
-        return Err(InterfaceError::BadCycle(number));
-    };
+    let table = value.as_table().ok_or(InterfaceError::BadCycle(number))?;
     match other_key(table, &CYCLE_KEYS) {
         Some(_) => Err(InterfaceError::BadCycle(number)),
         None => Ok(table),
@@ -233,9 +211,7 @@ fn all_cycles(
     let Some(value) = value_at(table, "cycle") else {
         return Ok(Vec::new(alloc));
     };
-    let Some(array) = value.as_array() else {
-        return Err(InterfaceError::BadCycle(1));
-    };
+    let array = value.as_array().ok_or(InterfaceError::BadCycle(1))?;
     cycles_of(alloc, array.as_slice(), globals)
 }
 

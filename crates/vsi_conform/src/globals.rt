@@ -1,6 +1,6 @@
 //! The globals of a text, compared with the required ones.
 
-ghost use Rattle.std.specs.Prelude.{◌≡◌, ◌++◌, IfOk, OnOk, map, slice_get};
+ghost use Rattle.std.specs.Prelude.{◌≡◌, ◌++◌, IfOk, OnOk, map};
 ghost use Rattle.vsi_image.specs.Fields.{global, globals, is_taken};
 ghost use Rattle.vsi_syntax.specs.CommandView.{declared};
 ghost use Rattle.vsi_syntax.specs.ProgramView.{whole};
@@ -9,7 +9,7 @@ ghost use Rattle.vsi_conform.specs.Shown as shown_spec;
 
 use crate::interface::{Point, put_told};
 use std::alloc::{AllocError, Global};
-use vsi_syntax::{Declaration, LexError, ParseError, Program, lex, line_column, parse};
+use vsi_syntax::{Declaration, LexError, ParseError, Program, lex, parse};
 
 /// The point of a global with a known name, by its class.
 fn class_point(
@@ -198,47 +198,4 @@ pub fn declarations<'a>(alloc: Global, text: &'a [u8]) -> Result<Vec<Declaration
     };
     let found = globals_of(alloc, &program)?;
     Ok(found)
-}
-
-/// The reported facts of a global of the text: its name, its class name, and the line and column,
-/// both from 1, of one of them.
-#[derive(Clone, Copy)]
-pub(crate) struct Shown<'a> {
-    pub(crate) name: &'a [u8],
-    pub(crate) class: &'a [u8],
-    pub(crate) line: usize,
-    pub(crate) column: usize,
-}
-
-/// The global at an index, with the line and column of its name or its class; one with an empty
-/// name if there is none.
-pub(crate) fn global_at<'a>(
-    text: &[u8],
-    found: &[Declaration<'a>],
-    place: usize,
-    is_class: bool,
-) -> Shown<'a>
-    ensures { shown_spec.shown result
-        ≡ shown_spec.shown_of text.now is_class (slice_get (map declared found.now) place) }
-{
-    let Some(declaration) = found.get(place) else {
-        return Shown {
-            name: b"",
-            class: b"",
-            line: 1,
-            column: 1,
-        };
-    };
-    let at = if is_class {
-        declaration.class.span.start
-    } else {
-        declaration.name.span.start
-    };
-    let (line, column) = line_column(text, at);
-    Shown {
-        name: declaration.name.text,
-        class: declaration.class.text,
-        line,
-        column,
-    }
 }

@@ -163,10 +163,7 @@ fn store_in(
     let Some(value) = value_at(table, "store") else {
         return Ok(Vec::new(alloc));
     };
-    match known_entries(alloc, number, value, globals)? {
-        Some(entries) => Ok(entries),
-        None => Err(InterfaceError::BadStore(number)),
-    }
+    known_entries(alloc, number, value, globals)?.ok_or(InterfaceError::BadStore(number))
 }
 
 /// The budget of a run.
@@ -174,16 +171,9 @@ fn budget_in(number: usize, table: &Table) -> Result<u64, InterfaceError>
     ensures { IfOk result (λ budget. spec.budget_from
         (get_member (codes "budget") (table_view table.now)) ≡ Some budget) }
 {
-    let Some(value) = value_at(table, "budget") else {
-        return Err(InterfaceError::NoBudget(number));
-    };
-    let Some(budget) = value.as_integer() else {
-        return Err(InterfaceError::NoBudget(number));
-    };
-    match natural(budget) {
-        Some(budget) => Ok(budget),
-        None => Err(InterfaceError::NoBudget(number)),
-    }
+    let value = value_at(table, "budget").ok_or(InterfaceError::NoBudget(number))?;
+    let budget = value.as_integer().ok_or(InterfaceError::NoBudget(number))?;
+    natural(budget).ok_or(InterfaceError::NoBudget(number))
 }
 
 /// A number of at least 0.
@@ -233,10 +223,7 @@ fn expect_in(
     if value_at(table, "halts").is_some() {
         return Err(InterfaceError::NothingExpected(number));
     }
-    match known_entries(alloc, number, value, globals)? {
-        Some(entries) => Ok(entries),
-        None => Err(InterfaceError::NothingExpected(number)),
-    }
+    known_entries(alloc, number, value, globals)?.ok_or(InterfaceError::NothingExpected(number))
 }
 
 /// The table of a run, if it has only the keys of a run.
@@ -245,9 +232,7 @@ fn run_table(number: usize, value: &Value) -> Result<&Table, InterfaceError>
     ensures keys { IfOk result
         (λ table. spec.has_keys spec.run_keys (table_view table.now) ≡ true) }
 {
-    let Some(table) = value.as_table() else {
-        return Err(InterfaceError::BadRun(number));
-    };
+    let table = value.as_table().ok_or(InterfaceError::BadRun(number))?;
     match other_key(table, &RUN_KEYS) {
         Some(_) => Err(InterfaceError::BadRun(number)),
         None => Ok(table),
@@ -290,9 +275,7 @@ pub(crate) fn trials_in(
     let Some(value) = value_at(table, "runs") else {
         return Ok(Vec::new(alloc));
     };
-    let Some(array) = value.as_array() else {
-        return Err(InterfaceError::BadRuns);
-    };
+    let array = value.as_array().ok_or(InterfaceError::BadRuns)?;
     trials_of(alloc, array.as_slice(), globals)
 }
 

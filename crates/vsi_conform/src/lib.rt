@@ -8,9 +8,9 @@
 //! none, the text conforms to it (`specs/Conforms`). `image_points` reports the points of an image.
 //! `is_within` compares the budgets of all runs with one budget (`specs/Totals`). `text_reaches` lists
 //! the globals that reach each released output, and `are_within` says whether the interface allows
-//! them (`specs/Reaching`, `specs/ReachedLines`). `parts` has the
-//! lines and objects of points that name no position in a text. `points_text` and `points_json`
-//! write an answer (`specs/Lines`, `specs/Json`), and `interface_text` writes why an interface is
+//! them (`specs/Reaching`, `specs/ReachedLines`). `rows_of` makes the points of a text or an image into
+//! rows (`specs/Rows`), which `rows_text` and `rows_json` write (`specs/Lines`, `specs/Json`);
+//! `points_text` and `points_json` do so for a text. `interface_text` writes why an interface is
 //! refused (`specs/Faulty`).
 //!
 //! To be believed: all files of `specs/`.
@@ -23,11 +23,11 @@ mod globals;
 mod interface;
 mod json;
 mod keys;
-pub mod parts;
 mod reached;
 mod reached_lines;
 mod reaching;
 mod reader;
+mod rows;
 mod texts;
 mod totals;
 
@@ -41,10 +41,13 @@ pub use globals::declarations;
 pub use interface::{
     Answer, Bounded, Interface, InterfaceError, Judgement, Point, Trial, fault_name, interface_text,
 };
-pub use json::points_json;
+pub use json::{points_json, rows_json};
 pub use reached::{flows_profile, text_reaches};
 pub use reached_lines::{with_reached_json, with_reached_lines};
-pub use reaching::{GlobalFlows, Reach, are_within, have_released, reaches_of};
+pub use reaching::{GlobalFlows, Reach, are_within, have_released, is_among, reaches_of};
 pub use reader::{InterfaceFile, Policy, path_beside, read_interface, unknown_class};
-pub use texts::{first_lines, points_text, refusal_lines, refusal_lines_of};
+pub use rows::{Detail, Held, Judged, Kind, Row, asked, numbered, rows_of};
+pub use texts::{
+    points_text, put_parts, put_row, refusal_lines, refusal_lines_of, rows_text, text_rows,
+};
 pub use totals::is_within;

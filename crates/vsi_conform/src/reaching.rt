@@ -1,7 +1,7 @@
 //! The globals that released outputs can depend on.
 
 ghost use Rattle.std.specs.Prelude.{◌≡◌, ◌++◌, map, option_map, IfOk, OnOk};
-ghost use Rattle.vsi_conform.specs.Reading.{bytes_of, cycle as cycle_of, is_among};
+ghost use Rattle.vsi_conform.specs.Reading.{bytes_of, cycle as cycle_of, is_among as is_among_of};
 ghost use Rattle.vsi_conform.specs.Reaching as spec;
 
 use crate::cycles::Cycle;
@@ -97,8 +97,8 @@ fn sources_of(alloc: Global, flows: &GlobalFlows, target: usize) -> Result<Vec<V
 }
 
 /// Whether a name is in a list.
-fn is_listed(listed: &[Vec<u8>], name: &[u8]) -> bool
-    ensures { result ≡ is_among (bytes_of listed.now) name.now }
+pub fn is_among(listed: &[Vec<u8>], name: &[u8]) -> bool
+    ensures among { result ≡ is_among_of (bytes_of listed.now) name.now }
 {
     for known in listed {
         if known.as_slice() == name {
@@ -119,7 +119,7 @@ fn unlisted(
 {
     let mut found = Vec::new(alloc);
     for name in names {
-        put_name(alloc, &mut found, name, !is_listed(listed, name))?;
+        put_name(alloc, &mut found, name, !is_among(listed, name))?;
     }
     Ok(found)
 }

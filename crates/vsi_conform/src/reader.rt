@@ -140,9 +140,7 @@ fn file_in(alloc: Global, table: &Table) -> Result<Policy, InterfaceError>
     if has_tables(table) {
         return Err(InterfaceError::BadLattice);
     }
-    let Some(path) = text_at(table, "lattice") else {
-        return Err(InterfaceError::BadLattice);
-    };
+    let path = text_at(table, "lattice").ok_or(InterfaceError::BadLattice)?;
     if leads_out(path.as_bytes()) {
         return Err(InterfaceError::BadLattice);
     }
@@ -169,13 +167,8 @@ fn policy_in(alloc: Global, table: &Table) -> Result<Policy, InterfaceError>
 fn judgement_in(table: &Table) -> Result<Judgement, InterfaceError>
     ensures { IfOk result (λ judgement. spec.judgement_at (table_view table.now) ≡ Some judgement) }
 {
-    let Some(word) = text_at(table, "profile") else {
-        return Err(InterfaceError::BadProfile);
-    };
-    match judgement_of(word.as_bytes()) {
-        Some(judgement) => Ok(judgement),
-        None => Err(InterfaceError::BadProfile),
-    }
+    let word = text_at(table, "profile").ok_or(InterfaceError::BadProfile)?;
+    judgement_of(word.as_bytes()).ok_or(InterfaceError::BadProfile)
 }
 
 /// The judgement with this name.
@@ -201,13 +194,8 @@ fn order_in(table: &Table) -> Result<bool, InterfaceError>
     let Some(value) = value_at(table, "order") else {
         return Ok(true);
     };
-    let Some(word) = value.as_str() else {
-        return Err(InterfaceError::BadOrder);
-    };
-    match order_of(word.as_bytes()) {
-        Some(is_ordered) => Ok(is_ordered),
-        None => Err(InterfaceError::BadOrder),
-    }
+    let word = value.as_str().ok_or(InterfaceError::BadOrder)?;
+    order_of(word.as_bytes()).ok_or(InterfaceError::BadOrder)
 }
 
 /// Whether the order of the globals is required, by name.
@@ -228,12 +216,9 @@ fn bounded_in(table: &Table) -> Result<Bounded, InterfaceError>
     ensures { IfOk result (λ bounded. spec.bounded_from
         (get_member (codes "bounded") (table_view table.now)) ≡ Some bounded) }
 {
-    let Some(value) = value_at(table, "bounded") else {
-        return Ok(Bounded::No);
-    };
-    match bounded_of(value) {
-        Some(bounded) => Ok(bounded),
-        None => Err(InterfaceError::BadBounded),
+    match value_at(table, "bounded") {
+        Some(value) => bounded_of(value).ok_or(InterfaceError::BadBounded),
+        None => Ok(Bounded::No),
     }
 }
 
@@ -302,9 +287,7 @@ fn global_of(
 ) -> Result<(Vec<u8>, Vec<u8>), InterfaceError>
     ensures { IfOk result (λ g. shape.pair_of (view value.now) ≡ Some (global g)) }
 {
-    let Some((name, class)) = pair_of(value) else {
-        return Err(InterfaceError::BadGlobals);
-    };
+    let (name, class) = pair_of(value).ok_or(InterfaceError::BadGlobals)?;
     let name = fresh_name(alloc, name.as_bytes(), before)?;
     let class = Vec::from_slice(alloc, class.as_bytes())?;
     Ok((name, class))
@@ -315,12 +298,8 @@ fn globals_in(alloc: Global, table: &Table) -> Result<Vec<(Vec<u8>, Vec<u8>)>, I
     ensures { IfOk result
         (λ found. spec.globals_at (table_view table.now) ≡ Some (globals found.items)) }
 {
-    let Some(value) = value_at(table, "globals") else {
-        return Err(InterfaceError::BadGlobals);
-    };
-    let Some(array) = value.as_array() else {
-        return Err(InterfaceError::BadGlobals);
-    };
+    let value = value_at(table, "globals").ok_or(InterfaceError::BadGlobals)?;
+    let array = value.as_array().ok_or(InterfaceError::BadGlobals)?;
     if array.len() > MOST_GLOBALS {
         return Err(InterfaceError::BadGlobals);
     }
@@ -365,9 +344,7 @@ fn reference_in(alloc: Global, table: &Table) -> Result<Option<Vec<u8>>, Interfa
     if value_at(table, "reference").is_none() {
         return Ok(None);
     }
-    let Some(named) = text_at(table, "reference") else {
-        return Err(InterfaceError::BadReference);
-    };
+    let named = text_at(table, "reference").ok_or(InterfaceError::BadReference)?;
     if leads_out(named.as_bytes()) {
         return Err(InterfaceError::BadReference);
     }

@@ -1,28 +1,22 @@
 //! The lines of an answer.
 
-ghost use Rattle.std.specs.Prelude.{◌≡◌, ◌++◌, Some, true, IfOk, OnOk};
+ghost use Rattle.std.specs.Prelude.{◌≡◌, ◌++◌, true, codes, map, option_map, IfOk, OnOk};
+ghost use Rattle.std.specs.Fmt.{signed_decimal};
 ghost use Rattle.std.specs.List.{flat_map};
-ghost use Rattle.std.specs.Option.{option_copied};
+ghost use Rattle.vsi_conform.specs.Rows.{row};
+ghost use Rattle.vsi_conform.specs.Rows as rows_spec;
 ghost use Rattle.vsi_conform.specs.Lines as spec;
-ghost use Rattle.vsi_conform.specs.Shown as told;
 
-use crate::globals::{Shown, declarations, global_at};
-use crate::interface::{Answer, Interface, Judgement, Point, Trial};
+use crate::globals::declarations;
+use crate::interface::{Answer, Interface, Judgement};
+use crate::rows::{Detail, Judged, Kind, Row, rows_of};
 use std::alloc::{AllocError, Global};
 use vsi_answers::{image_text, image_text_of, looped_text, looped_text_of};
 use vsi_compiler::{CompileError, Source};
 use vsi_diagnostics::{refusal_text, refusal_text_of};
 use vsi_lattice::Lattice;
 use vsi_steady::UnsteadyError;
-use vsi_syntax::{Declaration, put_number, put_word};
-
-/// A source text and the interface for it.
-#[derive(Clone, Copy)]
-pub(crate) struct Pages<'a> {
-    pub(crate) text: &'a [u8],
-    pub(crate) found: &'a [Declaration<'a>],
-    pub(crate) interface: &'a Interface,
-}
+use vsi_syntax::{put_number, put_word};
 
 /// Adds some texts.
 pub fn put_parts(text: &mut Vec<u8>, parts: &[&[u8]]) -> Result<(), AllocError>
@@ -119,108 +113,119 @@ pub fn refusal_lines_of(
     }
 }
 
-/// Adds a line and a column.
-fn put_place(text: &mut Vec<u8>, shown: &Shown) -> Result<(), AllocError>
-    ensures { OnOk result (text.new.items ≡ text.old.items ++ spec.place (told.shown shown.now)) }
+/// Whether the image must be steady.
+pub(crate) fn is_steady(judgement: Judgement) -> bool
+    ensures { result ≡ spec.is_steady judgement }
 {
-    put_number(text, shown.line)?;
-    text.extend_from_slice(b":")?;
-    put_number(text, shown.column)
+    matches!(judgement, Judgement::Steady)
 }
 
-/// Adds the start of a run's line.
-fn put_run(text: &mut Vec<u8>, trial: usize) -> Result<(), AllocError>
-    ensures { OnOk result (text.new.items ≡ text.old.items ++ spec.run_text trial) }
+/// The lines of a refusal, if there is one.
+fn first_lines(
+    alloc: Global,
+    lattice: &Lattice,
+    text: &[u8],
+    interface: &Interface,
+    refusal: &Option<UnsteadyError>,
+) -> Result<Option<Vec<u8>>, AllocError>
+    ensures { IfOk result (λ lines. spec.AreFirst lattice.now text.now interface.now
+        refusal.now lines) }
+{
+    match refusal {
+        Some(error) => {
+            let steady = is_steady(interface.judgement);
+            let lines = refusal_lines(alloc, lattice, text, error, steady)?;
+            Ok(Some(lines))
+        }
+        None => Ok(None),
+    }
+}
+
+/// The rows of an answer about a text. Names, lines and columns come from the given lattice, text and
+/// interface, which must be those of the answer.
+pub fn text_rows(
+    alloc: Global,
+    lattice: &Lattice,
+    text: &[u8],
+    interface: &Interface,
+    answer: &Answer,
+) -> Result<Vec<Row>, AllocError>
+    ensures rows { IfOk result (λ found. spec.AreTextRows lattice.now text.now interface.now
+        answer.now (map row found.items)) }
+{
+    let declared = declarations(alloc, text)?;
+    let lines = first_lines(alloc, lattice, text, interface, &answer.refusal)?;
+    let judged = Judged::Text(text, &declared);
+    let found = rows_of(
+        alloc,
+        &judged,
+        interface,
+        &lines,
+        &answer.points,
+        &answer.unbounded,
+    )?;
+    Ok(found)
+}
+
+/// Adds a position, if there is one.
+fn put_place(text: &mut Vec<u8>, place: Option<(usize, usize)>) -> Result<(), AllocError>
+    ensures { OnOk result (text.new.items ≡ text.old.items ++ spec.begun place) }
+{
+    match place {
+        Some((line, column)) => {
+            put_number(text, line)?;
+            text.extend_from_slice(b":")?;
+            put_number(text, column)?;
+            text.extend_from_slice(b" ")
+        }
+        None => Ok(()),
+    }
+}
+
+/// Adds the class of a global. A point about the order names none.
+fn put_class(text: &mut Vec<u8>, kind: Kind, class: &[u8]) -> Result<(), AllocError>
+    ensures { OnOk result (text.new.items ≡ text.old.items ++ spec.class_text kind class.now) }
+{
+    match kind {
+        Kind::Order => Ok(()),
+        _ => put_parts(text, &[b" : ", class]),
+    }
+}
+
+/// Adds what is expected, if anything is.
+fn put_expected(text: &mut Vec<u8>, expected: &Option<Vec<u8>>) -> Result<(), AllocError>
+    ensures { OnOk result (text.new.items ≡ text.old.items
+        ++ spec.expected_text (option_map (λ e. e.items) expected.now)) }
+{
+    match expected {
+        Some(expected) => put_parts(text, &[b", expected ", expected]),
+        None => Ok(()),
+    }
+}
+
+/// Adds the number of a run.
+fn put_run(text: &mut Vec<u8>, run: usize) -> Result<(), AllocError>
+    ensures { OnOk result (text.new.items ≡ text.old.items ++ spec.run_text run) }
 {
     text.extend_from_slice(b"run ")?;
-    put_number(text, trial.saturating_add(1))
+    put_number(text, run)
 }
 
-/// The required global with this number.
-pub fn asked<'a>(interface: &'a Interface, number: usize) -> (&'a [u8], &'a [u8])
-    ensures { (result.0.now, result.1.now) ≡ told.asked interface.now number }
+/// Adds a budget, if it is known.
+fn put_budget(text: &mut Vec<u8>, budget: Option<u64>) -> Result<(), AllocError>
+    ensures { OnOk result (text.new.items ≡ text.old.items ++ spec.budget_text budget) }
 {
-    match interface.globals.get(number) {
-        Some(entry) => (entry.0.as_slice(), entry.1.as_slice()),
-        None => (b"", b""),
+    match budget {
+        Some(budget) => put_number(text, budget as usize),
+        None => Ok(()),
     }
 }
 
-/// The name and the word that a run expects, by number.
-pub fn expected(interface: &Interface, trial: usize, wanted: usize) -> (&[u8], i64)
-    ensures { (result.0.now, result.1) ≡ told.expected interface.now trial wanted }
+/// Adds the word of a global after a run, or that there is no such global.
+fn put_found(text: &mut Vec<u8>, name: &[u8], found: Option<i64>) -> Result<(), AllocError>
+    ensures { OnOk result (text.new.items ≡ text.old.items ++ spec.found_text name.now found) }
 {
-    let Some(trial) = interface.trials.get(trial) else {
-        return (b"", 0);
-    };
-    expected_of(trial, wanted)
-}
-
-/// The name and the word with this number.
-fn expected_of(trial: &Trial, wanted: usize) -> (&[u8], i64)
-    ensures { (result.0.now, result.1) ≡ told.expected_of (Some trial.now) wanted }
-{
-    match trial.expect.get(wanted) {
-        Some(entry) => (entry.0.as_slice(), entry.1),
-        None => (b"", 0),
-    }
-}
-
-/// Adds the line of a global that the text lacks.
-pub fn put_missing(text: &mut Vec<u8>, global: (&[u8], &[u8])) -> Result<(), AllocError>
-    ensures { OnOk result (text.new.items
-        ≡ text.old.items ++ spec.missing_line (global.entry.0.now, global.entry.1.now)) }
-{
-    put_parts(text, &[b"missing ", global.0, b" : ", global.1, b"\n"])
-}
-
-/// Adds the line of a global with a class other than this one.
-fn put_class(text: &mut Vec<u8>, shown: &Shown, class: &[u8]) -> Result<(), AllocError>
-    ensures { OnOk result (text.new.items
-        ≡ text.old.items ++ spec.class_line (told.shown shown.now) class.now) }
-{
-    put_place(text, shown)?;
-    put_parts(
-        text,
-        &[
-            b" class ",
-            shown.name,
-            b" : ",
-            shown.class,
-            b", expected ",
-            class,
-            b"\n",
-        ],
-    )
-}
-
-/// Adds the line of a global that isn't required.
-fn put_unexpected(text: &mut Vec<u8>, shown: &Shown) -> Result<(), AllocError>
-    ensures { OnOk result (text.new.items
-        ≡ text.old.items ++ spec.unexpected_line (told.shown shown.now)) }
-{
-    put_place(text, shown)?;
-    put_parts(
-        text,
-        &[b" unexpected ", shown.name, b" : ", shown.class, b"\n"],
-    )
-}
-
-/// Adds the line of another order, where a global with this name is expected.
-fn put_order(text: &mut Vec<u8>, shown: &Shown, name: &[u8]) -> Result<(), AllocError>
-    ensures { OnOk result (text.new.items
-        ≡ text.old.items ++ spec.order_line (told.shown shown.now) name.now) }
-{
-    put_place(text, shown)?;
-    put_parts(text, &[b" order ", shown.name, b", expected ", name, b"\n"])
-}
-
-/// Adds the word found, or that there is none.
-fn put_found(text: &mut Vec<u8>, name: &[u8], word: Option<i64>) -> Result<(), AllocError>
-    ensures { OnOk result (text.new.items
-        ≡ text.old.items ++ spec.found_text name.now word) }
-{
-    match word {
+    match found {
         Some(word) => {
             put_parts(text, &[b" ", name, b" = "])?;
             put_word(text, word)
@@ -229,132 +234,107 @@ fn put_found(text: &mut Vec<u8>, name: &[u8], word: Option<i64>) -> Result<(), A
     }
 }
 
-/// Adds the line of a word that differs from the expected one.
-pub fn put_wrong(
+/// Adds a global with its class, and what is expected in its place.
+fn put_global(
     text: &mut Vec<u8>,
-    trial: usize,
-    wanted: (&[u8], i64),
-    word: Option<i64>,
+    kind: Kind,
+    name: &[u8],
+    class: &[u8],
+    expected: &Option<Vec<u8>>,
 ) -> Result<(), AllocError>
-    ensures { OnOk result (text.new.items
-        ≡ text.old.items ++ spec.word_line trial (wanted.entry.0.now, wanted.entry.1) word) }
+    ensures { OnOk result (text.new.items ≡ text.old.items ++ spec.global_text kind name.now
+        class.now (option_map (λ e. e.items) expected.now)) }
 {
-    put_run(text, trial)?;
-    put_found(text, wanted.0, word)?;
-    text.extend_from_slice(b", expected ")?;
-    put_word(text, wanted.1)?;
+    text.extend_from_slice(kind.word())?;
+    put_parts(text, &[b" ", name])?;
+    put_class(text, kind, class)?;
+    put_expected(text, expected)?;
     text.extend_from_slice(b"\n")
 }
 
-/// Adds the budget of a run.
-fn put_budget(text: &mut Vec<u8>, trial: Option<&Trial>) -> Result<(), AllocError>
-    ensures { OnOk result (text.new.items
-        ≡ text.old.items ++ spec.budget_text (option_copied trial.entry)) }
+/// Adds a run that doesn't halt, and its budget.
+fn put_spent(text: &mut Vec<u8>, run: usize, budget: Option<u64>) -> Result<(), AllocError>
+    ensures { OnOk result (text.new.items ≡ text.old.items ++ spec.run_text run
+        ++ codes " out of budget " ++ spec.budget_text budget ++ codes "\n") }
 {
-    match trial {
-        Some(trial) => put_number(text, trial.budget as usize),
-        None => Ok(()),
-    }
-}
-
-/// Adds the line of a run that doesn't halt.
-pub fn put_endless(
-    text: &mut Vec<u8>,
-    number: usize,
-    trial: Option<&Trial>,
-) -> Result<(), AllocError>
-    ensures { OnOk result (text.new.items
-        ≡ text.old.items ++ spec.budget_line number (option_copied trial.entry)) }
-{
-    put_run(text, number)?;
+    put_run(text, run)?;
     text.extend_from_slice(b" out of budget ")?;
-    put_budget(text, trial)?;
-    put_parts(text, &[b"\n"])
+    put_budget(text, budget)?;
+    text.extend_from_slice(b"\n")
 }
 
-/// Adds the line of a point.
-fn put_point(text: &mut Vec<u8>, pages: &Pages, point: Point) -> Result<(), AllocError>
+/// Adds a run, a name with the word that is found for it, and the word that is expected.
+fn put_ended(
+    text: &mut Vec<u8>,
+    run: usize,
+    name: &[u8],
+    expected: i64,
+    found: Option<i64>,
+) -> Result<(), AllocError>
+    ensures { OnOk result (text.new.items ≡ text.old.items ++ spec.run_text run
+        ++ spec.found_text name.now found ++ codes ", expected " ++ signed_decimal expected
+        ++ codes "\n") }
+{
+    put_run(text, run)?;
+    put_found(text, name, found)?;
+    text.extend_from_slice(b", expected ")?;
+    put_word(text, expected)?;
+    text.extend_from_slice(b"\n")
+}
+
+/// Adds what a point of this kind says.
+fn put_detail(text: &mut Vec<u8>, kind: Kind, detail: &Detail) -> Result<(), AllocError>
     ensures { OnOk result (text.new.items
-        ≡ text.old.items ++ spec.line_of_point (told.page pages.now) point) }
+        ≡ text.old.items ++ spec.detail_text kind (rows_spec.detail detail.now)) }
 {
-    let interface = pages.interface;
-    match point {
-        Point::Missing(number) => put_missing(text, asked(interface, number)),
-        Point::Unexpected(place) => {
-            put_unexpected(text, &global_at(pages.text, pages.found, place, false))
-        }
-        Point::WrongClass { place, wanted } => {
-            let shown = global_at(pages.text, pages.found, place, true);
-            put_class(text, &shown, asked(interface, wanted).1)
-        }
-        Point::WrongOrder(place) => {
-            let shown = global_at(pages.text, pages.found, place, false);
-            put_order(text, &shown, asked(interface, place).0)
-        }
-        Point::OutOfBudget(trial) => put_endless(text, trial, interface.trials.get(trial)),
-        Point::WrongWord {
-            trial,
-            wanted,
-            word,
-        } => put_wrong(text, trial, expected(interface, trial, wanted), Some(word)),
-        Point::NoWord { trial, wanted } => {
-            put_wrong(text, trial, expected(interface, trial, wanted), None)
-        }
+    match detail {
+        Detail::Lines(lines) => text.extend_from_slice(lines),
+        Detail::Global {
+            name,
+            class,
+            expected,
+        } => put_global(text, kind, name, class, expected),
+        Detail::Budget { run, budget } => put_spent(text, *run, *budget),
+        Detail::Word {
+            run,
+            name,
+            expected,
+            found,
+        } => put_ended(text, *run, name, *expected, *found),
     }
 }
 
-/// Adds the lines of points.
-fn put_points(text: &mut Vec<u8>, pages: &Pages, points: &[Point]) -> Result<(), AllocError>
-    ensures { OnOk result (text.new.items
-        ≡ text.old.items ++ flat_map (spec.line_of_point (told.page pages.now)) points.now) }
+/// Adds the line, or the lines, of a row.
+pub fn put_row(text: &mut Vec<u8>, point: &Row) -> Result<(), AllocError>
+    ensures line { OnOk result (text.new.items ≡ text.old.items ++ spec.line (row point.now)) }
 {
-    for point in points {
-        put_point(text, pages, *point)?;
-    }
-    Ok(())
+    put_place(text, point.place)?;
+    put_detail(text, point.kind, &point.detail)
 }
 
-/// The lines of a refusal, if there is one.
-pub fn first_lines(
-    alloc: Global,
-    lattice: &Lattice,
-    text: &[u8],
-    interface: &Interface,
-    refusal: &Option<UnsteadyError>,
-) -> Result<Vec<u8>, AllocError>
-    ensures { IfOk result (λ lines. spec.AreFirst lattice.now text.now interface.now
-        refusal.now lines.items) }
+/// The lines of rows.
+fn row_lines(alloc: Global, rows: &[Row]) -> Result<Vec<u8>, AllocError>
+    ensures { IfOk result (λ out. out.items ≡ flat_map spec.line (map row rows.now)) }
 {
-    match refusal {
-        Some(error) => {
-            let steady = is_steady(interface.judgement);
-            refusal_lines(alloc, lattice, text, error, steady)
-        }
-        None => Ok(Vec::new(alloc)),
+    let mut lines = Vec::new(alloc);
+    for point in rows {
+        put_row(&mut lines, point)?;
     }
+    Ok(lines)
 }
 
-/// Adds the line about the bound, if there is one.
-pub fn put_bound(text: &mut Vec<u8>, unbounded: &Option<Vec<u8>>) -> Result<(), AllocError>
-    ensures { OnOk result
-        (text.new.items ≡ text.old.items ++ spec.bound_lines unbounded.now) }
+/// The lines of an answer: `conforms`, or those of its rows.
+pub fn rows_text(alloc: Global, rows: &[Row]) -> Result<Vec<u8>, AllocError>
+    ensures text { IfOk result (λ out. out.items ≡ spec.rows_text (map row rows.now)) }
 {
-    match unbounded {
-        Some(line) => text.extend_from_slice(line),
-        None => Ok(()),
+    match rows {
+        [] => Vec::from_slice(alloc, b"conforms\n"),
+        [_, ..] => row_lines(alloc, rows),
     }
-}
-
-/// Whether the image must be steady.
-pub(crate) fn is_steady(judgement: Judgement) -> bool
-    ensures { result ≡ spec.is_steady judgement }
-{
-    matches!(judgement, Judgement::Steady)
 }
 
 /// The lines of an answer: `conforms`, or those of the refusal, one for each point and one about the
-/// bound. Names, lines and columns come from the given lattice, text and interface, which must be
-/// those of the answer.
+/// bound.
 pub fn points_text(
     alloc: Global,
     lattice: &Lattice,
@@ -365,18 +345,7 @@ pub fn points_text(
     ensures text { IfOk result (λ out. spec.IsConformText lattice.now text.now interface.now
         answer.now out.items) }
 {
-    if answer.conforms() {
-        let line = Vec::from_slice(alloc, b"conforms\n")?;
-        return Ok(line);
-    }
-    let found = declarations(alloc, text)?;
-    let pages = Pages {
-        text,
-        found: &found,
-        interface,
-    };
-    let mut lines = first_lines(alloc, lattice, text, interface, &answer.refusal)?;
-    put_points(&mut lines, &pages, &answer.points)?;
-    put_bound(&mut lines, &answer.unbounded)?;
+    let rows = text_rows(alloc, lattice, text, interface, answer)?;
+    let lines = rows_text(alloc, &rows)?;
     Ok(lines)
 }

@@ -1,69 +1,67 @@
--- The lines of an answer.
-use Rattle.std.specs.Prelude.{◌≡◌, ℕ, true, false, List, [], ◌++◌, codes, Option, Some, None, slice_get}
-use Rattle.std.specs.List.{flat_map}
+-- The lines and the JSON of an answer.
+use Rattle.std.specs.Prelude.{◌≡◌, ℕ, List, Option, Some, None}
+use Rattle.std.specs.Global.{Vec}
 use Rattle.vsi_lattice.specs.declared.lattice.Lattice.{Lattice}
 use Rattle.vsi_image.specs.declared.instr.Image.{Image}
-use Rattle.vsi_image.specs.Fields.{Global, globals}
 use Rattle.vsi_audit.specs.Telling.{IsAuditText}
 use Rattle.vsi_steady.specs.Telling.{IsUnsteadyText}
+use Rattle.vsi_lattice.specs.LatticeView.{class_named, order}
+use Rattle.vsi_diagnostics.specs.Diagnostic.{Diagnostic}
 use Rattle.vsi_conform.specs.declared.interface.Interface.{Interface}
-use Rattle.vsi_conform.specs.declared.interface.Point.{Point}
-use Rattle.vsi_conform.specs.declared.interface.Point.TheVariants.{Missing, Unexpected, WrongClass, WrongOrder, OutOfBudget, WrongWord, NoWord}
-use Rattle.vsi_conform.specs.Lines.{bound_lines, budget_line, missing_line, word_line}
-use Rattle.vsi_conform.specs.Shown.{asked, expected}
-use Rattle.vsi_conform_image.specs.Conforms.{is_conforming}
+use Rattle.vsi_conform.specs.declared.interface.Judgement.{Judgement}
+use Rattle.vsi_conform.specs.Checking.{audit_diagnostic, steady_diagnostic}
+use Rattle.vsi_conform_image.specs.Conforms.{IsJudged}
+use Rattle.vsi_conform.specs.Json.{rows_json}
+use Rattle.vsi_conform.specs.Lines.{rows_text}
+use Rattle.vsi_conform.specs.Rows.{Row, numbered_held, rows_of}
 use Rattle.vsi_conform_image.specs.declared.conforming.Answer.{Answer}
 use Rattle.vsi_conform_image.specs.declared.conforming.Refusal.{Refusal}
 use Rattle.vsi_conform_image.specs.declared.conforming.Refusal.TheVariants.{Audit, Steady}
 
--- ---- lines of points.
+-- The lines of a refusal are those of `audit`.
+abbrev pub IsRefusalLines : Lattice → Image → Refusal → List ℕ → Type 0
+IsRefusalLines l image (Audit e) out = IsAuditText l image e out
+IsRefusalLines l image (Steady e) out = IsUnsteadyText l image e out
 
--- The global, or an empty one if there is none.
-abbrev pub global_or_none : Option Global → Global
-global_or_none None = ([], [])
-global_or_none (Some g) = g
+-- A refusal as a value; none if memory ran out.
+abbrev pub diagnostic : Refusal → Option Diagnostic
+diagnostic (Audit e) = audit_diagnostic e
+diagnostic (Steady e) = steady_diagnostic e
 
--- The n-th global of an image.
-abbrev pub held : Image → ℕ → Global
-held image n = global_or_none (slice_get (globals image.globals.items) n)
+-- The image isn't as a profile requires, and this is its refusal with its lines.
+pub record IsRefusedAs (l : Lattice) (j : Judgement) (image : Image) (d : Diagnostic) (lines : List ℕ) : Type 0 where
+  pub refusal : Refusal
+  pub refused : IsJudged (class_named l) (order l) j image (Some refusal)
+  pub is : diagnostic refusal ≡ Some d
+  pub printed : IsRefusalLines l image refusal lines
 
--- `unexpected NAME : CLASS`
-abbrev pub unexpected_line : Global → List ℕ
-unexpected_line g = codes "unexpected " ++ g.0 ++ codes " : " ++ g.1 ++ codes "\n"
+-- The image is as a profile requires, or this is its refusal with its lines.
+abbrev pub TellsRefusal : Lattice → Judgement → Image → Option (Diagnostic × List ℕ) → Type 0
+TellsRefusal l j image None = IsJudged (class_named l) (order l) j image None
+TellsRefusal l j image (Some told) = IsRefusedAs l j image told.0 told.1
 
--- `class NAME : CLASS, expected CLASS`
-abbrev pub class_line : Global → List ℕ → List ℕ
-class_line g class = codes "class " ++ g.0 ++ codes " : " ++ g.1 ++ codes ", expected " ++ class ++ codes "\n"
+-- The lines of the refusal, if there is one.
+abbrev pub AreFirst : Lattice → Image → Option Refusal → Option (Vec ℕ) → Type 0
+AreFirst l image None None = Unit {0}
+AreFirst l image None (Some lines) = ⊥
+AreFirst l image (Some e) None = ⊥
+AreFirst l image (Some e) (Some lines) = IsRefusalLines l image e lines.items
 
--- `order NAME, expected NAME`
-abbrev pub order_line : Global → List ℕ → List ℕ
-order_line g name = codes "order " ++ g.0 ++ codes ", expected " ++ name ++ codes "\n"
-
--- The line of a point of an image.
-abbrev pub line_of_point : Image → Interface → Point → List ℕ
-line_of_point image i (Missing n) = missing_line (asked i n)
-line_of_point image i (Unexpected place) = unexpected_line (held image place)
-line_of_point image i (WrongClass place n) = class_line (held image place) (asked i n).1
-line_of_point image i (WrongOrder place) = order_line (held image place) (asked i place).0
-line_of_point image i (OutOfBudget run) = budget_line run (slice_get i.trials.items run)
-line_of_point image i (WrongWord run n word) = word_line run (expected i run n) (Some word)
-line_of_point image i (NoWord run n) = word_line run (expected i run n) None
-
--- ---- the whole answer.
-
--- The lines of the refusal are those of `audit`, if there is one.
-abbrev pub AreFirst : Lattice → Image → Option Refusal → List ℕ → Type 0
-AreFirst l image None out = out ≡ []
-AreFirst l image (Some (Audit e)) out = IsAuditText l image e out
-AreFirst l image (Some (Steady e)) out = IsUnsteadyText l image e out
-
--- The lines of the refusal, one line for each point, in order, and the line about the bound.
-pub record TellsLines (l : Lattice) (image : Image) (i : Interface) (a : Answer) (out : List ℕ) : Type 0 where
-  pub first : List ℕ
+-- These are the rows of an answer: of the refusal, of each point, with the globals of the image, and of the bound. There
+-- are none exactly if nothing differs.
+pub record AreImageRows (l : Lattice) (image : Image) (i : Interface) (a : Answer) (rows : List Row) : Type 0 where
+  pub first : Option (Vec ℕ)
   pub refusal : AreFirst l image a.refusal first
-  pub lines : out ≡ first ++ flat_map (line_of_point image i) a.points.items ++ bound_lines a.unbounded
+  pub are : rows ≡ rows_of i (numbered_held image) first a.points.items a.unbounded
 
 -- The text of an answer: `conforms`, or the differences.
 pub record IsConformText (l : Lattice) (image : Image) (i : Interface) (a : Answer) (out : List ℕ) : Type 0 where
-  pub conforms : is_conforming a ≡ true → out ≡ codes "conforms\n"
-  pub differs : is_conforming a ≡ false → TellsLines l image i a out
+  pub rows : List Row
+  pub tells : AreImageRows l image i a rows
+  pub is : out ≡ rows_text rows
+
+-- The line of an answer in JSON.
+pub record IsConformJson (l : Lattice) (image : Image) (i : Interface) (a : Answer) (out : List ℕ) : Type 0 where
+  pub rows : List Row
+  pub tells : AreImageRows l image i a rows
+  pub is : out ≡ rows_json rows

@@ -63,7 +63,7 @@ fn steadied_in(
 }
 
 /// The refusal of an image that isn't as the profile of an interface requires.
-fn refusal_of(
+pub(crate) fn refusal_of(
     alloc: Global,
     judgement: Judgement,
     lattice: &Lattice,
@@ -167,9 +167,12 @@ pub(crate) struct Side<'a> {
     pub(crate) store: Vec<i64>,
 }
 
-/// The place of a global in an image, by its name and its class.
-fn place_of(image: &Image, global: &(Vec<u8>, Vec<u8>)) -> Option<usize> {
-    for (place, found) in image.globals.iter().enumerate() {
+/// The place of a global among others, by its name and its class.
+pub(crate) fn place_of(
+    globals: &[(Vec<u8>, Vec<u8>)],
+    global: &(Vec<u8>, Vec<u8>),
+) -> Option<usize> {
+    for (place, found) in globals.iter().enumerate() {
         if found.0.as_slice() == global.0.as_slice() && found.1.as_slice() == global.1.as_slice() {
             return Some(place);
         }
@@ -185,7 +188,7 @@ fn places_in(
 ) -> Result<Vec<usize>, AllocError> {
     let mut places = Vec::new(alloc);
     for global in globals {
-        let Some(place) = place_of(image, global) else {
+        let Some(place) = place_of(&image.globals, global) else {
             return Ok(places);
         };
         places.push(place)?;

@@ -3,8 +3,9 @@
 //! The input is a verified image, whoever made it, and the interface that somebody else fixed.
 //! `conform_image` judges the image under the lattice and the profile of the interface, as
 //! `vsi audit` does, and reports each point in which its globals, its runs and its bound differ
-//! from the required ones (`specs/Conforms`). `points_text` and `points_json` write the answer
-//! (`specs/Lines`, `specs/Json`). `image_reaches` lists the globals that reach each released output
+//! from the required ones (`specs/Conforms`). `image_rows` makes the answer into rows, and
+//! `points_text` and `points_json` write it (`specs/Lines`). `refused_image` says why an image isn't as
+//! a profile requires. `image_reaches` lists the globals that reach each released output
 //! (`specs/Reaching`). `compare_reference` runs an image beside that of a reference from random
 //! stores, and `reference_line` reports what it finds. This is a test: nothing is proved of the
 //! differences that it misses (`specs/Reference`).
@@ -13,11 +14,11 @@
 #![tactic(auto)]
 
 mod conforming;
-mod json;
 mod reference;
 mod texts;
 
 pub use conforming::{Answer, Refusal, conform_image, image_reaches};
-pub use json::points_json;
 pub use reference::{Comparison, Contrast, Difference, Reference, compare_reference};
-pub use texts::{first_lines, json_with, lines_with, points_text, reference_line};
+pub use texts::{
+    image_rows, json_with, lines_with, points_json, points_text, reference_line, refused_image,
+};

@@ -5,11 +5,11 @@
 ghost use Rattle.std.specs.Prelude.{◌≡◌, IfOk, IfSome};
 ghost use Rattle.vsi_conform_image.specs.Reference as spec;
 
-use crate::conforming::Side;
+use crate::conforming::{Side, place_of};
 use rand_core::{Rng, SeedableRng};
 use rand_xoshiro::SplitMix64;
 use std::alloc::{AllocError, Global};
-use vsi_conform::{Cycle, Interface};
+use vsi_conform::{Cycle, Interface, is_among};
 use vsi_image::{Image, Instr, Verified};
 use vsi_lattice::Lattice;
 use vsi_store::sees;
@@ -109,16 +109,6 @@ enum End {
     Apart(Contrast),
     /// Neither halts within the budget.
     Spent,
-}
-
-/// Whether a name is one of these.
-fn is_among(names: &[Vec<u8>], name: &[u8]) -> bool {
-    for known in names {
-        if known.as_slice() == name {
-            return true;
-        }
-    }
-    false
 }
 
 /// Whether a line of a boundary's class may set a global.
@@ -315,21 +305,11 @@ fn constants_of(
 /// The first global of an image that an interface doesn't have.
 fn extra_of(verified: &Verified, interface: &Interface) -> Option<usize> {
     for (place, global) in verified.image().globals.iter().enumerate() {
-        if !is_asked(&interface.globals, global) {
+        if place_of(&interface.globals, global).is_none() {
             return Some(place);
         }
     }
     None
-}
-
-/// Whether a global is one of these, by its name and its class.
-fn is_asked(globals: &[(Vec<u8>, Vec<u8>)], global: &(Vec<u8>, Vec<u8>)) -> bool {
-    for asked in globals {
-        if asked.0.as_slice() == global.0.as_slice() && asked.1.as_slice() == global.1.as_slice() {
-            return true;
-        }
-    }
-    false
 }
 
 /// Runs an image beside a reference, for each boundary that releases outputs: 64 runs of 32 cycles

@@ -1,135 +1,116 @@
-//! The lines of an answer.
+//! An answer as lines and as JSON.
 
-ghost use Rattle.std.specs.Prelude.{◌≡◌, ◌++◌, IfOk, OnOk};
-ghost use Rattle.std.specs.List.{flat_map};
+ghost use Rattle.std.specs.Prelude.{◌≡◌, map, option_map, IfOk};
+ghost use Rattle.vsi_conform.specs.Rows.{row};
+ghost use Rattle.vsi_diagnostics.specs.View.{diagnostic_of};
 ghost use Rattle.vsi_conform_image.specs.Lines as spec;
 ghost use Rattle.vsi_conform_image.specs.Reference as reference_spec;
 
-use crate::conforming::{Answer, Refusal};
+use crate::conforming::{Answer, Refusal, refusal_of};
 use crate::reference::{Comparison, Contrast, Difference, Reference};
 use std::alloc::{AllocError, Global};
 use vsi_audit::audit_text;
-use vsi_conform::parts::{
-    asked, expected, put_bound, put_endless, put_missing, put_parts, put_wrong,
+use vsi_conform::{
+    Interface, Judged, Judgement, Row, asked, audit_diagnostic, numbered, put_parts, rows_json,
+    rows_of, rows_text, steady_diagnostic,
 };
-use vsi_conform::{Interface, Point};
-use vsi_diagnostics::{Object, without_end};
-use vsi_image::Image;
+use vsi_diagnostics::{Diagnostic, Object, without_end};
+use vsi_image::{Image, Verified};
 use vsi_lattice::Lattice;
 use vsi_steady::steady_text;
 use vsi_syntax::{put_number, put_word};
 
-/// The name and the class of the global at an index, both empty if there is none.
-pub(crate) fn held(image: &Image, place: usize) -> (&[u8], &[u8])
-    ensures { (result.0.now, result.1.now) ≡ spec.held image.now place }
-{
-    match image.globals.get(place) {
-        Some(global) => (global.0.as_slice(), global.1.as_slice()),
-        None => (b"", b""),
-    }
-}
-
-/// Adds the line of a global that isn't required.
-fn put_unexpected(text: &mut Vec<u8>, global: (&[u8], &[u8])) -> Result<(), AllocError>
-    ensures { OnOk result (text.new.items
-        ≡ text.old.items ++ spec.unexpected_line (global.entry.0.now, global.entry.1.now)) }
-{
-    put_parts(text, &[b"unexpected ", global.0, b" : ", global.1, b"\n"])
-}
-
-/// Adds the line of a global with a class other than this one.
-fn put_class(text: &mut Vec<u8>, global: (&[u8], &[u8]), class: &[u8]) -> Result<(), AllocError>
-    ensures { OnOk result (text.new.items ≡ text.old.items
-        ++ spec.class_line (global.entry.0.now, global.entry.1.now) class.now) }
-{
-    put_parts(
-        text,
-        &[
-            b"class ",
-            global.0,
-            b" : ",
-            global.1,
-            b", expected ",
-            class,
-            b"\n",
-        ],
-    )
-}
-
-/// Adds the line of another order, where a global with this name is expected.
-fn put_order(text: &mut Vec<u8>, global: (&[u8], &[u8]), name: &[u8]) -> Result<(), AllocError>
-    ensures { OnOk result (text.new.items ≡ text.old.items
-        ++ spec.order_line (global.entry.0.now, global.entry.1.now) name.now) }
-{
-    put_parts(text, &[b"order ", global.0, b", expected ", name, b"\n"])
-}
-
-/// Adds the line of a point.
-fn put_point(
-    text: &mut Vec<u8>,
+/// The lines of a refusal.
+fn refusal_lines(
+    alloc: Global,
+    lattice: &Lattice,
     image: &Image,
-    interface: &Interface,
-    point: Point,
-) -> Result<(), AllocError>
-    ensures { OnOk result (text.new.items
-        ≡ text.old.items ++ spec.line_of_point image.now interface.now point) }
+    refusal: &Refusal,
+) -> Result<Vec<u8>, AllocError>
+    ensures { IfOk result
+        (λ lines. spec.IsRefusalLines lattice.now image.now refusal.now lines.items) }
 {
-    match point {
-        Point::Missing(number) => put_missing(text, asked(interface, number)),
-        Point::Unexpected(place) => put_unexpected(text, held(image, place)),
-        Point::WrongClass { place, wanted } => {
-            put_class(text, held(image, place), asked(interface, wanted).1)
-        }
-        Point::WrongOrder(place) => {
-            put_order(text, held(image, place), asked(interface, place).0)
-        }
-        Point::OutOfBudget(trial) => put_endless(text, trial, interface.trials.get(trial)),
-        Point::WrongWord {
-            trial,
-            wanted,
-            word,
-        } => put_wrong(text, trial, expected(interface, trial, wanted), Some(word)),
-        Point::NoWord { trial, wanted } => {
-            put_wrong(text, trial, expected(interface, trial, wanted), None)
-        }
+    match refusal {
+        Refusal::Audit(error) => audit_text(alloc, lattice, image, error),
+        Refusal::Steady(error) => steady_text(alloc, lattice, image, error),
     }
 }
 
-/// Adds the lines of points.
-fn put_points(
-    text: &mut Vec<u8>,
-    image: &Image,
-    interface: &Interface,
-    points: &[Point],
-) -> Result<(), AllocError>
-    ensures { OnOk result (text.new.items ≡ text.old.items
-        ++ flat_map (spec.line_of_point image.now interface.now) points.now) }
+/// The refusal of an image as a value; none if memory ran out.
+fn refusal_diagnostic(refusal: &Refusal) -> Option<Diagnostic<'static>>
+    ensures { option_map diagnostic_of result ≡ spec.diagnostic refusal.now }
 {
-    for point in points {
-        put_point(text, image, interface, *point)?;
+    match refusal {
+        Refusal::Audit(error) => audit_diagnostic(error),
+        Refusal::Steady(error) => steady_diagnostic(error),
     }
-    Ok(())
+}
+
+/// The refusal of an image that isn't as a profile requires, as a value and as lines.
+pub fn refused_image(
+    alloc: Global,
+    judgement: Judgement,
+    lattice: &Lattice,
+    verified: &Verified,
+) -> Result<Option<(Diagnostic<'static>, Vec<u8>)>, AllocError>
+    ensures refused { IfOk result (λ told. spec.TellsRefusal lattice.now judgement verified.now
+        (option_map (λ pair. (diagnostic_of pair.0, pair.1.items)) told)) }
+{
+    let Some(refusal) = refusal_of(alloc, judgement, lattice, verified)? else {
+        return Ok(None);
+    };
+    let Some(diagnostic) = refusal_diagnostic(&refusal) else {
+        return Err(AllocError);
+    };
+    let lines = refusal_lines(alloc, lattice, verified.image(), &refusal)?;
+    Ok(Some((diagnostic, lines)))
 }
 
 /// The lines of a refusal, if there is one.
-pub fn first_lines(
+fn first_lines(
     alloc: Global,
     lattice: &Lattice,
     image: &Image,
     refusal: &Option<Refusal>,
-) -> Result<Vec<u8>, AllocError>
-    ensures { IfOk result
-        (λ lines. spec.AreFirst lattice.now image.now refusal.now lines.items) }
+) -> Result<Option<Vec<u8>>, AllocError>
+    ensures { IfOk result (λ lines. spec.AreFirst lattice.now image.now refusal.now lines) }
 {
     match refusal {
-        Some(Refusal::Audit(error)) => audit_text(alloc, lattice, image, error),
-        Some(Refusal::Steady(error)) => steady_text(alloc, lattice, image, error),
-        None => Ok(Vec::new(alloc)),
+        Some(refusal) => {
+            let lines = refusal_lines(alloc, lattice, image, refusal)?;
+            Ok(Some(lines))
+        }
+        None => Ok(None),
     }
 }
 
+/// The rows of an answer about an image. The lattice, the image and the interface must be those of
+/// the answer.
+pub fn image_rows(
+    alloc: Global,
+    lattice: &Lattice,
+    image: &Image,
+    interface: &Interface,
+    answer: &Answer,
+) -> Result<Vec<Row>, AllocError>
+    ensures rows { IfOk result (λ found. spec.AreImageRows lattice.now image.now interface.now
+        answer.now (map row found.items)) }
+{
+    let lines = first_lines(alloc, lattice, image, &answer.refusal)?;
+    let judged = Judged::Image(image);
+    let found = rows_of(
+        alloc,
+        &judged,
+        interface,
+        &lines,
+        &answer.points,
+        &answer.unbounded,
+    )?;
+    Ok(found)
+}
+
 /// The lines of an answer: `conforms`, or those of the refusal, one for each point and one about
-/// the bound. The lattice, the image and the interface must be those of the answer.
+/// the bound.
 pub fn points_text(
     alloc: Global,
     lattice: &Lattice,
@@ -140,14 +121,26 @@ pub fn points_text(
     ensures text { IfOk result (λ out. spec.IsConformText lattice.now image.now interface.now
         answer.now out.items) }
 {
-    if answer.conforms() {
-        let line = Vec::from_slice(alloc, b"conforms\n")?;
-        return Ok(line);
-    }
-    let mut lines = first_lines(alloc, lattice, image, &answer.refusal)?;
-    put_points(&mut lines, image, interface, &answer.points)?;
-    put_bound(&mut lines, &answer.unbounded)?;
+    let rows = image_rows(alloc, lattice, image, interface, answer)?;
+    let lines = rows_text(alloc, &rows)?;
     Ok(lines)
+}
+
+/// An answer as a line of JSON: an object with `conforms` and `points`. `points` is an array with
+/// an object for each line, or block of lines, of `points_text`.
+pub fn points_json(
+    alloc: Global,
+    lattice: &Lattice,
+    image: &Image,
+    interface: &Interface,
+    answer: &Answer,
+) -> Result<Vec<u8>, AllocError>
+    ensures json { IfOk result (λ out. spec.IsConformJson lattice.now image.now interface.now
+        answer.now out.items) }
+{
+    let rows = image_rows(alloc, lattice, image, interface, answer)?;
+    let line = rows_json(alloc, &rows)?;
+    Ok(line)
 }
 
 /// The first line of an answer that conforms.
@@ -233,11 +226,8 @@ fn put_comparison(
             put_global(text, b"missing ", asked(reference.interface, number))
         }
         Comparison::Extra(place) => {
-            put_global(
-                text,
-                b"unexpected ",
-                held(reference.verified.image(), place),
-            )
+            let held = numbered(reference.verified.image(), place);
+            put_global(text, b"unexpected ", (held.name, held.class))
         }
         Comparison::Untried => {
             text.extend_from_slice(b"not compared, no program with the globals of the interface")

@@ -1,6 +1,6 @@
 //! The classes of declarations as a line of JSON.
 
-ghost use Rattle.std.specs.Prelude.{◌≡◌, ◌++◌, length, map, IfOk, IfSome, OnOk};
+ghost use Rattle.std.specs.Prelude.{◌≡◌, ◌++◌, length, map, IfOk, OnOk};
 ghost use Rattle.std.specs.List.{All};
 ghost use Rattle.serde_json.specs.View.{members_view, view};
 ghost use Rattle.vsi_lattice.specs.LatticeView.{names, order};
@@ -14,8 +14,8 @@ ghost use Rattle.vsi_documents.specs.Classes as spec;
 use crate::answer::{Documented, refused};
 use std::alloc::{AllocError, Global};
 use vsi_compiler::{Source, judge, read_source};
-use vsi_conform::{check_json, judgement_by};
-use vsi_diagnostics::{Object, Objects, wants_memory};
+use vsi_conform::{check_json, check_json_of, judgement_by};
+use vsi_diagnostics::{Object, Objects};
 use vsi_lattice::{Class, Lattice};
 use vsi_scope::Entry;
 use vsi_syntax::{Declaration, Span, line_column};
@@ -107,49 +107,26 @@ fn line_of(alloc: Global, source: &Source<'_>, classes: &[Class]) -> Result<Vec<
     Ok(line)
 }
 
-/// The line of an accepted source text, or none if a flow is refused.
-fn accepted_line(
+/// The answer for a source text that was read.
+fn source_classes(
     alloc: Global,
     profile: Profile,
     source: &Source<'_>,
-) -> Result<Option<Vec<u8>>, AllocError>
-    ensures { IfOk result (λ found. IfSome found
-        (λ out. spec.IsClassesJson source.now.lattice profile source.now.text out.items)) }
+) -> Result<Documented, AllocError>
+    ensures { IfOk result (λ answer. spec.TellsClasses source.now.lattice profile source.now.text
+        answer.is_good answer.line.items) }
 {
     // The contract of `resolved` says that the source is one; the proofs need that.
     let _program = source.resolved();
     match judge(alloc, profile, source) {
         Ok(classes) => {
             let line = line_of(alloc, source, &classes)?;
-            Ok(Some(line))
+            Ok(Documented {
+                is_good: true,
+                line,
+            })
         }
-        Err(error) => {
-            if wants_memory(&error) {
-                return Err(AllocError);
-            }
-            Ok(None)
-        }
-    }
-}
-
-/// The same for a text, which may have no program.
-fn line_in(
-    alloc: Global,
-    profile: Profile,
-    lattice: &Lattice,
-    text: &[u8],
-) -> Result<Option<Vec<u8>>, AllocError>
-    ensures { IfOk result (λ found. IfSome found
-        (λ out. spec.IsClassesJson lattice.now profile text.now out.items)) }
-{
-    match read_source(alloc, lattice, text) {
-        Ok(source) => accepted_line(alloc, profile, &source),
-        Err(error) => {
-            if wants_memory(&error) {
-                return Err(AllocError);
-            }
-            Ok(None)
-        }
+        Err(_) => refused(check_json_of(alloc, judgement_by(profile), source)?),
     }
 }
 
@@ -166,11 +143,8 @@ pub fn classes_json(
     ensures answer { IfOk result (λ answer. spec.TellsClasses lattice.now profile text.now
         answer.is_good answer.line.items) }
 {
-    match line_in(alloc, profile, lattice, text)? {
-        Some(line) => Ok(Documented {
-            is_good: true,
-            line,
-        }),
-        None => refused(check_json(alloc, judgement_by(profile), lattice, text)?),
+    match read_source(alloc, lattice, text) {
+        Ok(source) => source_classes(alloc, profile, &source),
+        Err(_) => refused(check_json(alloc, judgement_by(profile), lattice, text)?),
     }
 }

@@ -1,6 +1,6 @@
 //! Flows as a line of JSON.
 
-ghost use Rattle.std.specs.Prelude.{◌≡◌, map, IfOk, MatchOption};
+ghost use Rattle.std.specs.Prelude.{◌≡◌, map, IfOk};
 ghost use Rattle.std.specs.List.{All};
 ghost use Rattle.serde_json.specs.View.{members_view, view};
 ghost use Rattle.vsi_lattice.specs.LatticeView.{order};
@@ -11,9 +11,9 @@ ghost use Rattle.vsi_documents.specs.Flows as spec;
 
 use crate::answer::{Documented, refused};
 use std::alloc::{AllocError, Global};
-use vsi_compiler::{Source, read_source};
+use vsi_compiler::{CompileError, Source, read_source};
 use vsi_conform::{check_json, judgement_by};
-use vsi_diagnostics::{Object, Objects, wants_memory};
+use vsi_diagnostics::{Object, Objects};
 use vsi_flows::{FlowsError, Pair, flows_in};
 use vsi_infer::{class_name, declared_class, variable_name};
 use vsi_lattice::Lattice;
@@ -124,30 +124,6 @@ fn line_of(alloc: Global, profile: Profile, source: &Source<'_>) -> Result<Vec<u
     Ok(line)
 }
 
-/// The line of the flows of a text, or none if it has no program.
-fn line_in(
-    alloc: Global,
-    profile: Profile,
-    lattice: &Lattice,
-    text: &[u8],
-) -> Result<Option<Vec<u8>>, AllocError>
-    ensures { IfOk result (λ found. MatchOption found (spec.HasNoProgram lattice.now text.now)
-        (λ out. spec.IsFlowsJson lattice.now profile text.now out.items)) }
-{
-    match read_source(alloc, lattice, text) {
-        Ok(source) => {
-            let line = line_of(alloc, profile, &source)?;
-            Ok(Some(line))
-        }
-        Err(error) => {
-            if wants_memory(&error) {
-                return Err(AllocError);
-            }
-            Ok(None)
-        }
-    }
-}
-
 /// The answer of `vsi flows` to a text as a line of JSON: an object with `accepted`, whether no
 /// pair is refused, and `flows`, an array with an object for each pair, in the order of the lines
 /// of `flows_text_in`. For a text without a program it is the line of `check_json`. An error means
@@ -161,11 +137,15 @@ pub fn flows_json(
     ensures answer { IfOk result (λ answer. spec.TellsFlows lattice.now profile text.now
         answer.is_good answer.line.items) }
 {
-    match line_in(alloc, profile, lattice, text)? {
-        Some(line) => Ok(Documented {
-            is_good: true,
-            line,
-        }),
-        None => refused(check_json(alloc, judgement_by(profile), lattice, text)?),
+    match read_source(alloc, lattice, text) {
+        Ok(source) => {
+            let line = line_of(alloc, profile, &source)?;
+            Ok(Documented {
+                is_good: true,
+                line,
+            })
+        }
+        Err(CompileError::Memory) => Err(AllocError),
+        Err(_) => refused(check_json(alloc, judgement_by(profile), lattice, text)?),
     }
 }

@@ -5,9 +5,9 @@
 //! searches the image of a source text. Each answer is an object with the parts of the
 //! subcommand's lines as values, and whether the answer is good. A text that `classes_json` or
 //! `flows_json` refuses has the line of `check_json`; `refused_json` and `refused_interface_json`
-//! write the line of another refused file. `mend_json` has the verdict of `check_json` and an object
-//! for each of the least raises under which the text is accepted. Words and other numbers are integers of JSON with up to
-//! 64 bits.
+//! write the line of another refused file. `mend_json` has the verdict of `check_json` and an
+//! object for each of the least raises under which the text is accepted. Words and other numbers
+//! are integers of JSON with up to 64 bits.
 //!
 //! To be believed: all files of `specs/`.
 #![tactic(auto)]

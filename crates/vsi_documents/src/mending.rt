@@ -6,7 +6,6 @@ ghost use Rattle.vsi_types.specs.Security.{program as program_of};
 ghost use Rattle.vsi_types.specs.declared.rules.Profile.{Profile};
 ghost use Rattle.vsi_flows.specs.Raising.{AreLeastRaises};
 ghost use Rattle.vsi_flows.specs.Answers.{HasClassesIn};
-ghost use Rattle.vsi_conform.specs.Checking.{judgement_by};
 ghost use Rattle.vsi_documents.specs.Json.{IsRaisesJson};
 ghost use Rattle.std.specs.List.{All};
 ghost use Rattle.serde_json.specs.View.{members_view, view};
@@ -18,7 +17,7 @@ ghost use Rattle.vsi_documents.specs.Json as json_spec;
 
 use std::alloc::{AllocError, Global};
 use vsi_compiler::{CompileError, Source, read_source};
-use vsi_conform::{Checked, Judgement, check_json_of, unread_json};
+use vsi_conform::{Checked, check_json_of, judgement_by, unread_json};
 use vsi_diagnostics::{Object, Objects};
 use vsi_flows::{Raise, Raising, name_start, raises_of};
 use vsi_infer::{class_name, declared_class, variable_name};
@@ -34,16 +33,6 @@ pub struct Mended {
     pub is_served: bool,
     /// The line of JSON.
     pub line: Vec<u8>,
-}
-
-/// The judgement by a profile.
-fn judgement(profile: Profile) -> Judgement
-    ensures { result ≡ judgement_by profile }
-{
-    match profile {
-        Profile::Base => Judgement::Base,
-        Profile::Strict => Judgement::Strict,
-    }
 }
 
 /// The line of raises of a source text.
@@ -121,7 +110,7 @@ fn source_mended(alloc: Global, profile: Profile, source: &Source<'_>) -> Result
     ensures { IfOk result (λ mended. spec.TellsMended source.now.lattice profile source.now.text
         mended.is_served mended.line.items) }
 {
-    let checked = check_json_of(alloc, judgement(profile), source)?;
+    let checked = check_json_of(alloc, judgement_by(profile), source)?;
     match raised_line(alloc, profile, source, checked.is_accepted)? {
         Some(line) => Ok(Mended {
             is_served: true,
@@ -148,7 +137,7 @@ pub fn mend_json(
         Ok(source) => source_mended(alloc, profile, &source),
         Err(CompileError::Memory) => Err(AllocError),
         Err(error) => {
-            let line = unread_json(alloc, judgement(profile), lattice, text, error)?;
+            let line = unread_json(alloc, judgement_by(profile), lattice, text, error)?;
             Ok(Mended {
                 is_served: false,
                 line,

@@ -4,7 +4,7 @@
 //! in the order. The box of a group reaches over the columns beside its own whose groups it can be
 //! compared with.
 
-use crate::graph::{Graph, Made, add_at, apart, at, filled, greatest, write_at};
+use crate::graph::{Graph, Made, add_at, apart, at, filled, greatest, raise_at, write_at};
 use std::alloc::Global;
 
 /// The groups: for each the number of its nodes, its level, its column, and the first and the last
@@ -28,29 +28,18 @@ fn nodes_of(alloc: Global, graph: Graph<'_>) -> Made<Vec<usize>> {
     Ok(nodes)
 }
 
-/// Raises the level of each group that has nodes above those of the groups below it, and answers
-/// whether one rose.
-fn raise_levels(graph: Graph<'_>, nodes: &[usize], levels: &mut Vec<usize>) -> bool {
-    let mut rose = false;
-    for high in 0..nodes.len() {
-        for low in 0..nodes.len() {
-            let least = at(levels, low).saturating_add(1);
-            let have_nodes = at(nodes, low) > 0 && at(nodes, high) > 0;
-            if low != high && have_nodes && graph.is_below(low, high) && at(levels, high) < least {
-                write_at(levels, high, least);
-                rose = true;
-            }
-        }
-    }
-    rose
-}
-
 /// For each group the length of the longest chain of groups with nodes that leads up to it.
 fn levels_of(alloc: Global, graph: Graph<'_>, nodes: &[usize]) -> Made<Vec<usize>> {
     let mut levels = filled(alloc, nodes.len(), 0)?;
     for _ in 0..nodes.len() {
-        if !raise_levels(graph, nodes, &mut levels) {
-            return Ok(levels);
+        for high in 0..nodes.len() {
+            for low in 0..nodes.len() {
+                let have_nodes = at(nodes, low) > 0 && at(nodes, high) > 0;
+                if low != high && have_nodes && graph.is_below(low, high) {
+                    let least = at(&levels, low).saturating_add(1);
+                    raise_at(&mut levels, high, least);
+                }
+            }
         }
     }
     Ok(levels)

@@ -12,17 +12,16 @@ const FULL: usize = 1_040;
 const LEAST: usize = 230;
 
 /// The layer of each node within its group, the number of layers of each group, and the width of
-/// the widest one. For the nodes without a layer, how many arrows come to each from others of its
-/// group without a layer, and the least layer of each.
+/// the widest one.
 #[derive(Drop)]
 pub(crate) struct Layers {
     of: Vec<usize>,
     counts: Vec<usize>,
     widths: Vec<usize>,
-    before: Vec<usize>,
-    leasts: Vec<usize>,
-    is_done: Vec<usize>,
 }
+
+/// The layer of a node that has none yet.
+const UNPLACED: usize = usize::MAX;
 
 /// The first layer from `least` on that has room for a width.
 fn layer_with_room(widths: &[usize], least: usize, wide: usize, full: usize) -> usize {
@@ -46,36 +45,39 @@ fn full_width(groups: &Groups, group: usize) -> usize {
 }
 
 impl Layers {
-    /// The next node of a group: the first to which the fewest arrows come from nodes that wait.
-    fn next_of(&self, graph: Graph<'_>, group: usize) -> Option<usize> {
+    /// How many arrows come to a node from others of its group without a layer, and the first layer
+    /// above those of all others from which arrows come.
+    fn wait_of(&self, graph: Graph<'_>, node: usize) -> (usize, usize) {
+        let mut waits: usize = 0;
+        let mut least: usize = 0;
+        for arrow in graph.arrows {
+            if arrow.1 == node && graph.is_inside(*arrow) {
+                let layer = at(&self.of, arrow.0);
+                if layer == UNPLACED {
+                    waits = waits.saturating_add(1);
+                } else {
+                    least = least.max(layer.saturating_add(1));
+                }
+            }
+        }
+        (waits, least)
+    }
+
+    /// The next node of a group, with its first layer: the one to which the fewest arrows come from
+    /// nodes without a layer.
+    fn next_of(&self, graph: Graph<'_>, group: usize) -> Option<(usize, usize)> {
         let mut found = None;
         let mut fewest = usize::MAX;
         for node in 0..graph.nodes.len() {
-            let is_here = graph.group_of(node) == group && at(&self.is_done, node) == 0;
-            if is_here && (at(&self.before, node) < fewest || found.is_none()) {
-                fewest = at(&self.before, node);
-                found = Some(node);
+            if graph.group_of(node) == group && at(&self.of, node) == UNPLACED {
+                let (waits, least) = self.wait_of(graph, node);
+                if waits < fewest {
+                    fewest = waits;
+                    found = Some((node, least));
+                }
             }
         }
         found
-    }
-
-    /// Gives a node of a group its layer.
-    fn put(&mut self, graph: Graph<'_>, node: usize, layer: usize) {
-        write_at(&mut self.of, node, layer);
-        raise_at(
-            &mut self.counts,
-            graph.group_of(node),
-            layer.saturating_add(1),
-        );
-        write_at(&mut self.is_done, node, 1);
-        for arrow in graph.arrows {
-            if arrow.0 == node && graph.is_inside(*arrow) {
-                raise_at(&mut self.leasts, arrow.1, layer.saturating_add(1));
-                let left = at(&self.before, arrow.1).saturating_sub(1);
-                write_at(&mut self.before, arrow.1, left);
-            }
-        }
     }
 
     /// Gives the nodes of a group their layers.
@@ -86,15 +88,16 @@ impl Layers {
         groups: &Groups,
         group: usize,
     ) -> Made<()> {
+        let full = full_width(groups, group);
         let mut used = filled(alloc, at(&groups.nodes, group), 0)?;
         for _ in 0..at(&groups.nodes, group) {
-            if let Some(node) = self.next_of(graph, group) {
+            if let Some((node, least)) = self.next_of(graph, group) {
                 let wide = graph.width_of(node).saturating_add(GAP);
-                let full = full_width(groups, group);
-                let layer = layer_with_room(&used, at(&self.leasts, node), wide, full);
+                let layer = layer_with_room(&used, least, wide, full);
                 add_at(&mut used, layer, wide);
+                write_at(&mut self.of, node, layer);
                 raise_at(&mut self.widths, group, at(&used, layer));
-                self.put(graph, node, layer);
+                raise_at(&mut self.counts, group, layer.saturating_add(1));
             }
         }
         Ok(())
@@ -103,20 +106,11 @@ impl Layers {
 
 /// The layers of the nodes of a graph.
 pub(crate) fn layers_of(alloc: Global, graph: Graph<'_>, groups: &Groups) -> Made<Layers> {
-    let count = graph.nodes.len();
     let mut layers = Layers {
-        of: filled(alloc, count, 0)?,
+        of: filled(alloc, graph.nodes.len(), UNPLACED)?,
         counts: filled(alloc, groups.nodes.len(), 0)?,
         widths: filled(alloc, groups.nodes.len(), 0)?,
-        before: filled(alloc, count, 0)?,
-        leasts: filled(alloc, count, 0)?,
-        is_done: filled(alloc, count, 0)?,
     };
-    for arrow in graph.arrows {
-        if graph.is_inside(*arrow) {
-            add_at(&mut layers.before, arrow.1, 1);
-        }
-    }
     for group in 0..groups.nodes.len() {
         layers.put_all(alloc, graph, groups, group)?;
     }
@@ -277,15 +271,6 @@ impl Plan<'_> {
         }
     }
 
-    /// The boxes of the groups.
-    fn boxes(self, rows: &[usize], widths: &[usize], high: usize) -> Made<Vec<Place>> {
-        let mut boxes = Vec::new(self.alloc);
-        for group in 0..self.groups.nodes.len() {
-            boxes.push(self.box_of(rows, widths, high, group))?;
-        }
-        Ok(boxes)
-    }
-
     /// The rows of the nodes: their layers, in the middle of the rows of their levels.
     fn rows(self, rows: &[usize]) -> Made<Vec<usize>> {
         let mut list = Vec::new(self.alloc);
@@ -319,10 +304,14 @@ pub(crate) fn frame_of(
     let high = level_foot(&rows, top).saturating_add(level_height(&rows, top));
     let high = high.saturating_add(2 * MARGIN);
     let wide = columns_width(&widths, 0, groups.count.saturating_sub(1));
+    let mut boxes = Vec::new(alloc);
+    for group in 0..groups.nodes.len() {
+        boxes.push(plan.box_of(&rows, &widths, high, group))?;
+    }
     Ok(Frame {
         rows: plan.rows(&rows)?,
         heights: row_heights(alloc, &rows, high)?,
-        boxes: plan.boxes(&rows, &widths, high)?,
+        boxes,
         wide: wide.saturating_add(2 * MARGIN),
         high,
     })

@@ -6,19 +6,19 @@ use std::alloc::{AllocError, Global};
 pub(crate) type Made<T> = Result<T, AllocError>;
 
 /// A list with the same number at each index.
-pub fn filled(alloc: Global, count: usize, number: usize) -> Result<Vec<usize>, AllocError> {
+pub(crate) fn filled(alloc: Global, count: usize, number: usize) -> Made<Vec<usize>> {
     let mut list = Vec::new(alloc);
     list.resize(count, number)?;
     Ok(list)
 }
 
 /// The number at an index, or 0 past the end.
-pub fn at(list: &[usize], place: usize) -> usize {
+pub(crate) fn at(list: &[usize], place: usize) -> usize {
     list.get(place).copied().unwrap_or(0)
 }
 
 /// Writes a number at an index, if there is one.
-pub fn write_at(list: &mut Vec<usize>, place: usize, number: usize) {
+pub(crate) fn write_at(list: &mut Vec<usize>, place: usize, number: usize) {
     if let Some(cell) = list.get_mut(place) {
         *cell = number;
     }
@@ -31,7 +31,7 @@ pub(crate) fn add_at(list: &mut Vec<usize>, place: usize, more: usize) {
 }
 
 /// Raises the number at an index to another one.
-pub fn raise_at(list: &mut Vec<usize>, place: usize, least: usize) {
+pub(crate) fn raise_at(list: &mut Vec<usize>, place: usize, least: usize) {
     let most = at(list, place).max(least);
     write_at(list, place, most);
 }
@@ -55,7 +55,7 @@ pub fn between(from: usize, to: usize, part: usize, whole: usize) -> usize {
 }
 
 /// The largest number of a list.
-pub fn greatest(list: &[usize]) -> usize {
+pub(crate) fn greatest(list: &[usize]) -> usize {
     let mut most: usize = 0;
     for number in list {
         most = most.max(*number);

@@ -18,7 +18,5 @@ mod rows;
 mod ways;
 
 pub use drawing::drawing_of;
-pub use graph::{
-    Drawing, Graph, Node, Place, Point, apart, at, between, filled, greatest, raise_at, write_at,
-};
+pub use graph::{Drawing, Graph, Node, Place, Point, apart, between};
 pub use ways::badges_of;

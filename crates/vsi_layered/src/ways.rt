@@ -21,16 +21,6 @@ struct End {
     is_above: bool,
 }
 
-/// Whether two ends are at one side of one box.
-fn are_together(one: End, other: End) -> bool {
-    one.node == other.node && one.is_above == other.is_above
-}
-
-/// Whether a key is before another one.
-fn is_before(one: (usize, usize), other: (usize, usize)) -> bool {
-    one.0 < other.0 || (one.0 == other.0 && one.1 < other.1)
-}
-
 /// The position at a height of the straight line between two points.
 fn position(from: Point, to: Point, y: usize) -> usize {
     between(from.x, to.x, apart(from.y, y), apart(from.y, to.y))
@@ -60,34 +50,26 @@ impl Placed<'_> {
         }
     }
 
-    /// The key that orders the ends at one side of a box.
-    fn key(self, end: End, index: usize) -> (usize, usize) {
-        (at(self.middles, end.other), index)
-    }
-
-    /// The number of ends at the side of an end, and of those among them before it.
-    fn rank(self, end: End, own: (usize, usize)) -> (usize, usize) {
+    /// The position of an end of an arrow: those at one side of a box are ordered by the nodes at
+    /// their other ends, and then by their places in the list of all ends.
+    fn port(self, end: End, place: usize) -> usize {
+        let own = at(self.middles, end.other);
         let mut count: usize = 0;
         let mut before: usize = 0;
         let arrows = self.graph.arrows;
         for (index, arrow) in arrows.iter().enumerate() {
-            let ends = [self.end(arrow.0, arrow.1), self.end(arrow.1, arrow.0)];
-            for (number, other) in ends.iter().enumerate() {
-                if arrow.0 != arrow.1 && are_together(end, *other) {
-                    let place = index.saturating_mul(2).saturating_add(number);
+            for (number, from, to) in [(0, arrow.0, arrow.1), (1, arrow.1, arrow.0)] {
+                let other = self.end(from, to);
+                if from != to && from == end.node && other.is_above == end.is_above {
+                    let key = at(self.middles, to);
+                    let number = index.saturating_mul(2).saturating_add(number);
                     count = count.saturating_add(1);
-                    if is_before(self.key(*other, place), own) {
+                    if key < own || (key == own && number < place) {
                         before = before.saturating_add(1);
                     }
                 }
             }
         }
-        (count, before)
-    }
-
-    /// The position of an end of an arrow.
-    fn port(self, end: End, place: usize) -> usize {
-        let (count, before) = self.rank(end, self.key(end, place));
         let middle = at(self.middles, end.node);
         if count == 0 {
             return middle;
@@ -158,22 +140,15 @@ impl Placed<'_> {
     }
 
     /// The line between two points in different rows.
-    fn steep(
-        self,
-        alloc: Global,
-        from: Point,
-        to: Point,
-        first: usize,
-        last: usize,
-    ) -> Made<Vec<Point>> {
+    fn steep(self, alloc: Global, ends: (Point, Point), rows: (usize, usize)) -> Made<Vec<Point>> {
+        let (mut end, to) = ends;
         let mut line = Vec::new(alloc);
-        line.push(from)?;
-        let mut end = from;
-        for step in 1..apart(first, last) {
-            let row = if first < last {
-                first.saturating_add(step)
+        line.push(end)?;
+        for step in 1..apart(rows.0, rows.1) {
+            let row = if rows.0 < rows.1 {
+                rows.0.saturating_add(step)
             } else {
-                first.saturating_sub(step)
+                rows.0.saturating_sub(step)
             };
             end = self.pass(&mut line, end, to, row)?;
         }
@@ -187,36 +162,34 @@ impl Placed<'_> {
             return Ok(Vec::new(alloc));
         }
         let place = index.saturating_mul(2);
-        let x1 = self.port(self.end(arrow.0, arrow.1), place);
-        let x2 = self.port(self.end(arrow.1, arrow.0), place.saturating_add(1));
-        let (first, last) = (self.row_of(arrow.0), self.row_of(arrow.1));
-        let (start, y) = (
-            at(&self.frame.heights, first),
-            at(&self.frame.heights, last),
-        );
-        let above = Point {
-            x: x1,
-            y: start.saturating_sub(HALF),
+        let mut from = Point {
+            x: self.port(self.end(arrow.0, arrow.1), place),
+            y: at(&self.frame.heights, self.row_of(arrow.0)),
         };
-        let over = Point {
-            x: x2,
-            y: y.saturating_sub(HALF + TIP),
+        let mut to = Point {
+            x: self.port(self.end(arrow.1, arrow.0), place.saturating_add(1)),
+            y: at(&self.frame.heights, self.row_of(arrow.1)),
         };
-        if first == last {
-            return flat(alloc, above, over);
+        let is_downwards = from.y < to.y;
+        from.y = if is_downwards {
+            from.y.saturating_add(HALF)
+        } else {
+            from.y.saturating_sub(HALF)
+        };
+        if self.row_of(arrow.0) == self.row_of(arrow.1) {
+            to.y = to.y.saturating_sub(HALF + TIP);
+            return flat(alloc, from, to);
         }
-        if first < last {
-            let under = Point {
-                x: x2,
-                y: y.saturating_add(HALF + TIP),
-            };
-            return self.steep(alloc, above, under, first, last);
-        }
-        let below = Point {
-            x: x1,
-            y: start.saturating_add(HALF),
+        to.y = if is_downwards {
+            to.y.saturating_sub(HALF + TIP)
+        } else {
+            to.y.saturating_add(HALF + TIP)
         };
-        self.steep(alloc, below, over, first, last)
+        self.steep(
+            alloc,
+            (from, to),
+            (self.row_of(arrow.0), self.row_of(arrow.1)),
+        )
     }
 
     /// The lines of the arrows.
@@ -230,142 +203,91 @@ impl Placed<'_> {
     }
 }
 
-/// The number of points of a line that are tried.
-const TRIES: usize = 23;
+/// The distance between two points of a line that are tried for the number of its arrow.
+const STRIDE: usize = 8;
 /// The distance beyond which a point is free.
 const ENOUGH: usize = 24;
 
-/// The line at an index.
-fn line_at(drawing: &Drawing, index: usize) -> &[Point] {
-    match drawing.ways.get(index) {
-        Some(line) => line.as_slice(),
-        None => &[],
-    }
-}
-
-/// The point at an index of a line.
-fn point_at(line: &[Point], index: usize) -> Point {
-    line.get(index).copied().unwrap_or(Point { x: 0, y: 0 })
-}
-
-/// A length of the straight line between two points.
+/// The greater of the distances between two points across and down.
 fn length_of(from: Point, to: Point) -> usize {
     apart(from.x, to.x).max(apart(from.y, to.y))
 }
 
-/// The length of a line.
-fn line_length(line: &[Point]) -> usize {
-    let mut sum: usize = 0;
-    for index in 1..line.len() {
-        let from = point_at(line, index.saturating_sub(1));
-        sum = sum.saturating_add(length_of(from, point_at(line, index)));
-    }
-    sum
-}
-
-/// The point of a line at a distance from its beginning.
-fn point_on(line: &[Point], distance: usize) -> Point {
-    let mut left = distance;
-    for index in 1..line.len() {
-        let from = point_at(line, index.saturating_sub(1));
-        let to = point_at(line, index);
-        let length = length_of(from, to);
-        if left <= length {
-            return Point {
-                x: between(from.x, to.x, left, length),
-                y: between(from.y, to.y, left, length),
-            };
-        }
-        left = left.saturating_sub(length);
-    }
-    point_at(line, line.len().saturating_sub(1))
-}
-
-/// Whether a number is between two others, or near to them.
-fn is_near(one: usize, other: usize, number: usize) -> bool {
-    one.min(other) <= number.saturating_add(9) && number <= one.max(other).saturating_add(9)
-}
-
-/// About the distance of a point from the straight line between two others, up to `ENOUGH`.
-fn distance_from(point: Point, from: Point, to: Point) -> usize {
-    let mut found = ENOUGH;
-    if is_near(from.y, to.y, point.y) && is_near(from.x, to.x, point.x) {
-        if from.y != to.y {
-            let x = between(from.x, to.x, apart(from.y, point.y), apart(from.y, to.y));
-            found = found.min(apart(x, point.x));
-        }
-        if from.x != to.x {
-            let y = between(from.y, to.y, apart(from.x, point.x), apart(from.x, to.x));
-            found = found.min(apart(y, point.y));
+/// Points of a line from its beginning to its end, a stride apart.
+fn points_of(alloc: Global, line: &[Point]) -> Made<Vec<Point>> {
+    let mut points = Vec::new(alloc);
+    for (index, from) in line.iter().enumerate() {
+        let to = line.get(index.saturating_add(1)).copied().unwrap_or(*from);
+        let length = length_of(*from, to);
+        for step in 0..(length / STRIDE).saturating_add(1) {
+            let part = step.saturating_mul(STRIDE);
+            let x = between(from.x, to.x, part, length);
+            let y = between(from.y, to.y, part, length);
+            points.push(Point { x, y })?;
         }
     }
-    found
-}
-
-/// About the distance of a point from a line.
-fn distance_from_line(point: Point, line: &[Point]) -> usize {
-    let mut found = ENOUGH;
-    for index in 1..line.len() {
-        let from = point_at(line, index.saturating_sub(1));
-        found = found.min(distance_from(point, from, point_at(line, index)));
-    }
-    found
+    Ok(points)
 }
 
 /// The distance of a point from a box, 0 inside it.
 fn distance_from_box(point: Point, place: Place) -> usize {
     let right = place.left.saturating_add(place.wide);
     let foot = place.top.saturating_add(place.high);
-    let aside = place
-        .left
-        .saturating_sub(point.x)
-        .max(point.x.saturating_sub(right));
-    let beyond = place
-        .top
-        .saturating_sub(point.y)
-        .max(point.y.saturating_sub(foot));
-    aside.max(beyond)
+    let aside = place.left.saturating_sub(point.x);
+    let beyond = place.top.saturating_sub(point.y);
+    aside
+        .max(point.x.saturating_sub(right))
+        .max(beyond)
+        .max(point.y.saturating_sub(foot))
 }
 
-/// How free a point of a line is: the distance from all other lines, from the boxes of nodes, and
-/// from the points that others have.
-fn freedom(drawing: &Drawing, points: &[Point], own: usize, point: Point) -> usize {
+/// The least distance of a point from others, up to `ENOUGH`.
+fn distance_from(point: Point, others: &[Point]) -> usize {
     let mut found = ENOUGH;
-    for (index, line) in drawing.ways.iter().enumerate() {
-        if index != own && found > 0 {
-            found = found.min(distance_from_line(point, line.as_slice()));
-        }
-    }
-    for place in &drawing.places {
-        found = found.min(distance_from_box(point, *place));
-    }
-    for other in points {
+    for other in others {
         found = found.min(length_of(point, *other));
     }
     found
 }
 
-/// The distance from the beginning of a line of a try: from its middle on, to both sides in turn.
-fn distance_of(length: usize, number: usize) -> usize {
-    let step = number.saturating_add(1) / 2;
-    let moved = length.saturating_mul(step) / (TRIES + 3);
-    if number % 2 == 0 {
-        (length / 2).saturating_add(moved)
-    } else {
-        (length / 2).saturating_sub(moved)
+/// How free a point of a line is: its distance from all other lines, from the boxes of nodes, and
+/// from the points that others have.
+fn freedom(
+    places: &[Place],
+    lines: &[Vec<Point>],
+    own: usize,
+    taken: &[Point],
+    at: Point,
+) -> usize {
+    let mut found = distance_from(at, taken);
+    for place in places {
+        found = found.min(distance_from_box(at, *place));
     }
+    for (index, line) in lines.iter().enumerate() {
+        if index != own && found > 0 {
+            found = found.min(distance_from(at, line.as_slice()));
+        }
+    }
+    found
 }
 
 /// The point of a line that is the most free, and of those the nearest to its middle.
-fn badge_of(drawing: &Drawing, points: &[Point], own: usize) -> Point {
-    let line = line_at(drawing, own);
-    let length = line_length(line);
-    let mut found = point_on(line, length / 2);
+fn badge_of(places: &[Place], lines: &[Vec<Point>], own: usize, taken: &[Point]) -> Point {
+    let mut found = Point { x: 0, y: 0 };
+    let Some(line) = lines.get(own) else {
+        return found;
+    };
     let mut most: usize = 0;
-    for number in 0..TRIES {
-        let point = point_on(line, distance_of(length, number));
-        let free = freedom(drawing, points, own, point);
-        if free > most {
+    for number in 0..line.len() {
+        let moved = number.saturating_add(1) / 2;
+        let index = if number % 2 == 0 {
+            (line.len() / 2).saturating_add(moved)
+        } else {
+            (line.len() / 2).saturating_sub(moved)
+        };
+        let point = line.get(index).copied().unwrap_or(found);
+        let free = freedom(places, lines, own, taken, point);
+        if number == 0 || free > most {
             most = free;
             found = point;
         }
@@ -384,9 +306,13 @@ pub fn badges_of(
     drawing: &Drawing,
     arrows: &[usize],
 ) -> Result<Vec<Point>, AllocError> {
+    let mut lines = Vec::new(alloc);
+    for line in &drawing.ways {
+        lines.push(points_of(alloc, line.as_slice())?)?;
+    }
     let mut points = Vec::new(alloc);
     for own in arrows {
-        let point = badge_of(drawing, &points, *own);
+        let point = badge_of(&drawing.places, &lines, *own, &points);
         points.push(point)?;
     }
     Ok(points)

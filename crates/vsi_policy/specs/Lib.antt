@@ -1,3 +1,5 @@
 pub mod Shapes
 pub mod Named
-pub mod Seen
+pub mod Roles
+pub mod Rows
+pub mod Changes

@@ -11,6 +11,7 @@ ghost use Rattle.vsi_policy.specs.declared.making.ShapeError.TheVariants.{Memory
 use crate::shape::{Shape, has_classes, has_order, is_below};
 use std::alloc::{AllocError, AllocFailed, Global};
 use thiserror::Error;
+use vsi_conform::put_parts;
 use vsi_lattice::{Classes, Lattice, LatticeError, read_lattice};
 use vsi_syntax::is_name;
 
@@ -122,53 +123,36 @@ fn proposed(
     classes: &[Vec<u8>],
 ) -> Result<Vec<u8>, AllocError> {
     let mut text = Vec::from_slice(alloc, b"classes = [")?;
-    let mut between: &[u8] = b"";
+    let mut between: &[u8] = b"\"";
     for name in classes {
         text.extend_from_slice(between)?;
-        put_quoted(&mut text, name)?;
-        between = b", ";
+        put_parts(&mut text, &[name, b"\""])?;
+        between = b", \"";
     }
     text.extend_from_slice(b"]\nbelow = [\n")?;
-    for low in 0..classes.len() {
-        put_pairs(&mut text, shape, names, classes, low)?;
+    for (low, name) in classes.iter().enumerate() {
+        put_pairs(&mut text, shape, names, classes, low, name)?;
     }
     text.extend_from_slice(b"]\n")?;
     Ok(text)
 }
 
-/// Adds the lines of the pairs of a class and those directly above it.
+/// Adds the lines of the pairs of a class, which has this name, and those directly above it.
 fn put_pairs(
     text: &mut Vec<u8>,
     shape: Shape,
     names: usize,
     classes: &[Vec<u8>],
     low: usize,
+    name: &[u8],
 ) -> Result<(), AllocError> {
-    for high in 0..classes.len() {
+    for (high, other) in classes.iter().enumerate() {
         if is_direct(shape, names, classes.len(), low, high) {
-            text.extend_from_slice(b"  [")?;
-            put_named(text, classes, low)?;
-            text.extend_from_slice(b", ")?;
-            put_named(text, classes, high)?;
-            text.extend_from_slice(b"],\n")?;
+            put_parts(text, &[b"  [\"", name])?;
+            put_parts(text, &[b"\", \"", other, b"\"],\n"])?;
         }
     }
     Ok(())
-}
-
-/// Adds the name of a class in quotes.
-fn put_named(text: &mut Vec<u8>, classes: &[Vec<u8>], class: usize) -> Result<(), AllocError> {
-    match classes.get(class) {
-        Some(name) => put_quoted(text, name),
-        None => Ok(()),
-    }
-}
-
-/// Adds a name in quotes.
-fn put_quoted(text: &mut Vec<u8>, name: &[u8]) -> Result<(), AllocError> {
-    text.extend_from_slice(b"\"")?;
-    text.extend_from_slice(name)?;
-    text.extend_from_slice(b"\"")
 }
 
 /// Why arguments make no lattice.

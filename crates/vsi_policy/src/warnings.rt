@@ -5,6 +5,7 @@ ghost use Rattle.vsi_lattice.specs.LatticeView.{order};
 ghost use Rattle.vsi_lattice.specs.Order.{IsClass};
 
 use std::alloc::{AllocError, Global};
+use vsi_conform::put_parts;
 use vsi_lattice::{Class, Classes, Lattice};
 
 /// Names for classes that everyone sees, in small letters.
@@ -81,21 +82,6 @@ fn is_word(name: &[u8], word: &[u8]) -> bool {
     rest.is_empty()
 }
 
-/// Adds a warning about two names.
-fn put_warning(
-    text: &mut Vec<u8>,
-    first: &[u8],
-    between: &[u8],
-    second: &[u8],
-    last: &[u8],
-) -> Result<(), AllocError> {
-    text.extend_from_slice(b"warning: ")?;
-    text.extend_from_slice(first)?;
-    text.extend_from_slice(between)?;
-    text.extend_from_slice(second)?;
-    text.extend_from_slice(last)
-}
-
 /// Whether two names look alike.
 fn are_alike(alloc: Global, first: &[u8], second: &[u8]) -> Result<bool, AllocError> {
     let plain = plain_name(alloc, first)?;
@@ -111,12 +97,13 @@ fn put_pair(
     second: &[u8],
 ) -> Result<(), AllocError> {
     if are_alike(alloc, first, second)? {
-        put_warning(
+        put_parts(text, &[b"warning: ", first, b" and "])?;
+        put_parts(
             text,
-            first,
-            b" and ",
-            second,
-            b" are different classes with names that look alike\n",
+            &[
+                second,
+                b" are different classes with names that look alike\n",
+            ],
         )?;
     }
     Ok(())
@@ -125,13 +112,8 @@ fn put_pair(
 /// Adds the warning about a viewer that sees another class although their names say the opposite.
 fn put_reversed(text: &mut Vec<u8>, viewer: &[u8], class: &[u8]) -> Result<(), AllocError> {
     if is_one_of(viewer, LOW.as_slice()) && is_one_of(class, HIGH.as_slice()) {
-        put_warning(
-            text,
-            viewer,
-            b" sees ",
-            class,
-            b": is the order reversed?\n",
-        )?;
+        put_parts(text, &[b"warning: ", viewer, b" sees "])?;
+        put_parts(text, &[class, b": is the order reversed?\n"])?;
     }
     Ok(())
 }

@@ -1,5 +1,5 @@
 -- The beginning of a page.
-use Rattle.std.proofs.Common.{◌≡◌, ℕ, List, [], ◌++◌, ap, sym, subst, length, ◌∙◌, append_assoc, append-nil, Result}
+use Rattle.std.proofs.Common.{◌≡◌, ◌≢◌, refl, ℕ, List, [], ◌++◌, ap, sym, subst, length, ◌∙◌, append_assoc, append-nil, Result}
 use Rattle.std.specs.Prelude.{IfOk}
 use Rattle.std.specs.Global.{Vec}
 use Rattle.std.proofs.lemmas.Result.{IfOk-weaker}
@@ -9,16 +9,18 @@ use Rattle.vsi_lattice.specs.LatticeView.{class_named, order}
 use Rattle.vsi_scope.specs.Program.{Resolved}
 use Rattle.vsi_types.specs.declared.rules.Step.{Step}
 use Rattle.vsi_types.specs.Security.{program}
-use Rattle.vsi_compiler.specs.Refusal.{HasShortestBadWalk}
+use Rattle.vsi_compiler.specs.Refusal.{HasShortestBadWalk, RefusesProgram}
+use Rattle.vsi_compiler.specs.declared.error.CompileError.{CompileError}
+use Rattle.vsi_compiler.specs.declared.error.CompileError.TheVariants.{Memory, Lex, Parse, Scope, Flow}
 use Rattle.vsi_compiler.specs.Stands.{Stands}
 use Rattle.vsi_flows.specs.declared.table.Pair.{Pair}
 use Rattle.vsi_flows.specs.Table.{IsTable}
 use Rattle.vsi_report.specs.Banner.{HasBanner, HasLead, beginning}
 use Rattle.vsi_report.specs.Lead.{HasTrueLead, IsLead, allowed_words, lead_words}
-use Rattle.vsi_report.specs.Verdict.{HasVerdict, IsVerdict, Tells}
+use Rattle.vsi_report.specs.Verdict.{HasVerdict, IsVerdict, Tells, verdict_of}
 use Rattle.vsi_report.specs.declared.banner.Lead.{Lead}
 use Rattle.vsi_report.specs.declared.page.Verdict.{Verdict}
-use Rattle.vsi_report.specs.declared.page.Verdict.TheVariants.{Accepted, Refused, NoProgram}
+use Rattle.vsi_report.specs.declared.page.Verdict.TheVariants.{Accepted, Refused}
 use Rattle.vsi_report.proofs.EscapeLemmas.{parts_so}
 
 -- The pairs are the table of flows of the text's program.
@@ -117,12 +119,27 @@ refused_shown l P text resolved steps pairs r stands table walk h =
     })
     h
 
--- The page of a text that is no program shows the verdict.
-pub fault_shown : {E : Type 0} (l : Lattice) (P : Profile) (text : List ℕ) (r : Result (Vec ℕ) E) →
-    IsVerdict l P text NoProgram → IfOk r (λ page. HasLead NoProgram [] page.items) →
-    IfOk r (λ page. HasVerdict l P text page.items)
-fault_shown l P text r is h =
-    verdict_shown l P text NoProgram r (HasLead NoProgram []) is (lead_banner NoProgram []) (λ page t. tt) h
+-- The verdict about a text with a fault is the one for its refusal, and has no first sentences.
+pub fault_is : (l : Lattice) (P : Profile) (text : List ℕ) (e : CompileError) → e ≢ Memory →
+    RefusesProgram (class_named l) text e →
+    IsVerdict l P text (verdict_of e) × ((page : List ℕ) → Tells l P text page (verdict_of e))
+fault_is l P text (Lex e) other reason =
+    (record { error = Lex e; other = other; reason = reason; shown = refl }, λ page. tt)
+fault_is l P text (Parse e) other reason =
+    (record { error = Parse e; other = other; reason = reason; shown = refl }, λ page. tt)
+fault_is l P text (Scope e) other reason =
+    (record { error = Scope e; other = other; reason = reason; shown = refl }, λ page. tt)
+fault_is l P text (Flow walk) other reason = absurd reason
+fault_is l P text Memory other reason = absurd (other refl)
+
+-- The page of a text whose flows aren't judged shows the verdict.
+pub fault_shown : {E : Type 0} (l : Lattice) (P : Profile) (text : List ℕ) (e : CompileError) (r : Result (Vec ℕ) E) →
+    e ≢ Memory → RefusesProgram (class_named l) text e →
+    IfOk r (λ page. HasLead (verdict_of e) [] page.items) → IfOk r (λ page. HasVerdict l P text page.items)
+fault_shown l P text e r other reason h =
+    let both = fault_is l P text e other reason in
+    verdict_shown l P text (verdict_of e) r (HasLead (verdict_of e) []) both.0 (lead_banner (verdict_of e) [])
+    (λ page t. both.1 page) h
 
 -- A page with the sentences of true facts has a true lead.
 pub true_lead : {E : Type 0} (l : Lattice) (resolved : Resolved) (steps : List Step) (pairs : List Pair) (lead : Lead)

@@ -2,7 +2,7 @@
 use Rattle.std.proofs.Common.{◌≡◌, ℕ, List, [], ◌∷◌, ◌++◌, ap, sym, ◌∙◌, arith, refl, append_assoc}
 use Rattle.std.specs.Prelude.{codes, decimal}
 use Rattle.vsi_report.specs.Escape.{escape, escaped}
-use Rattle.vsi_report.specs.Panel.{line_tag, next_tag, open_tag, close_tag}
+use Rattle.vsi_report.specs.Panel.{attribute, line_tag, next_tag, open_tag, close_tag}
 use Rattle.vsi_report.specs.Reading.{Between, Within, seen, Shows}
 
 -- After the markup, a reader who was between tags is in a tag and has seen nothing.
@@ -56,19 +56,23 @@ line_shows n =
 pub next_shows : (n : ℕ) → Shows (next_tag n) []
 next_shows n = both_show (codes "</span>") (line_tag n) [] [] (λ rest. refl) (line_shows n)
 
+-- An attribute whose beginning doesn't close a tag doesn't close it either.
+attribute_stays : (begin value : List ℕ) → Stays begin → Stays (attribute begin value)
+attribute_stays begin [] h rest = refl
+attribute_stays begin (b ∷ bs) h rest =
+    ap (seen Within) (append_assoc begin (escaped (b ∷ bs)) rest) ∙ h (escaped (b ∷ bs) ++ rest)
+    ∙ text_stays (b ∷ bs) rest
+
 -- The beginning of a token shows nothing.
 pub open_shows : (kind class step : List ℕ) → Shows (open_tag kind class step) []
 open_shows kind class step =
-    let last = escaped step ++ codes "\">" in
-    let third = codes "\" data-step=\"" ++ last in
-    let second = escaped class ++ third in
-    let first = codes "\" data-class=\"" ++ second in
-    opens_closes (codes "<b class=\"") (escaped kind ++ first) (λ rest. refl)
-    (stays_closes (escaped kind) first (text_stays kind)
-    (stays_closes (codes "\" data-class=\"") second (λ rest. refl)
-    (stays_closes (escaped class) third (text_stays class)
-    (stays_closes (codes "\" data-step=\"") last (λ rest. refl)
-    (stays_closes (escaped step) (codes "\">") (text_stays step) (λ rest. refl))))))
+    let low = codes "\" data-class=\"" in
+    let high = codes "\" data-step=\"" in
+    let last = attribute high step ++ codes "\">" in
+    opens_closes (codes "<b class=\"") (escaped kind ++ (attribute low class ++ last)) (λ rest. refl)
+    (stays_closes (escaped kind) (attribute low class ++ last) (text_stays kind)
+    (stays_closes (attribute low class) last (attribute_stays low class (λ rest. refl))
+    (stays_closes (attribute high step) (codes "\">") (attribute_stays high step (λ rest. refl)) (λ rest. refl))))
 
 -- The end of a token shows nothing.
 pub close_shows : Shows close_tag []

@@ -3,7 +3,7 @@ use Rattle.std.specs.Prelude.{◌≡◌, ℕ, ◌==◌, if◌then◌else◌, Lis
 use Rattle.std.specs.List.{flat_map}
 use Rattle.vsi_report.specs.Escape.{escaped}
 use Rattle.vsi_report.specs.declared.page.Verdict.{Verdict}
-use Rattle.vsi_report.specs.declared.page.Verdict.TheVariants.{Accepted, Refused, NoProgram}
+use Rattle.vsi_report.specs.declared.page.Verdict.TheVariants.{Accepted, Refused, NoProgram, Unjudged}
 
 -- The first lines of a page.
 abbrev pub first_lines : List ℕ
@@ -16,15 +16,17 @@ first_lines =
 
 -- The beginning of the title for a verdict.
 abbrev pub title : Verdict → List ℕ
-title Accepted = codes "<title>Accepted: a report of its flows"
-title Refused = codes "<title>Refused: a report of its flows"
-title NoProgram = codes "<title>Not a program"
+title Accepted = codes "<title>Accepted: a report of its flows, "
+title Refused = codes "<title>Refused: a report of its flows, "
+title NoProgram = codes "<title>Not a program, "
+title Unjudged = codes "<title>Not judged, "
 
 -- The beginning of the banner for a verdict, with its colour and its heading.
 abbrev pub banner : Verdict → List ℕ
 banner Accepted = codes "<header class=\"good\"><h1>&#10003; Accepted</h1>\n"
 banner Refused = codes "<header class=\"bad\"><h1>&#10007; Refused</h1>\n"
 banner NoProgram = codes "<header class=\"bad\"><h1>&#10007; Not a program</h1>\n"
+banner Unjudged = codes "<header class=\"bad\"><h1>&#10007; Not judged</h1>\n"
 
 -- A byte that could begin a tag is left out; any other byte is written as it is.
 abbrev pub untagged_byte : ℕ → List ℕ

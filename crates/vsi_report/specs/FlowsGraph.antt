@@ -73,9 +73,9 @@ abbrev pub box_words : Option ℕ → List ℕ
 box_words None = codes ", style=\"rounded,dashed\""
 box_words (Some c) = []
 
--- The name of the node with a number.
-abbrev pub node : ℕ → List ℕ
-node b = codes "\"v." ++ decimal b ++ codes "\""
+-- A number between two texts.
+abbrev pub numbered : List ℕ → ℕ → List ℕ → List ℕ
+numbered before n after = before ++ (decimal n ++ after)
 
 -- The label of a variable: its name and, if it has one, its class.
 abbrev pub label : Shown → ℕ → List ℕ
@@ -88,7 +88,7 @@ attributes s v = paint_words (class_shown s v) ++ box_words (class_declared s v)
 -- The line of a numbered node.
 abbrev pub variable_line : Shown → ℕ → List ℕ
 variable_line s b =
-    codes "  " ++ node b ++ codes " [label=\"" ++ label s (variable_at (size s) b) ++ codes "\""
+    numbered (codes "  \"v.") b (codes "\" [label=\"") ++ label s (variable_at (size s) b) ++ codes "\""
     ++ attributes s (variable_at (size s) b) ++ codes "];\n"
 
 -- The number of nodes; the ending of loops has one under the strict profile only.
@@ -96,27 +96,21 @@ abbrev pub nodes_shown : Profile → ℕ → ℕ
 nodes_shown Base k = k
 nodes_shown Strict k = k + 1
 
--- The invisible point below the variables of a class.
-abbrev pub foot : ℕ → List ℕ
-foot c = codes "\"below." ++ decimal c ++ codes "\""
-
--- The invisible point above the variables of a class.
-abbrev pub top : ℕ → List ℕ
-top c = codes "\"above." ++ decimal c ++ codes "\""
-
--- The line of a class's two points.
+-- The line of a class's two points, below and above its variables.
 abbrev pub points_line : ℕ → List ℕ
-points_line c = codes "  " ++ foot c ++ codes " -> " ++ top c ++ codes ";\n"
+points_line c = numbered (codes "  \"below.") c (codes "\" -> ") ++ numbered (codes "\"above.") c (codes "\";\n")
 
 -- The line that keeps a class above another one.
 abbrev pub above_line : ℕ × ℕ → List ℕ
-above_line p = codes "  " ++ top p.0 ++ codes " -> " ++ foot p.1 ++ codes " [minlen=0];\n"
+above_line p =
+    numbered (codes "  \"above.") p.0 (codes "\" -> ") ++ numbered (codes "\"below.") p.1 (codes "\" [minlen=0];\n")
 
 -- The line that keeps a numbered node between the points of its class.
 abbrev pub between_line : Option ℕ → ℕ → List ℕ
 between_line None b = []
 between_line (Some c) b =
-    codes "  " ++ foot c ++ codes " -> " ++ node b ++ codes " -> " ++ top c ++ codes ";\n"
+    numbered (codes "  \"below.") c (codes "\" -> ") ++ numbered (codes "\"v.") b (codes "\" -> ")
+    ++ numbered (codes "\"above.") c (codes "\";\n")
 
 -- The line that keeps a numbered node above the lower classes and below the higher ones.
 abbrev pub kept_line : Shown → ℕ → List ℕ
@@ -191,7 +185,8 @@ looks s a b R =
 -- The line of an edge.
 abbrev pub flow_line : Shown → ℕ → ℕ → Rule → List ℕ
 flow_line s a b R =
-    codes "  " ++ node a ++ codes " -> " ++ node b ++ codes " [label=\"" ++ looks s a b R ++ codes "];\n"
+    numbered (codes "  \"v.") a (codes "\" -> ") ++ numbered (codes "\"v.") b (codes "\" [label=\"")
+    ++ looks s a b R ++ codes "];\n"
 
 -- The flows, each by a rule from one number to another.
 abbrev pub Flowing : Type 0

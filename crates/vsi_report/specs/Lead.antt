@@ -43,26 +43,19 @@ chip_words e =
 abbrev pub end_words : End → List ℕ
 end_words e = name_words e ++ chip_words e
 
--- The lines from the first to the last of a walk.
-abbrev pub lines_words : ℕ → ℕ → List ℕ
-lines_words first last =
-    if first == last then codes ", line " ++ number first ++ codes ".\n"
-    else codes ", lines " ++ number first ++ codes " to " ++ number last ++ codes ".\n"
-
 -- The number of steps.
 abbrev pub steps_words : ℕ → List ℕ
-steps_words n = codes " in " ++ number n ++ plural n (codes " step") (codes " steps")
+steps_words n = codes " in " ++ number n ++ plural n (codes " step.\n") (codes " steps.\n")
 
 -- The number of refused pairs, of all pairs.
 abbrev pub share_words : ℕ → ℕ → List ℕ
 share_words refused pairs =
-    number refused ++ codes " of " ++ number pairs ++ plural pairs (codes " pair") (codes " pairs")
+    number refused ++ codes " of " ++ number pairs ++ plural pairs (codes " flow ") (codes " flows ")
 
 -- The counts of the pairs.
 abbrev pub counts_words : ℕ → ℕ → List ℕ
 counts_words refused pairs =
-    share_words refused pairs ++ codes " of declared variables joined by flows "
-    ++ plural refused (codes "is") (codes "are") ++ codes " refused.</p>\n"
+    share_words refused pairs ++ plural refused (codes "is refused.</p>\n") (codes "are refused.</p>\n")
 
 -- The ends of a walk.
 abbrev pub ends_words : Lead → List ℕ
@@ -72,7 +65,7 @@ ends_words l =
 -- The first sentences about a refused text.
 abbrev pub lead_words : Lead → List ℕ
 lead_words l =
-    ends_words l ++ steps_words l.steps ++ lines_words l.first l.last ++ counts_words l.refused l.pairs
+    ends_words l ++ steps_words l.steps ++ counts_words l.refused l.pairs
 
 -- The sentence about the pairs of an accepted text.
 abbrev pub allowed_words : ℕ → List ℕ
@@ -80,9 +73,8 @@ allowed_words n =
     if n == 0 then
     codes "<p class=\"lead\">No declared variable flows to another: if runs halt, no global depends on another.</p>\n"
     else if n == 1 then
-    codes "<p class=\"lead\">The only pair of declared variables joined by flows is allowed.</p>\n"
-    else codes "<p class=\"lead\">All " ++ number n
-    ++ codes " pairs of declared variables joined by flows are allowed.</p>\n"
+    codes "<p class=\"lead\">The only flow is allowed.</p>\n"
+    else codes "<p class=\"lead\">All " ++ number n ++ codes " flows are allowed.</p>\n"
 
 -- The first variable of a walk.
 abbrev pub first_of : List Step → ℕ
@@ -114,7 +106,8 @@ pub record IsLead (l : Lattice) (r : Resolved) (steps : List Step) (pairs : List
   pub all : lead.pairs ≡ length pairs
 
 -- The page of a refused text begins with these facts of a program.
-pub record HasTrueLead (l : Lattice) (r : Resolved) (steps : List Step) (pairs : List Pair) (page : List ℕ) : Type 0 where
+pub record HasTrueLead (l : Lattice) (r : Resolved) (steps : List Step) (pairs : List Pair) (page : List ℕ) :
+    Type 0 where
   pub lead : Lead
   pub is : IsLead l r steps pairs lead
   pub shown : HasLead verdicts.Refused (lead_words lead) page

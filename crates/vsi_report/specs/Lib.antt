@@ -6,7 +6,6 @@ pub mod Page
 pub mod Graph
 pub mod ByRule
 pub mod FlowsGraph
-pub mod Size
 pub mod Banner
 pub mod Verdict
 pub mod Drawn

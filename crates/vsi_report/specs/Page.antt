@@ -4,7 +4,7 @@ use Rattle.vsi_report.specs.Reading.{Shows}
 
 -- The tags before the panel of a source text.
 abbrev pub panel_begin : List ℕ
-panel_begin = codes "<pre class=\"source\" tabindex=\"0\"><code>"
+panel_begin = codes "<pre class=\"source\"><code>"
 
 -- The tags after the panel.
 abbrev pub panel_end : List ℕ

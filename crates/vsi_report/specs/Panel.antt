@@ -1,5 +1,5 @@
 -- The tags of a source text in a page.
-use Rattle.std.specs.Prelude.{ℕ, List, ◌++◌, codes, decimal}
+use Rattle.std.specs.Prelude.{ℕ, List, [], ◌∷◌, ◌++◌, codes, decimal}
 use Rattle.vsi_report.specs.Escape.{escaped}
 
 -- The beginning of a line with its number.
@@ -10,11 +10,16 @@ line_tag n = codes "<span class=\"line\" id=\"L" ++ (escaped (decimal n) ++ code
 abbrev pub next_tag : ℕ → List ℕ
 next_tag n = codes "</span>" ++ line_tag n
 
+-- The beginning of an attribute and its value, which ends the value before it; an empty value has no attribute.
+abbrev pub attribute : List ℕ → List ℕ → List ℕ
+attribute begin [] = []
+attribute begin (b ∷ bs) = begin ++ escaped (b ∷ bs)
+
 -- The beginning of a token of a kind, with the label of its class and that of its step.
 abbrev pub open_tag : List ℕ → List ℕ → List ℕ → List ℕ
 open_tag kind class step =
-    codes "<b class=\"" ++ (escaped kind ++ (codes "\" data-class=\"" ++ (escaped class
-    ++ (codes "\" data-step=\"" ++ (escaped step ++ codes "\">")))))
+    codes "<b class=\"" ++ (escaped kind ++ (attribute (codes "\" data-class=\"") class
+    ++ (attribute (codes "\" data-step=\"") step ++ codes "\">")))
 
 -- The end of a token.
 abbrev pub close_tag : List ℕ

@@ -10,11 +10,12 @@ ghost use Rattle.vsi_report.specs.Lead as spec;
 
 use crate::order::{Order, name_of};
 use crate::page::{Added, Page, Part};
+use crate::panel::{ends_at, hidden_at};
 use crate::report::View;
-use crate::sections::leaf;
+use crate::sections::{leaf, profile_text};
 use std::alloc::AllocError;
 use vsi_compiler::CompileError;
-use vsi_diagnostics::{Field, refusal_diagnostic};
+use vsi_diagnostics::refusal_diagnostic;
 use vsi_flows::Pair;
 use vsi_image::Verified;
 use vsi_infer::{declared_class, variable_name};
@@ -23,7 +24,7 @@ use vsi_machine::{Bound, bound_of};
 use vsi_scope::{Resolved, Var};
 use vsi_steady::{SteadyError, steady_in};
 use vsi_syntax::line_column;
-use vsi_types::{LOOP, Profile, Step};
+use vsi_types::{LOOP, Step};
 
 /// A variable at an end of a walk: its name, and its class with the name of that.
 #[derive(Clone, Copy)]
@@ -34,19 +35,17 @@ pub(crate) struct End<'a> {
 }
 
 /// The facts in the first sentences about a refused text: the ends of a refused walk, the number of
-/// its steps, its first and its last line, the number of refused pairs, and that of all pairs.
+/// its steps, the number of refused pairs, and that of all pairs.
 #[derive(Clone, Copy)]
 pub(crate) struct Lead<'a> {
     pub(crate) source: End<'a>,
     pub(crate) target: End<'a>,
     pub(crate) steps: usize,
-    pub(crate) first: usize,
-    pub(crate) last: usize,
     pub(crate) refused: usize,
     pub(crate) pairs: usize,
 }
 
-/// A word for one thing, or for several.
+/// The text for one thing, or for several.
 pub(crate) fn number_word(count: usize, one: &'static [u8], several: &'static [u8]) -> &'static [u8]
     ensures { result.now ≡ spec.plural count one.now several.now }
 {
@@ -84,23 +83,6 @@ fn put_end(page: &mut Page, end: &End<'_>) -> Added
     put_chip(page, end)
 }
 
-/// Adds the lines from the first to the last of a walk.
-fn put_lines(page: &mut Page, first: usize, last: usize) -> Added
-    ensures { OnOk result
-        (page.new.text.items ≡ page.old.text.items ++ spec.lines_words first last) }
-{
-    if first == last {
-        page.put(b", line ")?;
-        page.number(first)?;
-        return page.put(b".\n");
-    }
-    page.put(b", lines ")?;
-    page.number(first)?;
-    page.put(b" to ")?;
-    page.number(last)?;
-    page.put(b".\n")
-}
-
 /// Adds the number of steps.
 fn put_steps(page: &mut Page, steps: usize) -> Added
     ensures { OnOk result
@@ -108,7 +90,7 @@ fn put_steps(page: &mut Page, steps: usize) -> Added
 {
     page.put(b" in ")?;
     page.number(steps)?;
-    page.put(number_word(steps, b" step", b" steps"))
+    page.put(number_word(steps, b" step.\n", b" steps.\n"))
 }
 
 /// Adds the number of refused pairs, of all pairs.
@@ -119,7 +101,7 @@ fn put_share(page: &mut Page, refused: usize, pairs: usize) -> Added
     page.number(refused)?;
     page.put(b" of ")?;
     page.number(pairs)?;
-    page.put(number_word(pairs, b" pair", b" pairs"))
+    page.put(number_word(pairs, b" flow ", b" flows "))
 }
 
 /// Adds the counts of the pairs.
@@ -128,9 +110,7 @@ fn put_counts(page: &mut Page, refused: usize, pairs: usize) -> Added
         (page.new.text.items ≡ page.old.text.items ++ spec.counts_words refused pairs) }
 {
     put_share(page, refused, pairs)?;
-    page.put(b" of declared variables joined by flows ")?;
-    page.put(number_word(refused, b"is", b"are"))?;
-    page.put(b" refused.</p>\n")?;
+    page.put(number_word(refused, b"is refused.</p>\n", b"are refused.</p>\n"))?;
     Ok(())
 }
 
@@ -151,7 +131,6 @@ pub(crate) fn put_lead(page: &mut Page, lead: &Lead<'_>) -> Added
 {
     put_ends(page, lead)?;
     put_steps(page, lead.steps)?;
-    put_lines(page, lead.first, lead.last)?;
     put_counts(page, lead.refused, lead.pairs)
 }
 
@@ -160,8 +139,7 @@ const NO_PAIR: &[u8] =
     b"<p class=\"lead\">No declared variable flows to another: if runs halt, no global depends on \
 another.</p>\n";
 /// The sentence about the only pair of an accepted text.
-const ONE_PAIR: &[u8] =
-    b"<p class=\"lead\">The only pair of declared variables joined by flows is allowed.</p>\n";
+const ONE_PAIR: &[u8] = b"<p class=\"lead\">The only flow is allowed.</p>\n";
 
 /// Adds the sentence about the pairs of an accepted text.
 pub(crate) fn put_allowed(page: &mut Page, pairs: usize) -> Added
@@ -176,7 +154,7 @@ pub(crate) fn put_allowed(page: &mut Page, pairs: usize) -> Added
     }
     page.put(b"<p class=\"lead\">All ")?;
     page.number(pairs)?;
-    page.put(b" pairs of declared variables joined by flows are allowed.</p>\n")
+    page.put(b" flows are allowed.</p>\n")
 }
 
 /// The number of refused pairs.
@@ -268,46 +246,64 @@ pub(crate) fn lead_of<'a>(
     lattice: &Lattice,
     order: &'a Order,
     program: &Resolved<'a>,
-    source: &[u8],
     walk: &[Step],
     pairs: &[Pair],
 ) -> Lead<'a>
     requires { texts order.now.names.items ≡ names lattice.now }
     ensures { spec.IsLead lattice.now program.now walk.now pairs.now result }
 {
-    let (start, stop) = reach_of(walk);
-    let (first, _) = line_column(source, start);
-    let (last, _) = line_column(source, stop);
     Lead {
         source: end_of(lattice, order, program, first_of(walk)),
         target: end_of(lattice, order, program, last_of(walk)),
         steps: walk.len(),
-        first,
-        last,
         refused: count_refused(pairs),
         pairs: pairs.len(),
     }
 }
 
-/// Adds a piece of markup with the name of the source text's file, if it has one.
-fn put_named(page: &mut Page, view: &View<'_>, markup: &'static [u8]) -> Added {
-    if view.filing.source.is_empty() {
-        return Ok(());
+/// The most bytes of a line that the banner quotes.
+const QUOTED: usize = 160;
+/// The beginning of a quoted line, with its number.
+const QUOTE: &[u8] = b"<p class=\"quote\"><a href=\"#L%0\">%0</a> <code>";
+
+/// Adds the line of the source text with the byte at a position, with a link to it. Characters that
+/// aren't visible are replaced, and a long line begins at that byte.
+fn put_quote(page: &mut Page, source: &[u8], at: usize) -> Added {
+    let (line, column) = line_column(source, at);
+    let first = if column > QUOTED {
+        at
+    } else {
+        at.saturating_sub(column.saturating_sub(1))
+    };
+    let last = source.len().min(first.saturating_add(QUOTED));
+    let mut next = first;
+    page.fill(QUOTE, &[], &[line])?;
+    for place in first..last {
+        if ends_at(source, place) {
+            break;
+        }
+        if place < next {
+            continue;
+        }
+        if let Some((length, _)) = hidden_at(source, place) {
+            next = place.saturating_add(length);
+            page.put(b"\xef\xbf\xbd")?;
+        } else {
+            page.tell(source.get(place..place.saturating_add(1)).unwrap_or(b""))?;
+        }
     }
-    page.fill(markup, &[Part::Text(leaf(view.filing.source))])
+    page.put(b"</code></p>\n")
 }
 
 /// Adds the name of the file, the sentence about the profile, and the end of the banner.
 fn put_judged(page: &mut Page, view: &View<'_>) -> Added {
-    page.put(b"<p class=\"by\">")?;
-    put_named(page, view, b"Source text: <code>%0</code>. ")?;
-    page.put(match view.profile {
-        Profile::Base => b"Judged by the base profile: by flows into variables.",
-        Profile::Strict => {
-            b"Judged by the strict profile: by flows into variables, and into the ending of loops."
-        }
-    })?;
-    page.put(b"</p>\n</header>\n")
+    let file = Part::Text(leaf(view.filing.source));
+    let profile = Part::Markup(profile_text(view.profile));
+    page.fill(
+        b"<p class=\"by\">Source text: <code>%0</code>. Judged by the %1.</p>\n</header>\n",
+        &[file, profile],
+        &[],
+    )
 }
 
 /// The most steps whose variables the strip shows at each end of a long walk.
@@ -315,27 +311,26 @@ const SHOWN: usize = 12;
 /// A variable of the strip, with a link to the step that reaches it.
 const STOP: &[u8] = b"<li><a href=\"#s%1\">%0</a></li>";
 
-/// Adds the variable that a step reaches, if the strip shows it.
-fn put_reached(page: &mut Page, view: &View<'_>, step: &Step, number: usize) -> Added {
-    if number <= SHOWN || view.walk.len().saturating_sub(number) < SHOWN {
-        let name = Part::Name(view.facts, view.facts.number(step.target));
-        return page.fill(STOP, &[name, Part::Number(number)]);
-    }
-    if number == SHOWN + 1 {
-        return page.put(b"<li>\xe2\x80\xa6</li>");
-    }
-    Ok(())
-}
-
-/// Adds the variables of the refused walk in order, each with a link to its step.
+/// Adds the first and the last line of the refused walk, and its variables in order, each with a
+/// link to its step.
 pub(crate) fn put_refused(page: &mut Page, view: &View<'_>) -> Added {
+    let (start, stop) = reach_of(view.walk);
+    put_quote(page, view.source, start)?;
+    if line_column(view.source, start).0 < line_column(view.source, stop).0 {
+        put_quote(page, view.source, stop)?;
+    }
     page.put(b"<nav aria-label=\"The steps of the refused flow\"><ol class=\"strip\">")?;
     if let Some(step) = view.walk.first() {
         let name = Part::Name(view.facts, view.facts.number(step.source));
-        page.fill(STOP, &[name, Part::Number(1)])?;
+        page.fill(STOP, &[name], &[1])?;
     }
     for (place, step) in view.walk.iter().enumerate() {
-        put_reached(page, view, step, place.saturating_add(1))?;
+        if place < SHOWN || view.walk.len().saturating_sub(place) <= SHOWN {
+            let name = Part::Name(view.facts, view.facts.number(step.target));
+            page.fill(STOP, &[name], &[place.saturating_add(1)])?;
+        } else if place == SHOWN {
+            page.put(b"<li>\xe2\x80\xa6</li>")?;
+        }
     }
     page.put(b"</ol></nav>\n")?;
     put_judged(page, view)
@@ -344,17 +339,18 @@ pub(crate) fn put_refused(page: &mut Page, view: &View<'_>) -> Added {
 /// Adds the sentence about the bound of an image.
 fn put_bound(page: &mut Page, bound: Bound) -> Added {
     let Bound::Halts { least, most } = bound else {
-        return page.put(b"<li>Bound: none is known for the instructions of a run.</li>\n");
+        return page.put(b"<li>No bound on the number of instructions is known.</li>\n");
     };
-    page.draw(
-        b"<li>Bound: from every store it halts, after %0",
-        &[least as usize],
-    )?;
+    page.put(b"<li>Bound: from every store it halts, after ")?;
     if least < most {
-        page.draw(b" to %0", &[most as usize])?;
+        page.fill(b"%0 to ", &[], &[least as usize])?;
     }
-    page.put(number_word(most as usize, b" instruction", b" instructions"))?;
-    page.put(b".</li>\n")
+    page.number(most as usize)?;
+    page.put(number_word(
+        most as usize,
+        b" instruction.</li>\n",
+        b" instructions.</li>\n",
+    ))
 }
 
 /// Adds the facts known of the runs of an accepted text's image: its bound and its steadiness.
@@ -376,36 +372,31 @@ the least class.</li>\n"
     put_judged(page, view)
 }
 
-/// The line and the column at which a text is refused, if there are any.
-fn fault_place(source: &[u8], error: &CompileError) -> Option<(usize, usize)> {
-    match refusal_diagnostic(source, error)?.field {
-        Field::Place(line, column) => Some((line, column)),
-        _ => None,
+/// The sentence about a text whose flows aren't judged, by the number of its refusal.
+fn fault_text(code: usize) -> &'static [u8] {
+    match code {
+        17 => b"A variable is declared twice",
+        18 => b"A variable is declared with a class that the lattice doesn't have",
+        19 => b"A variable isn't declared",
+        20 | 21 => b"The program declares too many variables",
+        22 => b"The program is too large",
+        _ => b"The text can't be read as a program",
     }
 }
 
-/// The line of the panel that shows a fault: its line, or the last one if that is before it.
-pub(crate) fn fault_line(source: &[u8], error: &CompileError) -> Option<usize> {
-    let (line, _) = fault_place(source, error)?;
-    let (last, _) = line_column(source, source.len().saturating_sub(1));
-    Some(line.min(last))
-}
-
-/// Adds the banner of a text that has no program, below its heading.
+/// Adds the banner of a text whose flows aren't judged, with the line of its fault.
 pub(crate) fn put_faulty(page: &mut Page, view: &View<'_>, error: &CompileError) -> Added {
-    page.put(b"<p class=\"lead\">The text can't be read as a program over the lattice")?;
-    let place = fault_place(view.source, error);
-    if let (Some((line, column)), Some(shown)) = (place, fault_line(view.source, error)) {
-        page.draw(
-            b": see <a href=\"#L%0\">line %1, column %2</a>",
-            &[shown, line, column],
-        )?;
+    let text = match refusal_diagnostic(view.source, error) {
+        Some(fault) => fault_text(fault.code),
+        None => b"",
+    };
+    page.fill(b"<p class=\"lead\">%0", &[Part::Markup(text)], &[])?;
+    if let Some(at) = view.fault {
+        page.fill(b": see %0", &[Part::Place(view.source, at)], &[])?;
     }
     page.put(b". Its flows aren't judged.</p>\n")?;
-    put_named(
-        page,
-        view,
-        b"<p class=\"by\">Source text: <code>%0</code>.</p>\n",
-    )?;
-    page.put(b"</header>\n")
+    if let Some(at) = view.fault {
+        put_quote(page, view.source, at)?;
+    }
+    put_judged(page, view)
 }

@@ -1,7 +1,7 @@
 //! The lattice in the language of Graphviz, and the parts of a graph of flows: its contents, the
 //! looks of its edges, and the places of its nodes, where higher classes are above lower ones.
 
-ghost use Rattle.std.specs.Prelude.{◌≡◌, ◌++◌, IfOk, OnOk, length, ◌≤◌, decimal};
+ghost use Rattle.std.specs.Prelude.{◌≡◌, ◌++◌, IfOk, OnOk, length, ◌≤◌};
 ghost use Rattle.std.specs.List.{flat_map};
 ghost use Rattle.vsi_types.specs.Security.{count_from, program as program_of};
 ghost use Rattle.vsi_lattice.specs.LatticeView.{order as order_of_lattice};
@@ -278,19 +278,12 @@ pub(crate) fn edge_words(number: Option<usize>, course: Course) -> &'static [u8]
 
 /// Adds a number between two texts.
 pub(crate) fn put_numbered(text: &mut Vec<u8>, before: &[u8], number: usize, after: &[u8]) -> Added
-    ensures { OnOk result (text.new.items
-        ≡ text.old.items ++ (before.now ++ (decimal number ++ after.now))) }
+    ensures { OnOk result
+        (text.new.items ≡ text.old.items ++ spec.numbered before.now number after.now) }
 {
     text.extend_from_slice(before)?;
     put_number(text, number)?;
     text.extend_from_slice(after)
-}
-
-/// Adds the name of the node with a number.
-pub(crate) fn put_node(text: &mut Vec<u8>, number: u16) -> Added
-    ensures { OnOk result (text.new.items ≡ text.old.items ++ spec.node number) }
-{
-    put_numbered(text, b"\"v.", number as usize, b"\"")
 }
 
 /// The number of nodes; the ending of loops has one under the strict profile only.
@@ -304,29 +297,12 @@ pub(crate) fn nodes_shown(profile: Profile, last: u16) -> u16
     }
 }
 
-/// Adds the invisible point below the variables of a class.
-fn put_foot(text: &mut Vec<u8>, class: usize) -> Added
-    ensures { OnOk result (text.new.items ≡ text.old.items ++ spec.foot class) }
-{
-    put_numbered(text, b"\"below.", class, b"\"")
-}
-
-/// Adds the invisible point above the variables of a class.
-fn put_top(text: &mut Vec<u8>, class: usize) -> Added
-    ensures { OnOk result (text.new.items ≡ text.old.items ++ spec.top class) }
-{
-    put_numbered(text, b"\"above.", class, b"\"")
-}
-
 /// Adds the line of a class's two points.
 fn put_points(text: &mut Vec<u8>, class: usize) -> Added
     ensures { OnOk result (text.new.items ≡ text.old.items ++ spec.points_line class) }
 {
-    text.extend_from_slice(b"  ")?;
-    put_foot(text, class)?;
-    text.extend_from_slice(b" -> ")?;
-    put_top(text, class)?;
-    text.extend_from_slice(b";\n")
+    put_numbered(text, b"  \"below.", class, b"\" -> ")?;
+    put_numbered(text, b"\"above.", class, b"\";\n")
 }
 
 /// Adds the lines of the points of all classes.
@@ -344,11 +320,9 @@ fn put_all_points(text: &mut Vec<u8>, order: &Order) -> Added
 fn put_above(text: &mut Vec<u8>, pair: (usize, usize)) -> Added
     ensures { OnOk result (text.new.items ≡ text.old.items ++ spec.above_line pair) }
 {
-    text.extend_from_slice(b"  ")?;
-    put_top(text, pair.0)?;
-    text.extend_from_slice(b" -> ")?;
-    put_foot(text, pair.1)?;
-    text.extend_from_slice(b" [minlen=0];\n")
+    put_numbered(text, b"  \"above.", pair.0, b"\" -> ")?;
+    put_numbered(text, b"\"below.", pair.1, b"\" [minlen=0];\n")?;
+    Ok(())
 }
 
 /// Adds the lines that keep each class above those that it covers.
@@ -369,13 +343,9 @@ fn put_between_points(text: &mut Vec<u8>, class: Option<Class>, number: u16) -> 
     let Some(class) = class else {
         return Ok(());
     };
-    text.extend_from_slice(b"  ")?;
-    put_foot(text, class.index())?;
-    text.extend_from_slice(b" -> ")?;
-    put_node(text, number)?;
-    text.extend_from_slice(b" -> ")?;
-    put_top(text, class.index())?;
-    text.extend_from_slice(b";\n")
+    put_numbered(text, b"  \"below.", class.index(), b"\" -> ")?;
+    put_numbered(text, b"\"v.", number as usize, b"\" -> ")?;
+    put_numbered(text, b"\"above.", class.index(), b"\";\n")
 }
 
 /// Adds the line that keeps a numbered node above the lower classes and below the higher ones.

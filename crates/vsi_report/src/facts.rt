@@ -208,15 +208,17 @@ pub(crate) fn reached_classes(
     Ok(classes)
 }
 
-/// The most variables of a program whose flows are drawn.
+/// The most variables of a program whose flows are in a graph.
 pub(crate) const MOST_DRAWN: usize = 200;
+/// The most variables of a program whose flows are drawn on a page.
+pub(crate) const MOST_BOXES: usize = 40;
 
 /// A variable: its name, its label in the panel, its class, and whether the text declares that.
 #[derive(Drop)]
 pub(crate) struct Variable {
     pub(crate) name: Vec<u8>,
     pub(crate) label: Vec<u8>,
-    pub(crate) class: Option<usize>,
+    pub(crate) class: usize,
     pub(crate) is_declared: bool,
 }
 
@@ -235,21 +237,15 @@ fn variable_of(
     alloc: Global,
     order: &Order,
     name: &[u8],
-    class: Option<Class>,
+    class: Class,
     is_declared: bool,
 ) -> Made<Variable> {
-    let mut label = Vec::new(alloc);
-    let mut number = None;
-    if let Some(class) = class {
-        label.extend_from_slice(name_of(order, class.index()))?;
-        label.extend_from_slice(if is_declared { b"" } else { b"*" })?;
-        number = Some(class.index());
-    }
-    let name = name.to_vec(alloc)?;
+    let mut label = name_of(order, class.index()).to_vec(alloc)?;
+    label.extend_from_slice(if is_declared { b"" } else { b"*" })?;
     Ok(Variable {
-        name,
+        name: name.to_vec(alloc)?,
         label,
-        class: number,
+        class: class.index(),
         is_declared,
     })
 }
@@ -264,13 +260,14 @@ fn variables_of(
 ) -> Made<Vec<Variable>> {
     let mut variables = Vec::new(alloc);
     for global in program.globals() {
-        variables.push(variable_of(alloc, order, global.name, Some(global.class), true)?)?;
+        variables.push(variable_of(alloc, order, global.name, global.class, true)?)?;
     }
     for (number, entry) in program.letvars().iter().enumerate() {
-        let class = entry.class.or(inferred.get(number).copied());
+        let least = inferred.get(number).copied().unwrap_or(bottom);
+        let class = entry.class.unwrap_or(least);
         variables.push(variable_of(alloc, order, entry.name, class, entry.class.is_some())?)?;
     }
-    variables.push(variable_of(alloc, order, b"(loop)", Some(bottom), true)?)?;
+    variables.push(variable_of(alloc, order, b"(loop)", bottom, true)?)?;
     Ok(variables)
 }
 
@@ -292,14 +289,6 @@ fn pairs_of(
     }
 }
 
-/// Whether flows into the ending of loops are judged.
-pub(crate) fn is_strict(profile: Profile) -> bool {
-    match profile {
-        Profile::Base => false,
-        Profile::Strict => true,
-    }
-}
-
 /// The facts of a program, with these classes of its letvars, and these names in its text.
 pub(crate) fn facts_of(
     alloc: Global,
@@ -317,7 +306,7 @@ pub(crate) fn facts_of(
 {
     let variables = variables_of(alloc, order, program, chosen, lattice.bottom())?;
     let mut flows = None;
-    if variables.len() <= MOST_DRAWN + 1 {
+    if variables.len() <= MOST_BOXES + 1 {
         flows = Some(flows_of(alloc, profile, program)?);
     }
     let pairs = pairs_of(alloc, profile, lattice, program)?;
@@ -352,8 +341,11 @@ impl Facts {
     }
 
     /// The class of a variable.
-    pub(crate) fn class(&self, number: usize) -> Option<usize> {
-        self.variables.get(number)?.class
+    pub(crate) fn class(&self, number: usize) -> usize {
+        match self.variables.get(number) {
+            Some(variable) => variable.class,
+            None => 0,
+        }
     }
 
     /// Whether the class of a variable was inferred.
@@ -367,26 +359,16 @@ impl Facts {
     /// Whether a variable flows to another by a rule in one step.
     pub(crate) fn flows_between(&self, source: usize, target: usize, rule: Rule) -> bool {
         match &self.flows {
-            Some(flows) => target <= MOST_DRAWN && has_flow(flows, rule, source, target),
+            Some(flows) => target <= MOST_BOXES && has_flow(flows, rule, source, target),
             None => false,
         }
     }
 }
 
-/// The kinds of names in the panel of a source text, each with the name of a class's colour.
-const KINDS: [&[u8]; 8] = [
-    b"name k0", b"name k1", b"name k2", b"name k3", b"name k4", b"name k5", b"name k6", b"name k7",
-];
-
-/// The kind of a name of a class.
-pub(crate) fn name_kind(class: Option<usize>) -> &'static [u8] {
-    match class {
-        Some(class) => KINDS[class % 8],
-        None => b"name kn",
-    }
-}
+/// The names of the colours of classes.
+const COLOURS: [&[u8]; 8] = [b"k0", b"k1", b"k2", b"k3", b"k4", b"k5", b"k6", b"k7"];
 
 /// The name of the colour of a class.
-pub(crate) fn colour(class: Option<usize>) -> &'static [u8] {
-    name_kind(class).get(5..).unwrap_or(b"")
+pub(crate) fn colour(class: usize) -> &'static [u8] {
+    COLOURS[class % 8]
 }

@@ -18,7 +18,7 @@ ghost use Rattle.vsi_report.specs.FlowsGraph as spec;
 
 use crate::dot::{
     Drawn, class_shown, edge_words, flow_course, graph_text, lattice_lines, nodes_shown,
-    put_between, put_frame, put_node, put_numbered, put_paint, step_number, variable_at,
+    put_between, put_frame, put_numbered, put_paint, step_number, variable_at,
 };
 use crate::facts::{Flows, MOST_DRAWN, flows_of, has_flow, judged_classes};
 use crate::order::{name_of, order_of};
@@ -89,9 +89,7 @@ fn put_variable(text: &mut Vec<u8>, drawn: &Drawn<'_>, number: u16) -> Added
         (text.new.items ≡ text.old.items ++ spec.variable_line (shown drawn.now) number) }
 {
     let variable = variable_at(drawn, number);
-    text.extend_from_slice(b"  ")?;
-    put_node(text, number)?;
-    text.extend_from_slice(b" [label=\"")?;
+    put_numbered(text, b"  \"v.", number as usize, b"\" [label=\"")?;
     put_label(text, drawn, variable)?;
     text.extend_from_slice(b"\"")?;
     put_attributes(text, drawn, variable)?;
@@ -148,11 +146,8 @@ fn put_edge(text: &mut Vec<u8>, drawn: &Drawn<'_>, source: u16, target: u16, rul
     ensures { OnOk result (text.new.items ≡ text.old.items
         ++ spec.flow_line (shown drawn.now) source target rule) }
 {
-    text.extend_from_slice(b"  ")?;
-    put_node(text, source)?;
-    text.extend_from_slice(b" -> ")?;
-    put_node(text, target)?;
-    text.extend_from_slice(b" [label=\"")?;
+    put_numbered(text, b"  \"v.", source as usize, b"\" -> ")?;
+    put_numbered(text, b"\"v.", target as usize, b"\" [label=\"")?;
     put_looks(text, drawn, source, target, rule)?;
     text.extend_from_slice(b"];\n")
 }

@@ -6,7 +6,6 @@ ghost use Rattle.vsi_lattice.specs.LatticeView.{class_named, order};
 ghost use Rattle.vsi_lattice.specs.Order.{IsClass};
 ghost use Rattle.vsi_leak.specs.Leaks.{IsFinding, IsLeak};
 
-use crate::facts::is_strict;
 use crate::order::is_below;
 use crate::page::{Added, Made, Page, Part};
 use crate::report::View;
@@ -17,6 +16,7 @@ use vsi_lattice::{Class, Classes, Lattice};
 use vsi_leak::{
     Effort, Ending, Finding, Leak, Sign, check_leak, classes_upwards, find_leak, leak_text,
 };
+use vsi_types::Profile;
 
 /// A search: the lattice, the image, the first variable of the refused flow, and the signs.
 #[derive(Clone, Copy)]
@@ -86,27 +86,9 @@ fn found_in(search: &Search<'_>, classes: &[Class]) -> Made<Finding>
 const SIGNS: [Sign; 2] = [Sign::Words, Sign::Endings];
 /// The most instructions of a run in the search for a leak.
 const BUDGET: u64 = 10_000;
-/// The number of pairs of stores that are drawn for all classes together.
+/// The number of pairs of stores that are drawn for all classes together: for one at most half of
+/// them, and at least 8.
 const TRIES: u64 = 600;
-/// The most of them for one class.
-const MOST_TRIES: u64 = 300;
-/// The fewest of them for one class.
-const LEAST_TRIES: u64 = 8;
-
-/// Adds a leak at one of the classes, and answers in how many pairs of runs none was found there.
-fn put_leak_in(page: &mut Page, search: &Search<'_>, classes: &[Class]) -> Made<Option<u64>>
-    requires { All (IsClass (order search.now.lattice.now)) classes.now }
-{
-    match found_in(search, classes)? {
-        Finding::Leak(leak) => {
-            let image = search.verified.image();
-            let text = leak_text(search.alloc, search.lattice, image, &leak)?;
-            put_shown(page, search, search.lattice.name(leak.class), &leak, &text)?;
-            Ok(None)
-        }
-        Finding::Nothing { pairs } => Ok(Some(pairs)),
-    }
-}
 
 /// The section for pairs of runs that show no leak.
 const NO_LEAK: &[u8] = b"<section aria-labelledby=\"leak\"><h2 id=\"leak\">No leak was found</h2>\n\
@@ -118,15 +100,17 @@ run, and a text that reveals nothing may be refused.</p></section>\n";
 fn put_search(page: &mut Page, search: &Search<'_>, class: usize) -> Added {
     let mut done: u64 = 0;
     if class < search.lattice.count() {
-        match put_leak_in(page, search, &[Class::at(class as u8)])? {
-            Some(pairs) => done = pairs,
-            None => return Ok(()),
+        match found_in(search, &[Class::at(class as u8)])? {
+            Finding::Leak(leak) => return put_shown(page, search, &leak),
+            Finding::Nothing { pairs } => done = pairs,
         }
     }
     let classes = classes_upwards(search.alloc, search.lattice)?;
-    match put_leak_in(page, search, &classes)? {
-        Some(pairs) => page.draw(NO_LEAK, &[done.saturating_add(pairs) as usize]),
-        None => Ok(()),
+    match found_in(search, &classes)? {
+        Finding::Leak(leak) => put_shown(page, search, &leak),
+        Finding::Nothing { pairs } => {
+            page.fill(NO_LEAK, &[], &[done.saturating_add(pairs) as usize])
+        }
     }
 }
 
@@ -144,19 +128,19 @@ pub(crate) fn put_leak(page: &mut Page, view: &View<'_>, read: &Source<'_>) -> A
         lattice,
         verified: &verified,
         source: first.source.0 as usize,
-        signs: if is_strict(view.profile) {
+        signs: if view.profile == Profile::Strict {
             &SIGNS
         } else {
             &SIGNS[..1]
         },
         effort: Effort {
             budget: BUDGET,
-            tries: (TRIES / count).max(LEAST_TRIES).min(MOST_TRIES),
+            tries: (TRIES / count).max(8).min(TRIES / 2),
             seed: 0,
         },
     };
     let class = view.facts.class(view.facts.number(last.target));
-    put_search(page, &search, class.unwrap_or(usize::MAX))
+    put_search(page, &search, class)
 }
 
 /// The most variables of a table that shows all of them.
@@ -179,68 +163,59 @@ impl Stores<'_> {
         let first = self.first.get(index).copied().unwrap_or(0);
         (first, self.second.get(index).copied().unwrap_or(0))
     }
-
-    /// Whether the observer sees the variable at an index.
-    fn is_seen(self, index: usize) -> bool {
-        match self.view.facts.class(index) {
-            Some(class) => is_below(self.view.order, class, self.class),
-            None => false,
-        }
-    }
 }
 
-/// The row of a variable with the same value in both runs.
-const SAME: &[u8] = b"<tr><th scope=\"row\">%0</th><td>%1</td><td>%2</td><td></td></tr>\n";
-/// The row of a variable with different values that the observer doesn't see.
-const UNSEEN: &[u8] = b"<tr><th scope=\"row\">%0</th><td>%1</td><td>%2</td>\
-<td>differs, not seen</td></tr>\n";
+/// The row of a variable: its name, its values in both runs, and whether these differ.
+const ROW: &[u8] = b"<tr%4><th scope=\"row\">%0</th><td>%1</td><td>%2</td><td>%3</td></tr>\n";
 
-/// The row of a variable with different values that the observer sees.
-const DIFFERS: &[u8] = b"<tr class=\"apart\"><th scope=\"row\">%0</th><td>%1</td><td>%2</td>\
-<td>differs</td></tr>\n";
+/// The variables with equal values, which open on request.
+const ALIKE: &[u8] = b"<details class=\"spare\"><summary>The other variables have equal values\
+</summary>\n<p>%0</p></details>\n";
 
 /// The beginning of a table of two stores, with its caption.
-const STORES: &[u8] = b"<div class=\"scroll\" tabindex=\"0\"><table class=\"runs\"><caption>%0\
+const STORES: &[u8] = b"<table class=\"runs\"><caption>%0\
 </caption>\n<thead><tr><th scope=\"col\">Variable</th><th scope=\"col\">First run</th>\
 <th scope=\"col\">Second run</th><th scope=\"col\">Differs</th></tr></thead>\n<tbody>\n";
 
-/// Adds a table of two stores: the variables with equal values, those that differ, or both.
-fn put_table(page: &mut Page, stores: Stores<'_>, has_equal: bool, has_different: bool) -> Added {
-    page.fill(STORES, &[Part::Markup(stores.caption)])?;
-    for (index, global) in stores.image.globals.iter().enumerate() {
-        let (one, other) = stores.words(index);
-        if (one == other && has_equal) || (one != other && has_different) {
-            let different = if stores.is_seen(index) {
-                DIFFERS
-            } else {
-                UNSEEN
-            };
-            let markup = if one == other { SAME } else { different };
-            let name = Part::Text(&global.0);
-            page.fill(markup, &[name, Part::Word(one), Part::Word(other)])?;
-        }
-    }
-    page.put(b"</tbody></table></div>\n")
+/// Adds the row of a variable.
+fn put_row(page: &mut Page, stores: Stores<'_>, index: usize, name: &[u8]) -> Added {
+    let view = stores.view;
+    let (one, other) = stores.words(index);
+    let (tint, difference): (&[u8], &[u8]) = if one == other {
+        (b"", b"")
+    } else if is_below(view.order, view.facts.class(index), stores.class) {
+        (b" class=\"apart\"", b"differs")
+    } else {
+        (b"", b"differs, not seen")
+    };
+    let (name, first, second) = (Part::Text(name), Part::Word(one), Part::Word(other));
+    let parts = [
+        name,
+        first,
+        second,
+        Part::Markup(difference),
+        Part::Markup(tint),
+    ];
+    page.fill(ROW, &parts, &[])
 }
 
-/// Adds the table of two stores. Many variables with equal values are in a table that opens.
+/// Adds the table of two stores; if there are many variables, those with equal values are below it.
 fn put_stores(page: &mut Page, stores: Stores<'_>) -> Added {
-    let count = stores.image.globals.len();
-    let mut alike: usize = 0;
-    for index in 0..count {
+    let mut alike = Page::new(stores.view.alloc);
+    page.fill(STORES, &[Part::Markup(stores.caption)], &[])?;
+    for (index, global) in stores.image.globals.iter().enumerate() {
         let (one, other) = stores.words(index);
-        if one == other {
-            alike = alike.saturating_add(1);
+        if one == other && stores.image.globals.len() > MOST_ROWS {
+            alike.fill(b"%0 = %1 ", &[Part::Text(&global.0), Part::Word(one)], &[])?;
+        } else {
+            put_row(page, stores, index, &global.0)?;
         }
     }
-    if count <= MOST_ROWS || alike == 0 {
-        return put_table(page, stores, true, true);
+    page.put(b"</tbody></table>\n")?;
+    if alike.text.is_empty() {
+        return Ok(());
     }
-    put_table(page, stores, false, true)?;
-    page.draw(b"<details><summary>%0 with equal values", &[alike])?;
-    page.put(b"</summary>\n")?;
-    put_table(page, stores, true, false)?;
-    page.put(b"</details>\n")
+    page.fill(ALIKE, &[Part::Page(&alike)], &[])
 }
 
 /// The numbers of instructions of two runs that halt.
@@ -267,7 +242,7 @@ fn put_endings<'a>(page: &mut Page, before: Stores<'a>, leak: &'a Leak) -> Added
             stores.first = first;
             stores.second = second;
             put_stores(page, stores)?;
-            return page.draw(TAKES, &[*count as usize, *more as usize]);
+            return page.fill(TAKES, &[], &[*count as usize, *more as usize]);
         }
     }
     page.put(b"<p>One of the runs halts, and the other is out of budget.</p>\n")
@@ -280,20 +255,24 @@ that the observer can tell apart.</p>\n";
 
 /// The text of a leak, which opens on request.
 const TEXT: &[u8] = b"<details><summary>What the observer sees, as <code>vsi leak</code> prints \
-it</summary>\n<pre class=\"leak\" tabindex=\"0\"><code>%0</code></pre></details>\n</section>\n";
+it</summary>\n<pre class=\"leak\"><code>%0</code></pre></details>\n</section>\n";
 
-/// Adds a leak at a class with a name: its stores, its endings, and the text of `vsi leak`.
-fn put_shown(page: &mut Page, search: &Search<'_>, name: &[u8], leak: &Leak, text: &[u8]) -> Added {
-    page.fill(LEAK, &[Part::Text(name)])?;
+/// Adds a leak: its class, its stores, its endings, and the text of `vsi leak`.
+fn put_shown(page: &mut Page, search: &Search<'_>, leak: &Leak) -> Added
+    requires { IsClass (order search.now.lattice.now) leak.now.class }
+{
+    let image = search.verified.image();
+    let text = leak_text(search.alloc, search.lattice, image, leak)?;
+    page.fill(LEAK, &[Part::Text(search.lattice.name(leak.class))], &[])?;
     let stores = Stores {
         caption: b"Before the runs",
         view: search.view,
         class: leak.class.index(),
-        image: search.verified.image(),
+        image,
         first: &leak.first.store,
         second: &leak.second.store,
     };
     put_stores(page, stores)?;
     put_endings(page, stores, leak)?;
-    page.fill(TEXT, &[Part::Text(text)])
+    page.fill(TEXT, &[Part::Text(&text)], &[])
 }

@@ -12,7 +12,6 @@
 //! of `specs/` are only steps of proofs.
 #![tactic(auto)]
 
-mod bands;
 mod banner;
 mod dot;
 mod facts;
@@ -24,12 +23,11 @@ mod panel;
 mod picture;
 mod refusal;
 mod report;
-mod scene;
 mod sections;
 mod style;
 
 pub use dot::lattice_dot;
 pub use flows_graph::{flows_dot, policy_dot};
 pub use page::put_escaped;
-pub use report::{ReportError, filed_page};
+pub use report::filed_page;
 pub use sections::Filing;

@@ -89,8 +89,6 @@ pub(crate) enum Part<'a> {
     Text(&'a [u8]),
     /// A text, escaped; one of more than 24 letters keeps its first and last letters.
     Short(&'a [u8]),
-    /// A number.
-    Number(usize),
     /// A word of the machine.
     Word(i64),
     /// A part of a page.
@@ -179,11 +177,9 @@ impl Page {
 
     /// Adds the class of a variable, and whether it was inferred.
     fn put_chip(&mut self, view: &View<'_>, number: usize) -> Added {
-        let Some(class) = view.facts.class(number) else {
-            return self.put(b"<span class=\"chip kn\">no class</span>");
-        };
+        let class = view.facts.class(number);
         self.put(b"<span class=\"chip ")?;
-        self.put(colour(Some(class)))?;
+        self.put(colour(class))?;
         self.put(b"\">")?;
         self.tell(name_of(view.order, class))?;
         self.put(if view.facts.is_inferred(number) {
@@ -196,7 +192,13 @@ impl Page {
     /// Adds a position in a source text, as a link to its line.
     fn put_place(&mut self, source: &[u8], at: usize) -> Added {
         let (line, column) = line_column(source, at);
-        self.draw(b"<a href=\"#L%0\">line %0, column %1</a>", &[line, column])
+        self.put(b"<a href=\"#L")?;
+        self.number(line)?;
+        self.put(b"\">line ")?;
+        self.number(line)?;
+        self.put(b", column ")?;
+        self.number(column)?;
+        self.put(b"</a>")
     }
 
     /// Adds a part.
@@ -205,7 +207,6 @@ impl Page {
             Part::Markup(piece) => self.put(piece),
             Part::Text(text) => self.tell(text),
             Part::Short(text) => self.put_short(text),
-            Part::Number(number) => self.number(number),
             Part::Word(word) => put_word(&mut self.text, word),
             Part::Page(page) => self.put_page(page),
             Part::Name(facts, number) => self.put_name(facts, number),
@@ -214,29 +215,23 @@ impl Page {
         }
     }
 
-    /// Adds a piece of markup from the code, in which `%0` is a hole for the first part, and so on.
-    pub(crate) fn fill(&mut self, markup: &'static [u8], parts: &[Part<'_>]) -> Added {
-        let mut is_hole = false;
-        for byte in markup {
-            if is_hole {
-                if let Some(part) = parts.get(byte.saturating_sub(b'0') as usize) {
-                    self.put_part(*part)?;
-                }
-            } else if *byte != b'%' {
-                self.text.extend_from_slice(&[*byte])?;
-            }
-            is_hole = !is_hole && *byte == b'%';
-        }
-        Ok(())
-    }
-
-    /// Adds a piece of markup from the code, in which `%0` is a hole for the first number.
-    pub(crate) fn draw(&mut self, markup: &'static [u8], numbers: &[usize]) -> Added {
+    /// Adds a piece of markup from the code, in which `%0` is a hole for the first part, and so on,
+    /// and then for the first number.
+    pub(crate) fn fill(
+        &mut self,
+        markup: &'static [u8],
+        parts: &[Part<'_>],
+        numbers: &[usize],
+    ) -> Added {
         let mut is_hole = false;
         for byte in markup {
             if is_hole {
                 let index = byte.saturating_sub(b'0') as usize;
-                self.number(numbers.get(index).copied().unwrap_or(0))?;
+                let rest = index.saturating_sub(parts.len());
+                match parts.get(index) {
+                    Some(part) => self.put_part(*part)?,
+                    None => self.number(numbers.get(rest).copied().unwrap_or(0))?,
+                }
             } else if *byte != b'%' {
                 self.text.extend_from_slice(&[*byte])?;
             }
@@ -254,7 +249,7 @@ impl Page {
     {
         let Page { mut text } = self;
         text.extend_from_slice(&before.text)?;
-        text.extend_from_slice(b"<pre class=\"source\" tabindex=\"0\"><code>")?;
+        text.extend_from_slice(b"<pre class=\"source\"><code>")?;
         text.extend_from_slice(panel)?;
         text.extend_from_slice(b"</code></pre>")?;
         text.extend_from_slice(&after.text)?;
@@ -269,8 +264,10 @@ pub(crate) enum Verdict {
     Accepted,
     /// A flow of the text is refused.
     Refused,
-    /// The text isn't a program over the lattice.
+    /// The text is no program.
     NoProgram,
+    /// The text is a program, but its names or its size are at fault.
+    Unjudged,
 }
 
 /// The beginning of the title of a page.
@@ -278,9 +275,10 @@ fn title(verdict: Verdict) -> &'static [u8]
     ensures { result.now ≡ spec.title verdict }
 {
     match verdict {
-        Verdict::Accepted => b"<title>Accepted: a report of its flows",
-        Verdict::Refused => b"<title>Refused: a report of its flows",
-        Verdict::NoProgram => b"<title>Not a program",
+        Verdict::Accepted => b"<title>Accepted: a report of its flows, ",
+        Verdict::Refused => b"<title>Refused: a report of its flows, ",
+        Verdict::NoProgram => b"<title>Not a program, ",
+        Verdict::Unjudged => b"<title>Not judged, ",
     }
 }
 
@@ -292,6 +290,7 @@ fn banner(verdict: Verdict) -> &'static [u8]
         Verdict::Accepted => b"<header class=\"good\"><h1>&#10003; Accepted</h1>\n",
         Verdict::Refused => b"<header class=\"bad\"><h1>&#10007; Refused</h1>\n",
         Verdict::NoProgram => b"<header class=\"bad\"><h1>&#10007; Not a program</h1>\n",
+        Verdict::Unjudged => b"<header class=\"bad\"><h1>&#10007; Not judged</h1>\n",
     }
 }
 

@@ -4,27 +4,14 @@
 ghost use Rattle.std.specs.Prelude.{◌≡◌, ◌<◌, ◌++◌, ◌∷◌, ℕ, List, [], length, slice_index, OnOk};
 ghost use Rattle.std.specs.Prelude.{IfOk};
 ghost use Rattle.vsi_report.specs.Reading.{Shows};
-ghost use Rattle.vsi_report.specs.Panel.{line_tag, next_tag, open_tag};
+ghost use Rattle.vsi_report.specs.Panel.{attribute, line_tag, next_tag, open_tag};
 
-use crate::facts::name_kind;
+use crate::facts::colour;
 use crate::page::{Added, Made, put_byte, put_escaped, put_number};
 use crate::report::View;
 use std::alloc::{AllocError, Global};
 use vsi_names::Mention;
 use vsi_syntax::{Kind, LexError, Token, lex};
-
-/// A part of a source text: the byte after it; its kind, empty if it is plain; and its label.
-#[derive(Clone, Copy)]
-pub(crate) struct Mark {
-    pub(crate) stop: usize,
-    pub(crate) kind: &'static [u8],
-    pub(crate) label: &'static [u8],
-}
-
-/// The part with this end, kind and label.
-fn part(stop: usize, kind: &'static [u8], label: &'static [u8]) -> Mark {
-    Mark { stop, kind, label }
-}
 
 /// The names of the control characters below the space.
 const CONTROLS: [&[u8]; 32] = [
@@ -61,7 +48,7 @@ fn byte_at(source: &[u8], at: usize) -> u8 {
 }
 
 /// Whether a line ends at a position: at its line feed, or at the carriage return before that.
-fn ends_at(source: &[u8], at: usize) -> bool {
+pub(crate) fn ends_at(source: &[u8], at: usize) -> bool {
     match byte_at(source, at) {
         b'\n' => true,
         b'\r' => byte_at(source, at.saturating_add(1)) == b'\n',
@@ -87,7 +74,7 @@ fn unseen_at(source: &[u8], at: usize) -> Option<(usize, &'static [u8])> {
 }
 
 /// The character at a position, if it isn't visible: its length and its label.
-fn hidden_at(source: &[u8], at: usize) -> Option<(usize, &'static [u8])> {
+pub(crate) fn hidden_at(source: &[u8], at: usize) -> Option<(usize, &'static [u8])> {
     let byte = byte_at(source, at);
     if 32 <= byte && byte < 127 {
         return None;
@@ -113,21 +100,28 @@ fn end_from(source: &[u8], at: usize, stop: usize, is_comment: bool) -> usize {
     stop
 }
 
-/// The mark at a position before `stop`, or the plain part there, and whether a comment goes on
-/// after it.
-pub(crate) fn mark_at(source: &[u8], at: usize, stop: usize, is_comment: bool) -> (Mark, bool) {
+/// What begins at a position before `stop`: the end of the part, its kind, which is empty if it is
+/// plain, its label, and whether a comment goes on after it.
+fn mark_at(
+    source: &[u8],
+    at: usize,
+    stop: usize,
+    is_comment: bool,
+) -> (usize, &'static [u8], &'static [u8], bool) {
     if let Some((length, label)) = hidden_at(source, at) {
         return (
-            part(at.saturating_add(length).min(stop), b"mark", label),
+            at.saturating_add(length).min(stop),
+            b"mark",
+            label,
             is_comment,
         );
     }
     if ends_at(source, at) {
-        return (part(at.saturating_add(1).min(stop), b"", b""), false);
+        return (at.saturating_add(1).min(stop), b"", b"", false);
     }
     let is_note = is_comment || byte_at(source, at) == b'#';
     let end = end_from(source, at, stop, is_note);
-    (part(end, if is_note { b"note" } else { b"" }, b""), is_note)
+    (end, if is_note { b"note" } else { b"" }, b"", is_note)
 }
 
 /// A part of a source text: its first byte, the byte after it, its kind, and its two labels.
@@ -157,6 +151,19 @@ fn put_next(page: &mut Vec<u8>, number: usize) -> Added
     put_line(page, number)
 }
 
+/// Adds an attribute of a part, up to the end of its value, unless that is empty.
+fn put_attribute(page: &mut Vec<u8>, begin: &'static [u8], value: &[u8]) -> Added
+    ensures { OnOk result (page.new.items ≡ page.old.items ++ attribute begin.now value.now) }
+{
+    match value {
+        [] => Ok(()),
+        [_, ..] => {
+            page.extend_from_slice(begin)?;
+            put_escaped(page, value)
+        }
+    }
+}
+
 /// Adds the beginning of a part.
 fn put_open(page: &mut Vec<u8>, kind: &[u8], class: &[u8], step: &[u8]) -> Added
     ensures { OnOk result
@@ -164,10 +171,8 @@ fn put_open(page: &mut Vec<u8>, kind: &[u8], class: &[u8], step: &[u8]) -> Added
 {
     page.extend_from_slice(b"<b class=\"")?;
     put_escaped(page, kind)?;
-    page.extend_from_slice(b"\" data-class=\"")?;
-    put_escaped(page, class)?;
-    page.extend_from_slice(b"\" data-step=\"")?;
-    put_escaped(page, step)?;
+    put_attribute(page, b"\" data-class=\"", class)?;
+    put_attribute(page, b"\" data-step=\"", step)?;
     page.extend_from_slice(b"\">")
 }
 
@@ -294,12 +299,12 @@ fn plain<'a>(
 }
 
 /// Adds the number of a step and a preposition, after a comma unless it is the first.
-fn put_word(label: &mut Vec<u8>, number: usize, word: &[u8]) -> Added {
+fn put_step(label: &mut Vec<u8>, number: usize, preposition: &[u8]) -> Added {
     if !label.is_empty() {
         label.extend_from_slice(b", ")?;
     }
     put_number(label, number)?;
-    label.extend_from_slice(word)
+    label.extend_from_slice(preposition)
 }
 
 /// The label of the steps of the walk that read or write at a position.
@@ -308,9 +313,9 @@ fn steps_at(view: &View<'_>, start: usize) -> Made<Vec<u8>> {
     for (place, step) in view.walk.iter().enumerate() {
         let number = place.saturating_add(1);
         if step.read.start == start {
-            put_word(&mut label, number, b" from")?;
+            put_step(&mut label, number, b" from")?;
         } else if step.written.start == start {
-            put_word(&mut label, number, b" to")?;
+            put_step(&mut label, number, b" to")?;
         }
     }
     Ok(label)
@@ -326,20 +331,38 @@ fn variable_at(mentions: &[Mention], next: usize, start: usize) -> Option<usize>
     }
 }
 
-/// Adds the comments from a position up to another, and the characters that aren't visible.
+/// The end of what is marked as a fault at a position: a name, or a character.
+fn fault_end(source: &[u8], at: usize) -> usize {
+    for place in at.saturating_add(1)..source.len() {
+        let byte = byte_at(source, place);
+        let is_letter = byte.is_ascii_alphanumeric() || byte == b'_' || byte >= 128;
+        if !is_letter || hidden_at(source, place).is_some() {
+            return place;
+        }
+    }
+    source.len()
+}
+
+/// Adds the comments from a position up to another, characters that aren't visible, and a fault.
 fn put_marks<'a>(parts: &mut Vec<Tagged<'a>>, view: &View<'a>, from: usize, stop: usize) -> Added {
+    let fault = view.fault.unwrap_or(usize::MAX);
     let mut at = from;
     let mut is_comment = false;
     for _ in from..stop {
         if at >= stop {
             return Ok(());
         }
-        let (mark, goes_on) = mark_at(view.source, at, stop, is_comment);
+        let limit = if at < fault { stop.min(fault) } else { stop };
+        let (mut end, mut kind, label, goes_on) = mark_at(view.source, at, limit, is_comment);
         is_comment = goes_on;
-        if !mark.kind.is_empty() {
-            parts.push(plain(view.alloc, at, mark.stop, mark.kind, mark.label))?;
+        if at == fault && kind.is_empty() && !ends_at(view.source, at) {
+            end = fault_end(view.source, at).min(stop);
+            kind = b"fault";
         }
-        at = mark.stop;
+        if !kind.is_empty() {
+            parts.push(plain(view.alloc, at, end, kind, label))?;
+        }
+        at = end;
     }
     Ok(())
 }
@@ -353,68 +376,81 @@ fn is_keyword(kind: Kind) -> bool {
     }
 }
 
-/// The part with a token that is a keyword, or the name of this variable.
-fn part_of<'a>(
-    view: &View<'a>,
-    variable: Option<usize>,
-    token: &Token<'_>,
-) -> Made<Option<Tagged<'a>>> {
-    let (start, stop) = (token.span.start, token.span.stop);
-    if let Some(variable) = variable {
-        let facts = view.facts;
-        let kind = name_kind(facts.class(variable));
-        let mut part = plain(view.alloc, start, stop, kind, facts.label(variable));
-        part.steps = steps_at(view, start)?;
-        return Ok(Some(part));
-    }
-    if is_keyword(token.kind) {
-        return Ok(Some(plain(view.alloc, start, stop, b"word", b"")));
-    }
-    Ok(None)
+/// The most names of a text whose classes and keywords are shown.
+const MOST_NAMES: usize = 5_000;
+
+/// Whether a text has too many names for their classes to be shown.
+pub(crate) fn is_large(view: &View<'_>) -> bool {
+    view.facts.mentions.len() > MOST_NAMES
 }
 
-/// Adds the parts of a text with these tokens.
+/// The part with the name of a variable, if it is shown; its label is its class.
+fn name_part<'a>(
+    view: &View<'a>,
+    variable: usize,
+    token: &Token<'_>,
+    has_label: bool,
+) -> Made<Option<Tagged<'a>>> {
+    let facts = view.facts;
+    let steps = steps_at(view, token.span.start)?;
+    if is_large(view) && steps.is_empty() {
+        return Ok(None);
+    }
+    Ok(Some(Tagged {
+        start: token.span.start,
+        stop: token.span.stop,
+        kind: colour(facts.class(variable)),
+        label: if has_label {
+            facts.label(variable)
+        } else {
+            b""
+        },
+        steps,
+    }))
+}
+
+/// Adds the parts of a text with these tokens. A name has its class where a line has it first,
+/// unless the text says the class there.
 fn put_parts<'a>(parts: &mut Vec<Tagged<'a>>, view: &View<'a>, tokens: &[Token<'_>]) -> Added {
     let mut at: usize = 0;
     let mut next: usize = 0;
-    for token in tokens {
-        put_marks(parts, view, at, token.span.start)?;
-        at = token.span.start;
-        let variable = variable_at(&view.facts.mentions, next, at);
-        if variable.is_some() {
-            next = next.saturating_add(1);
+    let mut labelled = Vec::new(view.alloc);
+    for (index, token) in tokens.iter().enumerate() {
+        let (start, stop) = (token.span.start, token.span.stop);
+        put_marks(parts, view, at, start)?;
+        if view.source.get(at..start).unwrap_or(b"").contains(&b'\n') {
+            labelled.clear();
         }
-        if let Some(part) = part_of(view, variable, token)? {
-            at = part.stop;
-            parts.push(part)?;
+        at = start;
+        if let Some(variable) = variable_at(&view.facts.mentions, next, start) {
+            next = next.saturating_add(1);
+            let says_class = match tokens.get(index.saturating_add(1)) {
+                Some(after) => after.kind == Kind::Colon,
+                None => false,
+            };
+            let has_label = !says_class && !labelled.contains(&variable);
+            if let Some(part) = name_part(view, variable, token, has_label)? {
+                at = stop;
+                parts.push(part)?;
+                labelled.push(variable)?;
+            }
+        } else if is_keyword(token.kind) && !is_large(view) && view.fault != Some(start) {
+            at = stop;
+            parts.push(plain(view.alloc, start, stop, b"word", b""))?;
         }
     }
     put_marks(parts, view, at, view.source.len())
 }
 
-/// The panel of a text with these tokens.
-fn token_panel(view: &View<'_>, tokens: &[Token<'_>]) -> Made<Vec<u8>>
-    ensures { IfOk result (λ page. Shows page.items view.now.source.now) }
-{
-    let mut parts = Vec::new(view.alloc);
-    put_parts(&mut parts, view, tokens)?;
-    panel_of(view.alloc, view.source, &parts)
-}
-
-/// The panel of a text that has a program.
+/// The panel of a text.
 pub(crate) fn source_panel(view: &View<'_>) -> Made<Vec<u8>>
     ensures { IfOk result (λ page. Shows page.items view.now.source.now) }
 {
+    let mut parts = Vec::new(view.alloc);
     match lex(view.alloc, view.source) {
-        Ok(tokens) => token_panel(view, &tokens),
-        Err(LexError::Memory) => Err(AllocError),
-        Err(_) => plain_panel(view),
+        Ok(tokens) => put_parts(&mut parts, view, &tokens)?,
+        Err(LexError::Memory) => return Err(AllocError),
+        Err(_) => put_parts(&mut parts, view, &[])?,
     }
-}
-
-/// The panel of a text without known facts.
-pub(crate) fn plain_panel(view: &View<'_>) -> Made<Vec<u8>>
-    ensures { IfOk result (λ page. Shows page.items view.now.source.now) }
-{
-    token_panel(view, &[])
+    panel_of(view.alloc, view.source, &parts)
 }

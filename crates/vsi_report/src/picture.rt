@@ -1,98 +1,253 @@
-//! The pictures of a page: that of a lattice, and that of a program's flows.
+//! The pictures of a page: that of a lattice, and that of a program's flows, with the variables in
+//! the boxes of their classes. A picture too large to be read isn't drawn.
 
-use crate::facts::{Facts, RULES, colour};
-use crate::order::{Layout, Order, Spot, name_of, spot_at};
-use crate::page::{Added, Page, Part};
+use crate::facts::{MOST_BOXES, RULES, colour};
+use crate::order::{Order, is_below, name_of};
+use crate::page::{Added, Made, Page, Part};
 use crate::report::View;
-use crate::scene::{Area, Scene, count_shown};
+use std::alloc::Global;
 use vsi_infer::rule_text;
-use vsi_types::Rule;
+use vsi_layered::{Drawing, Graph, Node, Place, Point, apart, badges_of, between, drawing_of};
+use vsi_types::{Profile, Rule, Step};
 
-/// Half the height of a box.
-pub(crate) const HALF: usize = 17;
+/// The most arrows of a picture.
+const MOST_ARROWS: usize = 100;
+/// The greatest width of a picture.
+const WIDEST: usize = 1_400;
+/// The greatest height of a picture.
+const HIGHEST: usize = 2_000;
+/// The height of a box.
+const HIGH: usize = 34;
 
-/// Adds the beginning of a picture.
-fn put_picture(page: &mut Page, wide: usize, high: usize) -> Added {
-    page.put(b"<svg class=\"picture\" role=\"img\" xmlns=\"http://www.w3.org/2000/svg\" ")?;
-    page.draw(
-        b"width=\"%0\" height=\"%1\" viewBox=\"0 0 %0 %1\">",
-        &[wide, high],
-    )
+/// The width of a box with this name, of which a long one is shortened.
+fn box_width(name: &[u8]) -> usize {
+    name.len().min(24).saturating_mul(9).saturating_add(28)
 }
 
-/// Adds the beginning of a group of a kind in the colour of a class.
-fn put_group(page: &mut Page, kind: &'static [u8], class: Option<usize>) -> Added {
-    page.put(b"<g class=\"")?;
-    page.put(kind)?;
-    page.put(b" ")?;
-    page.put(colour(class))?;
-    page.put(b"\">")
-}
-
-/// Adds a box with a name.
-fn put_box(page: &mut Page, spot: Spot, class: Option<usize>, name: &[u8]) -> Added {
-    let left = spot.x.saturating_sub(spot.wide / 2);
-    let numbers = [left, spot.y.saturating_sub(HALF), spot.wide];
-    put_group(page, b"box", class)?;
-    page.draw(b"<rect rx=\"8\" x=\"%0\" y=\"%1\" width=\"%2\" ", &numbers)?;
-    page.put(b"height=\"34\"/><text ")?;
-    page.draw(b"x=\"%0\" y=\"%1\">", &[spot.x, spot.y.saturating_add(5)])?;
-    page.fill(b"%0</text></g>", &[Part::Short(name)])
-}
-
-/// Adds the sentences that describe the picture of a lattice.
-fn put_order_told(page: &mut Page, order: &Order) -> Added {
-    page.put(b"<title>The lattice of classes</title><desc>")?;
-    page.draw(b"%0 classes.", &[order.names.len()])?;
-    for pair in &order.covers {
-        let low = Part::Text(name_of(order, pair.0));
-        page.fill(
-            b" %0 is directly below %1.",
-            &[low, Part::Text(name_of(order, pair.1))],
-        )?;
+/// The box that a name asks for, in a group.
+fn node_of(name: &[u8], group: usize) -> Node {
+    Node {
+        wide: box_width(name),
+        high: HIGH,
+        group,
     }
-    page.put(b"</desc>")
 }
 
-/// The line of a covering pair.
-const COVER: &[u8] = b"<line class=\"cover\" x1=\"%0\" y1=\"%1\" x2=\"%2\" y2=\"%3\"/>";
-
-/// Adds the picture of a lattice with this layout.
-pub(crate) fn put_lattice(page: &mut Page, order: &Order, layout: &Layout) -> Added {
-    put_picture(page, layout.wide, layout.high)?;
-    put_order_told(page, order)?;
-    for pair in &order.covers {
-        let low = spot_at(&layout.spots, pair.0);
-        let high = spot_at(&layout.spots, pair.1);
-        let (foot, head) = (low.y.saturating_sub(HALF), high.y.saturating_add(HALF));
-        page.draw(COVER, &[low.x, foot, high.x, head])?;
+/// The drawing of a graph, unless it is too large to be read.
+fn readable(alloc: Global, graph: Graph<'_>) -> Made<Option<Drawing>> {
+    if graph.arrows.len() > MOST_ARROWS {
+        return Ok(None);
     }
-    for class in 0..order.names.len() {
-        let spot = spot_at(&layout.spots, class);
-        put_box(page, spot, Some(class), name_of(order, class))?;
+    match drawing_of(alloc, graph)? {
+        Some(drawing) if drawing.wide <= WIDEST && drawing.high <= HIGHEST => Ok(Some(drawing)),
+        _ => Ok(None),
     }
-    page.put(b"</svg>")
 }
 
-/// Adds the sentences that describe the picture of the flows.
-fn put_told(page: &mut Page, facts: &Facts, has_arrows: bool) -> Added {
-    if !has_arrows {
-        return page.put(b"<title>The variables by their classes</title>");
+/// The drawing of a lattice: its classes are one group, and its arrows are the covering pairs.
+pub(crate) fn lattice_drawing(alloc: Global, order: &Order) -> Made<Option<Drawing>> {
+    let mut nodes = Vec::new(alloc);
+    for name in &order.names {
+        nodes.push(node_of(name.as_slice(), 0))?;
     }
-    page.put(b"<title>The flows of one step between variables</title><desc>")?;
-    for source in 0..facts.variables.len() {
-        for target in 0..facts.variables.len() {
+    let graph = Graph {
+        nodes: &nodes,
+        titles: &[0],
+        above: &[1],
+        arrows: &order.covers,
+    };
+    readable(alloc, graph)
+}
+
+/// A flow of one step from a variable to another.
+#[derive(Clone, Copy)]
+pub(crate) struct Arrow {
+    source: usize,
+    target: usize,
+    rule: Rule,
+}
+
+/// The picture of a program's flows: an arrow for each flow of one step, the drawing of the
+/// variables and the arrows, and for each step of a refused walk the index of its arrow.
+#[derive(Drop)]
+pub(crate) struct Scene {
+    arrows: Vec<Arrow>,
+    drawing: Drawing,
+    walk: Vec<usize>,
+}
+
+/// The number of variables shown; the ending of loops is shown under the strict profile only.
+fn count_shown(view: &View<'_>) -> usize {
+    let all = view.facts.variables.len();
+    if view.profile == Profile::Strict {
+        all
+    } else {
+        all.saturating_sub(1)
+    }
+}
+
+/// The flows of one step between two variables, in order.
+fn arrows_of(view: &View<'_>) -> Made<Vec<Arrow>> {
+    let mut arrows = Vec::new(view.alloc);
+    for source in 0..view.facts.variables.len() {
+        for target in 0..view.facts.variables.len() {
             for rule in RULES {
-                if facts.flows_between(source, target, rule) {
-                    let from = Part::Text(facts.name(source));
-                    let by = Part::Markup(rule_text(rule));
-                    let parts = [from, Part::Text(facts.name(target)), by];
-                    page.fill(b" %0 flows to %1 by %2.", &parts)?;
+                if source != target && view.facts.flows_between(source, target, rule) {
+                    arrows.push(Arrow {
+                        source,
+                        target,
+                        rule,
+                    })?;
                 }
             }
         }
     }
-    page.put(b"</desc>")
+    Ok(arrows)
+}
+
+/// The drawing of the flows, unless it is too large to be read.
+fn flows_drawing(view: &View<'_>, arrows: &[Arrow]) -> Made<Option<Drawing>> {
+    let mut nodes = Vec::new(view.alloc);
+    for number in 0..count_shown(view) {
+        nodes.push(node_of(view.facts.name(number), view.facts.class(number)))?;
+    }
+    let mut titles = Vec::new(view.alloc);
+    for name in &view.order.names {
+        titles.push(box_width(name.as_slice()))?;
+    }
+    let mut ends = Vec::new(view.alloc);
+    for arrow in arrows {
+        ends.push((arrow.source, arrow.target))?;
+    }
+    let graph = Graph {
+        nodes: &nodes,
+        titles: &titles,
+        above: &view.order.above,
+        arrows: &ends,
+    };
+    readable(view.alloc, graph)
+}
+
+/// The index of the arrow of a step; past the end if there is none.
+fn arrow_of(view: &View<'_>, arrows: &[Arrow], step: &Step) -> usize {
+    let (source, target) = (
+        view.facts.number(step.source),
+        view.facts.number(step.target),
+    );
+    for (index, arrow) in arrows.iter().enumerate() {
+        if arrow.source == source && arrow.target == target && arrow.rule == step.rule {
+            return index;
+        }
+    }
+    arrows.len()
+}
+
+/// The picture of the flows, unless it is too large to be read.
+pub(crate) fn scene_of(view: &View<'_>) -> Made<Option<Scene>> {
+    if count_shown(view) > MOST_BOXES {
+        return Ok(None);
+    }
+    let arrows = arrows_of(view)?;
+    let Some(drawing) = flows_drawing(view, &arrows)? else {
+        return Ok(None);
+    };
+    let mut walk = Vec::new(view.alloc);
+    for step in view.walk {
+        walk.push(arrow_of(view, &arrows, step))?;
+    }
+    Ok(Some(Scene {
+        arrows,
+        drawing,
+        walk,
+    }))
+}
+
+/// The beginning of a picture.
+const PICTURE: &[u8] = b"<div class=\"scroll\"><svg class=\"picture\" role=\"img\" \
+aria-label=\"%0\" xmlns=\"http://www.w3.org/2000/svg\" width=\"%1\" height=\"%2\" \
+viewBox=\"0 %3 %1 %2\">";
+
+/// Adds the beginning of a picture with a label, without what is above `top`.
+fn put_picture(page: &mut Page, label: &'static [u8], drawing: &Drawing, top: usize) -> Added {
+    let numbers = [drawing.wide, drawing.high.saturating_sub(top), top];
+    page.fill(PICTURE, &[Part::Markup(label)], &numbers)
+}
+
+/// A box with a name in the colour of a class.
+const BOX: &[u8] = b"<g class=\"box %0\"><rect rx=\"8\" x=\"%2\" y=\"%3\" width=\"%4\" \
+height=\"%5\"/><text x=\"%6\" y=\"%7\">%1</text></g>";
+
+/// Adds a box with a name in the colour of a class.
+fn put_box(page: &mut Page, place: Place, class: usize, name: &[u8]) -> Added {
+    let parts = [Part::Markup(colour(class)), Part::Short(name)];
+    let x = place.left.saturating_add(place.wide / 2);
+    let y = place.top.saturating_add(place.high / 2 + 5);
+    page.fill(
+        BOX,
+        &parts,
+        &[place.left, place.top, place.wide, place.high, x, y],
+    )
+}
+
+/// The length of a rounded corner of an arrow.
+const CORNER: usize = 12;
+
+/// The point near a corner of a line on the way to another point, at most half the way.
+fn beside(corner: Point, other: Point) -> Point {
+    let whole = apart(corner.x, other.x).max(apart(corner.y, other.y));
+    let length = CORNER.min(whole / 2);
+    Point {
+        x: between(corner.x, other.x, length, whole),
+        y: between(corner.y, other.y, length, whole),
+    }
+}
+
+/// The line of the arrow with an index, with rounded corners.
+fn line_of(alloc: Global, drawing: &Drawing, index: usize) -> Made<Page> {
+    let mut page = Page::new(alloc);
+    let Some(line) = drawing.ways.get(index) else {
+        return Ok(page);
+    };
+    for (place, corner) in line.iter().enumerate() {
+        let before = line
+            .get(place.saturating_sub(1))
+            .copied()
+            .unwrap_or(*corner);
+        let after = line
+            .get(place.saturating_add(1))
+            .copied()
+            .unwrap_or(*corner);
+        let (from, to) = (beside(*corner, before), beside(*corner, after));
+        if place == 0 {
+            page.fill(b"M%0 %1", &[], &[corner.x, corner.y])?;
+        } else if place.saturating_add(1) == line.len() {
+            page.fill(b"L%0 %1", &[], &[corner.x, corner.y])?;
+        } else {
+            let numbers = [from.x, from.y, corner.x, corner.y, to.x, to.y];
+            page.fill(b"L%0 %1Q%2 %3 %4 %5", &[], &numbers)?;
+        }
+    }
+    Ok(page)
+}
+
+/// The space above the classes in the drawing of a lattice, where a group has its title.
+const TITLE: usize = 34;
+
+/// Adds the picture of a lattice.
+pub(crate) fn put_lattice(page: &mut Page, view: &View<'_>, drawing: &Drawing) -> Added {
+    put_picture(page, b"The lattice of classes", drawing, TITLE)?;
+    for index in 0..drawing.ways.len() {
+        let line = line_of(view.alloc, drawing, index)?;
+        page.fill(
+            b"<path class=\"cover\" d=\"%0v-5\"/>",
+            &[Part::Page(&line)],
+            &[],
+        )?;
+    }
+    for (class, place) in drawing.places.iter().enumerate() {
+        put_box(page, *place, class, name_of(view.order, class))?;
+    }
+    page.put(b"</svg></div>\n")
 }
 
 /// The tips of the arrows.
@@ -105,113 +260,110 @@ viewBox=\"0 0 10 10\" refX=\"7\" refY=\"5\" markerWidth=\"8\" markerHeight=\"8\"
 markerUnits=\"userSpaceOnUse\" orient=\"auto\"><path class=\"toldtip\" \
 d=\"M0 0L10 5L0 10z\"/></marker></defs>";
 
-/// The band of a class.
-const BAND: &[u8] = b"<rect x=\"%0\" rx=\"10\" y=\"%1\" width=\"%2\" height=\"%3\"/></g>";
-/// The area of a class in a layered picture.
-const AREA: &[u8] = b"<rect rx=\"10\" x=\"%0\" y=\"%1\" width=\"%2\" height=\"%3\"/></g>";
+/// The area of a class.
+const AREA: &[u8] = b"<g class=\"band %0\"><rect rx=\"10\" x=\"%1\" y=\"%2\" width=\"%3\" \
+height=\"%4\"/></g>";
+/// The name of a class, in its area.
+const NAME: &[u8] = b"<g class=\"band %0\"><text x=\"%2\" y=\"%3\">%1</text></g>";
 
-/// Adds the areas of the classes.
-fn put_areas(page: &mut Page, scene: &Scene) -> Added {
-    let markup = if scene.is_layered { AREA } else { BAND };
-    for area in &scene.areas {
-        let place = area.place;
-        if place.wide > 0 {
-            put_group(page, b"band", area.class)?;
-            page.draw(markup, &[place.left, place.top, place.wide, place.high])?;
+/// Adds the areas of the classes that have variables, or their names, over the arrows.
+fn put_areas(page: &mut Page, view: &View<'_>, drawing: &Drawing, are_names: bool) -> Added {
+    for (class, place) in drawing.groups.iter().enumerate() {
+        if place.wide == 0 {
+            continue;
+        }
+        if are_names {
+            let parts = [
+                Part::Markup(colour(class)),
+                Part::Short(name_of(view.order, class)),
+            ];
+            let (x, y) = (place.left.saturating_add(12), place.top.saturating_add(18));
+            page.fill(NAME, &parts, &[x, y])?;
+        } else {
+            let numbers = [place.left, place.top, place.wide, place.high];
+            page.fill(AREA, &[Part::Markup(colour(class))], &numbers)?;
         }
     }
     Ok(())
 }
 
-/// The name of an area's class, which is shortened in a layered picture.
-fn title_of<'a>(order: &'a Order, scene: &Scene, area: &Area) -> Part<'a> {
-    match area.class {
-        Some(class) if scene.is_layered => Part::Short(name_of(order, class)),
-        Some(class) => Part::Text(name_of(order, class)),
-        None => Part::Markup(b"no class"),
-    }
-}
-
-/// Adds the names of the classes, over the arrows.
-fn put_titles(page: &mut Page, order: &Order, scene: &Scene) -> Added {
-    let (right, down) = if scene.is_layered { (12, 18) } else { (10, 17) };
-    for area in &scene.areas {
-        let place = area.place;
-        if place.wide > 0 {
-            let x = place.left.saturating_add(right);
-            let y = place.top.saturating_add(down);
-            put_group(page, b"band", area.class)?;
-            page.draw(b"<text x=\"%0\" y=\"%1\">", &[x, y])?;
-            page.fill(b"%0</text></g>", &[title_of(order, scene, area)])?;
-        }
-    }
-    Ok(())
-}
-
-/// The class of an arrow by a rule.
-fn rule_class(rule: Rule) -> &'static [u8] {
+/// The style of an arrow by a rule, and what the arrow means.
+fn look(rule: Rule) -> (&'static [u8], &'static [u8]) {
     match rule {
-        Rule::Assign => b"r1",
-        Rule::If => b"r2",
-        Rule::While => b"r4",
-        Rule::Letvar => b"r8",
-        Rule::Loop => b"r16",
+        Rule::Assign => (b"r1", b"from a value to the variable that is assigned"),
+        Rule::If => (
+            b"r2",
+            b"from a guard to the variables that its branches assign",
+        ),
+        Rule::While => (
+            b"r4",
+            b"from a guard to the variables that its body assigns",
+        ),
+        Rule::Letvar => (b"r8", b"from an initial value to its variable"),
+        Rule::Loop => (b"r16", b"from a guard to the ending of a loop"),
     }
 }
 
-/// An arrow that keeps the order of the classes.
-const ARROW: &[u8] = b"<path class=\"flow %0\" d=\"%1\" marker-end=\"url(#tip)\"/>";
-/// An arrow that breaks it.
-const AGAINST: &[u8] = b"<path class=\"flow %0 against\" d=\"%1\" marker-end=\"url(#against)\"/>";
+/// Whether an arrow is by a rule.
+fn has_rule(arrows: &[Arrow], rule: Rule) -> bool {
+    for arrow in arrows {
+        if arrow.rule == rule {
+            return true;
+        }
+    }
+    false
+}
 
-/// Adds the arrows other than those of a walk.
-fn put_arrows(page: &mut Page, scene: &Scene) -> Added {
-    for arrow in &scene.arrows {
-        let markup = if arrow.is_against { AGAINST } else { ARROW };
-        let rule = Part::Markup(rule_class(arrow.rule));
-        page.fill(markup, &[rule, Part::Page(&arrow.line)])?;
+/// Whether a flow breaks the order of the classes of its ends.
+fn is_against(view: &View<'_>, arrow: Arrow) -> bool {
+    let low = view.facts.class(arrow.source);
+    !is_below(view.order, low, view.facts.class(arrow.target))
+}
+
+/// An arrow.
+const ARROW: &[u8] = b"<path class=\"flow %0%1\" d=\"%3\" marker-end=\"url(#%2)\"/>";
+
+/// Adds the arrows that aren't steps of the walk: those that keep the order, or break it.
+fn put_arrows(page: &mut Page, view: &View<'_>, scene: &Scene, breaks: bool) -> Added {
+    let (class, tip): (&[u8], &[u8]) = if breaks {
+        (b" against", b"against")
+    } else {
+        (b"", b"tip")
+    };
+    for (index, arrow) in scene.arrows.iter().enumerate() {
+        if is_against(view, *arrow) == breaks && !scene.walk.contains(&index) {
+            let line = line_of(view.alloc, &scene.drawing, index)?;
+            let style = Part::Markup(look(arrow.rule).0);
+            let parts = [
+                style,
+                Part::Markup(class),
+                Part::Markup(tip),
+                Part::Page(&line),
+            ];
+            page.fill(ARROW, &parts, &[])?;
+        }
     }
     Ok(())
 }
 
 /// The arrow of a step of a walk.
-const STEP: &[u8] = b"<path id=\"a%0\" class=\"told w%0\" d=\"%1\" marker-end=\"url(#told)\"/>";
-
-/// Adds the arrows of a walk.
-fn put_steps(page: &mut Page, scene: &Scene) -> Added {
-    for (place, line) in scene.steps.iter().enumerate() {
-        let number = Part::Number(place.saturating_add(1));
-        page.fill(STEP, &[number, Part::Page(line)])?;
-    }
-    Ok(())
-}
-
+const STEP: &[u8] = b"<path id=\"a%1\" class=\"told w%1\" d=\"%0\" marker-end=\"url(#told)\"/>";
 /// The number of a step of a walk, with a link to the step.
 const BADGE: &[u8] =
-    b"<a href=\"#s%0\"><g class=\"number w%0\"><circle r=\"11\" cx=\"%1\" cy=\"%2\"/>\
+    b"<a href=\"#s%0\"><g class=\"number w%0\"><circle r=\"12\" cx=\"%1\" cy=\"%2\"/>\
 <text x=\"%1\" y=\"%3\">%0</text></g></a>";
 
-/// Adds the numbers of the steps of a walk.
-fn put_badges(page: &mut Page, scene: &Scene) -> Added {
-    for (place, point) in scene.badges.iter().enumerate() {
-        let (number, foot) = (place.saturating_add(1), point.y.saturating_add(5));
-        page.draw(BADGE, &[number, point.x, point.y, foot])?;
-    }
-    Ok(())
-}
-
 /// Adds the boxes of the variables; a box is dashed if the class is inferred.
-fn put_boxes(page: &mut Page, view: &View<'_>, scene: &Scene) -> Added {
-    for number in 0..count_shown(view) {
+fn put_boxes(page: &mut Page, view: &View<'_>, drawing: &Drawing) -> Added {
+    for (number, place) in drawing.places.iter().enumerate() {
         page.put(if view.facts.is_inferred(number) {
             b"<g class=\"inferred\">"
         } else {
             b"<g>"
         })?;
-        let spot = spot_at(&scene.spots, number);
         put_box(
             page,
-            spot,
+            *place,
             view.facts.class(number),
             view.facts.name(number),
         )?;
@@ -222,19 +374,58 @@ fn put_boxes(page: &mut Page, view: &View<'_>, scene: &Scene) -> Added {
 
 /// Adds the picture of a program's flows.
 pub(crate) fn put_scene(page: &mut Page, view: &View<'_>, scene: &Scene) -> Added {
-    put_picture(page, scene.wide, scene.high)?;
-    put_told(page, view.facts, scene.has_arrows)?;
+    let drawing = &scene.drawing;
+    put_picture(page, b"The flows of one step between variables", drawing, 0)?;
     page.put(TIPS)?;
-    put_areas(page, scene)?;
-    put_arrows(page, scene)?;
-    if scene.is_layered {
-        put_steps(page, scene)?;
+    put_areas(page, view, drawing, false)?;
+    put_arrows(page, view, scene, false)?;
+    put_arrows(page, view, scene, true)?;
+    for (place, index) in scene.walk.iter().enumerate() {
+        let line = line_of(view.alloc, drawing, *index)?;
+        page.fill(STEP, &[Part::Page(&line)], &[place.saturating_add(1)])?;
     }
-    put_titles(page, view.order, scene)?;
-    put_boxes(page, view, scene)?;
-    if !scene.is_layered {
-        put_steps(page, scene)?;
+    put_areas(page, view, drawing, true)?;
+    put_boxes(page, view, drawing)?;
+    for (place, point) in badges_of(view.alloc, drawing, &scene.walk)?
+        .iter()
+        .enumerate()
+    {
+        let (number, foot) = (place.saturating_add(1), point.y.saturating_add(5));
+        page.fill(BADGE, &[], &[number, point.x, point.y, foot])?;
     }
-    put_badges(page, scene)?;
-    page.put(b"</svg>")
+    page.put(b"</svg></div>\n")
+}
+
+/// The meaning of the style of an arrow.
+const MEANING: &[u8] = b"<li><svg width=\"44\" height=\"12\" aria-hidden=\"true\">\
+<path class=\"flow %0\" d=\"M2 6H42\"/></svg> %1: %2</li>";
+
+/// Adds the meanings of the styles of the arrows that a picture has.
+pub(crate) fn put_legend(page: &mut Page, scene: &Scene) -> Added {
+    page.put(b"<ul class=\"legend\">")?;
+    for rule in RULES {
+        if has_rule(&scene.arrows, rule) {
+            let (style, meaning) = look(rule);
+            let name = Part::Markup(rule_text(rule));
+            page.fill(
+                MEANING,
+                &[Part::Markup(style), name, Part::Markup(meaning)],
+                &[],
+            )?;
+        }
+    }
+    page.put(b"</ul>\n")
+}
+
+/// Adds a row for each arrow, with the names of its ends and its rule.
+pub(crate) fn put_arrow_rows(page: &mut Page, view: &View<'_>, scene: &Scene) -> Added {
+    for arrow in &scene.arrows {
+        let (from, to) = (
+            Part::Name(view.facts, arrow.source),
+            Part::Name(view.facts, arrow.target),
+        );
+        let parts = [from, to, Part::Markup(rule_text(arrow.rule))];
+        page.fill(b"<tr><td>%0</td><td>%1</td><td>%2</td></tr>\n", &parts, &[])?;
+    }
+    Ok(())
 }

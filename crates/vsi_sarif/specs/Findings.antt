@@ -1,76 +1,66 @@
--- The results of the points in which a text or an image differs from an interface.
-use Rattle.std.specs.Prelude.{ℕ, Bool, true, false, List, [], ◌∷◌, ◌++◌, map, codes, decimal, Option, Some, None, slice_get}
-use Rattle.std.specs.Global.{Vec}
+-- The answer about a text or an image beside an interface as a document: a result for each row.
+use Rattle.std.specs.Prelude.{◌≡◌, ℕ, List, [], ◌∷◌, map, codes, None}
 use Rattle.serde_json.specs.Data.{Data, object, Members}
+use Rattle.vsi_lattice.specs.declared.lattice.Lattice.{Lattice}
 use Rattle.vsi_image.specs.declared.instr.Image.{Image}
 use Rattle.vsi_conform.specs.declared.interface.Interface.{Interface}
-use Rattle.vsi_conform.specs.declared.interface.Point.{Point}
-use Rattle.vsi_conform.specs.declared.interface.Point.TheVariants.{Missing, Unexpected, WrongClass, WrongOrder, OutOfBudget, WrongWord, NoWord}
-use Rattle.vsi_conform.specs.Lines as source
-use Rattle.vsi_conform.specs.Shown.{Page, asked, expected}
-use Rattle.vsi_conform_image.specs.Lines as supplied
-use Rattle.vsi_sarif.specs.Held.{Held, text_held}
-use Rattle.vsi_sarif.specs.Kinds.{index_of, kind_of, name_of}
-use Rattle.vsi_sarif.specs.Location.{location_members}
+use Rattle.vsi_conform.specs.declared.interface.Answer.{Answer}
+use Rattle.vsi_conform.specs.declared.rows.Kind.{Kind}
+use Rattle.vsi_conform.specs.declared.rows.Kind.TheVariants.{Refused, Missing, Unexpected, Class, Order, Budget, Word, Bound}
+use Rattle.vsi_conform.specs.Lines.{AreTextRows, line}
+use Rattle.vsi_conform.specs.Rows.{Row, word_of}
+use Rattle.vsi_conform_image.specs.Lines.{AreImageRows}
+use Rattle.vsi_conform_image.specs.declared.conforming.Answer as image
+use Rattle.vsi_sarif.specs.Document.{document_text}
+use Rattle.vsi_sarif.specs.Location.{location_members, uri_of}
+use Rattle.vsi_sarif.specs.Objects.{text_members}
 use Rattle.vsi_sarif.specs.Refusals.{result_members}
-use Rattle.vsi_sarif.specs.declared.findings.PointKind.{PointKind}
-use Rattle.vsi_sarif.specs.declared.findings.PointKind.TheVariants as kind
 
--- The members of a result of this kind in the file with this URI: its position, if there is one, and its lines.
-abbrev pub finding : List ℕ → PointKind → Option (ℕ × ℕ) → List ℕ → Members
-finding uri k place lines = result_members (name_of k) (index_of k) (location_members uri place) None lines
+-- The index of a kind's rule.
+abbrev pub index_of : Kind → ℕ
+index_of Refused = 0
+index_of Missing = 1
+index_of Unexpected = 2
+index_of Class = 3
+index_of Order = 4
+index_of Budget = 5
+index_of Word = 6
+index_of Bound = 7
 
--- The members of the result of a point of a text: the position of the global that it is about, and its line.
-abbrev pub text_finding : List ℕ → Page → Point → Members
-text_finding uri p point = finding uri (kind_of point) (text_held p point).place (source.line_of_point p point)
+-- The kinds, in the order of their rules.
+abbrev pub kinds : List Kind
+kinds = Refused ∷ Missing ∷ Unexpected ∷ Class ∷ Order ∷ Budget ∷ Word ∷ Bound ∷ []
 
--- The results of points of a text.
-abbrev pub text_results : List ℕ → Page → List Point → List Data
-text_results uri p points = map (λ point. object (text_finding uri p point)) points
+-- The members of the rule of a kind.
+abbrev pub rule_members : Kind → Members
+rule_members k = text_members (codes "id") (word_of k)
 
--- The members of the result of a point of an image: its line, with no position.
-abbrev pub image_finding : List ℕ → Image → Interface → Point → Members
-image_finding uri im i point = finding uri (kind_of point) None (supplied.line_of_point im i point)
+-- The rules of kinds.
+abbrev pub rules_of : List Kind → List Data
+rules_of ks = map (λ k. object (rule_members k)) ks
 
--- The results of points of an image.
-abbrev pub image_results : List ℕ → Image → Interface → List Point → List Data
-image_results uri im i points = map (λ point. object (image_finding uri im i point)) points
+-- The members of the result of a row, in the file with this URI: its position, if there is one, and its lines.
+abbrev pub finding : List ℕ → Row → Members
+finding uri r =
+    result_members (word_of r.kind) (index_of r.kind) (location_members uri r.place) None (line r)
 
--- The result of a refusal with these lines, if there is a refusal.
-abbrev pub refusal_results : List ℕ → Bool → List ℕ → List Data
-refusal_results uri true lines = object (finding uri kind.Refused None lines) ∷ []
-refusal_results uri false lines = []
+-- The results of rows.
+abbrev pub results : List ℕ → List Row → List Data
+results uri rows = map (λ r. object (finding uri r)) rows
 
--- The result of the bound, if there is a line about it.
-abbrev pub bound_results : List ℕ → Option (Vec ℕ) → List Data
-bound_results uri None = []
-bound_results uri (Some line) = object (finding uri kind.Bound None line.items) ∷ []
+-- The document about the file at a path with the results of rows, whose rules are all kinds of points.
+abbrev pub rows_sarif : List ℕ → List Row → List ℕ
+rows_sarif path rows = document_text (rules_of kinds) (results (uri_of path) rows)
 
--- ---- how lines are made.
+-- The document about a text.
+pub record IsConformSarif (l : Lattice) (path text : List ℕ) (i : Interface) (a : Answer) (out : List ℕ) : Type 0 where
+  pub rows : List Row
+  pub tells : AreTextRows l text i a rows
+  pub is : out ≡ rows_sarif path rows
 
--- `LINE:COLUMN ` if there is a position.
-abbrev pub begun : Option (ℕ × ℕ) → List ℕ
-begun None = []
-begun (Some place) = decimal place.0 ++ codes ":" ++ decimal place.1 ++ codes " "
-
--- The line of a global that isn't required.
-abbrev pub unexpected_about : Held → List ℕ
-unexpected_about h = begun h.place ++ supplied.unexpected_line h.global
-
--- The line of a global with a class other than this one.
-abbrev pub class_about : Held → List ℕ → List ℕ
-class_about h class = begun h.place ++ supplied.class_line h.global class
-
--- The line of a global out of order, where one with this name is expected.
-abbrev pub order_about : Held → List ℕ → List ℕ
-order_about h name = begun h.place ++ supplied.order_line h.global name
-
--- The line of a point about this global.
-abbrev pub line_about : Interface → Held → Point → List ℕ
-line_about i h (Missing n) = source.missing_line (asked i n)
-line_about i h (Unexpected place) = unexpected_about h
-line_about i h (WrongClass place n) = class_about h (asked i n).1
-line_about i h (WrongOrder place) = order_about h (asked i place).0
-line_about i h (OutOfBudget run) = source.budget_line run (slice_get i.trials.items run)
-line_about i h (WrongWord run n word) = source.word_line run (expected i run n) (Some word)
-line_about i h (NoWord run n) = source.word_line run (expected i run n) None
+-- The document about an image.
+pub record IsImageSarif (l : Lattice) (path : List ℕ) (im : Image) (i : Interface) (a : image.Answer) (out : List ℕ)
+    : Type 0 where
+  pub rows : List Row
+  pub tells : AreImageRows l im i a rows
+  pub is : out ≡ rows_sarif path rows

@@ -4,8 +4,5 @@ pub mod Steps
 pub mod Document
 pub mod Refusals
 pub mod Checking
-pub mod Kinds
-pub mod Held
 pub mod Findings
-pub mod Conforming
 pub mod Auditing

@@ -2,32 +2,24 @@
 
 ghost use Rattle.std.specs.Prelude.{◌≡◌, false, map, IfOk, []};
 ghost use Rattle.serde_json.specs.View.{members_view, view};
-ghost use Rattle.vsi_steady.specs.Telling.{IsUnsteadyText};
-ghost use Rattle.vsi_audit.specs.Telling.{IsAuditText};
-ghost use Rattle.vsi_conform.specs.Checking.{audit_diagnostic as audit_of, steady_diagnostic as steady_of};
 ghost use Rattle.vsi_conform.specs.Lines.{is_steady as is_steady_of};
 ghost use Rattle.vsi_sarif.specs.Document.{document_text};
 ghost use Rattle.vsi_sarif.specs.Document as spec;
 ghost use Rattle.vsi_sarif.specs.Auditing as auditing_spec;
 ghost use Rattle.vsi_sarif.specs.Checking as checking_spec;
-ghost use Rattle.vsi_sarif.specs.Conforming as conforming_spec;
 
-use crate::findings::{
-    Pages, kind_rules, put_bound_result, put_image_results, put_text_results, refusal_results,
-};
 use crate::location::uri_of;
 use crate::refusal::{refusal_document, refusal_document_of};
 use std::alloc::{AllocError, Global};
-use vsi_audit::{AuditError, audit_in, audit_text};
 use vsi_compiler::{CompileError, Source, read_source};
 use vsi_conform::{
-    Answer, Interface, Judgement, audit_diagnostic, declarations, judged_of, refusal_lines,
-    refusal_lines_of, steady_diagnostic, unsteady_diagnostic,
+    Judgement, judged_of, judgement_by, refusal_lines, refusal_lines_of, unsteady_diagnostic,
 };
+use vsi_conform_image::refused_image;
 use vsi_diagnostics::{Object, Objects};
-use vsi_image::{Image, Verified};
+use vsi_image::Verified;
 use vsi_lattice::Lattice;
-use vsi_steady::{SteadyError, UnsteadyError, steady_in, steady_text};
+use vsi_steady::UnsteadyError;
 use vsi_types::Profile;
 
 /// The URI of the schema of SARIF 2.1.0.
@@ -70,42 +62,34 @@ pub(crate) fn document(
         .line()
 }
 
-/// The document of an image that an audit refuses.
-fn unaudited(
+/// The answer about the image of the file at a path and a profile.
+fn judged_sarif(
     alloc: Global,
+    judgement: Judgement,
     lattice: &Lattice,
     path: &str,
-    image: &Image,
-    error: &AuditError,
-) -> Result<Vec<u8>, AllocError>
-    ensures { IfOk result (λ out. auditing_spec.WritesRefusal lattice.now path.now
-        (audit_of error.now) (IsAuditText lattice.now image.now error.now) out.items) }
+    image: &Verified,
+) -> Result<Documented, AllocError>
+    ensures { IfOk result (λ told. auditing_spec.TellsJudged lattice.now judgement path.now
+        image.now told.is_accepted told.line.items) }
 {
-    let Some(diagnostic) = audit_diagnostic(error) else {
-        return Err(AllocError);
-    };
-    let lines = audit_text(alloc, lattice, image, error)?;
-    let uri = uri_of(alloc, path)?;
-    refusal_document(alloc, lattice, uri.as_bytes(), &[], &diagnostic, &lines)
-}
-
-/// The document of an image that isn't steady.
-fn unsteady(
-    alloc: Global,
-    lattice: &Lattice,
-    path: &str,
-    image: &Image,
-    error: &SteadyError,
-) -> Result<Vec<u8>, AllocError>
-    ensures { IfOk result (λ out. auditing_spec.WritesRefusal lattice.now path.now (steady_of error.now)
-        (IsUnsteadyText lattice.now image.now error.now) out.items) }
-{
-    let Some(diagnostic) = steady_diagnostic(error) else {
-        return Err(AllocError);
-    };
-    let lines = steady_text(alloc, lattice, image, error)?;
-    let uri = uri_of(alloc, path)?;
-    refusal_document(alloc, lattice, uri.as_bytes(), &[], &diagnostic, &lines)
+    match refused_image(alloc, judgement, lattice, image)? {
+        None => {
+            let line = accepted(alloc)?;
+            Ok(Documented {
+                is_accepted: true,
+                line,
+            })
+        }
+        Some((diagnostic, lines)) => {
+            let uri = uri_of(alloc, path)?;
+            let line = refusal_document(alloc, lattice, uri.as_bytes(), &[], &diagnostic, &lines)?;
+            Ok(Documented {
+                is_accepted: false,
+                line,
+            })
+        }
+    }
 }
 
 /// The answer of `vsi audit` to the image of the file at a path as a document of SARIF 2.1.0. An error
@@ -120,22 +104,7 @@ pub fn audit_sarif(
     ensures answer { IfOk result (λ told. auditing_spec.TellsAudit lattice.now profile path.now image.now
         told.is_accepted told.line.items) }
 {
-    match audit_in(alloc, profile, lattice, image) {
-        Ok(()) => {
-            let line = accepted(alloc)?;
-            Ok(Documented {
-                is_accepted: true,
-                line,
-            })
-        }
-        Err(error) => {
-            let line = unaudited(alloc, lattice, path, image.image(), &error)?;
-            Ok(Documented {
-                is_accepted: false,
-                line,
-            })
-        }
-    }
+    judged_sarif(alloc, judgement_by(profile), lattice, path, image)
 }
 
 /// The answer of `vsi audit --steady` to the image of the file at a path as such a document.
@@ -148,22 +117,7 @@ pub fn steady_sarif(
     ensures answer { IfOk result (λ told. auditing_spec.TellsSteadiness lattice.now path.now image.now
         told.is_accepted told.line.items) }
 {
-    match steady_in(alloc, lattice, image) {
-        Ok(()) => {
-            let line = accepted(alloc)?;
-            Ok(Documented {
-                is_accepted: true,
-                line,
-            })
-        }
-        Err(error) => {
-            let line = unsteady(alloc, lattice, path, image.image(), &error)?;
-            Ok(Documented {
-                is_accepted: false,
-                line,
-            })
-        }
-    }
+    judged_sarif(alloc, Judgement::Steady, lattice, path, image)
 }
 
 /// The answer of a check: whether the text is accepted, and the document that says so.
@@ -283,65 +237,4 @@ pub fn check_sarif(
             })
         }
     }
-}
-
-/// The document with these results, whose rules are all kinds of points.
-fn findings_document(alloc: Global, results: Objects) -> Result<Vec<u8>, AllocError>
-    ensures { IfOk result
-        (λ out. out.items ≡ conforming_spec.findings_text (map view results)) }
-{
-    document(alloc, kind_rules(alloc)?, results)
-}
-
-/// The answer about the text of the file at a path beside an interface as a document of SARIF 2.1.0,
-/// which has a result for each line, or block of lines, of `points_text`. An error means that memory
-/// ran out.
-pub fn points_sarif(
-    alloc: Global,
-    lattice: &Lattice,
-    path: &str,
-    text: &[u8],
-    interface: &Interface,
-    answer: &Answer,
-) -> Result<Vec<u8>, AllocError>
-    ensures document { IfOk result (λ out. conforming_spec.IsConformSarif lattice.now path.now text.now
-        interface.now answer.now out.items) }
-{
-    let uri = uri_of(alloc, path)?;
-    let bytes = uri.as_bytes();
-    let found = declarations(alloc, text)?;
-    let pages = Pages {
-        text,
-        found: &found,
-        interface,
-    };
-    let lines = vsi_conform::first_lines(alloc, lattice, text, interface, &answer.refusal)?;
-    let mut results = refusal_results(alloc, bytes, answer.refusal.is_some(), &lines)?;
-    put_text_results(alloc, &mut results, bytes, &pages, &answer.points)?;
-    put_bound_result(alloc, &mut results, bytes, &answer.unbounded)?;
-    let line = findings_document(alloc, results)?;
-    Ok(line)
-}
-
-/// The answer about the image of the file at a path beside an interface as such a document. Its
-/// results have no position.
-pub fn image_sarif(
-    alloc: Global,
-    lattice: &Lattice,
-    path: &str,
-    image: &Image,
-    interface: &Interface,
-    answer: &vsi_conform_image::Answer,
-) -> Result<Vec<u8>, AllocError>
-    ensures document { IfOk result (λ out. conforming_spec.IsImageSarif lattice.now path.now image.now
-        interface.now answer.now out.items) }
-{
-    let uri = uri_of(alloc, path)?;
-    let bytes = uri.as_bytes();
-    let lines = vsi_conform_image::first_lines(alloc, lattice, image, &answer.refusal)?;
-    let mut results = refusal_results(alloc, bytes, answer.refusal.is_some(), &lines)?;
-    put_image_results(alloc, &mut results, bytes, image, interface, &answer.points)?;
-    put_bound_result(alloc, &mut results, bytes, &answer.unbounded)?;
-    let line = findings_document(alloc, results)?;
-    Ok(line)
 }

@@ -8,8 +8,8 @@
 //! an image as `vsi audit` does, and their documents have the same form; a refusal of an image has
 //! no position. `points_sarif` and `image_sarif` write the answer about a text or an image beside an
 //! interface: a result for each point, whose rule is the kind of the point. `specs/Checking`,
-//! `specs/Auditing` and `specs/Conforming` say which answers are written, `specs/Refusals`,
-//! `specs/Findings` and `specs/Document` define their text.
+//! `specs/Auditing` and `specs/Findings` say which answers are written, `specs/Refusals` and
+//! `specs/Document` define their text.
 //!
 //! To be believed: all files of `specs/`.
 #![tactic(auto)]
@@ -19,4 +19,5 @@ mod findings;
 mod location;
 mod refusal;
 
-pub use document::{Documented, audit_sarif, check_sarif, image_sarif, points_sarif, steady_sarif};
+pub use document::{Documented, audit_sarif, check_sarif, steady_sarif};
+pub use findings::{image_sarif, points_sarif};

@@ -1,8 +1,8 @@
 //! The faults of a text after its first one.
 
-use crate::names::Part;
 use crate::telling::Telling;
 use std::alloc::AllocError;
+use vsi_caret::Part;
 use vsi_compiler::CompileError;
 use vsi_diagnostics::refusal_diagnostic;
 use vsi_hints::listed_places;

@@ -1,8 +1,8 @@
 //! The explanation of a refused image.
 
-use crate::names::Part;
 use crate::telling::Telling;
 use std::alloc::AllocError;
+use vsi_caret::Part;
 use vsi_image::{DecodeError, VerifyError};
 use vsi_store::ViewError;
 

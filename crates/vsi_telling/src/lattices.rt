@@ -1,14 +1,13 @@
 //! The explanation of a refused lattice file.
 
 use crate::finding::{bare_place, key_place, quoted_place};
-use crate::names::Part;
 use crate::orders::Order;
 use crate::tables::{array_in, table_in, value_in};
-use crate::telling::Telling;
+use crate::telling::{Tail, Telling, Told};
 use std::alloc::{AllocError, Global};
 use toml::{Table, Value};
-use vsi_lattice::LatticeError;
-use vsi_syntax::Span;
+use vsi_caret::Part;
+use vsi_lattice::{Class, LatticeError};
 
 /// An example of a lattice file.
 const SHAPE: &str = "A lattice file names the classes, and pairs of them, the lower one first:\n  \
@@ -65,18 +64,18 @@ fn other_key(table: &Table) -> Option<&[u8]> {
     None
 }
 
-/// The place of a class among the classes, by its name.
-fn place_in(names: &[&[u8]], value: Option<&Value>) -> usize {
+/// The number of the class with this name, or that of none.
+fn number_in(names: &[&[u8]], value: Option<&Value>) -> u8 {
     let name = match value {
         Some(value) => value.as_str().unwrap_or(""),
         None => "",
     };
     for place in 0..names.len() {
         if names[place] == name.as_bytes() {
-            return place;
+            return place.min(255) as u8;
         }
     }
-    names.len()
+    255
 }
 
 /// The classes of a table.
@@ -91,18 +90,14 @@ fn classes_in<'t>(alloc: Global, table: &'t Table) -> Result<Vec<&'t [u8]>, Allo
     Ok(names)
 }
 
-/// The places of the classes of a pair among the names.
-fn pair_of(names: &[&[u8]], item: &Value) -> Option<(usize, usize)> {
+/// The classes of a pair.
+fn pair_of(names: &[&[u8]], item: &Value) -> Option<(u8, u8)> {
     let pair = item.as_array()?.as_slice();
-    Some((place_in(names, pair.get(0)), place_in(names, pair.get(1))))
+    Some((number_in(names, pair.get(0)), number_in(names, pair.get(1))))
 }
 
-/// The pairs of a table, by the places of their classes among the names.
-fn pairs_in(
-    alloc: Global,
-    table: &Table,
-    names: &[&[u8]],
-) -> Result<Vec<(usize, usize)>, AllocError> {
+/// The pairs of a table.
+fn pairs_in(alloc: Global, table: &Table, names: &[&[u8]]) -> Result<Vec<(u8, u8)>, AllocError> {
     let mut pairs = Vec::new(alloc);
     for item in array_in(table, "below").unwrap_or(&[]) {
         if let Some(pair) = pair_of(names, item) {
@@ -119,6 +114,11 @@ fn order_in<'t>(alloc: Global, table: &'t Table) -> Result<Order<'t>, AllocError
     Ok(Order { names, pairs })
 }
 
+/// The number of a class.
+fn number_of(class: Class) -> u8 {
+    class.index().min(255) as u8
+}
+
 /// The fault of the keys or the values of a table that has no other key.
 fn key_words(table: &Table) -> &'static str {
     if table.get("classes").is_none() {
@@ -132,146 +132,123 @@ fn key_words(table: &Table) -> &'static str {
     array of pairs of them.\n"
 }
 
+/// The hint for another sort of file in the place of a lattice file.
+fn file_hint(bytes: &[u8]) -> Option<&'static str> {
+    let start = bytes.trim_ascii_start();
+    if start.starts_with(b"VSI") {
+        return Some(
+            "Hint: this is an image. The lattice file has another place on the command line.\n",
+        );
+    }
+    if start.starts_with(b"var") || start.starts_with(b"letvar") {
+        return Some(
+            "Hint: this looks like a source text. The lattice file comes first, and the source \
+            text after it: `vsi check LATTICE %`.\n",
+        );
+    }
+    None
+}
+
+/// The sentence about a fault at one name, and the number of its occurrences before the wrong one.
+fn name_saying(error: LatticeError) -> (&'static str, usize) {
+    match error {
+        LatticeError::BadName(_) => (
+            "% isn't a valid name. Hint: a name begins with a letter, continues with letters, \
+            digits and `_`, has at most 32 of them, and isn't a keyword.\n",
+            0,
+        ),
+        LatticeError::DuplicateName(_) => { ("% is in `classes` twice. Hint: leave one out.\n", 1) }
+        _ => (
+            "% is in `below` but isn't a class. Hint: add it to `classes`, or fix its spelling.\n",
+            0,
+        ),
+    }
+}
+
 impl Telling<'_> {
-    /// Adds the hint for a file that is no TOML, and answers a place where it may be wrong.
-    fn put_file_hint(&mut self) -> Result<Option<Span>, AllocError> {
-        let start = self.bytes.trim_ascii_start();
-        if start.starts_with(b"VSI") {
-            self.add(
-                "Hint: this is an image. The lattice file has another place on the command line.\n",
-            )?;
-            return Ok(None);
-        }
-        if start.starts_with(b"var") || start.starts_with(b"letvar") {
-            self.say(
-                "Hint: this looks like a source text. The lattice file comes first, and the source \
-                text after it: `vsi check LATTICE %`.\n",
-                &[Part::Text(self.path)],
-            )?;
-            return Ok(None);
+    /// Adds the explanation if the file is no TOML, and answers a place where it may be wrong.
+    fn put_not_toml(&mut self) -> Told {
+        self.add("The file isn't a TOML document.\n")?;
+        if let Some(hint) = file_hint(self.bytes) {
+            return self.tell(hint, &[Part::Text(self.path)], Tail::Text(SHAPE), None);
         }
         let place = bare_place(self.bytes);
-        if place.is_some() {
-            self.add("Hint: the names of classes go between quotes.\n")?;
-        }
-        Ok(place)
-    }
-
-    /// Adds the explanation if the file is no TOML, and answers a place where it may be wrong.
-    fn put_not_toml(&mut self) -> Result<Option<Span>, AllocError> {
-        self.add("The file isn't a TOML document.\n")?;
-        let place = self.put_file_hint()?;
-        self.add(SHAPE)?;
-        Ok(place)
+        let hint = match place {
+            Some(_) => "Hint: the names of classes go between quotes.\n",
+            None => "",
+        };
+        self.tell(hint, &[], Tail::Text(SHAPE), place)
     }
 
     /// Adds which keys or values of a table are wrong, and answers where.
-    fn put_bad_keys(&mut self, table: &Table) -> Result<Option<Span>, AllocError> {
+    fn put_bad_keys(&mut self, table: &Table) -> Told {
         let Some(key) = other_key(table) else {
-            self.add(key_words(table))?;
-            return Ok(None);
+            return self.tell(key_words(table), &[], Tail::Text(SHAPE), None);
         };
-        self.say(
+        self.tell(
             "A lattice file has no key %, only `classes` and `below`.\n",
             &[Part::Quoted(key)],
-        )?;
-        Ok(key_place(self.bytes, key))
+            Tail::Text(SHAPE),
+            key_place(self.bytes, key),
+        )
     }
 
-    /// Adds the explanation of a name, and returns its place after so many others like it.
-    fn put_name(
-        &mut self,
-        name: Option<&[u8]>,
-        others: usize,
-        sentence: &str,
-    ) -> Result<Option<Span>, AllocError> {
+    /// Adds the explanation of a fault at a name, if it is known, and returns its place.
+    fn put_name(&mut self, name: Option<&[u8]>, error: LatticeError) -> Told {
+        let (sentence, others) = name_saying(error);
         let Some(name) = name else {
-            self.say(sentence, &[Part::Text(b"A name")])?;
-            return Ok(None);
+            return self.tell(sentence, &[Part::Text(b"A name")], Tail::Nothing, None);
         };
-        self.say(sentence, &[Part::Quoted(name)])?;
-        Ok(quoted_place(self.bytes, name, others))
+        let place = quoted_place(self.bytes, name, others);
+        self.tell(sentence, &[Part::Quoted(name)], Tail::Nothing, place)
     }
 
-    /// Adds the explanation of a fault at one name, and returns its place.
-    fn put_name_fault(
-        &mut self,
-        table: &Table,
-        error: LatticeError,
-    ) -> Result<Option<Span>, AllocError> {
+    /// Adds the explanation of a fault in the table that a file is, and answers where it is.
+    fn put_table_fault(&mut self, table: &Table, error: LatticeError) -> Told {
+        let below = key_place(self.bytes, b"below");
         match error {
-            LatticeError::BadName(place) => self.put_name(
-                class_in(table, place),
-                0,
-                "% isn't a valid name. Hint: a name begins with a letter, continues with letters, \
-                digits and `_`, has at most 32 of them, and isn't a keyword.\n",
-            ),
-            LatticeError::DuplicateName(place) => self.put_name(
-                class_in(table, place),
-                1,
-                "% is in `classes` twice. Hint: leave one out.\n",
-            ),
-            LatticeError::UnknownName(place) => self.put_name(
-                unknown_in(table, place),
-                0,
-                "% is in `below` but isn't a class. Hint: add it to `classes`, or fix its \
-                spelling.\n",
-            ),
+            LatticeError::BadShape => self.put_bad_keys(table),
+            LatticeError::BadName(place) | LatticeError::DuplicateName(place) => {
+                self.put_name(class_in(table, place), error)
+            }
+            LatticeError::UnknownName(place) => self.put_name(unknown_in(table, place), error),
+            LatticeError::Cycle(a, _) => {
+                let order = order_in(self.alloc, table)?;
+                let place = self.put_ring(&order, number_of(a))?;
+                Ok(place.or(below))
+            }
+            LatticeError::NoJoin(a, b) | LatticeError::NoMeet(a, b) => {
+                let order = order_in(self.alloc, table)?;
+                let is_up = matches!(error, LatticeError::NoJoin(_, _));
+                self.put_missing(&order, number_of(a), number_of(b), is_up)?;
+                Ok(below)
+            }
             _ => Ok(None),
         }
     }
 
-    /// Adds the explanation of two classes in an order, and answers where the fault is.
-    fn put_order_fault(
-        &mut self,
-        order: &Order,
-        error: LatticeError,
-    ) -> Result<Option<Span>, AllocError> {
-        let mut place = None;
-        match error {
-            LatticeError::Cycle(a, _) => place = self.put_ring(order, a.index())?,
-            LatticeError::NoJoin(a, b) => self.put_missing(order, a.index(), b.index(), true)?,
-            LatticeError::NoMeet(a, b) => self.put_missing(order, a.index(), b.index(), false)?,
-            _ => {}
-        }
-        Ok(place.or(key_place(self.bytes, b"below")))
-    }
-
-    /// Adds the explanation of a fault in the table that a file is, and answers where it is.
-    fn put_table_fault(&mut self, error: LatticeError) -> Result<Option<Span>, AllocError> {
-        let Some(table) = table_in(self.alloc, self.bytes)? else {
-            return Ok(None);
-        };
-        match error {
-            LatticeError::BadShape => self.put_bad_keys(&table),
-            LatticeError::Cycle(_, _) | LatticeError::NoJoin(_, _) | LatticeError::NoMeet(_, _) => {
-                let order = order_in(self.alloc, &table)?;
-                self.put_order_fault(&order, error)
-            }
-            other => self.put_name_fault(&table, other),
-        }
-    }
-
     /// Adds the explanation of a refused lattice file, and answers where it is wrong.
-    pub(crate) fn put_lattice(&mut self, error: LatticeError) -> Result<Option<Span>, AllocError> {
+    pub(crate) fn put_lattice(&mut self, error: LatticeError) -> Told {
+        let classes = key_place(self.bytes, b"classes");
         match error {
             LatticeError::Memory => Err(AllocError),
             LatticeError::NotToml => self.put_not_toml(),
-            LatticeError::NoClass => {
-                self.add("The list of classes is empty. Hint: name at least one.\n")?;
-                self.add(SHAPE)?;
-                Ok(key_place(self.bytes, b"classes"))
-            }
-            LatticeError::TooManyClasses => {
-                self.add("There are more than 64 classes. Hint: leave some out.\n")?;
-                Ok(key_place(self.bytes, b"classes"))
-            }
-            LatticeError::BadShape => {
-                let place = self.put_table_fault(error)?;
-                self.add(SHAPE)?;
-                Ok(place)
-            }
-            other => self.put_table_fault(other),
+            LatticeError::NoClass => self.tell(
+                "The list of classes is empty. Hint: name at least one.\n",
+                &[],
+                Tail::Text(SHAPE),
+                classes,
+            ),
+            LatticeError::TooManyClasses => self.tell(
+                "There are more than 64 classes. Hint: leave some out.\n",
+                &[],
+                Tail::Nothing,
+                classes,
+            ),
+            other => match table_in(self.alloc, self.bytes)? {
+                Some(table) => self.put_table_fault(&table, other),
+                None => Ok(None),
+            },
         }
     }
 }

@@ -1,64 +1,33 @@
 //! The explanation of bytes and words that are none of the language.
 
 use crate::hints::file_hint;
-use crate::names::{Part, part_of};
+use crate::names::part_of;
 use crate::telling::Telling;
 use std::alloc::AllocError;
+use vsi_caret::Part;
 use vsi_syntax::{LexError, Span};
 
 /// The largest number of bytes of a name.
 const LONGEST_NAME: usize = 32;
 
-/// The hint for a byte that is shown by its number.
-fn strange_hint(byte: u8, next: Option<u8>) -> &'static str {
+/// The hint for a byte that is in no construct of another language.
+fn byte_hint(byte: u8, next: Option<u8>) -> &'static str {
     match (byte, next) {
         (0xEF, Some(0xBB)) => {
             "Hint: there is a byte order mark here: save the text without one, as plain UTF-8 or \
             ASCII.\n"
         }
-        (0xC2, Some(0xA0)) => { "Hint: there is a no-break space here: write an ordinary blank.\n" }
-        (0xE2, Some(0x80)) => {
-            "Hint: there is a quote, a dash or a blank of another program here: type it again. The \
-            minus sign is `-`.\n"
-        }
         (128..=255, _) => {
             "Hint: outside comments only ASCII is allowed: no letters with accents, and no \
             symbols that aren't on every keyboard.\n"
         }
+        (b',', _) => "Hint: each variable is declared on its own: `var a : L; var b : L;`.\n",
+        (b'!', _) => "Hint: there is no `!`: `!P` is written `P = 0`.\n",
+        (b'.', _) => "Hint: numbers are whole: write 150 cents in place of 1.50.\n",
         _ => {
             "Hint: the symbols of the language are `:=` `:` `;` `+` `-` `*` `=` `<` `(` `)` `{` \
             `}` and no others.\n"
         }
-    }
-}
-
-/// The sign of other languages that begins with a byte.
-fn sign_of(byte: u8, next: Option<u8>) -> &'static [u8] {
-    match (byte, next) {
-        (b'>', Some(b'=')) => b">=",
-        (b'>', _) => b">",
-        (b'!', Some(b'=')) => b"!=",
-        (b'!', _) => b"!",
-        (b'&', Some(b'&')) => b"&&",
-        (b'&', _) => b"&",
-        (b'|', Some(b'|')) => b"||",
-        (b'|', _) => b"|",
-        _ => b"",
-    }
-}
-
-/// The hint for a byte.
-fn byte_hint(byte: u8, next: Option<u8>) -> &'static str {
-    match (byte, next) {
-        (b'/', Some(b'/' | b'*')) => {
-            "Hint: a comment begins with `#`, and ends with its line.\n"
-        }
-        (b'"' | b'\'', _) => "Hint: there are no strings: each variable holds a whole number.\n",
-        (b',', _) => "Hint: each variable is declared on its own: `var a : L; var b : L;`.\n",
-        (b'.', _) => "Hint: numbers are whole: write 150 cents in place of 1.50.\n",
-        (b'[' | b']', _) => "Hint: there are no arrays: each variable holds one number.\n",
-        (b'^', _) => "Hint: there are no powers: write `a * a`.\n",
-        _ => strange_hint(byte, next),
     }
 }
 
@@ -76,14 +45,6 @@ impl Telling<'_> {
         )?;
         if self.add_any(file_hint(source))? || self.hint_at(at)? {
             return Ok(());
-        }
-        if self.put_operator(sign_of(byte, next), at)? {
-            return Ok(());
-        }
-        match (byte, next) {
-            (b'/', Some(b'/' | b'*')) => {}
-            (b'/' | b'%', _) => return self.put_division(at, byte == b'%'),
-            _ => {}
         }
         self.add(byte_hint(byte, next))
     }

@@ -1,9 +1,9 @@
 //! The explanation of a lattice file in which two classes lack one above both, or one below both.
 
-use crate::names::{Part, say};
 use crate::orders::Order;
 use crate::telling::Telling;
 use std::alloc::{AllocError, Global};
+use vsi_caret::{Part, say};
 use vsi_recovery::{Addition, Placement, Rank, completion, links, nearest, placements};
 
 /// How many names are tried for an added class: more than there are classes.
@@ -17,60 +17,16 @@ struct Lack {
     is_up: bool,
 }
 
-/// The number of a class as the search for added classes takes it.
-fn number(class: usize) -> u8 {
-    class.min(255) as u8
-}
-
-/// The pairs of an order as the search for added classes takes them.
-fn numbers(alloc: Global, order: &Order) -> Result<Vec<(u8, u8)>, AllocError> {
-    let mut pairs = Vec::new(alloc);
-    for (low, high) in &order.pairs {
-        pairs.push((number(*low), number(*high)))?;
-    }
-    Ok(pairs)
-}
-
-/// The name of a class.
-fn name_at<'n>(names: &[&'n [u8]], class: u8) -> &'n [u8] {
-    names.get(usize::from(class)).copied().unwrap_or(b"")
-}
-
-/// Whether a class is in none of the pairs.
-fn is_unplaced(pairs: &[(u8, u8)], class: u8) -> bool {
-    for (low, high) in pairs {
-        if *low == class || *high == class {
-            return false;
+impl Order<'_> {
+    /// Whether a class is in none of the pairs.
+    fn is_unplaced(&self, class: u8) -> bool {
+        for (low, high) in &self.pairs {
+            if *low == class || *high == class {
+                return false;
+            }
         }
+        true
     }
-    true
-}
-
-/// The one of two classes that is in none of the pairs, if one is.
-fn unplaced(pairs: &[(u8, u8)], lack: Lack) -> Option<u8> {
-    if is_unplaced(pairs, lack.b) {
-        return Some(lack.b);
-    }
-    if is_unplaced(pairs, lack.a) {
-        return Some(lack.a);
-    }
-    None
-}
-
-/// The names of the lowest classes above both, if the two lack a single one.
-fn near_names<'n>(
-    alloc: Global,
-    names: &[&'n [u8]],
-    pairs: &[(u8, u8)],
-    lack: Lack,
-) -> Result<Vec<&'n [u8]>, AllocError> {
-    let mut found = Vec::new(alloc);
-    if lack.is_up {
-        for class in &nearest(alloc, names.len(), pairs, lack.a, lack.b)? {
-            found.push(name_at(names, *class))?;
-        }
-    }
-    Ok(found)
 }
 
 /// Whether one of the names is this one.
@@ -87,12 +43,12 @@ fn has_name(names: &[&[u8]], fresh: &[Vec<u8>], name: &[u8]) -> bool {
 }
 
 /// The name for an added class by its pairs.
-fn base_name(pairs: &[(u8, u8)], class: u8) -> &'static [u8] {
+fn base_name(pairs: &[(u8, u8)], class: usize) -> &'static [u8] {
     let mut has_low = false;
     let mut has_high = false;
     for (low, high) in pairs {
-        has_low = has_low || *high == class;
-        has_high = has_high || *low == class;
+        has_low = has_low || usize::from(*high) == class;
+        has_high = has_high || usize::from(*low) == class;
     }
     match (has_low, has_high) {
         (true, false) => b"Top",
@@ -128,8 +84,7 @@ fn fresh_names(
 ) -> Result<Vec<Vec<u8>>, AllocError> {
     let mut fresh: Vec<Vec<u8>> = Vec::new(alloc);
     for more in 0..addition.count {
-        let class = number(names.len().saturating_add(more));
-        let base = base_name(&addition.pairs, class);
+        let base = base_name(&addition.pairs, names.len().saturating_add(more));
         let name = fresh_name(alloc, names, &fresh, base)?;
         fresh.push(name)?;
     }
@@ -147,13 +102,12 @@ fn case_of(rank: &Rank) -> &'static str {
 }
 
 impl Telling<'_> {
-    /// Adds pairs as a lattice file writes them, between back quotes.
-    fn put_pairs(&mut self, names: &[&[u8]], pairs: &[(u8, u8)]) -> Result<(), AllocError> {
+    /// Adds pairs of classes with these names as a lattice file writes them, between back quotes.
+    fn put_pairs(&mut self, order: &Order, pairs: &[(u8, u8)]) -> Result<(), AllocError> {
         let mut joint = "`";
-        for (low, high) in pairs {
-            self.add(joint)?;
-            let pair = Part::Pair(name_at(names, *low), name_at(names, *high));
-            self.say("%", &[pair])?;
+        for pair in pairs {
+            let parts = [Part::Text(joint.as_bytes()), order.listed(*pair)];
+            self.say("%%", &parts)?;
             joint = ", ";
         }
         self.add("`")
@@ -162,27 +116,25 @@ impl Telling<'_> {
     /// Adds the pairs that place a class among the others.
     fn put_placements(
         &mut self,
-        names: &[&[u8]],
+        order: &Order,
         class: u8,
         found: &[Placement],
     ) -> Result<(), AllocError> {
-        if let [
-            Placement {
-                rank: Rank::Levels,
-                ..
-            },
-        ] = found
-        {
-            self.add("`below` is empty.")?;
-        } else {
-            let class = Part::Quoted(name_at(names, class));
-            self.say("% isn't in any pair of `below`.", &[class])?;
-        }
+        let sentence = match found {
+            [
+                Placement {
+                    rank: Rank::Levels,
+                    ..
+                },
+            ] => "`below` is empty.",
+            _ => "% isn't in any pair of `below`.",
+        };
+        self.say(sentence, &[order.quoted(class)])?;
         let mut joint = " Hint: ";
         for placement in found {
             self.add(joint)?;
             self.add(case_of(&placement.rank))?;
-            self.put_pairs(names, &placement.pairs)?;
+            self.put_pairs(order, &placement.pairs)?;
             self.add(" to `below`")?;
             joint = "; ";
         }
@@ -191,32 +143,38 @@ impl Telling<'_> {
 
     /// Adds the pairs that place one of the two classes, if it is in no pair, and returns whether
     /// there are any.
-    fn put_unplaced(
-        &mut self,
-        names: &[&[u8]],
-        pairs: &[(u8, u8)],
-        lack: Lack,
-    ) -> Result<bool, AllocError> {
-        let Some(class) = unplaced(pairs, lack) else {
-            return Ok(false);
+    fn put_unplaced(&mut self, order: &Order, lack: Lack) -> Result<bool, AllocError> {
+        let class = if order.is_unplaced(lack.b) {
+            lack.b
+        } else {
+            lack.a
         };
-        let found = placements(self.alloc, names.len(), pairs, class)?;
+        if !order.is_unplaced(class) {
+            return Ok(false);
+        }
+        let count = order.names.len();
+        let found = placements(self.alloc, count, &order.pairs, class)?;
         if found.is_empty() {
             return Ok(false);
         }
-        self.put_placements(names, class, &found)?;
-        if pairs.is_empty() {
-            if let Some(addition) = completion(self.alloc, names.len(), pairs)? {
-                self.put_addition(names, "Or add ", &addition)?;
+        self.put_placements(order, class, &found)?;
+        if order.pairs.is_empty() {
+            if let Some(addition) = completion(self.alloc, count, &order.pairs)? {
+                self.put_addition(order, "Or add ", &addition)?;
             }
         }
         Ok(true)
     }
 
-    /// Adds which class the two lack; `near` are the lowest classes above both.
-    fn put_lack(&mut self, names: &[&[u8]], lack: Lack, near: &[&[u8]]) -> Result<(), AllocError> {
-        let one = Part::Quoted(name_at(names, lack.a));
-        let other = Part::Quoted(name_at(names, lack.b));
+    /// Adds which class the two lack.
+    fn put_lack(&mut self, order: &Order, lack: Lack) -> Result<(), AllocError> {
+        let mut near = Vec::new(self.alloc);
+        if lack.is_up {
+            let count = order.names.len();
+            for class in &nearest(self.alloc, count, &order.pairs, lack.a, lack.b)? {
+                near.push(order.name(*class))?;
+            }
+        }
         let sentence = match (near.is_empty(), lack.is_up) {
             (false, _) => {
                 "The lowest classes above both % and % are %: a value computed from both needs a \
@@ -229,44 +187,57 @@ impl Telling<'_> {
                 "No class is below both % and %. A value that may flow to both needs one.\n"
             }
         };
-        self.say(sentence, &[one, other, Part::Names(near)])
+        let parts = [
+            order.quoted(lack.a),
+            order.quoted(lack.b),
+            Part::Names(&near),
+        ];
+        self.say(sentence, &parts)
     }
 
     /// Adds the classes and pairs that complete an order.
     fn put_addition(
         &mut self,
-        names: &[&[u8]],
+        order: &Order,
         begin: &str,
         addition: &Addition,
     ) -> Result<(), AllocError> {
-        let fresh = fresh_names(self.alloc, names, addition)?;
+        let fresh = fresh_names(self.alloc, &order.names, addition)?;
         let mut added = Vec::new(self.alloc);
-        let mut all = Vec::new(self.alloc);
-        all.extend_from_slice(names)?;
+        let mut names = Vec::new(self.alloc);
+        for name in &order.names {
+            let name: &[u8] = *name;
+            names.push(name)?;
+        }
         for name in &fresh {
             added.push(name.as_slice())?;
-            all.push(name.as_slice())?;
+            names.push(name.as_slice())?;
         }
         self.add(begin)?;
         self.say("% to `classes`, and ", &[Part::Names(&added)])?;
-        self.put_pairs(&all, &addition.pairs)?;
+        let pairs = Vec::new(self.alloc);
+        self.put_pairs(&Order { names, pairs }, &addition.pairs)?;
         self.add(" to `below`.\n")
     }
 
     /// Adds the pairs, one of which makes an order a lattice.
     fn put_pair_choices(
         &mut self,
-        names: &[&[u8]],
+        order: &Order,
         begin: &str,
         found: &[(u8, u8)],
     ) -> Result<(), AllocError> {
         let mut joint = begin;
         for (low, high) in found {
-            let (one, other) = (name_at(names, *low), name_at(names, *high));
-            self.add(joint)?;
+            let (one, other) = (Part::Text(order.name(*low)), Part::Text(order.name(*high)));
             self.say(
-                "`%` to `below` if `%` may flow to `%`",
-                &[Part::Pair(one, other), Part::Text(one), Part::Text(other)],
+                "%`%` to `below` if `%` may flow to `%`",
+                &[
+                    Part::Text(joint.as_bytes()),
+                    order.listed((*low, *high)),
+                    one,
+                    other,
+                ],
             )?;
             joint = "; or add ";
         }
@@ -276,46 +247,32 @@ impl Telling<'_> {
         self.add(".\n")
     }
 
-    /// Adds which class two classes lack, and what makes the order a lattice.
-    fn put_remedies(
-        &mut self,
-        names: &[&[u8]],
-        pairs: &[(u8, u8)],
-        lack: Lack,
-    ) -> Result<(), AllocError> {
-        let count = names.len();
-        let near = near_names(self.alloc, names, pairs, lack)?;
-        self.put_lack(names, lack, &near)?;
-        let addition = completion(self.alloc, count, pairs)?;
-        let found = links(self.alloc, count, pairs, lack.a, lack.b, lack.is_up)?;
-        match &addition {
-            Some(addition) => {
-                self.put_addition(names, "Hint: add ", addition)?;
-                self.put_pair_choices(names, "Or add ", &found)
-            }
-            None if found.is_empty() => self.add(
-                "Hint: adding up to four classes, or one pair, doesn't make it a lattice. `vsi \
-                help lattice` shows lattices of usual shapes.\n",
-            ),
-            None => self.put_pair_choices(names, "Hint: add ", &found),
-        }
-    }
-
     /// Adds which class above two others is missing if `is_up`, otherwise which class below them,
     /// and what to add to the file: each text that is offered makes it a lattice.
     pub(crate) fn put_missing(
         &mut self,
         order: &Order,
-        a: usize,
-        b: usize,
+        a: u8,
+        b: u8,
         is_up: bool,
     ) -> Result<(), AllocError> {
-        let pairs = numbers(self.alloc, order)?;
-        let (a, b) = (number(a), number(b));
-        let lack = Lack { a, b, is_up };
-        if self.put_unplaced(&order.names, &pairs, lack)? {
+        if self.put_unplaced(order, Lack { a, b, is_up })? {
             return Ok(());
         }
-        self.put_remedies(&order.names, &pairs, lack)
+        self.put_lack(order, Lack { a, b, is_up })?;
+        let count = order.names.len();
+        let addition = completion(self.alloc, count, &order.pairs)?;
+        let found = links(self.alloc, count, &order.pairs, a, b, is_up)?;
+        match &addition {
+            Some(addition) => {
+                self.put_addition(order, "Hint: add ", addition)?;
+                self.put_pair_choices(order, "Or add ", &found)
+            }
+            None if found.is_empty() => self.add(
+                "Hint: adding up to four classes, or one pair, doesn't make it a lattice. `vsi \
+                help lattice` shows lattices of usual shapes.\n",
+            ),
+            None => self.put_pair_choices(order, "Hint: add ", &found),
+        }
     }
 }

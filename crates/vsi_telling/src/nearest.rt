@@ -1,9 +1,9 @@
 //! The word that may have been meant.
 
-use crate::names::{Part, say};
 use std::alloc::{AllocError, Global};
 use std::str::from_utf8;
 use strsim::osa_distance;
+use vsi_caret::{Part, say};
 
 /// The longest word that is compared.
 const LONGEST: usize = 40;
@@ -71,18 +71,4 @@ pub(crate) fn put_nearest(
     let parts = [Part::Quoted(meant), Part::Quoted(written)];
     say(words, "Hint: perhaps % was meant in place of %.\n", &parts)?;
     Ok(true)
-}
-
-/// Adds which of the words was perhaps meant, or else another hint.
-pub fn put_nearest_or(
-    alloc: Global,
-    words: &mut Vec<u8>,
-    written: &[u8],
-    choices: &[&[u8]],
-    otherwise: &[u8],
-) -> Result<(), AllocError> {
-    if put_nearest(alloc, words, written, choices)? {
-        return Ok(());
-    }
-    words.extend_from_slice(otherwise)
 }

@@ -1,17 +1,17 @@
 //! The explanation of a lattice file whose pairs form a cycle.
 
 use crate::finding::key_place;
-use crate::names::Part;
-use crate::telling::Telling;
+use crate::telling::{Tail, Telling, Told};
 use std::alloc::{AllocError, Global};
+use vsi_caret::Part;
 use vsi_syntax::Span;
 
-/// The classes of a lattice file by their names, and its pairs by the places of their classes, the
+/// The classes of a lattice file by their names, and its pairs by the numbers of their classes, the
 /// lower one first.
 #[derive(Drop)]
 pub(crate) struct Order<'t> {
     pub(crate) names: Vec<&'t [u8]>,
-    pub(crate) pairs: Vec<(usize, usize)>,
+    pub(crate) pairs: Vec<(u8, u8)>,
 }
 
 /// The part of a file that holds the pair of `below` with a number.
@@ -43,17 +43,27 @@ fn pair_place(bytes: &[u8], number: usize) -> Option<Span> {
 
 impl<'t> Order<'t> {
     /// The name of a class.
-    fn name(&self, class: usize) -> &'t [u8] {
-        self.names.get(class).copied().unwrap_or(b"")
+    pub(crate) fn name(&self, class: u8) -> &'t [u8] {
+        self.names.get(usize::from(class)).copied().unwrap_or(b"")
     }
 
-    /// The places of the classes of the pair with a number.
-    fn pair(&self, number: usize) -> (usize, usize) {
+    /// The name of a class, as a part of a sentence.
+    pub(crate) fn quoted(&self, class: u8) -> Part<'t> {
+        Part::Quoted(self.name(class))
+    }
+
+    /// The pair of two classes, as a part of a sentence.
+    pub(crate) fn listed(&self, (low, high): (u8, u8)) -> Part<'t> {
+        Part::Pair(self.name(low), self.name(high))
+    }
+
+    /// The classes of the pair with a number.
+    fn pair(&self, number: usize) -> (u8, u8) {
         self.pairs.get(number).copied().unwrap_or((0, 0))
     }
 
     /// The numbers of pairs that lead from a class back to it, the last one first.
-    fn cycle(&self, alloc: Global, class: usize) -> Result<Vec<usize>, AllocError> {
+    fn cycle(&self, alloc: Global, class: u8) -> Result<Vec<usize>, AllocError> {
         let mut into: Vec<Option<usize>> = Vec::new(alloc);
         into.resize(self.names.len(), None)?;
         for _ in 0..self.names.len() {
@@ -62,7 +72,7 @@ impl<'t> Order<'t> {
         let mut cycle = Vec::new(alloc);
         let mut at = class;
         for _ in 0..self.names.len() {
-            let Some(number) = into.get(at).copied().flatten() else {
+            let Some(number) = into.get(usize::from(at)).copied().flatten() else {
                 break;
             };
             cycle.push(number)?;
@@ -75,12 +85,13 @@ impl<'t> Order<'t> {
     }
 
     /// Notes for each class that is reached by one pair more with which pair it is.
-    fn reach(&self, class: usize, into: &mut [Option<usize>]) {
+    fn reach(&self, class: u8, into: &mut [Option<usize>]) {
         for number in 0..self.pairs.len() {
             let (low, high) = self.pairs[number];
-            let is_reached = low == class || into.get(low).copied().flatten().is_some();
-            if is_reached && high < into.len() && into[high].is_none() {
-                into[high] = Some(number);
+            let (from, to) = (usize::from(low), usize::from(high));
+            let is_reached = low == class || into.get(from).copied().flatten().is_some();
+            if is_reached && to < into.len() && into[to].is_none() {
+                into[to] = Some(number);
             }
         }
     }
@@ -104,48 +115,38 @@ fn wrong_in(order: &Order, cycle: &[usize]) -> Option<usize> {
 impl Telling<'_> {
     /// Adds the pairs of a cycle, the last one first.
     fn put_links(&mut self, order: &Order, cycle: &[usize]) -> Result<(), AllocError> {
-        let mut joint = ("", " is below ");
+        let mut is_first = true;
         for number in cycle.iter().rev() {
             let (low, high) = order.pair(*number);
-            self.add(joint.0)?;
-            self.say("%", &[Part::Quoted(order.name(low))])?;
-            self.add(joint.1)?;
-            self.say("%", &[Part::Quoted(order.name(high))])?;
-            joint = (", ", " below ");
+            let sentence = if is_first {
+                "% is below %"
+            } else {
+                ", % below %"
+            };
+            self.say(sentence, &[order.quoted(low), order.quoted(high)])?;
+            is_first = false;
         }
         Ok(())
     }
 
-    /// Adds which pair of a cycle to take out, and returns its place.
-    fn put_wrong(
-        &mut self,
-        order: &Order,
-        wrong: Option<usize>,
-    ) -> Result<Option<Span>, AllocError> {
-        let Some(number) = wrong else {
-            self.add("remove the pair that is the wrong way round.")?;
-            return Ok(None);
-        };
-        let (low, high) = order.pair(number);
-        self.say(
-            "`%` goes against the order of `classes`: perhaps it is the wrong way round, or \
-            superfluous.",
-            &[Part::Pair(order.name(low), order.name(high))],
-        )?;
-        Ok(pair_place(self.bytes, number))
-    }
-
     /// Adds the explanation of pairs that form a cycle, and returns the place of the wrong one.
-    pub(crate) fn put_ring(
-        &mut self,
-        order: &Order,
-        class: usize,
-    ) -> Result<Option<Span>, AllocError> {
+    pub(crate) fn put_ring(&mut self, order: &Order, class: u8) -> Told {
         let cycle = order.cycle(self.alloc, class)?;
         self.put_links(order, &cycle)?;
-        self.add(": that is a cycle.\nHint: ")?;
-        let place = self.put_wrong(order, wrong_in(order, &cycle))?;
-        self.add(" Removing another pair changes who may see what.\n")?;
-        Ok(place)
+        let Some(number) = wrong_in(order, &cycle) else {
+            self.add(
+                ": that is a cycle.\nHint: remove the pair that is the wrong way round. Removing \
+                another pair changes who may see what.\n",
+            )?;
+            return Ok(None);
+        };
+        let place = pair_place(self.bytes, number);
+        self.tell(
+            ": that is a cycle.\nHint: `%` goes against the order of `classes`: perhaps it is the \
+            wrong way round, or superfluous. Removing another pair changes who may see what.\n",
+            &[order.listed(order.pair(number))],
+            Tail::Nothing,
+            place,
+        )
     }
 }

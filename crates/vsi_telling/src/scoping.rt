@@ -3,10 +3,10 @@
 ghost use Rattle.std.specs.Prelude.{◌≡◌, option_map};
 ghost use Rattle.vsi_telling.specs.Places.{scoping_start};
 
-use crate::hints::word_hint;
-use crate::names::{Part, class_names, declaration, declared, part_of, tokens_in};
-use crate::telling::Telling;
+use crate::names::{class_names, declaration, declared, part_of, tokens_in};
+use crate::telling::{Tail, Telling};
 use std::alloc::AllocError;
+use vsi_caret::Part;
 use vsi_lattice::{Classes, Lattice};
 use vsi_scope::ScopeError;
 use vsi_syntax::{Kind, Span, Token};
@@ -112,10 +112,14 @@ impl Telling<'_> {
             );
         }
         let classes = class_names(self.alloc, lattice)?;
-        let parts = [quoted, Part::Names(&classes)];
-        self.say("The lattice has no class %. Its classes are %.\n", &parts)?;
         let otherwise = "Hint: use one of them, or add this one to the lattice file.\n";
-        self.nearest_or(name, &classes, otherwise)
+        let _place = self.tell(
+            "The lattice has no class %. Its classes are %.\n",
+            &[quoted, Part::Names(&classes)],
+            Tail::Nearest(name, &classes, otherwise),
+            None,
+        )?;
+        Ok(())
     }
 
     /// Adds the globals of a text, and returns whether one of them or of the local variables may
@@ -134,7 +138,7 @@ impl Telling<'_> {
 
     /// Adds the names that may have been meant, or how to declare this one.
     fn put_choices(&mut self, tokens: &[Token], name: &[u8]) -> Result<(), AllocError> {
-        if self.add_any(word_hint(name))? || self.put_near(tokens, name)? {
+        if self.put_near(tokens, name)? {
             return Ok(());
         }
         self.say(

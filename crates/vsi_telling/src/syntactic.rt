@@ -1,14 +1,14 @@
 //! The explanation of tokens that are no program.
 
-use crate::hints::{file_hint, place_hint, word_hint};
-use crate::names::{Part, is_declared, part_of, tokens_in};
+use crate::hints::{file_hint, place_hint};
+use crate::names::{is_declared, part_of, tokens_in};
 use crate::nearest::KEYWORDS;
 use crate::telling::Telling;
 use crate::token_place::{TokenPlace, token_place};
 use std::alloc::{AllocError, Global};
-use vsi_hints::{is_idle, is_type};
+use vsi_caret::Part;
 use vsi_recovery::expected_after;
-use vsi_syntax::{Kind, ParseError, Span, Token};
+use vsi_syntax::{Kind, ParseError, Token};
 
 /// Whether an `if` among the tokens, in the block that they end in, still wants its `else`.
 fn lacks_else(alloc: Global, tokens: &[Token]) -> Result<bool, AllocError> {
@@ -27,15 +27,6 @@ fn lacks_else(alloc: Global, tokens: &[Token]) -> Result<bool, AllocError> {
         }
     }
     Ok(wanted > 0)
-}
-
-/// The token, where it is a name that the text declares nowhere.
-fn strange<'a>(place: &TokenPlace<'a, '_>, token: Option<Token<'a>>) -> Option<Token<'a>> {
-    let token = token?;
-    if token.kind != Kind::Name || is_declared(place.tokens, token.text) {
-        return None;
-    }
-    Some(token)
 }
 
 impl Telling<'_> {
@@ -64,61 +55,6 @@ impl Telling<'_> {
             " To do nothing there, write `%% := %`.\n",
             &[before, name, name],
         )
-    }
-
-    /// Adds how a variable is declared or nothing is done, in place of a word of other languages,
-    /// and returns whether the word is of these.
-    fn put_foreign_word(&mut self, place: &TokenPlace, token: Token) -> Result<bool, AllocError> {
-        let word = Part::Quoted(token.text);
-        if is_type(token.text) {
-            let name = Part::Text(place.name_behind(token).unwrap_or(b"x"));
-            self.say(
-                "Hint: there is no %. Each variable holds a whole number, and is declared with \
-                `var % : L;` at the beginning of the text, where L is a class of the lattice file.\n",
-                &[word, name],
-            )?;
-            return Ok(true);
-        }
-        if is_idle(token.text) {
-            self.say("Hint: there is no %.", &[word])?;
-            self.put_idle(place, "")?;
-            return Ok(true);
-        }
-        self.add_any(word_hint(token.text))
-    }
-
-    /// Adds a hint by a word of other languages, and returns whether the token is one.
-    fn put_foreign(
-        &mut self,
-        place: &TokenPlace,
-        token: Option<Token>,
-    ) -> Result<bool, AllocError> {
-        let Some(token) = strange(place, token) else {
-            return Ok(false);
-        };
-        if self.put_operator(token.text, token.span.start)? {
-            return Ok(true);
-        }
-        self.put_foreign_word(place, token)
-    }
-
-    /// Adds a hint where the tokens in front of a place are misread, and returns whether they are:
-    /// a list of what could be there is then of no use.
-    fn put_misread(&mut self, place: &TokenPlace) -> Result<bool, AllocError> {
-        if let (Some(first), Some(Kind::Equal)) = (place.before(1), place.kind()) {
-            match first.kind {
-                Kind::Equal => return self.put_operator(b"==", first.span.start),
-                Kind::Less => return self.put_operator(b"<=", first.span.start),
-                _ => {}
-            }
-        }
-        if self.put_foreign(place, place.before(1))? {
-            return Ok(true);
-        }
-        match strange(place, place.before(1)) {
-            Some(token) if place.is_behind_target() => self.nearest(token.text, &KEYWORDS),
-            _ => Ok(false),
-        }
     }
 
     /// Adds a hint for a `;` in front of a place that is one too many, and returns whether it is.
@@ -177,28 +113,33 @@ impl Telling<'_> {
         Ok(())
     }
 
-    /// Adds a hint by what other languages have at a place, and returns whether there is one.
-    fn put_foreign_hint(&mut self, place: &TokenPlace) -> Result<bool, AllocError> {
-        if self.add_any(file_hint(self.bytes))? || self.hint_at(place.start())? {
-            return Ok(true);
+    /// Adds which keyword was perhaps meant by a name that is declared nowhere, and returns whether
+    /// one was.
+    fn put_keyword(
+        &mut self,
+        place: &TokenPlace,
+        token: Option<Token>,
+    ) -> Result<bool, AllocError> {
+        match token {
+            Some(name) if name.kind == Kind::Name && !is_declared(place.tokens, name.text) => {
+                self.nearest(name.text, &KEYWORDS)
+            }
+            _ => Ok(false),
         }
-        if self.put_foreign(place, place.here())? {
-            return Ok(true);
-        }
-        self.put_misread(place)
     }
 
     /// Adds the token at a place, those that could be there, and a hint.
     fn put_at_place(&mut self, place: &TokenPlace) -> Result<(), AllocError> {
         self.put_standing(place)?;
-        if self.put_foreign_hint(place)? {
+        if self.add_any(file_hint(self.bytes))? || self.hint_at(place.start())? {
+            return Ok(());
+        }
+        if place.is_behind_target() && self.put_keyword(place, place.before(1))? {
             return Ok(());
         }
         self.put_expected(place.tokens_before())?;
-        if let Some(token) = strange(place, place.here()) {
-            if self.nearest(token.text, &KEYWORDS)? {
-                return Ok(());
-            }
+        if self.put_keyword(place, place.here())? {
+            return Ok(());
         }
         self.put_place_hint(place)
     }

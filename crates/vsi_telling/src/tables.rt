@@ -1,8 +1,8 @@
 //! TOML files as tables.
 
-use crate::names::{Part, put_parts};
 use std::alloc::{AllocError, Global};
 use toml::{Table, Value};
+use vsi_caret::{Part, say};
 use vsi_syntax::Span;
 
 /// The table that a file is, if it is one.
@@ -28,14 +28,8 @@ pub fn put_syntax(
     let Err(error) = toml::table_from_slice(alloc, bytes) else {
         return Ok(None);
     };
-    put_parts(
-        words,
-        &[
-            Part::Text(b"The file isn't a TOML document: "),
-            Part::Text(error.message().as_bytes()),
-            Part::Text(b".\n"),
-        ],
-    )?;
+    let why = Part::Text(error.message().as_bytes());
+    say(words, "The file isn't a TOML document: %.\n", &[why])?;
     match error.span() {
         Some(range) => Ok(Some(Span {
             start: range.start,

@@ -1,22 +1,36 @@
 //! The words about a refused file, as they are gathered.
 
-use crate::names::{Part, say};
-use crate::nearest::{put_nearest, put_nearest_or};
+use crate::nearest::put_nearest;
 use std::alloc::{AllocError, Global};
+use vsi_caret::{Part, say};
 use vsi_hints::{hint_at, put_hint};
+use vsi_syntax::Span;
+
+/// The part of a file that is wrong, if it is known, once the words about it have been added.
+pub type Told = Result<Option<Span>, AllocError>;
+
+/// An addition to a sentence.
+#[derive(Clone, Copy)]
+pub enum Tail<'a> {
+    Nothing,
+    /// An example of the right form, or another fixed text.
+    Text(&'static str),
+    /// Which of the names was perhaps meant in place of the first one, or else a hint.
+    Nearest(&'a [u8], &'a [&'a [u8]], &'static str),
+}
 
 /// A refused file, and the words about it so far.
 #[derive(Drop)]
-pub(crate) struct Telling<'s> {
-    pub(crate) alloc: Global,
-    pub(crate) path: &'s [u8],
-    pub(crate) bytes: &'s [u8],
-    pub(crate) words: Vec<u8>,
+pub struct Telling<'s> {
+    pub alloc: Global,
+    pub path: &'s [u8],
+    pub bytes: &'s [u8],
+    pub words: Vec<u8>,
 }
 
 impl<'s> Telling<'s> {
     /// A file that nothing is said about yet.
-    pub(crate) fn new(alloc: Global, path: &'s [u8], bytes: &'s [u8]) -> Self {
+    pub fn new(alloc: Global, path: &'s [u8], bytes: &'s [u8]) -> Self {
         let words = Vec::new(alloc);
         Telling {
             alloc,
@@ -27,13 +41,32 @@ impl<'s> Telling<'s> {
     }
 
     /// Adds a sentence, with a part in place of each `%`.
-    pub(crate) fn say(&mut self, sentence: &str, parts: &[Part<'_>]) -> Result<(), AllocError> {
+    pub fn say(&mut self, sentence: &str, parts: &[Part<'_>]) -> Result<(), AllocError> {
         say(&mut self.words, sentence, parts)
     }
 
     /// Adds sentences as they are.
-    pub(crate) fn add(&mut self, text: &str) -> Result<(), AllocError> {
+    pub fn add(&mut self, text: &str) -> Result<(), AllocError> {
         self.words.extend_from_slice(text.as_bytes())
+    }
+
+    /// Adds a sentence and what follows it, and returns the place.
+    pub fn tell(
+        &mut self,
+        sentence: &str,
+        parts: &[Part<'_>],
+        tail: Tail<'_>,
+        place: Option<Span>,
+    ) -> Told {
+        self.say(sentence, parts)?;
+        match tail {
+            Tail::Nothing => {}
+            Tail::Text(text) => self.add(text)?,
+            Tail::Nearest(written, choices, otherwise) => {
+                self.nearest_or(written, choices, otherwise)?
+            }
+        }
+        Ok(place)
     }
 
     /// Adds the text, if there is one, and returns whether there is.
@@ -67,7 +100,9 @@ impl<'s> Telling<'s> {
         choices: &[&[u8]],
         otherwise: &str,
     ) -> Result<(), AllocError> {
-        let otherwise = otherwise.as_bytes();
-        put_nearest_or(self.alloc, &mut self.words, written, choices, otherwise)
+        if self.nearest(written, choices)? {
+            return Ok(());
+        }
+        self.add(otherwise)
     }
 }

@@ -1,7 +1,6 @@
 //! The output of `command` if a device fails mid-stream. Standard input has the sum, and fails at
 //! its first call if there are arguments.
 
-use crate::devices::SUM;
 use crate::files::{AMPLE, Device, Shown, show_over};
 use std::alloc::{AllocError, Global};
 use std::test::Fail;
@@ -144,6 +143,5 @@ fn reports_faults_of_input(rt: HostRuntime) -> Result<(), Fail> {
     }
     let unheard = show_over(rt.alloc(), "", 1, Device::Error, 0)?;
     assert!(rt; is_fault(&unheard, b"", b""));
-    assert!(rt; SUM.len() == 21);
     Ok(())
 }

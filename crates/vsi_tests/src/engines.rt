@@ -5,10 +5,10 @@ ghost use Rattle.vsi_devices.specs.Counted.{faults_of};
 
 use crate::devices::{Drip, Failure, IMAGE, SUM, Scant, TWO};
 use std::alloc::Global;
-use std::io;
 use std::test::Fail;
 use vsi::{Lattice, read_lattice};
-use vsi_devices::{Counted, EngineError, build, read_all, run_image, write_out};
+use vsi_devices::{Counted, EngineError, build, build_in, read_all, run_image, write_out};
+use vsi_types::Profile;
 
 /// The text of a copy.
 const TEXT: &[u8] = b"compiled";
@@ -16,11 +16,13 @@ const TEXT: &[u8] = b"compiled";
 /// The trace of the image, and its store.
 const TRACE: &[u8] = b"0: PUSH 3 |\n1: STORE 0 | 3\n2: HALT |\nx = 3\n";
 
-/// What is done with a reader and a writer: a text is copied, built, or run with its trace.
+/// What is done with a reader and a writer: a text is copied, or built, under the base profile or
+/// the strict one, or an image is run with its trace.
 #[derive(Clone, Copy)]
 enum Job {
     Copy,
     Build,
+    BuildStrict,
     Run,
 }
 
@@ -28,7 +30,7 @@ enum Job {
 fn texts_of(job: Job) -> (&'static [u8], &'static [u8]) {
     match job {
         Job::Copy => (TEXT, TEXT),
-        Job::Build => (SUM, IMAGE),
+        Job::Build | Job::BuildStrict => (SUM, IMAGE),
         Job::Run => (IMAGE, TRACE),
     }
 }
@@ -50,6 +52,7 @@ fn carry_out(
             write_out(&bytes, writer)
         }
         Job::Build => build(alloc, lattice, reader, writer),
+        Job::BuildStrict => build_in(alloc, Profile::Strict, lattice, reader, writer),
         Job::Run => {
             let _outcome = run_image(alloc, reader, b"", 3, true, writer)?;
             Ok(())
@@ -94,7 +97,12 @@ fn ends(
 fn jobs_end_at_the_first_fault(rt: HostRuntime) -> Result<(), Fail> {
     let alloc = rt.alloc();
     let lattice = read_lattice(alloc, TWO)?;
-    for (job, reads, writes) in [(Job::Copy, 9, 8), (Job::Build, 22, 31), (Job::Run, 32, 43)] {
+    for (job, reads, writes) in [
+        (Job::Copy, 9, 8),
+        (Job::Build, 22, 31),
+        (Job::BuildStrict, 22, 31),
+        (Job::Run, 32, 43),
+    ] {
         for at in 1..=reads {
             let faults = (at, 64, Failure::Refuses);
             assert!(rt;
@@ -115,20 +123,5 @@ fn jobs_end_at_the_first_fault(rt: HostRuntime) -> Result<(), Fail> {
             }
         }
     }
-    Ok(())
-}
-
-/// The number of bytes read from an endless reader, and of calls that failed.
-fn read_of_endless(alloc: Global) -> Result<(usize, u64), EngineError> {
-    let mut reader = Counted::new(io::repeat(b' '));
-    let bytes = read_all(alloc, &mut reader)?;
-    Ok((bytes.len(), reader.faults()))
-}
-
-#[test]
-fn stops_at_the_limit(rt: HostRuntime) -> Result<(), Fail> {
-    let (length, faults) = read_of_endless(rt.alloc())?;
-    assert_eq!(rt; length, 1_048_577);
-    assert_eq!(rt; faults, 0);
     Ok(())
 }

@@ -1,5 +1,5 @@
-//! The tests that neither rows nor transcripts hold: devices that fail mid-stream, files that
-//! change between two readings, and images with each byte changed.
+//! The tests that neither rows nor transcripts hold: devices that fail mid-stream, and files that
+//! change between two readings.
 #![tactic(auto)]
 
 #[cfg(test)]
@@ -10,5 +10,3 @@ mod engines;
 mod files;
 #[cfg(test)]
 mod loads;
-#[cfg(test)]
-mod near;

@@ -32,28 +32,6 @@ impl Files for Turncoat {
     }
 }
 
-/// The files of a shelf, with nothing at the path `state`.
-#[derive(Drop)]
-struct Bare {
-    shelf: Shelf,
-}
-
-impl Files for Bare {
-    type Input = Drip<'static>;
-
-    fn open_file(&mut self, path: &str) -> Option<Drip<'static>> {
-        self.shelf.open_file(path)
-    }
-
-    fn fill_file(&mut self, path: &str, bytes: &[u8]) -> Option<()> {
-        self.shelf.fill_file(path, bytes)
-    }
-
-    fn lacks(&self, path: &str) -> bool {
-        path == "state"
-    }
-}
-
 /// The output for the words in a line over files that are read once.
 fn carried<F: Files + Drop>(alloc: Global, line: &str, system: F) -> Result<Shown, AllocError> {
     let words = words_of(alloc, line)?;
@@ -70,12 +48,8 @@ fn judges_the_text_that_was_read(rt: HostRuntime) -> Result<(), Fail> {
     assert!(rt; first.output.as_slice() == b"accepted\n".as_slice());
     let second = carried(rt.alloc(), line, Turncoat { is_read: true })?;
     assert!(rt; second.status == 1 && second.output.is_empty());
-    assert!(rt;
-        second
-            .error
-            .as_slice()
-            .starts_with(b"refused: 25 Refused\n")
-    );
+    let told = second.error.as_slice();
+    assert!(rt; told.starts_with(b"refused: 25 Refused\n"));
     for (line, status, error) in &[
         ("run image --budget 3 --out image", 4, "file fault: image\n"),
         ("build two sum made", 0, ""),
@@ -85,30 +59,6 @@ fn judges_the_text_that_was_read(rt: HostRuntime) -> Result<(), Fail> {
         let shown = carried(rt.alloc(), line, Shelf::new(rt.alloc(), AMPLE))?;
         assert!(rt;
             shown.status == *status && shown.error.as_slice() == error.as_bytes(),
-            "at {line}"
-        );
-    }
-    Ok(())
-}
-
-#[test]
-fn reads_the_start_store_where_a_state_is_lacking(rt: HostRuntime) -> Result<(), Fail> {
-    for (line, error) in &[
-        (
-            "drive two image --class L --store state --init none --save state",
-            "file fault: none\n",
-        ),
-        (
-            "drive two image --class L --store kept --init none --save kept",
-            "file fault: kept\n",
-        ),
-    ] {
-        let shelf = Shelf::new(rt.alloc(), AMPLE);
-        let shown = carried(rt.alloc(), line, Bare { shelf })?;
-        assert!(rt;
-            shown.status == 4
-                && shown.output.is_empty()
-                && shown.error.as_slice() == error.as_bytes(),
             "at {line}"
         );
     }

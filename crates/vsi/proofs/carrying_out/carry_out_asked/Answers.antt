@@ -3,11 +3,12 @@ use Rattle.vsi_devices.specs.Counted.{device_of, faults_of}
 use Rattle.vsi.specs.FaultyFiles.{TellsRefusal, has_line}
 use Rattle.vsi.specs.Failures.{status_of}
 use Rattle.vsi.specs.Noted.{IsNote, IsNoteBefore, noting}
-use Rattle.vsi.specs.Partly.{Answers, Leaves, cut_from}
+use Rattle.vsi.specs.Partly.{Answers, Leaves}
 use Rattle.vsi.specs.Performed.{Performs}
 use Rattle.vsi.specs.Reasons.{Why}
 use Rattle.vsi.specs.Saved.{KeepsState}
 use Rattle.vsi.specs.Screen.{tamed}
+use Rattle.vsi.specs.Works.{cut_from}
 use Rattle.vsi.proofs.NoteLemmas.{noted_err, noted_ok}
 use Rattle.vsi.proofs.Hushed.{failure_note}
 use Rattle.vsi.proofs.CarriedOut.{early_told, explained_fails}

@@ -11,7 +11,11 @@ returns-clause-told g c =
       lattice = c.in_ok-read.read.1;
       source = c.in_ok-text.text.items;
       files = record {
-        lattice = c.in_ok-read.ensures.read;
+        lattice = record {
+          policy = c.in_ok-read.read.0.items;
+          read = c.in_ok-read.ensures.read;
+          declared = c.in_ok-read.ensures.declared;
+        };
         read = subst (λ h. IsReadAt h c.args.compilation.source.now c.in_ok-text.text.items)
             c.in_ok-read.ensures.kept c.in_ok-text.ensures.read;
       };

@@ -1,5 +1,6 @@
-use Rattle.std.proofs.Common.{refl}
-use Rattle.vsi.specs.Reasons.{LacksEmitBound, WhyEmit}
+use Rattle.std.proofs.Common.{false, refl, subst}
+use Rattle.vsi.specs.Performed.{TellsBounding}
+use Rattle.vsi.specs.Reasons.{LacksEmitBound, WhyEmit, bounding_of}
 use Rattle.vsi.proofs.Reasons.{failed_by}
 use Rattle.vsi.proofs.emitting.check_bound.Goals as goal
 
@@ -14,8 +15,10 @@ pub returns-else-found-clause-failed : goal.returns-else-found-clause-failed
 returns-else-found-clause-failed g c =
     record {
       bounded = c.if-not-asked.false;
-      told = c.in_ok-found.found;
-      bounds = c.in_ok-found.ensures.told;
-      unbounded = c.if-found.false;
+      text = c.in_ok-found.found.text;
+      unbounded = subst
+          (λ b. TellsBounding false (g.F.Files.holds c.args.files.now) (bounding_of c.args.asked) b
+          c.in_ok-found.found.text)
+          c.if-found.false c.in_ok-found.ensures.told;
       says = refl;
     }

@@ -38,7 +38,7 @@ returns-in_err-text-clause-failed g c =
     c.from_residual-in_err-text.ensures.1
     (FailsBy-weaker
     (λ reason. IsSomeAnd c.args.asked.old
-    (λ path. RefusesAsked (g.F.Files.holds c.known_in.new.files) path.now reason))
+    (λ path. RefusesAsked (g.F.Files.holds c.asked_in.new.files) path.now reason))
     why IsUnusable IsUnusable
     (λ reason refused. visible_old holds c.args.asked.interface.now c.args.asked.old reason
     (subst (λ h. IsSomeAnd c.args.asked.old (λ path. RefusesAsked h path.now reason))

@@ -9,7 +9,7 @@ returns-clause-failed g c =
     c.as_slice-2.result.now c.declared_lattice.result c.in_ok-bytes.ensures.read c.as_slice-2.ensures.value
     c.declared_lattice.ensures.failed
 
-pub returns-then-begins_image-clause-failed : goal.returns-then-begins_image-clause-failed
-returns-then-begins_image-clause-failed g c =
+pub returns-then-is_exchanged-clause-failed : goal.returns-then-is_exchanged-clause-failed
+returns-then-is_exchanged-clause-failed g c =
     fails_by (λ reason. ⊥) (RefusesLattice (g.F.Files.holds c.args.files.now) c.args.path.now) NoOther
     (λ reason never. absurd never) c.exchanged.result c.exchanged.ensures

@@ -34,7 +34,7 @@ returns-in_err-viewer-clause-failed g c =
 pub returns-in_err-verified-clause-failed : goal.returns-in_err-verified-clause-failed
 returns-in_err-verified-clause-failed g c =
     let holds = g.F.Files.holds c.args.files.now in
-    held_failed (λ h. RefusesImage h c.args.image.now) holds (g.F.Files.holds c.lattice_in.new.files)
+    held_failed (λ h. RefusesImage h c.args.image.now) holds (g.F.Files.holds c.first_lattice.new.files)
     (Unseen holds c.args.lattice.now c.args.image.now) (LacksClassAt holds c.args.lattice.now c.args.class.now)
     c.from_residual-in_err-verified.result c.in_err-verified.field-0.0 c.in_ok-classes.ensures.kept
     (λ reason is. inr is) c.from_residual-in_err-verified.ensures.1 c.in_err-verified.ensures.failed

@@ -1,77 +1,100 @@
-use Rattle.std.proofs.Common.{ap, inr, subst}
-use Rattle.std.proofs.lemmas.Result.{IfErr-weaker, on_ok_weaker}
-use Rattle.std.specs.Io.KnownBytes.{Appends}
-use Rattle.vsi_devices.specs.Counted.{device_of}
-use Rattle.vsi.specs.Partly.{AnswersView}
-use Rattle.vsi.specs.Files.{shown}
-use Rattle.vsi.specs.Refusals.{LacksEither, FailsBy}
+use Rattle.std.proofs.Common.{Ok, Err, inl, inr, subst}
+use Rattle.vsi_answers.specs.Requests.{ViewsTo}
+use Rattle.vsi.specs.Holding.{IsStoreAt}
+use Rattle.vsi.specs.Refusals.{LacksClassAt, LacksEither}
 use Rattle.vsi.specs.Reasons.{WhyView}
-use Rattle.vsi.proofs.Filled.{both_done, delivered_of}
-use Rattle.vsi.proofs.Partly.{any_failure, kept_leaves, late_leaves}
-use Rattle.vsi.proofs.Reasons.{handed}
-use Rattle.vsi.proofs.Unrun.{handed_late}
-use Rattle.vsi.proofs.Kept.{beside_after, beside_same}
+use Rattle.vsi.proofs.Reasons.{handed_reason, late_failed}
+use Rattle.vsi.proofs.Unrun.{begins_at, more_failed, start_failed, unbounded_failed, unseen_failed}
 use Rattle.vsi.proofs.running.view.Goals as goal
 
-pub returns-clause-performed : goal.returns-clause-performed
-returns-clause-performed g c =
-    on_ok_weaker c.deliver.result
-    (λ done. record {
-      text = c.in_ok-text.text;
-      views = c.in_ok-text.ensures.told;
-      written = subst
-          (λ t. Appends (g.W.Write.contents (device_of c.args.output.now)) (g.W.Write.contents (device_of
-          c.deliver.new.output))
-          (shown c.args.initial_store.now.out t))
-          c.deref.ensures.value done.0;
-      delivered = delivered_of c.args.initial_store.now.out c.deref.result.now c.in_ok-text.text.items
-          (g.F.Files.holds c.seen.new.files) (g.F.Files.holds c.args.files.now) (g.F.Files.holds c.deliver.new.files)
-          c.deref.ensures.value c.in_ok-text.ensures.kept done.1;
-    })
-    (both_done _ _ c.deliver.result c.deliver.ensures.whole c.deliver.ensures.delivered)
+pub returns-clause-told : goal.returns-clause-told
+returns-clause-told g c =
+    record {
+      lattice = c.in_ok-classes.classes;
+      viewer = c.in_ok-classes.viewer;
+      looks = c.in_ok-classes.ensures.looks;
+      image = c.in_ok-classes.verified;
+      words = c.in_ok-words.words.items;
+      begins = begins_at (g.F.Files.holds c.args.files.now) c.args.execution c.args.initial_store.now
+          c.in_ok-classes.verified c.in_ok-file.file.items c.deref.result.now c.in_ok-words.words.items
+          c.in_ok-classes.ensures.held
+          (subst (λ h. IsStoreAt h c.args.execution.store c.in_ok-file.file.items) c.in_ok-classes.ensures.kept
+          c.in_ok-file.ensures.read)
+          c.deref.ensures.value c.in_ok-words.ensures.begins c.in_ok-words.ensures.len;
+      budget = c.in_ok-budget.budget;
+      within = c.in_ok-budget.ensures.budget;
+      views = subst
+          (λ w. ViewsTo c.in_ok-classes.classes c.in_ok-classes.viewer c.in_ok-classes.verified w
+          c.in_ok-budget.budget (Ok c.in_ok-view.field-0))
+          c.deref-2.ensures.value c.in_ok-view.ensures.views;
+    }
 
-pub returns-in_err-text-clause-left : goal.returns-in_err-text-clause-left
-returns-in_err-text-clause-left g c = kept_leaves _ 4 _ c.from_residual.result
-
-pub returns-clause-left : goal.returns-clause-left
-returns-clause-left g c =
+pub returns-in_err-classes-clause-failed : goal.returns-in_err-classes-clause-failed
+returns-in_err-classes-clause-failed g c =
     let holds = g.F.Files.holds c.args.files.now in
-    let out = c.args.initial_store.now.out in
-    late_leaves (AnswersView holds c.args.lattice.now c.args.class.now c.args.execution c.args.initial_store.now)
-    (g.W.Write.contents (device_of c.args.output.now)) (g.W.Write.contents (device_of c.deliver.new.output))
-    c.deliver.result c.deliver.ensures.failure
-    (inr (
-      shown out c.deref.result.now,
-      (c.in_ok-text.text, c.in_ok-text.ensures.told, ap (shown out) c.deref.ensures.value),
-      c.deliver.ensures.part,
-    ))
+    let why = WhyView holds c.args.lattice.now c.args.class.now c.args.execution c.args.initial_store.now in
+    more_failed why (LacksClassAt holds c.args.lattice.now c.args.class.now)
+    (LacksEither holds c.args.lattice.now c.args.class.now c.args.execution.image.now c.args.execution.budget)
+    c.from_residual.result (λ failure lacks. inl lacks)
+    (unseen_failed holds c.args.lattice.now c.args.execution.image.now why
+    (LacksClassAt holds c.args.lattice.now c.args.class.now) c.from_residual.result c.in_err-classes.field-0.0
+    (λ reason is. inl is) (λ reason is. inr (inl is)) c.from_residual.ensures.1 c.in_err-classes.ensures.failed)
 
-pub returns-in_err-text-clause-failed : goal.returns-in_err-text-clause-failed
-returns-in_err-text-clause-failed g c =
-    handed
-    (FailsBy
-    (WhyView (g.F.Files.holds c.args.files.now) c.args.lattice.now c.args.class.now c.args.execution
-    c.args.initial_store.now)
-    (LacksEither (g.F.Files.holds c.args.files.now) c.args.lattice.now c.args.class.now c.args.execution.image.now
-    c.args.execution.budget))
-    c.in_err-text.field-0.0 c.from_residual.result c.from_residual.ensures.1 c.in_err-text.ensures.failed
+pub returns-in_err-file-clause-failed : goal.returns-in_err-file-clause-failed
+returns-in_err-file-clause-failed g c =
+    let holds = g.F.Files.holds c.args.files.now in
+    let why = WhyView holds c.args.lattice.now c.args.class.now c.args.execution c.args.initial_store.now in
+    late_failed why
+    (LacksEither holds c.args.lattice.now c.args.class.now c.args.execution.image.now c.args.execution.budget)
+    c.from_residual-in_err-file.result
+    c.in_err-file.field-0.0 c.from_residual-in_err-file.ensures.1 c.in_err-file.ensures.failed
 
-pub returns-clause-failed : goal.returns-clause-failed
-returns-clause-failed g c =
-    handed_late
-    (WhyView (g.F.Files.holds c.args.files.now) c.args.lattice.now c.args.class.now c.args.execution
-    c.args.initial_store.now)
-    (LacksEither (g.F.Files.holds c.args.files.now) c.args.lattice.now c.args.class.now c.args.execution.image.now
-    c.args.execution.budget) c.deliver.result
-    c.deliver.ensures.failure
+pub returns-in_err-words-clause-failed : goal.returns-in_err-words-clause-failed
+returns-in_err-words-clause-failed g c =
+    let holds = g.F.Files.holds c.args.files.now in
+    let why = WhyView holds c.args.lattice.now c.args.class.now c.args.execution c.args.initial_store.now in
+    start_failed holds c.args.execution c.args.initial_store.now why
+    (LacksEither holds c.args.lattice.now c.args.class.now c.args.execution.image.now c.args.execution.budget)
+    c.in_ok-classes.verified c.in_ok-file.file.items
+    c.deref.result.now c.from_residual-in_err-words.result c.in_err-words.field-0.0 c.in_ok-classes.ensures.held
+    (subst (λ h. IsStoreAt h c.args.execution.store c.in_ok-file.file.items) c.in_ok-classes.ensures.kept
+    c.in_ok-file.ensures.read)
+    c.deref.ensures.value (λ reason is. inr (inr (inl is))) c.from_residual-in_err-words.ensures.1
+    c.in_err-words.ensures.failed
 
-pub returns-in_err-text-clause-state : goal.returns-in_err-text-clause-state
-returns-in_err-text-clause-state g c = any_failure _ c.from_residual.result
-    (beside_same c.args.initial_store.now.out _ _ c.in_err-text.ensures.kept)
+pub returns-in_err-budget-clause-failed : goal.returns-in_err-budget-clause-failed
+returns-in_err-budget-clause-failed g c =
+    let holds = g.F.Files.holds c.args.files.now in
+    let why = WhyView holds c.args.lattice.now c.args.class.now c.args.execution c.args.initial_store.now in
+    unbounded_failed holds c.args.execution.image.now c.args.execution.budget c.in_ok-classes.verified why
+    (LacksEither holds c.args.lattice.now c.args.class.now c.args.execution.image.now c.args.execution.budget)
+    c.from_residual-in_err-budget.result c.in_err-budget.field-0.0 c.in_ok-classes.ensures.held
+    (λ s lacks. inr lacks) c.from_residual-in_err-budget.ensures.1 c.in_err-budget.ensures.failed
 
-pub returns-clause-state : goal.returns-clause-state
-returns-clause-state g c =
-    IfErr-weaker c.deliver.result _ _
-    (λ failure stays. beside_after c.args.initial_store.now.out (g.F.Files.holds c.args.files.now)
-    (g.F.Files.holds c.seen.new.files) (g.F.Files.holds c.deliver.new.files) c.in_ok-text.ensures.kept stays c.deliver.ensures.touched)
-    c.deliver.ensures.stays
+pub returns-in_err-view-clause-failed : goal.returns-in_err-view-clause-failed
+returns-in_err-view-clause-failed g c =
+    let holds = g.F.Files.holds c.args.files.now in
+    let why = WhyView holds c.args.lattice.now c.args.class.now c.args.execution c.args.initial_store.now in
+    handed_reason why
+    (LacksEither holds c.args.lattice.now c.args.class.now c.args.execution.image.now c.args.execution.budget)
+    c.in_err-view.field-0.0
+    c.from_residual-in_err-view.result c.from_residual-in_err-view.ensures.1
+    (inr (inr (inr (record {
+      lattice = c.in_ok-classes.classes;
+      viewer = c.in_ok-classes.viewer;
+      looks = c.in_ok-classes.ensures.looks;
+      image = c.in_ok-classes.verified;
+      words = c.in_ok-words.words.items;
+      begins = begins_at (g.F.Files.holds c.args.files.now) c.args.execution c.args.initial_store.now
+          c.in_ok-classes.verified c.in_ok-file.file.items c.deref.result.now c.in_ok-words.words.items
+          c.in_ok-classes.ensures.held
+          (subst (λ h. IsStoreAt h c.args.execution.store c.in_ok-file.file.items) c.in_ok-classes.ensures.kept
+          c.in_ok-file.ensures.read)
+          c.deref.ensures.value c.in_ok-words.ensures.begins c.in_ok-words.ensures.len;
+      budget = c.in_ok-budget.budget;
+      within = c.in_ok-budget.ensures.budget;
+      is = subst
+          (λ w. ViewsTo c.in_ok-classes.classes c.in_ok-classes.viewer c.in_ok-classes.verified w
+          c.in_ok-budget.budget (Err c.in_err-view.field-0.0))
+          c.deref-2.ensures.value c.in_err-view.ensures.views;
+    }))))

@@ -2,7 +2,8 @@ use Rattle.std.proofs.Common.{◌∙◌, Ok, inl, inr, sym, subst}
 use Rattle.std.proofs.lemmas.Result.{IfErr-weaker, IfOk-weaker}
 use Rattle.vsi.specs.Holding.{IsReadAt}
 use Rattle.vsi.specs.Refusals.{NoOther, FailsBy}
-use Rattle.vsi.specs.Reasons.{LacksGiven, LacksTried, RefusesRun, RefusesUnder, WhyTry}
+use Rattle.vsi.specs.Refusals.{LacksGiven}
+use Rattle.vsi.specs.Reasons.{LacksTried, RefusesRun, RefusesUnder, WhyTry}
 use Rattle.vsi.specs.Tried.{IsTriedUnder, RunsMade, TriesFile}
 use Rattle.vsi.proofs.Reasons.{FailsBy-weaker, handed, late_failed, fails_by}
 use Rattle.vsi.proofs.Unrun.{held_failed}

@@ -1,4 +1,4 @@
-use Rattle.std.proofs.Common.{rules, arith, ◌≡◌, length, []}
+use Rattle.std.proofs.Common.{arith, ◌≡◌, length}
 use Rattle.vsi_client.proofs.Lining.{line_start_more, line_start_none}
 use Rattle.vsi_client.proofs.places.line_start.Goals as goal
 

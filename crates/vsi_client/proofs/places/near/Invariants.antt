@@ -1,4 +1,4 @@
-use Rattle.std.proofs.Common.{◌≡◌, ◌≤◌, ◌+◌, length}
+use Rattle.std.proofs.Common.{◌≤◌, ◌+◌, length}
 use Rattle.vsi_client.specs.Places.{IsPlaced}
 use Rattle.vsi_client.proofs.Placing.{Follows}
 use Rattle.vsi_client.proofs.places.near.Given as goal

@@ -1,4 +1,4 @@
-use Rattle.std.proofs.Common.{drop, ◌+◌, sym, subst, ap, ◌∙◌}
+use Rattle.std.proofs.Common.{drop, sym, subst, ap, ◌∙◌}
 use Rattle.std.proofs.lemmas.List.{drop-drop}
 use Rattle.vsi_client.specs.Places.{BeginsCharacter, in_line}
 use Rattle.vsi_client.proofs.Lining.{in_line_begins}

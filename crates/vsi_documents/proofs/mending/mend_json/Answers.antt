@@ -22,6 +22,6 @@ returns-in_ok-line-in-Err c =
     let line = c.in_ok-line-in-Err.line.items in
     record {
       answer = unread_tells l P text error line other e.refused e.exact
-          (subst (λ j. WritesRefusal l j text (unsteady.Compile error) line) c.judgement.ensures
+          (subst (λ j. WritesRefusal l j text (unsteady.Compile error) line) c.judgement_by.ensures.judgement
           c.in_ok-line-in-Err.ensures.refusal);
     }

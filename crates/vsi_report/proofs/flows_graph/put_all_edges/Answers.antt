@@ -8,6 +8,8 @@ use Rattle.vsi_report.proofs.flows_graph.put_all_edges.Goals as goal
 
 pub loop-source-preserved : goal.loop-source-preserved
 loop-source-preserved c =
-    more_lines (λ a. flat_map (lines_between (shown c.args.drawn.now) (flows_in_rows c.args.flows.now) a) (count_from 0 c.args.count))
+    more_lines
+    (λ a. flat_map (lines_between (shown c.args.drawn.now) (flows_in_rows c.args.flows.now) a)
+    (count_from 0 c.args.count))
     c.args.text.now.items c.loop-source.text.items c.put_edges_from.new.text.items c.loop-source.source
     c.loop-source.invariant c.in_ok-put_edges_from.ensures

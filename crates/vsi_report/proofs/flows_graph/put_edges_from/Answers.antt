@@ -6,6 +6,6 @@ use Rattle.vsi_report.proofs.flows_graph.put_edges_from.Goals as goal
 
 pub loop-target-preserved : goal.loop-target-preserved
 loop-target-preserved c =
-    more_lines (lines_between (shown c.args.drawn.now) (flows_in_rows c.args.flows.now) c.args.source) c.args.text.now.items
-    c.loop-target.text.items c.put_edges.new.text.items c.loop-target.target c.loop-target.invariant
+    more_lines (lines_between (shown c.args.drawn.now) (flows_in_rows c.args.flows.now) c.args.source)
+    c.args.text.now.items c.loop-target.text.items c.put_edges.new.text.items c.loop-target.target c.loop-target.invariant
     c.in_ok-put_edges.ensures

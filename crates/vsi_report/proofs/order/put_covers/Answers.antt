@@ -16,7 +16,8 @@ loop-high-preserved c = λ h.
           subst (HasJust (IsRowSoFar L low (high + 1)))
           (sym (ap (λ v. v.items) w.pairs-is ∙ w.in_ok-push.ensures.items))
           (row_more L low high c.loop-high.pairs.items c.requires (search rules)
-          (rw (c.at.ensures, c.at-in-loop-high.ensures) at (w.if-covers.ensures.covers refl)) (c.loop-high.invariant h))
+          (rw (c.at.ensures, c.at-in-loop-high.ensures) at (w.if-covers.ensures.covers refl))
+          (c.loop-high.invariant h))
       | else-covers w ↦
           subst (HasJust (IsRowSoFar L low (high + 1))) (sym (ap (λ v. v.items) w.pairs-is))
           (row_same L low high c.loop-high.pairs.items

@@ -1,4 +1,0 @@
-pub mod PartLemmas
-pub mod StepLemmas
-pub mod FixLemmas
-pub mod TellingLemmas

@@ -1,0 +1,90 @@
+-- Labels are classes, and stores keep their form.
+use Rattle.std.proofs.Common.{◌≡◌, ℕ, ◌+◌, ◌<◌, [], ◌∷◌, ◌++◌, length, take, set, get_or, ℤ, sym, ap, ◌∙◌, subst, ⊎_elim, arith, length-set}
+use Rattle.std.proofs.lemmas.List.{get_or_append_left, get_or-set_same, get_or-set_other, get_or-take, get_or_push, length_push, length-take-le}
+use Rattle.std.proofs.lemmas.Bool.{cases_eq, cases_lt}
+use Rattle.vsi_lattice.specs.Order.{Lattice, IsLattice, IsClass, Below, IsJoin}
+use Rattle.vsi_scope.specs.Language.{Expression, Number, Location, Operator, Command, While, letvars, HasLocations, HasPlaces}
+use Rattle.vsi_scope.specs.Meaning.{Store, value}
+use Rattle.vsi_types.specs.Typing.{Locations}
+use Rattle.vsi_monitor.specs.Labels.{HasLabel, IsStored, IsLabelled}
+use Rattle.vsi_monitor.specs.Monitor.{Outcome, Halted, Monitored, NOTHING, ASSIGN, UPGRADE, COMPOSE, COMPOSE_STOP, IF_TRUE, IF_FALSE, WHILE_TRUE, WHILE_STOP, WHILE_FALSE, LETVAR, LETVAR_STOP}
+use Rattle.vsi_monitor.proofs.Computing.{IfHalted}
+
+module _ (L : Lattice) (laws : IsLattice L) where
+  -- The label of an expression is a class.
+  pub label_class : (k : ℕ) (m : Store) (q : Locations) → IsLabelled L k m q → (e : Expression) (t : ℕ) →
+      HasLocations k e → HasLabel L q e t → IsClass L t
+  label_class k m q fit (Number z) t has h = subst (IsClass L) (sym h) laws.bottom_within
+  label_class k m q fit (Location l s) t has h = subst (IsClass L) (sym h) (fit.classes l has)
+  label_class k m q fit (Operator o a b) t has h = h.4.within
+
+  -- Only one class is the join of two.
+  pub one_join : (a b c d : ℕ) → IsJoin L.count (Below L) a b c → IsJoin L.count (Below L) a b d → c ≡ d
+  one_join a b c d h k = laws.antisymmetric c d h.within k.within (h.least d k.within k.left k.right)
+      (k.least c h.within h.left h.right)
+
+  -- Only one class is the label of what is stored.
+  pub one_stored : (t pc class v w : ℕ) → IsStored L t pc class v → IsStored L t pc class w → v ≡ w
+  one_stored t pc class v w h k = laws.antisymmetric v w h.within k.within
+      (h.least w k.within k.value k.counter k.variable) (k.least v h.within h.value h.counter h.variable)
+
+  -- A store in which one word and its label are replaced.
+  pub fit_set : (k : ℕ) (m : Store) (q : Locations) → IsLabelled L k m q → (l : ℕ) → l < k → (x : ℤ) (v : ℕ) →
+      IsClass L v → IsLabelled L k (set m l x) (set q l v)
+  fit_set k m q fit l lt x v w = record {
+    words = length-set m l x ∙ fit.words;
+    labels = length-set q l v ∙ fit.labels;
+    classes = λ l' lt'. ⊎_elim
+        (λ is. subst (IsClass L) (sym (ap (λ i. get_or (set q l v) i 0) is
+        ∙ get_or-set_same q l v 0 (subst (λ i. l < i) (sym fit.labels) lt))) w)
+        (λ other. subst (IsClass L) (sym (get_or-set_other q l l' v 0 other)) (fit.classes l' lt'))
+        (cases_eq l' l);
+  }
+
+  -- A store with one more word and its label.
+  pub fit_more : (k : ℕ) (m : Store) (q : Locations) → IsLabelled L k m q → (x : ℤ) (v : ℕ) → IsClass L v →
+      IsLabelled L (k + 1) (m ++ x ∷ []) (q ++ v ∷ [])
+  fit_more k m q fit x v w = record {
+    words = length_push m x ∙ ap (λ i. i + 1) fit.words;
+    labels = length_push q v ∙ ap (λ i. i + 1) fit.labels;
+    classes = λ l lt. ⊎_elim
+        (λ in'. subst (IsClass L) (sym (get_or_append_left q (v ∷ []) 0 l (subst (λ i. l < i) (sym fit.labels) in')))
+        (fit.classes l in'))
+        (λ out. subst (IsClass L) (sym (get_or_push q v 0 l (omega (arith, fit.labels)))) w)
+        (cases_lt l k);
+  }
+
+  -- A store without its last word.
+  pub fit_less : (k i j : ℕ) (m : Store) (q : Locations) → i ≡ k → j ≡ k → IsLabelled L (k + 1) m q →
+      IsLabelled L k (take i m) (take j q)
+  fit_less k i j m q is js fit = record {
+    words = length-take-le i m (omega (arith, fit.words)) ∙ is;
+    labels = length-take-le j q (omega (arith, fit.labels)) ∙ js;
+    classes = λ l lt. subst (IsClass L) (sym (get_or-take j q l 0 (subst (λ i. l < i) (sym js) lt)))
+        (fit.classes l (omega arith));
+  }
+
+  module _ (classes : ℕ → ℕ) where
+    -- A run keeps the form of its store.
+    pub kept : (f : Locations) (k pc n : ℕ) (c : Command) (m : Store) (q : Locations) (r : Outcome) →
+        HasPlaces k c → IsLabelled L k m q → Monitored L classes f pc n c m q r →
+        IfHalted r (λ m' q'. IsLabelled L k m' q')
+    kept f k pc n c m q r has fit NOTHING = fit
+    kept f k pc n c m q r has fit (ASSIGN {l = l} {v = v} {e = e} up t is) =
+        fit_set k m q fit l has.0 (value e m) v is.within
+    kept f k pc n c m q r has fit (UPGRADE not) = tt
+    kept f k pc n c m q r has fit (COMPOSE {q₁ = q₁} {a = a} {b = b} {m₁ = m₁} d d') =
+        kept f k pc (n + letvars a) b m₁ q₁ r has.1 (kept f k pc n a m q (Halted m₁ q₁) has.0 fit d) d'
+    kept f k pc n c m q r has fit (COMPOSE_STOP d) = tt
+    kept f k pc n c m q r has fit (IF_TRUE {u = u} {a = a} z t is d) = kept f k u n a m q r has.1 fit d
+    kept f k pc n c m q r has fit (IF_FALSE {u = u} {a = a} {b = b} z t is d) =
+        kept f k u (n + letvars a) b m q r has.2 fit d
+    kept f k pc n c m q r has fit (WHILE_TRUE {q₁ = q₁} {u = u} {e = e} {c = c'} {m₁ = m₁} z t is d d') =
+        kept f k u n (While e c') m₁ q₁ r has (kept f k u n c' m q (Halted m₁ q₁) has.1 fit d) d'
+    kept f k pc n c m q r has fit (WHILE_STOP z t is d) = tt
+    kept f k pc n c m q r has fit (WHILE_FALSE z) = fit
+    kept f k pc n c m q r has fit (LETVAR {q₁ = q₁} {v = v} {e = e} {c = c'} {m₁ = m₁} t is d) =
+        fit_less k (length m) (length q) m₁ q₁ fit.words fit.labels
+        (kept (f ++ classes n ∷ []) (k + 1) pc (n + 1) c' (m ++ value e m ∷ []) (q ++ v ∷ []) (Halted m₁ q₁) has.1
+        (fit_more k m q fit (value e m) v is.within) d)
+    kept f k pc n c m q r has fit (LETVAR_STOP t is d) = tt

@@ -1,7 +1,0 @@
-use Rattle.std.proofs.Common.{◌≡◌, drop}
-use Rattle.vsi_conform.specs.Reading.{bytes_of, is_among}
-use Rattle.vsi_visible.proofs.cycles.is_among.Given as goal
-
--- The name is among the remaining ones exactly if it is among all.
-abbrev pub invariant-loop-known : goal.invariant-loop-known
-invariant-loop-known l = is_among (bytes_of (drop l.known-index l.names)) l.name ≡ is_among (bytes_of l.names) l.name

@@ -1,4 +1,0 @@
-pub mod Globals
-pub mod Cycles
-pub mod Visible
-pub mod Unused
