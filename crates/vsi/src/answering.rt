@@ -24,6 +24,7 @@ use crate::reading::InputCache;
 use crate::replies::{Place, Reply, finish, good};
 use crate::running::{compare, view};
 use crate::steering::view_within;
+use crate::stepping::{compare_steps, monitor, steps};
 use crate::subcommands::{built, check, classes, format, list, mend};
 use crate::trying::try_source;
 use std::alloc::Global;
@@ -50,6 +51,7 @@ fn bad_end<'a>(asked: &Request<'_>) -> Failure<'a>
 {
     match asked {
         Request::Document(asked) => document_end(asked),
+        Request::Steps { .. } => Failure::OutOfBudget,
         _ => Failure::Differs,
     }
 }
@@ -112,6 +114,9 @@ fn answer<'a, F: Files>(
         } => good(view(cache, lattice, class, execution, &initial_store, files)),
         Request::ViewWithin(asked) => good(view_within(cache, &asked, files, note)),
         Request::Compare(comparison) => compare(cache, comparison, false, files, note),
+        Request::CompareSteps(comparison) => compare_steps(cache, comparison, files),
+        Request::Steps { stepping, is_json } => steps(cache, &stepping, is_json, files),
+        Request::Monitor(stepping) => monitor(cache, &stepping, files),
         Request::Leak(search) => good(leak(cache, search, files)),
         Request::Report(compilation) => good(report(cache, compilation, files)),
         Request::Draw(drawing) => good(draw(cache, drawing, files)),

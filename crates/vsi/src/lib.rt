@@ -20,6 +20,7 @@ mod answering;
 mod auditing;
 mod boundaries;
 mod carrying_out;
+mod choosing;
 mod command_line;
 mod conformance;
 mod documents;
@@ -41,6 +42,7 @@ mod references;
 mod replies;
 mod running;
 mod steering;
+mod stepping;
 mod subcommands;
 mod trying;
 

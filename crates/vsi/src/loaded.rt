@@ -327,6 +327,17 @@ pub(crate) fn paths_of<'a>(request: &Request<'a>) -> [Option<&'a str>; MOST_READ
             Some(asked.stores.0),
             Some(asked.stores.1),
         ],
+        Request::CompareSteps(asked) => [
+            Some(asked.lattice),
+            Some(asked.source),
+            Some(asked.stores.0),
+            Some(asked.stores.1),
+        ],
+        Request::Steps {
+            stepping: asked,
+            ..
+        }
+        | Request::Monitor(asked) => [Some(asked.lattice), Some(asked.source), asked.store, None],
         Request::Leak(asked) | Request::Document(Document::Leak(asked)) => {
             two(asked.lattice, asked.source)
         }

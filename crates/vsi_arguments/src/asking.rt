@@ -10,7 +10,7 @@ use crate::requests::{
     audit, bound, build, check, classes, conform, draw, emit_c, explain, flows, lattice, layout,
     leak, list, lsp, mend, policy, report, source,
 };
-use crate::running::{attempt, compare, drive, run, view};
+use crate::running::{attempt, compare_any, drive, monitor, run, steps, view};
 use std::alloc::{AllocError, Global};
 
 /// The request of a subcommand that takes no list of arguments.
@@ -59,9 +59,11 @@ pub fn request_of<'a>(alloc: Global, words: &'a [String]) -> Result<Option<Reque
         _ => values_of(alloc, rest, "--set")?,
     };
     match name.as_str() {
-        "compare" => Ok(compare(words, operands, values.as_slice())),
+        "compare" => Ok(compare_any(words, operands, values.as_slice())),
         "lattice" => Ok(lattice(words, bytes_of(alloc, operands)?)),
+        "monitor" => Ok(monitor(words, operands, bytes_of(alloc, values.as_slice())?)),
         "run" => Ok(run(words, operands, bytes_of(alloc, values.as_slice())?)),
+        "steps" => Ok(steps(words, operands, bytes_of(alloc, values.as_slice())?)),
         "try" => Ok(attempt(words, operands, bytes_of(alloc, values.as_slice())?)),
         "view" => Ok(view(words, operands, bytes_of(alloc, values.as_slice())?)),
         name => Ok(plain(name, words, operands)),

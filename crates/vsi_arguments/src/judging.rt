@@ -32,7 +32,7 @@ const NEEDED: [Rule; 3] = table! {
 };
 
 /// The argument goes with none of the others.
-const APART: [Rule; 11] = table! {
+const APART: [Rule; 12] = table! {
     "*" "json" ["sarif"] "`--json` and `--sarif` don't go together";
     "*" "evidence" ["json"] "`--evidence` and `--json` don't go together";
     "*" "evidence" ["sarif"] "`--evidence` and `--sarif` don't go together";
@@ -45,6 +45,8 @@ const APART: [Rule; 11] = table! {
     "`--interface` names the lattice, so it goes with one operand, the IMAGE";
     "*" "interface" ["OLD"]
     "`--interface` names the lattice, so it goes with at most one operand, an older interface";
+    "compare" "steps" ["unbounded" "json"]
+    "`--steps` of `compare` doesn't go with `--unbounded` and `--json`";
     "view" "interface" ["outputs" "release"]
     "`--interface` names the outputs, so it doesn't go with `--outputs` and `--release`";
     "drive" "interface" ["inputs" "outputs" "release"]
@@ -121,12 +123,16 @@ fn plain(path: &str) -> &str {
     path.strip_prefix("./").unwrap_or(path)
 }
 
-/// The mistake of a comparison of more or fewer stores than two.
+/// The mistake of a comparison of more or fewer stores than two, or of steps without their number.
 fn wrong_stores(matches: &ArgMatches<'_>) -> Option<&'static str> {
     match matches.get_strs("store") {
-        Some([_, _]) => None,
-        _ => Some("`compare` needs two stores"),
+        Some([_, _]) => {}
+        _ => return Some("`compare` needs two stores"),
     }
+    if is_given(matches, "steps") && matches.get_str("budget") == Some("auto") {
+        return Some("`--budget` of `compare --steps` takes a number of steps");
+    }
+    None
 }
 
 /// The mistake of a first start without one path at which the store is read and saved.

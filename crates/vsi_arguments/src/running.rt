@@ -8,7 +8,7 @@ use crate::given_numbers::{budget, budget_or_auto, number};
 use crate::reading::{behind, has_flag, has_values, one, rest_of, two, value};
 use crate::{
     Attempt, Comparison, Document, DrivePolicy, Driving, EVERY, Execution, InitialStore, NameLists,
-    Request, TRY_BUDGET, Viewing,
+    Request, STEPS, StepComparison, Stepping, TRY_BUDGET, Viewing,
 };
 
 /// The request of `try`, whose settings are these.
@@ -278,4 +278,107 @@ pub(crate) fn compare<'a>(
         return Some(Request::Document(Document::Compare(comparison)));
     }
     Some(Request::Compare(comparison))
+}
+
+/// The request of `compare --steps`, whose stores are these.
+fn compare_steps<'a>(
+    words: &'a [String],
+    proposed: &[&'a str],
+    stores: &[&'a str],
+) -> Option<Request<'a>>
+    ensures { IfSome result (spec.AsksFor words.now) }
+{
+    let rest = rest_of! { words "compare" ["--steps" "--explain"]
+    ["--class" "--store" "--budget" "--color"] };
+    let (lattice, source) = two(rest, proposed)?;
+    let [first, second] = stores else {
+        return None;
+    };
+    let given = [first.as_bytes(), second.as_bytes()];
+    if !has_values(rest, "--store", given.as_slice()) || !has_flag(rest, "--steps") {
+        return None;
+    }
+    let stores = (*first, *second);
+    Some(Request::CompareSteps(StepComparison {
+        lattice,
+        source,
+        class: value(rest, "--class")??,
+        budget: number(rest, "--budget", None)?,
+        stores,
+    }))
+}
+
+/// The request of `compare`, with `--steps` or without it, whose stores are these.
+pub(crate) fn compare_any<'a>(
+    words: &'a [String],
+    proposed: &[&'a str],
+    stores: &[&'a str],
+) -> Option<Request<'a>>
+    ensures { IfSome result (spec.AsksFor words.now) }
+{
+    match compare(words, proposed, stores) {
+        Some(request) => Some(request),
+        None => compare_steps(words, proposed, stores),
+    }
+}
+
+/// The run of a source text in steps, whose settings are these.
+fn stepping<'a>(
+    words: &'a [String],
+    proposed: &[&'a str],
+    settings: Vec<&'a [u8]>,
+) -> Option<Stepping<'a>>
+    ensures files { IfSome result (λ made.
+        operands_in false (texts words.now) ≡ spec.stepped made) }
+    ensures full { IfSome result (λ made.
+        is_flag (codes "--full-store") (texts words.now) ≡ made.is_full) }
+    ensures store { IfSome result (λ made.
+        values_in (codes "--store") false (texts words.now) ≡ spec.given made.store) }
+    ensures set { IfSome result (λ made.
+        values_in (codes "--set") false (texts words.now) ≡ shown made.settings.items) }
+    ensures budget { IfSome result (λ made.
+        spec.HasNumbers (texts words.now) (spec.step_numbers made.budget)) }
+{
+    if !has_values(words, "--set", settings.as_slice()) {
+        return None;
+    }
+    let (lattice, source) = two(words, proposed)?;
+    let store = value(words, "--store")?;
+    Some(Stepping {
+        lattice,
+        source,
+        store,
+        settings,
+        is_full: has_flag(words, "--full-store"),
+        budget: number(words, "--budget", Some(STEPS))?,
+    })
+}
+
+/// The request of `steps`.
+pub(crate) fn steps<'a>(
+    words: &'a [String],
+    proposed: &[&'a str],
+    settings: Vec<&'a [u8]>,
+) -> Option<Request<'a>>
+    ensures { IfSome result (spec.AsksFor words.now) }
+{
+    let rest = rest_of! { words "steps" ["--full-store" "--json" "--explain"]
+    ["--store" "--set" "--budget" "--color"] };
+    Some(Request::Steps {
+        stepping: stepping(rest, proposed, settings)?,
+        is_json: has_flag(rest, "--json"),
+    })
+}
+
+/// The request of `monitor`.
+pub(crate) fn monitor<'a>(
+    words: &'a [String],
+    proposed: &[&'a str],
+    settings: Vec<&'a [u8]>,
+) -> Option<Request<'a>>
+    ensures { IfSome result (spec.AsksFor words.now) }
+{
+    let rest = rest_of! { words "monitor" ["--full-store" "--explain"]
+    ["--store" "--set" "--budget" "--color"] };
+    Some(Request::Monitor(stepping(rest, proposed, settings)?))
 }

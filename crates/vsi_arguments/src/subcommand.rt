@@ -268,6 +268,12 @@ and a number from -9223372036854775808 to 9223372036854775807. It can
 be repeated; if a global is set twice, the second setting counts. With
 --interface only the inputs of the class are set." };
 
+pub(crate) const STEP_BUDGET: Argument = argument! {
+    Number("N") "budget" "The maximum number of steps; default: 10000" "\
+The maximum number of steps, each a guard that is tested or a word
+that is stored: a whole number from 0 to 18446744073709551615, in
+digits alone. Default: 10000." };
+
 pub(crate) const OUT: Argument = argument! {
     Value("FILE") "out" "The file to write the store to, not standard output" "\
 The path of a file that the store is written to, instead of standard

@@ -4,3 +4,4 @@ pub mod Forms
 pub mod Secret
 pub mod Agreeing
 pub mod Passing
+pub mod Watching

@@ -1,2 +1,5 @@
+pub mod Counting
 pub mod Spelling
 pub mod Beginning
+pub mod Running
+pub mod Tracing

@@ -1,3 +1,5 @@
 pub mod Sites
 pub mod Steps
+pub mod Ran
 pub mod Laws
+pub mod Traced

@@ -1,4 +1,5 @@
-//! The changes that make a refused flow go away, and the raise with which the whole text is accepted.
+//! The changes that make a refused flow go away, and the raise of classes with which the whole text
+//! is accepted.
 
 use crate::flows::RefusedFlow;
 use crate::subject::Subject;
@@ -11,7 +12,7 @@ use vsi_types::Profile;
 /// The largest number of raises that are listed.
 const LISTED: usize = 20;
 
-/// Adds what would make a flow go away, of the flows the one with this number.
+/// Adds the changes that make the flow with this number go away.
 pub(crate) fn put_fixes(
     told: &mut Explanation,
     subject: &Subject<'_, '_>,
@@ -49,7 +50,7 @@ pub(crate) fn put_fixes(
     Ok(())
 }
 
-/// Adds which class the target of a flow would need, and what that means.
+/// Adds the class that the target of a flow would need, and the effect of declaring it.
 fn put_raise(
     told: &mut Explanation,
     subject: &Subject<'_, '_>,
@@ -112,7 +113,8 @@ pub(crate) fn put_least_raise(
     )
 }
 
-/// Adds what is said once for the whole text, of whose refused flows so many are shown.
+/// Adds the remarks about the whole text, and the numbers of refused and of shown flows if these
+/// differ.
 pub(crate) fn put_whole(
     told: &mut Explanation,
     shown: usize,

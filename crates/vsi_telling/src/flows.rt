@@ -49,7 +49,8 @@ impl<'w> RefusedFlow<'w> {
         }
     }
 
-    /// The steps that are reported: those near the beginning of a long walk, and those near its end.
+    /// The steps that are reported: those near the beginning of a long walk, and those near its
+    /// end.
     fn ends(&self) -> (&'w [Step], &'w [Step]) {
         let steps = self.steps;
         if steps.len() <= WHOLE {
@@ -70,8 +71,8 @@ impl<'w> RefusedFlow<'w> {
         false
     }
 
-    /// The step, among those that are reported, that most of these flows take, and how many do; among
-    /// equals the last one.
+    /// The reported step that most of these flows take, the last one among equals, and the number
+    /// of flows that take it.
     pub(crate) fn busiest(&self, flows: &[RefusedFlow<'_>]) -> Option<(Step, usize)> {
         let mut best: Option<(Step, usize)> = None;
         let (start, end) = self.ends();
@@ -99,7 +100,8 @@ fn passing(flows: &[RefusedFlow<'_>], step: &Step) -> usize {
     count
 }
 
-/// The sentences about a step by its rule: about its source, its target, its target and its source.
+/// The sentences about a step under a rule, whose parts are its source, its target, and these again
+/// in the other order.
 fn sentences(rule: Rule) -> &'static str {
     match rule {
         Rule::Assign => "Here % is read, and a value computed from it is assigned to %.\n",
@@ -206,8 +208,8 @@ fn put_flows(
     Ok(())
 }
 
-/// The flows that are listed, at most 20: first the one of the fixed lines, with the steps of its
-/// walk, then the others in their order.
+/// The flows that are listed, at most 20: first the one with these steps, then the others in their
+/// order.
 fn listed<'w>(
     alloc: Global,
     named: &'w [Step],

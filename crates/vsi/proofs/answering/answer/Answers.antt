@@ -62,6 +62,15 @@ returns-in-ViewWithin-clause-told g c = rw c.in-ViewWithin.is
 pub returns-in-Compare-clause-told : goal.returns-in-Compare-clause-told
 returns-in-Compare-clause-told g c = rw c.in-Compare.is c.compare.ensures.told
 
+pub returns-in-CompareSteps-clause-told : goal.returns-in-CompareSteps-clause-told
+returns-in-CompareSteps-clause-told g c = rw c.in-CompareSteps.is c.compare_steps.ensures.told
+
+pub returns-in-Steps-clause-told : goal.returns-in-Steps-clause-told
+returns-in-Steps-clause-told g c = rw c.in-Steps.is c.steps.ensures.told
+
+pub returns-in-Monitor-clause-told : goal.returns-in-Monitor-clause-told
+returns-in-Monitor-clause-told g c = rw c.in-Monitor.is c.monitor.ensures.told
+
 pub returns-in-Leak-clause-told : goal.returns-in-Leak-clause-told
 returns-in-Leak-clause-told g c = rw c.in-Leak.is
     (good_told _ c.leak.result c.good-in-Leak.result c.good-in-Leak.ensures c.leak.ensures.told)
@@ -151,6 +160,15 @@ returns-in-ViewWithin-clause-failed g c = rw c.in-ViewWithin.is
 
 pub returns-in-Compare-clause-failed : goal.returns-in-Compare-clause-failed
 returns-in-Compare-clause-failed g c = rw c.in-Compare.is c.compare.ensures.failed
+
+pub returns-in-CompareSteps-clause-failed : goal.returns-in-CompareSteps-clause-failed
+returns-in-CompareSteps-clause-failed g c = rw c.in-CompareSteps.is c.compare_steps.ensures.failed
+
+pub returns-in-Steps-clause-failed : goal.returns-in-Steps-clause-failed
+returns-in-Steps-clause-failed g c = rw c.in-Steps.is c.steps.ensures.failed
+
+pub returns-in-Monitor-clause-failed : goal.returns-in-Monitor-clause-failed
+returns-in-Monitor-clause-failed g c = rw c.in-Monitor.is c.monitor.ensures.failed
 
 pub returns-in-Leak-clause-failed : goal.returns-in-Leak-clause-failed
 returns-in-Leak-clause-failed g c = rw c.in-Leak.is

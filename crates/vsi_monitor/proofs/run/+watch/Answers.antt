@@ -1,0 +1,99 @@
+use Rattle.std.proofs.Common.{rules, subst, sym, refl, arith, ap, ◌∙◌, ◌+◌, ◌++◌, ◌∷◌, [], w64, of_z}
+use Rattle.std.proofs.lemmas.Int.{to_z-of_z}
+use Rattle.vsi_scope.specs.declared.program.Cmd.{the_lemmas}
+use Rattle.vsi_scope.specs.Language.{If, While, Letvar, letvars}
+use Rattle.vsi_scope.specs.Meaning.{value}
+use Rattle.vsi_scope.specs.View.{command, expression, sequence}
+use Rattle.vsi_types.specs.Security.{class_of}
+use Rattle.vsi_types.proofs.Visiting.{seen_if, seen_while, seen_letvar}
+use Rattle.vsi_monitor.specs.Labels.{HasLabel}
+use Rattle.vsi_monitor.specs.Watched.{held, Watched}
+use Rattle.vsi_monitor.proofs.Watching.{at_command, at_end, small, zero_word, watched_err, limit_err, leads_watched, leads_yes, leads_no, leads_end, first_few, leads_stop, leads_next, loop_ends, turn_stop, leads_turn, letvar_stop, letvar_done}
+use Rattle.vsi_monitor.proofs.run.+watch.Goals as goal
+
+pub run_one-run_if-requires : goal.run_one-run_if-requires
+run_one-run_if-requires g t c κs within =
+    let e = seen_if _ _ _ _ _ _ c.in-If.is c.deref.ensures.value c.deref-in-If.ensures.value in
+    (search (rules, the_lemmas), (within, (rw e at c.requires.ready, rw e at c.requires.few)))
+
+pub run_one-run_while-requires : goal.run_one-run_while-requires
+run_one-run_while-requires g t c κs within =
+    let e = seen_while _ _ _ _ c.in-While.is c.deref-in-While.ensures.value in
+    (search (rules, the_lemmas), (within, (rw e at c.requires.ready, rw e at c.requires.few)))
+
+pub run_one-run_letvar-requires : goal.run_one-run_letvar-requires
+run_one-run_letvar-requires g t c κs within =
+    let e = seen_letvar _ _ _ _ c.in-Letvar.is c.deref-in-Letvar.ensures.value in
+    (search (rules, the_lemmas), (within, (rw e at c.requires.ready, rw e at c.requires.few)))
+
+pub run_one-returns-in-If : goal.run_one-returns-in-If
+run_one-returns-in-If g t c =
+    rw (seen_if _ _ _ _ _ _ c.in-If.is c.deref.ensures.value c.deref-in-If.ensures.value) c.run_if.ensures
+
+pub run_one-returns-in-While : goal.run_one-returns-in-While
+run_one-returns-in-While g t c =
+    rw (seen_while _ _ _ _ c.in-While.is c.deref-in-While.ensures.value) c.run_while.ensures
+
+pub run_one-returns-in-Letvar : goal.run_one-returns-in-Letvar
+run_one-returns-in-Letvar g t c =
+    rw (seen_letvar _ _ _ _ c.in-Letvar.is c.deref-in-Letvar.ensures.value) c.run_letvar.ensures
+
+pub run_all-returns-in_err-run_one : goal.run_all-returns-in_err-run_one
+run_all-returns-in_err-run_one g t c =
+    let L = g.C.Classes.lattice c.args.lattice.now in
+    let e = at_command c.args.body.now c.loop-c.c-index c.c-item.result c.loop-c-test.true c.c-item.is in
+    watched_err L (class_of L c.args.classes.now) _ _ _ _ _ (held c.run_one.new.state) _ _ c.from_residual.ensures.1
+    (leads_stop L (class_of L c.args.classes.now) _ _ _ _ _ _ _ _ _ _ e c.loop-c.invariant (held c.run_one.new.state) _
+    c.in_err-run_one.ensures)
+
+pub run_all-loop-c-preserved : goal.run_all-loop-c-preserved
+run_all-loop-c-preserved g t c =
+    let L = g.C.Classes.lattice c.args.lattice.now in
+    let e = at_command c.args.body.now c.loop-c.c-index c.c-item.result c.loop-c-test.true c.c-item.is in
+    leads_next L (class_of L c.args.classes.now) (g.met.C.Classes.laws c.args.lattice.now) _ _ _ _ _ _ _ _ _ _
+    (held c.run_one.new.state) (c.loop-c.next + c.letvars_in.result) _ e c.loop-c.invariant c.in_ok-run_one.ensures
+    (small (letvars (command c.c-item.result)) c.loop-c.next c.letvars_in.result c.letvars_in.ensures
+    (first_few L (class_of L c.args.classes.now) _ _ _ _ _ _ _ _ _ _ e c.loop-c.invariant))
+
+pub run_all-returns : goal.run_all-returns
+run_all-returns g t c =
+    let L = g.C.Classes.lattice c.args.lattice.now in
+    leads_end L (class_of L c.args.classes.now) _ _ _ _ _ _ _ _ _
+    (at_end c.args.body.now c.loop-c.c-index c.loop-c-test.false) c.loop-c.invariant
+
+pub run_if-returns-in_err-take : goal.run_if-returns-in_err-take
+run_if-returns-in_err-take g t c =
+    let L = g.C.Classes.lattice c.args.lattice.now in
+    limit_err L (class_of L c.args.classes.now) _ _ _ _ _ _ _ c.from_residual.ensures.1 c.in_err-take.ensures.limit
+
+pub run_if-returns-then-word-ne0 : goal.run_if-returns-then-word-ne0
+run_if-returns-then-word-ne0 g t c =
+    let d = c.label in let v = c.value-word in let j = c.join-inside in let k = c.in_ok-take in let r = c.run_all in ?
+
+pub run_if-returns-else-word-ne0 : goal.run_if-returns-else-word-ne0
+run_if-returns-else-word-ne0 g t c = let r = c.run_all-else-word-ne0 in let l = c.letvars in ?
+
+pub run_letvar-returns-in_err-take : goal.run_letvar-returns-in_err-take
+run_letvar-returns-in_err-take g t c =
+    let L = g.C.Classes.lattice c.args.lattice.now in
+    limit_err L (class_of L c.args.classes.now) _ _ _ _ _ _ _ c.from_residual.ensures.1 c.in_err-take.ensures.limit
+
+pub run_letvar-returns-in_err-run_all : goal.run_letvar-returns-in_err-run_all
+run_letvar-returns-in_err-run_all g t c = let r = c.in_err-run_all in ?
+
+pub run_letvar-returns : goal.run_letvar-returns
+run_letvar-returns g t c = let r = c.in_ok-run_all in ?
+
+pub run_while-returns-in_err-take : goal.run_while-returns-in_err-take
+run_while-returns-in_err-take g t c =
+    let L = g.C.Classes.lattice c.args.lattice.now in
+    limit_err L (class_of L c.args.classes.now) _ _ _ _ _ _ _ c.from_residual.ensures.1 c.in_err-take.ensures.limit
+
+pub run_while-returns-then-word-eq0 : goal.run_while-returns-then-word-eq0
+run_while-returns-then-word-eq0 g t c = let l = c.loop-word in let w = c.if-word-eq0 in ?
+
+pub run_while-returns-in_err-run_all : goal.run_while-returns-in_err-run_all
+run_while-returns-in_err-run_all g t c = let l = c.loop-word in let r = c.in_err-run_all in ?
+
+pub run_while-loop-word-preserved : goal.run_while-loop-word-preserved
+run_while-loop-word-preserved g t c = let r = c.in_ok-run_all in ?

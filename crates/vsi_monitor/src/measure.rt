@@ -1,0 +1,63 @@
+//! Values and labels of expressions, and the number of letvars of commands.
+
+ghost use Rattle.std.specs.Prelude.{◌≡◌, ◌<◌, ℕ, length, min, slice_index};
+ghost use Rattle.vsi_lattice.specs.Order.{IsClass};
+ghost use Rattle.vsi_scope.specs.Language.{HasLocations, letvars};
+ghost use Rattle.vsi_scope.specs.Meaning.{value};
+ghost use Rattle.vsi_scope.specs.View.{command, sequence, expression};
+ghost use Rattle.vsi_monitor.specs.Labels.{HasLabel};
+
+use vsi_lattice::{Class, Classes};
+use vsi_scope::{Cmd, Ex};
+
+/// The value of an expression in a store.
+pub(crate) fn value(e: &Ex, words: &[i64]) -> i64
+    requires { HasLocations (length words.now) (expression e.now) }
+    ensures { result ≡ value (expression e.now) words.now }
+{
+    match e {
+        Ex::Num(n) => *n,
+        Ex::Loc(l, _) => words[*l as usize],
+        Ex::Op(op, a, b) => op.apply(value(a, words), value(b, words)),
+    }
+}
+
+/// The label of an expression: the join of the labels of the locations that it reads.
+pub(crate) fn label<C: Classes>(lattice: &C, e: &Ex, labels: &[Class]) -> Class
+    requires places { HasLocations (length labels.now) (expression e.now) }
+    requires classes { (l : ℕ) → l < length labels.now →
+        IsClass (C.lattice lattice.now) (slice_index labels.now l) }
+    ensures class { IsClass (C.lattice lattice.now) result }
+    ensures label { HasLabel (C.lattice lattice.now) labels.now (expression e.now) result }
+{
+    match e {
+        Ex::Num(_) => lattice.bottom(),
+        Ex::Loc(l, _) => labels[*l as usize],
+        Ex::Op(_, a, b) => lattice.join(label(lattice, a, labels), label(lattice, b, labels)),
+    }
+}
+
+/// The number of letvars of commands, or 65,535 if it is larger.
+#[cycle(letvars)]
+pub(crate) fn letvars(body: &[Cmd]) -> u16
+    ensures { result ≡ min (letvars (sequence body.now)) 65535 }
+{
+    let mut n: u16 = 0;
+    for c in body {
+        n = n.saturating_add(letvars_in(c));
+    }
+    n
+}
+
+/// The number of letvars of one command, or 65,535 if it is larger.
+#[cycle(letvars)]
+pub(crate) fn letvars_in(c: &Cmd) -> u16
+    ensures { result ≡ min (letvars (command c.now)) 65535 }
+{
+    match c {
+        Cmd::Assign { .. } => 0,
+        Cmd::If { yes, no, .. } => letvars(yes).saturating_add(letvars(no)),
+        Cmd::While { body, .. } => letvars(body),
+        Cmd::Letvar { body, .. } => letvars(body).saturating_add(1),
+    }
+}

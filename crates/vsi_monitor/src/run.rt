@@ -1,0 +1,225 @@
+//! A run whose words have labels and whose program counter has a class.
+
+ghost use Rattle.std.specs.Prelude.{◌≡◌, ◌≤◌, ◌+◌, ◌<◌, ℕ, length, IfErr, OnOk};
+ghost use Rattle.vsi_lattice.specs.Order.{IsClass};
+ghost use Rattle.vsi_scope.specs.Language.{Assign, If, While, Letvar, letvars, HasPlaces};
+ghost use Rattle.vsi_scope.specs.Limits.{max_declarations};
+ghost use Rattle.vsi_scope.specs.View.{command, sequence, expression};
+ghost use Rattle.vsi_types.specs.Security.{class_of};
+ghost use Rattle.vsi_monitor.specs.declared.stop.Unfinished.TheVariants as ends;
+ghost use Rattle.vsi_monitor.specs.Watched.{held, IsHeld, IsReady, Watched};
+
+use crate::measure::{label, letvars, letvars_in, value};
+use crate::stop::{Stop, Unfinished};
+use vsi_lattice::{Class, Classes};
+use vsi_scope::{Cmd, Ex};
+use vsi_syntax::Span;
+
+/// The state of a run.
+#[derive(Drop)]
+pub(crate) struct State {
+    /// The words of the locations in scope.
+    pub(crate) words: Vec<i64>,
+    /// Their labels.
+    pub(crate) labels: Vec<Class>,
+    /// The classes of their variables.
+    pub(crate) variables: Vec<Class>,
+    /// The number of steps that the run may still take.
+    pub(crate) left: u64,
+}
+
+/// Takes one of the steps that are left.
+fn take(left: &mut u64) -> Result<(), Unfinished>
+    ensures taken { OnOk result (left.new + 1 ≡ left.old) }
+    ensures limit { IfErr result (λ e. e ≡ ends.Limit) }
+{
+    if *left == 0 {
+        return Err(Unfinished::Limit);
+    }
+    *left -= 1;
+    Ok(())
+}
+
+/// Runs an assignment.
+fn run_assign<C: Classes>(
+    lattice: &C,
+    state: &mut State,
+    counter: Class,
+    location: u16,
+    place: Span,
+    e: &Ex,
+) -> Result<(), Unfinished>
+    requires held { IsHeld (C.lattice lattice.now) (held state.old) }
+    requires counter { IsClass (C.lattice lattice.now) counter }
+    requires places { HasPlaces (length state.old.variables.items)
+        (Assign location place (expression e.now)) }
+    ensures { (classes : ℕ → ℕ) (n : ℕ) → Watched (C.lattice lattice.now) classes counter n
+        (Assign location place (expression e.now)) (held state.old) (held state.new) result }
+{
+    take(&mut state.left)?;
+    let present = state.labels[location as usize];
+    if !lattice.leq(counter, present) {
+        return Err(Unfinished::Stopped(Stop {
+            place,
+            counter,
+            label: present,
+        }));
+    }
+    let word = value(e, &state.words);
+    let read = label(lattice, e, &state.labels);
+    let class = state.variables[location as usize];
+    let risen = lattice.join(lattice.join(read, counter), class);
+    state.words[location as usize] = word;
+    state.labels[location as usize] = risen;
+    Ok(())
+}
+
+/// Runs a choice. Its branch runs under the join of the counter and the label of the guard.
+#[cycle(watch)]
+fn run_if<C: Classes>(
+    lattice: &C,
+    classes: &[Class],
+    state: &mut State,
+    counter: Class,
+    next: u16,
+    yes: &[Cmd],
+    no: &[Cmd],
+    guard: &Ex,
+) -> Result<(), Unfinished>
+    requires ready { IsReady (C.lattice lattice.now) classes.now counter next
+        (If (expression guard.now) (sequence yes.now) (sequence no.now)) (held state.old) }
+    requires few { next + letvars (If (expression guard.now) (sequence yes.now) (sequence no.now))
+        ≤ max_declarations }
+    ensures { Watched (C.lattice lattice.now) (class_of (C.lattice lattice.now) classes.now)
+        counter next (If (expression guard.now) (sequence yes.now) (sequence no.now))
+        (held state.old) (held state.new) result }
+{
+    take(&mut state.left)?;
+    let inside = lattice.join(counter, label(lattice, guard, &state.labels));
+    let word = value(guard, &state.words);
+    if word != 0 {
+        run_all(lattice, classes, state, inside, next, yes)
+    } else {
+        run_all(lattice, classes, state, inside, next + letvars(yes), no)
+    }
+}
+
+/// Runs a loop, turn by turn. Each turn, and all after it, run under the join of the counter and the
+/// label of the guard.
+#[cycle(watch)]
+fn run_while<C: Classes>(
+    lattice: &C,
+    classes: &[Class],
+    state: &mut State,
+    counter: Class,
+    next: u16,
+    body: &[Cmd],
+    guard: &Ex,
+) -> Result<(), Unfinished>
+    requires ready { IsReady (C.lattice lattice.now) classes.now counter next
+        (While (expression guard.now) (sequence body.now)) (held state.old) }
+    requires few { next + letvars (While (expression guard.now) (sequence body.now))
+        ≤ max_declarations }
+    ensures { Watched (C.lattice lattice.now) (class_of (C.lattice lattice.now) classes.now)
+        counter next (While (expression guard.now) (sequence body.now))
+        (held state.old) (held state.new) result }
+{
+    let mut inside = counter;
+    loop {
+        let word = value(guard, &state.words);
+        take(&mut state.left)?;
+        if word == 0 {
+            return Ok(());
+        }
+        inside = lattice.join(inside, label(lattice, guard, &state.labels));
+        run_all(lattice, classes, state, inside, next, body)?;
+    }
+}
+
+/// Runs a letvar.
+#[cycle(watch)]
+fn run_letvar<C: Classes>(
+    lattice: &C,
+    classes: &[Class],
+    state: &mut State,
+    counter: Class,
+    next: u16,
+    body: &[Cmd],
+    e: &Ex,
+) -> Result<(), Unfinished>
+    requires ready { IsReady (C.lattice lattice.now) classes.now counter next
+        (Letvar (expression e.now) (sequence body.now)) (held state.old) }
+    requires few { next + letvars (Letvar (expression e.now) (sequence body.now))
+        ≤ max_declarations }
+    ensures { Watched (C.lattice lattice.now) (class_of (C.lattice lattice.now) classes.now)
+        counter next (Letvar (expression e.now) (sequence body.now))
+        (held state.old) (held state.new) result }
+{
+    take(&mut state.left)?;
+    let class = classes[next as usize];
+    let word = value(e, &state.words);
+    let first = lattice.join(label(lattice, e, &state.labels), class);
+    let outside = state.words.len();
+    state.words.push(word)?;
+    state.labels.push(first)?;
+    state.variables.push(class)?;
+    run_all(lattice, classes, state, counter, next + 1, body)?;
+    state.words.truncate(outside);
+    state.labels.truncate(outside);
+    state.variables.truncate(outside);
+    Ok(())
+}
+
+/// Runs commands, one after another.
+#[cycle(watch)]
+pub(crate) fn run_all<C: Classes>(
+    lattice: &C,
+    classes: &[Class],
+    state: &mut State,
+    counter: Class,
+    first: u16,
+    body: &[Cmd],
+) -> Result<(), Unfinished>
+    requires ready { IsReady (C.lattice lattice.now) classes.now counter first
+        (sequence body.now) (held state.old) }
+    requires few { first + letvars (sequence body.now) ≤ max_declarations }
+    ensures { Watched (C.lattice lattice.now) (class_of (C.lattice lattice.now) classes.now)
+        counter first (sequence body.now) (held state.old) (held state.new) result }
+{
+    let mut next = first;
+    for c in body {
+        run_one(lattice, classes, state, counter, next, c)?;
+        next += letvars_in(c);
+    }
+    Ok(())
+}
+
+/// Runs one command.
+#[cycle(watch)]
+fn run_one<C: Classes>(
+    lattice: &C,
+    classes: &[Class],
+    state: &mut State,
+    counter: Class,
+    next: u16,
+    c: &Cmd,
+) -> Result<(), Unfinished>
+    requires ready { IsReady (C.lattice lattice.now) classes.now counter next
+        (command c.now) (held state.old) }
+    requires few { next + letvars (command c.now) ≤ max_declarations }
+    ensures { Watched (C.lattice lattice.now) (class_of (C.lattice lattice.now) classes.now)
+        counter next (command c.now) (held state.old) (held state.new) result }
+{
+    match c {
+        Cmd::Assign { loc, span, value } => run_assign(lattice, state, counter, *loc, *span, value),
+        Cmd::If { guard, yes, no } => {
+            run_if(lattice, classes, state, counter, next, yes, no, guard)
+        }
+        Cmd::While { guard, body } => {
+            run_while(lattice, classes, state, counter, next, body, guard)
+        }
+        Cmd::Letvar { value, body } => {
+            run_letvar(lattice, classes, state, counter, next, body, value)
+        }
+    }
+}

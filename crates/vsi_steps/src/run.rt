@@ -1,0 +1,150 @@
+//! A run that keeps its steps.
+
+ghost use Rattle.std.specs.Prelude.{◌≡◌, ◌≤◌, ◌+◌, IfOk, length};
+ghost use Rattle.vsi_scope.specs.Language.{Assign, If, While, Letvar, HasLocations, HasPlaces};
+ghost use Rattle.vsi_scope.specs.Limits.{max_size};
+ghost use Rattle.vsi_scope.specs.View.{command, sequence, expression};
+ghost use Rattle.vsi_steps.specs.Ran.{past, IsWithin, IsReady, Met, Ran};
+ghost use Rattle.vsi_steps.specs.Sites.{sites};
+
+use crate::measure::{sites, sites_in, value};
+use crate::step::Step;
+use std::alloc::AllocError;
+use vsi_scope::{Cmd, Ex};
+use vsi_syntax::Span;
+
+/// A run so far.
+#[derive(Drop)]
+pub(crate) struct Run {
+    /// The words of the locations in scope.
+    pub(crate) words: Vec<i64>,
+    /// The steps so far.
+    pub(crate) steps: Vec<Step>,
+    /// The most steps.
+    pub(crate) limit: usize,
+}
+
+/// Takes the step of an expression at a site and returns its value, unless the limit is reached.
+fn meet(run: &mut Run, site: u32, e: &Ex) -> Result<Option<i64>, AllocError>
+    requires within { IsWithin (past run.old) }
+    requires places { HasLocations (length run.old.words.items) (expression e.now) }
+    ensures { IfOk result (Met site (expression e.now) (past run.old) (past run.new)) }
+{
+    if run.steps.len() >= run.limit {
+        return Ok(None);
+    }
+    let value = value(e, &run.words);
+    run.steps.push(Step { site, value })?;
+    Ok(Some(value))
+}
+
+/// Runs an assignment.
+fn run_assign(
+    run: &mut Run,
+    site: u32,
+    location: u16,
+    place: Span,
+    e: &Ex,
+) -> Result<bool, AllocError>
+    requires { IsReady (Assign location place (expression e.now)) (past run.old) }
+    ensures { IfOk result
+        (Ran site (Assign location place (expression e.now)) (past run.old) (past run.new)) }
+{
+    let Some(word) = meet(run, site, e)? else {
+        return Ok(false);
+    };
+    run.words[location as usize] = word;
+    Ok(true)
+}
+
+/// Runs a choice.
+#[cycle(run)]
+fn run_if(run: &mut Run, site: u32, yes: &[Cmd], no: &[Cmd], guard: &Ex) -> Result<bool, AllocError>
+    requires ready { IsReady (If (expression guard.now) (sequence yes.now) (sequence no.now))
+        (past run.old) }
+    requires few { site
+        + sites (If (expression guard.now) (sequence yes.now) (sequence no.now)) ≤ max_size }
+    ensures { IfOk result
+        (Ran site (If (expression guard.now) (sequence yes.now) (sequence no.now))
+        (past run.old) (past run.new)) }
+{
+    let Some(word) = meet(run, site, guard)? else {
+        return Ok(false);
+    };
+    if word != 0 {
+        run_all(run, site + 1, yes)
+    } else {
+        run_all(run, site + 1 + sites(yes), no)
+    }
+}
+
+/// Runs a loop, turn by turn.
+#[cycle(run)]
+fn run_while(run: &mut Run, site: u32, body: &[Cmd], guard: &Ex) -> Result<bool, AllocError>
+    requires ready { IsReady (While (expression guard.now) (sequence body.now)) (past run.old) }
+    requires few { site + sites (While (expression guard.now) (sequence body.now)) ≤ max_size }
+    ensures { IfOk result (Ran site (While (expression guard.now) (sequence body.now))
+        (past run.old) (past run.new)) }
+{
+    loop {
+        let Some(word) = meet(run, site, guard)? else {
+            return Ok(false);
+        };
+        if word == 0 {
+            return Ok(true);
+        }
+        if !run_all(run, site + 1, body)? {
+            return Ok(false);
+        }
+    }
+}
+
+/// Runs a letvar.
+#[cycle(run)]
+fn run_letvar(run: &mut Run, site: u32, body: &[Cmd], e: &Ex) -> Result<bool, AllocError>
+    requires ready { IsReady (Letvar (expression e.now) (sequence body.now)) (past run.old) }
+    requires few { site + sites (Letvar (expression e.now) (sequence body.now)) ≤ max_size }
+    ensures { IfOk result (Ran site (Letvar (expression e.now) (sequence body.now))
+        (past run.old) (past run.new)) }
+{
+    let Some(word) = meet(run, site, e)? else {
+        return Ok(false);
+    };
+    let outside = run.words.len();
+    run.words.push(word)?;
+    let is_done = run_all(run, site + 1, body)?;
+    run.words.truncate(outside);
+    Ok(is_done)
+}
+
+/// Runs commands, one after another.
+#[cycle(run)]
+pub(crate) fn run_all(run: &mut Run, site: u32, body: &[Cmd]) -> Result<bool, AllocError>
+    requires ready { IsReady (sequence body.now) (past run.old) }
+    requires few { site + sites (sequence body.now) ≤ max_size }
+    ensures { IfOk result (Ran site (sequence body.now) (past run.old) (past run.new)) }
+{
+    let mut next = site;
+    for c in body {
+        if !run_one(run, next, c)? {
+            return Ok(false);
+        }
+        next += sites_in(c);
+    }
+    Ok(true)
+}
+
+/// Runs one command.
+#[cycle(run)]
+fn run_one(run: &mut Run, site: u32, c: &Cmd) -> Result<bool, AllocError>
+    requires ready { IsReady (command c.now) (past run.old) }
+    requires few { site + sites (command c.now) ≤ max_size }
+    ensures { IfOk result (Ran site (command c.now) (past run.old) (past run.new)) }
+{
+    match c {
+        Cmd::Assign { loc, span, value } => run_assign(run, site, *loc, *span, value),
+        Cmd::If { guard, yes, no } => run_if(run, site, yes, no, guard),
+        Cmd::While { guard, body } => run_while(run, site, body, guard),
+        Cmd::Letvar { value, body } => run_letvar(run, site, body, value),
+    }
+}
