@@ -1,6 +1,7 @@
 //! The subject of a search, and its findings.
 
 use vsi_lattice::Class;
+use vsi_store::RunEnding;
 
 /// The sign by which an observer tells two runs apart.
 #[derive(Clone, Copy, PartialEq, Eq)]

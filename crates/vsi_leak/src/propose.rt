@@ -12,7 +12,7 @@ use std::alloc::{AllocError, Global};
 use vsi_image::{Image, Instr, Verified};
 use vsi_lattice::{Class, Lattice};
 use vsi_machine::Outcome;
-use vsi_store::sees;
+use vsi_store::{RunEnding, sees};
 
 /// The conditions of a search for a pair of runs: an image, the globals that the class sees, a sign
 /// and a budget.
