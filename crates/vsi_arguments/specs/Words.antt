@@ -24,8 +24,8 @@ is_among (name ∷ names) word = if bytes_eq word name then true else is_among n
 abbrev pub VALUED : List (List ℕ)
 VALUED =
     codes "--budget" ∷ codes "--class" ∷ codes "--color" ∷ codes "--init" ∷ codes "--inputs" ∷ codes "--interface"
-    ∷ codes "--lattice" ∷ codes "--name" ∷ codes "--out" ∷ codes "--outputs" ∷ codes "--release" ∷ codes "--save"
-    ∷ codes "--save-every" ∷ codes "--seed" ∷ codes "--set" ∷ codes "--store" ∷ codes "--tries" ∷ []
+    ∷ codes "--lattice" ∷ codes "--name" ∷ codes "--out" ∷ codes "--outputs" ∷ codes "--release" ∷ codes "--rule"
+    ∷ codes "--save" ∷ codes "--save-every" ∷ codes "--seed" ∷ codes "--set" ∷ codes "--store" ∷ codes "--tries" ∷ []
 
 -- The argument begins with a hyphen and is longer than that.
 abbrev pub is_dashed : List ℕ → Bool

@@ -45,8 +45,8 @@ const APART: [Rule; 12] = table! {
     "`--interface` names the lattice, so it goes with one operand, the IMAGE";
     "*" "interface" ["OLD"]
     "`--interface` names the lattice, so it goes with at most one operand, an older interface";
-    "compare" "steps" ["unbounded" "json"]
-    "`--steps` of `compare` doesn't go with `--unbounded` and `--json`";
+    "compare" "steps" ["unbounded"]
+    "`--steps` of `compare` doesn't go with `--unbounded`";
     "view" "interface" ["outputs" "release"]
     "`--interface` names the outputs, so it doesn't go with `--outputs` and `--release`";
     "drive" "interface" ["inputs" "outputs" "release"]

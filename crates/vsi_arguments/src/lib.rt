@@ -33,6 +33,6 @@ pub use reader::manner_of;
 pub use request::{
     AnswerForm, Attempt, Audit, Bounding, Budget, Colour, Comparison, Compilation, Conformance,
     Document, Drawing, DrivePolicy, Driving, EVERY, Emission, Execution, InitialStore, Judging,
-    Layout, Looking, Manner, Mending, NameLists, RUNS_BUDGET, Reporting, Request, SEARCH, STEPS,
-    Search, Serving, StepComparison, Stepping, TRY_BUDGET, Viewing, Visibility,
+    Layout, Looking, Manner, Mending, MonitorRule, NameLists, RUNS_BUDGET, Reporting, Request,
+    SEARCH, STEPS, Search, Serving, StepComparison, Stepping, TRY_BUDGET, Viewing, Visibility,
 };

@@ -87,9 +87,9 @@ macro_rules! texts {
 }
 
 /// The options that take a value.
-const VALUED: [&str; 17] = texts! {
+const VALUED: [&str; 18] = texts! {
     "--budget" "--class" "--color" "--init" "--inputs" "--interface" "--lattice" "--name" "--out"
-    "--outputs" "--release" "--save" "--save-every" "--seed" "--set" "--store" "--tries"
+    "--outputs" "--release" "--rule" "--save" "--save-every" "--seed" "--set" "--store" "--tries"
 };
 
 /// Whether an argument is `--`, after which every argument is an operand.

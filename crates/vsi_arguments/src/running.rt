@@ -7,8 +7,8 @@ ghost use Rattle.vsi_arguments.specs.Words.{has_flag as is_flag, operands_in, sh
 use crate::given_numbers::{budget, budget_or_auto, number};
 use crate::reading::{behind, has_flag, has_values, one, rest_of, two, value};
 use crate::{
-    Attempt, Comparison, Document, DrivePolicy, Driving, EVERY, Execution, InitialStore, NameLists,
-    Request, STEPS, StepComparison, Stepping, TRY_BUDGET, Viewing,
+    Attempt, Comparison, Document, DrivePolicy, Driving, EVERY, Execution, InitialStore,
+    MonitorRule, NameLists, Request, STEPS, StepComparison, Stepping, TRY_BUDGET, Viewing,
 };
 
 /// The request of `try`, whose settings are these.
@@ -288,7 +288,7 @@ fn compare_steps<'a>(
 ) -> Option<Request<'a>>
     ensures { IfSome result (spec.AsksFor words.now) }
 {
-    let rest = rest_of! { words "compare" ["--steps" "--explain"]
+    let rest = rest_of! { words "compare" ["--steps" "--json" "--explain"]
     ["--class" "--store" "--budget" "--color"] };
     let (lattice, source) = two(rest, proposed)?;
     let [first, second] = stores else {
@@ -298,14 +298,16 @@ fn compare_steps<'a>(
     if !has_values(rest, "--store", given.as_slice()) || !has_flag(rest, "--steps") {
         return None;
     }
-    let stores = (*first, *second);
-    Some(Request::CompareSteps(StepComparison {
-        lattice,
-        source,
-        class: value(rest, "--class")??,
-        budget: number(rest, "--budget", None)?,
-        stores,
-    }))
+    Some(Request::CompareSteps {
+        comparison: StepComparison {
+            lattice,
+            source,
+            class: value(rest, "--class")??,
+            budget: number(rest, "--budget", None)?,
+            stores: (*first, *second),
+        },
+        is_json: has_flag(rest, "--json"),
+    })
 }
 
 /// The request of `compare`, with `--steps` or without it, whose stores are these.
@@ -370,6 +372,23 @@ pub(crate) fn steps<'a>(
     })
 }
 
+/// The rule of a monitor, which is the first one where none is given.
+fn rule(words: &[String]) -> Option<MonitorRule>
+    ensures { IfSome result (λ rule.
+        spec.GivesRule (values_in (codes "--rule") false (texts words.now)) rule) }
+{
+    match value(words, "--rule")? {
+        None => Some(MonitorRule::NoSensitiveUpgrade),
+        Some(name) if name.as_bytes() == b"no-sensitive-upgrade".as_slice() => {
+            Some(MonitorRule::NoSensitiveUpgrade)
+        }
+        Some(name) if name.as_bytes() == b"permissive-upgrade".as_slice() => {
+            Some(MonitorRule::PermissiveUpgrade)
+        }
+        Some(_) => None,
+    }
+}
+
 /// The request of `monitor`.
 pub(crate) fn monitor<'a>(
     words: &'a [String],
@@ -378,7 +397,11 @@ pub(crate) fn monitor<'a>(
 ) -> Option<Request<'a>>
     ensures { IfSome result (spec.AsksFor words.now) }
 {
-    let rest = rest_of! { words "monitor" ["--full-store" "--explain"]
-    ["--store" "--set" "--budget" "--color"] };
-    Some(Request::Monitor(stepping(rest, proposed, settings)?))
+    let rest = rest_of! { words "monitor" ["--full-store" "--json" "--explain"]
+    ["--rule" "--store" "--set" "--budget" "--color"] };
+    Some(Request::Monitor {
+        stepping: stepping(rest, proposed, settings)?,
+        rule: rule(rest)?,
+        is_json: has_flag(rest, "--json"),
+    })
 }
