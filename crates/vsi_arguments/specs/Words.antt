@@ -43,6 +43,10 @@ operands_in false (word ∷ rest) =
     else (if is_among VALUED word then operands_in true rest
     else (if is_dashed word then operands_in false rest else word ∷ operands_in false rest))
 
+-- The operands among arguments, each of which is one if `--` came before them.
+abbrev pub left : Bool → Bool → List (List ℕ) → List (List ℕ)
+left is_over is_value words = if is_over then words else operands_in is_value words
+
 -- The flag is one of the arguments before the first `--`.
 abbrev pub has_flag : List ℕ → List (List ℕ) → Bool
 has_flag flag [] = false
