@@ -294,7 +294,7 @@ struct Left<'a> {
 
 /// The first operand of arguments, each of which is one if `is_over`, and the arguments after it.
 fn next_operand<'a>(words: &'a [String], is_over: bool) -> Option<(&'a str, Left<'a>)>
-    ensures { MatchOption result (spec.left is_over false (spec.texts words.now) ≡ [])
+    ensures operand { MatchOption result (spec.left is_over false (spec.texts words.now) ≡ [])
         (λ next. spec.left is_over false (spec.texts words.now)
         ≡ next.0.now ∷ spec.left next.1.is_over false (spec.texts next.1.words.now)) }
     ensures shorter { IfSome result (λ next. length next.1.words.now < length words.now) }

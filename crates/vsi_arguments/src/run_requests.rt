@@ -5,7 +5,8 @@ ghost use Rattle.vsi_arguments.specs.Asked as spec;
 ghost use Rattle.vsi_arguments.specs.Words.{has_flag as is_flag, operands_in, shown, texts, values_in};
 
 use crate::arguments::{
-    budget, budget_or_auto, has_flag, has_values, number, one, rest_of, two, two_values, value,
+    behind, budget, budget_or_auto, has_flag, has_values, number, one, rest_of, two, two_values,
+    value,
 };
 use crate::{
     Attempt, Comparison, Document, DrivePolicy, Driving, EVERY, Execution, InitialStore,
@@ -301,10 +302,9 @@ pub(crate) fn steps<'a>(words: &'a [String], settings: Vec<&'a [u8]>) -> Option<
     ensures { IfSome result (spec.AsksFor words.now) }
 {
     let rest = rest_of! { words "steps" ["--full-store" "--json"] ["--store" "--set" "--budget"] };
-    Some(Request::Steps {
-        stepping: stepping(rest, settings)?,
-        is_json: has_flag(rest, "--json"),
-    })
+    let stepping = stepping(rest, settings)?;
+    let is_json = has_flag(rest, "--json");
+    Some(Request::Steps { stepping, is_json })
 }
 
 /// The rule of a monitor, which is the first one where none is given.
