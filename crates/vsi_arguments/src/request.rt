@@ -113,6 +113,16 @@ pub struct Stepping<'a> {
     pub budget: u64,
 }
 
+/// By which rule a monitor judges an assignment in a branch or a loop whose guard depends on a class
+/// that isn't at or below the label of the variable.
+#[derive(Clone, Copy, Debug, PartialEq, Eq)]
+pub enum MonitorRule {
+    /// The run is stopped before the assignment.
+    NoSensitiveUpgrade,
+    /// The run goes on, and is stopped only before a guard that reads the variable.
+    PermissiveUpgrade,
+}
+
 /// A comparison of two runs of a source text in steps, from two store files.
 #[derive(Clone, Copy, PartialEq, Eq)]
 pub struct StepComparison<'a> {
@@ -322,12 +332,19 @@ pub enum Request<'a> {
     ViewWithin(Viewing<'a>),
     Drive(Driving<'a>),
     Compare(Comparison<'a>),
-    CompareSteps(StepComparison<'a>),
+    CompareSteps {
+        comparison: StepComparison<'a>,
+        is_json: bool,
+    },
     Steps {
         stepping: Stepping<'a>,
         is_json: bool,
     },
-    Monitor(Stepping<'a>),
+    Monitor {
+        stepping: Stepping<'a>,
+        rule: MonitorRule,
+        is_json: bool,
+    },
     Leak(Search<'a>),
     Report(Compilation<'a>),
     Draw(Drawing<'a>),

@@ -195,7 +195,8 @@ the first run begins from the first file, the second from the second." }
     { Flag "json" "Writes the answer as JSON" "\
 Writes the answer as a line of JSON: an object with `class`, `same`,
 the words that the class sees `before` and `after` both runs, and how
-the `first` and the `second` run end." } },
+the `first` and the `second` run end; with --steps the steps of both
+runs in their place." } },
     subcommand! { "leak" "Searches a source text for a leak, and shows it" "\
 Reads the lattice file, looks for the class in it, reads the source text, and
 runs it, accepted or not, from pairs of stores that agree on each global whose
@@ -265,10 +266,24 @@ monitor. Each word has a class as its label, at first that of its variable. The
 run is stopped before an assignment in a branch or a loop whose guard depends on
 a class that isn't at or below the label of the variable. If the run ends within
 the budget, a line `NAME = NUMBER : CLASS` is printed for each global, with the
-label of its word. A text that `vsi check` accepts is never stopped."
+label of its word. A text that `vsi check` accepts is never stopped. With --rule
+permissive-upgrade the run goes on there, and is stopped later if a guard reads
+the variable."
     statuses "0 the run has ended, 1 it was stopped, or refused, 2 usage, 3 out of
 budget, 4 file fault, 5 out of memory."
     example "  $ vsi monitor two.toml lamp.vsi --set h=1
   1:33 l : L may not be assigned under H"
-    { LATTICE } { SOURCE } { STEP_BUDGET } { STORE } { SET } { FULL_STORE } },
+    { LATTICE } { SOURCE } { STEP_BUDGET } { STORE } { SET } { FULL_STORE }
+    { Choice("RULE", &["no-sensitive-upgrade", "permissive-upgrade"]) "rule"
+    "no-sensitive-upgrade or permissive-upgrade; default: the first" "\
+The rule for an assignment in a branch or a loop whose guard depends
+on a class that isn't at or below the label of the variable. With
+`no-sensitive-upgrade`, the default, the run is stopped before it.
+With `permissive-upgrade` the run goes on, and is stopped before a
+guard that reads the variable." }
+    { Flag "json" "Writes the answer as JSON" "\
+Writes the answer as a line of JSON: an object with the `outcome`,
+`halted`, `stopped` or `limit`, and with `store`, an array with an
+object for each global, or with the assignment before which the run
+was stopped." } },
 ];
