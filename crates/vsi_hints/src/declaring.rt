@@ -5,12 +5,12 @@ use crate::pieces::{Sort, is_one_of};
 use crate::sayings::NONE;
 use crate::scan::{Scan, after};
 
-/// Names that declare a variable in many languages.
-const TYPES: &[u8] =
-    b"let const local auto int long unsigned float double bool boolean char string";
+/// Names that declare a variable.
+const TYPES: &[u8] = b"let const local auto int long unsigned float double bool boolean char \
+    string val mut static global integer short dim";
 
-/// Other names that declare a variable.
-const OTHER_TYPES: &[u8] = b"val mut static global integer short dim";
+/// Names that do nothing.
+const IDLE: &[u8] = b"skip pass nop noop nothing SKIP";
 
 /// The end of a sentence on declarations.
 const ONE_EACH: &str = " declares one variable with its class, as in `var x : L; var y : L;`.";
@@ -29,15 +29,11 @@ const LISTED: Letters = (
     "declare each variable on its own.",
 );
 
-/// Whether a name does nothing.
-pub fn is_idle(word: &[u8]) -> bool {
-    is_one_of(b"skip pass nop noop nothing SKIP", word)
-}
+/// A name with a `-` in it.
+const HYPHEN: Letters = (b"N_P", ": a name has only letters, digits and `_`.", "");
 
-/// Whether a name declares a variable in many languages.
-pub fn is_type(word: &[u8]) -> bool {
-    is_one_of(TYPES, word)
-}
+/// A keyword in the position of a declared name.
+const KEYWORD: Letters = (b"N_1", ": a keyword can't be a name.", "");
 
 /// A name that declares a variable, or does nothing.
 pub(crate) fn declaring_word(scan: &Scan, at: usize) -> Option<Found> {
@@ -46,11 +42,11 @@ pub(crate) fn declaring_word(scan: &Scan, at: usize) -> Option<Found> {
     }
     let word = scan.text(at);
     let (next, colon, _, _, value) = after(at);
-    if is_idle(word) {
+    if is_one_of(IDLE, word) {
         let rest = ": assign a variable to itself to do nothing, as in `x := x`.";
         return say(at, next, NONE, rest);
     }
-    if !is_type(word) && !is_one_of(OTHER_TYPES, word) {
+    if !is_one_of(TYPES, word) {
         return None;
     }
     let (sign, stop) = local_value(scan, at);
@@ -75,13 +71,7 @@ pub(crate) fn hyphen(scan: &Scan, at: usize) -> Option<Found> {
     if !scan.is_hyphened(at) {
         return None;
     }
-    let rule = ": a name has only letters, digits and `_`.";
-    offered(
-        at,
-        at.saturating_add(3),
-        Sense::Expression,
-        (b"N_P", rule, ""),
-    )
+    offered(at, at.saturating_add(3), Sense::Expression, HYPHEN)
 }
 
 /// A keyword in the position of a declared name.
@@ -89,24 +79,20 @@ fn bad_name(scan: &Scan, at: usize) -> Option<Found> {
     if !scan.is_keyword(at) {
         return None;
     }
-    let rule = ": a keyword can't be a name.";
-    offered(
-        at,
-        at.saturating_add(1),
-        Sense::Expression,
-        (b"N_1", rule, ""),
-    )
+    offered(at, at.saturating_add(1), Sense::Expression, KEYWORD)
 }
 
 /// A declaration by `var` that isn't valid here.
 pub(crate) fn declaration(scan: &Scan, at: usize) -> Option<Found> {
-    let (name, sign, _, end, value) = after(at);
-    if let Some(found) = bad_name(scan, name) {
-        return Some(found);
-    }
-    if let Some(found) = hyphen(scan, name) {
-        return Some(found);
-    }
+    let name = at.saturating_add(1);
+    bad_name(scan, name)
+        .or_else(|| hyphen(scan, name))
+        .or_else(|| declared(scan, at))
+}
+
+/// A declaration by `var` of a name that is valid, but not followed by a class and a `;`.
+fn declared(scan: &Scan, at: usize) -> Option<Found> {
+    let (_, sign, _, end, value) = after(at);
     if scan.is(sign, b",") {
         let stop = scan.command_stop(at);
         if scan.is(stop, b":") {
@@ -147,13 +133,11 @@ pub(crate) fn local_value(scan: &Scan, at: usize) -> (usize, usize) {
 
 /// A declaration by `letvar` that isn't valid here.
 pub(crate) fn local(scan: &Scan, at: usize) -> Option<Found> {
-    if let Some(found) = bad_name(scan, at.saturating_add(1)) {
-        return Some(found);
-    }
     let (sign, _) = local_value(scan, at);
-    if !scan.is(sign, b"=") {
-        return None;
-    }
     let rest = ": `=` compares, as in `letvar y := x + 1 in z := y`.";
-    put(sign, ":=", rest)
+    bad_name(scan, at.saturating_add(1)).or(if scan.is(sign, b"=") {
+        put(sign, ":=", rest)
+    } else {
+        None
+    })
 }

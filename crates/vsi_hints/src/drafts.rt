@@ -18,7 +18,7 @@ use vsi_syntax::put_number;
 /// what it adds could be written.
 #[derive(Drop)]
 pub(crate) struct Draft<'s, 't> {
-    pub(crate) scan: Scan<'s, 't>,
+    pub(crate) scan: &'t Scan<'s>,
     pub(crate) found: Found,
     pub(crate) words: Vec<u8>,
 }
@@ -38,7 +38,7 @@ impl<'s, 't> Draft<'s, 't> {
 
     /// Adds the first of some names that occurs in no piece.
     fn put_fresh(&mut self, names: &'static [u8]) -> Result<bool, AllocError> {
-        let pieces = self.scan.pieces;
+        let pieces = &self.scan.pieces;
         for name in names.split(|byte| *byte == b' ') {
             if pieces.iter().all(|piece| piece.text != name) {
                 return self.put(name);
@@ -143,7 +143,7 @@ impl<'s, 't> Draft<'s, 't> {
     /// Adds what a letter stands for in the commands for a loop that counts.
     fn put_counting(&mut self, letter: u8) -> Result<bool, AllocError> {
         let scan = self.scan;
-        let Some((counter, first, limit, _)) = counting_at(&scan, self.found.first) else {
+        let Some((counter, first, limit, _)) = counting_at(scan, self.found.first) else {
             return Ok(false);
         };
         match letter {

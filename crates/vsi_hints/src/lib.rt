@@ -30,7 +30,4 @@ mod structure;
 mod wording;
 
 pub use advice::{hint_at, listed_places, put_further};
-pub use declaring::{is_idle, is_type};
-pub use expression::{is_false, is_true};
-pub use names::is_else_if;
 pub use wording::{Hint, Reason, put_hint};

@@ -133,15 +133,18 @@ fn word(scan: &Scan, at: usize) -> Option<Found> {
             return put(at, *new, *rest);
         }
     }
-    if let Some(found) = declaring_word(scan, at) {
-        return Some(found);
+    declaring_word(scan, at)
+        .or_else(|| command_word(scan, at))
+        .or_else(|| call(scan, at))
+}
+
+/// A name that begins or ends a command.
+fn command_word(scan: &Scan, at: usize) -> Option<Found> {
+    if !scan.is_after_operand(at) && !scan.is_command_start(at) {
+        return None;
     }
-    if scan.is_after_operand(at) || scan.is_command_start(at) {
-        if let Some(saying) = saying_in(&COMMANDS, text) {
-            return said(at, command_next(scan, at, saying), saying);
-        }
-    }
-    call(scan, at)
+    let saying = saying_in(&COMMANDS, scan.text(at))?;
+    said(at, command_next(scan, at, saying), saying)
 }
 
 /// Commands in place of pieces with a value up to a piece; in place of those before the value, if it
@@ -151,11 +154,11 @@ fn rewriting(scan: &Scan, at: usize, value: usize, stop: usize, letters: Letters
     commands(at, value, if is_whole { stop } else { value }, letters)
 }
 
-/// An operand that is divided by another one, in a value that begins at a piece.
-fn division(scan: &Scan, at: usize, value: usize) -> Option<Found> {
-    let (sign, last, next, ..) = after(value);
+/// An operand that is divided by another one, in the value that a command assigns.
+fn division(scan: &Scan, at: usize) -> Option<Found> {
+    let (assign, value, sign, last, next) = after(at);
     let is_whole = scan.ends_operand(value) && scan.ends_operand(last);
-    if !is_whole || scan.value_stop(last) != next {
+    if !scan.is_any(assign, b":= =") || !is_whole || scan.value_stop(last) != next {
         return None;
     }
     let text = if scan.is_any(sign, b"% mod MOD") {
@@ -175,7 +178,8 @@ fn division(scan: &Scan, at: usize, value: usize) -> Option<Found> {
 /// A value that is assigned to two names by one command.
 fn twice(scan: &Scan, at: usize) -> Option<Found> {
     let (sign, second, other, value, end) = after(at);
-    if !scan.is(other, scan.text(sign)) || !scan.is_name(second) {
+    let is_chain = scan.is_any(sign, b":= =") && scan.is(other, scan.text(sign));
+    if !is_chain || !scan.is_name(second) {
         return None;
     }
     let plain = "assign to one variable at a time, as in `y := 1; x := y`.";
@@ -193,15 +197,17 @@ fn twice(scan: &Scan, at: usize) -> Option<Found> {
 
 /// A command that begins with a name and isn't valid here.
 fn assignment(scan: &Scan, at: usize) -> Option<Found> {
-    let (sign, value, second, last, _) = after(at);
-    if scan.is_any(sign, b":= =") {
-        if let Some(found) = twice(scan, at) {
-            return Some(found);
-        }
-        if let Some(found) = division(scan, at, value) {
-            return Some(found);
-        }
+    if !scan.is_command_start(at) {
+        return None;
     }
+    twice(scan, at)
+        .or_else(|| division(scan, at))
+        .or_else(|| assigned(scan, at))
+}
+
+/// A command that assigns by another sign, or to several names, or declares.
+fn assigned(scan: &Scan, at: usize) -> Option<Found> {
+    let (sign, value, second, last, _) = after(at);
     if scan.is(sign, b",") {
         if !scan.is_name(value) || !scan.is_any(second, b"= :=") {
             return None;
@@ -229,15 +235,7 @@ fn assignment(scan: &Scan, at: usize) -> Option<Found> {
 
 /// The construct that a name begins.
 pub(crate) fn named(scan: &Scan, at: usize) -> Option<Found> {
-    if let Some(found) = word(scan, at) {
-        return Some(found);
-    }
-    if let Some(found) = hyphen(scan, at) {
-        return Some(found);
-    }
-    if scan.is_command_start(at) {
-        assignment(scan, at)
-    } else {
-        None
-    }
+    word(scan, at)
+        .or_else(|| hyphen(scan, at))
+        .or_else(|| assignment(scan, at))
 }

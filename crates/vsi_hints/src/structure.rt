@@ -169,9 +169,11 @@ pub(crate) fn structure_at(scan: &Scan, at: usize) -> Option<Found> {
     if scan.is_after(at, DECLARING) {
         return None;
     }
-    if let Some(found) = conditional(scan, at) {
-        return Some(found);
-    }
+    conditional(scan, at).or_else(|| missing(scan, at))
+}
+
+/// A keyword or a sign that a construct of the language lacks at a piece, or has too much.
+fn missing(scan: &Scan, at: usize) -> Option<Found> {
     let next = at.saturating_add(1);
     match scan.text(at) {
         [b'l', b'e', b't', b'v', b'a', b'r'] => unbound(scan, at),
