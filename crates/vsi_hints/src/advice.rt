@@ -3,16 +3,14 @@
 ghost use Rattle.std.specs.Prelude.{IfOk, IfSome};
 ghost use Rattle.vsi_hints.specs.Hints.{OffersRead};
 
-use crate::declaring::{declaration, local};
 use crate::expression::{FALSE, TRUE};
 use crate::found::{Found, Sense, Shape, say};
-use crate::loops::{COUNTED, loop_at};
-use crate::names::named;
+use crate::names::{declaration, local, named};
 use crate::offers::{hint_of, offer};
 use crate::pieces::is_one_of;
 use crate::scan::Scan;
 use crate::signs::sign;
-use crate::structure::{halved_at, structure_at};
+use crate::structure::{COUNTED, halved_at, loop_at, structure_at};
 use crate::wording::{Hint, put_sentence};
 use std::alloc::{AllocError, Global};
 use vsi_syntax::put_place;

@@ -8,9 +8,9 @@
 
 use crate::expression::rewritten;
 use crate::found::Found;
-use crate::loops::counting_at;
-use crate::numbers::number_of;
+use crate::pieces::number_of;
 use crate::scan::Scan;
+use crate::structure::counting_at;
 use std::alloc::AllocError;
 use vsi_syntax::put_number;
 
@@ -154,13 +154,6 @@ impl<'s, 't> Draft<'s, 't> {
         }
     }
 
-    /// Adds the number of the construct's first piece.
-    fn put_found_number(&mut self) -> Result<bool, AllocError> {
-        let scan = self.scan;
-        let text = scan.text(self.found.first);
-        self.put_number(text, 0)
-    }
-
     /// Adds what a letter of an offer stands for.
     pub(crate) fn put_letter(&mut self, letter: u8) -> Result<bool, AllocError> {
         match letter {
@@ -173,7 +166,7 @@ impl<'s, 't> Draft<'s, 't> {
             b'R' => self.put_fresh(b"r left rest remainder"),
             b'T' => self.put_fresh(b"q times count quotient"),
             b'E' | b'V' | b'W' | b'X' | b'Y' => self.put_value(letter),
-            b'D' => self.put_found_number(),
+            b'D' => self.put_number(self.scan.text(self.found.first), 0),
             b'L' => self.put_declarations(),
             b'B' => self.put_body(),
             b'F' | b'G' | b'I' => self.put_counting(letter),

@@ -4,8 +4,7 @@ use crate::forms::{
     AND, BOTH, COMPARISON, Form, OPEN, Pattern, TRUTH, form_before, form_between, is_before,
     pattern_of,
 };
-use crate::numbers::number_of;
-use crate::pieces::{Piece, Sort, is_one_of};
+use crate::pieces::{Piece, Sort, is_one_of, number_of};
 use crate::wording::LONGEST;
 use std::alloc::{AllocError, Global};
 use vsi_syntax::put_number;
@@ -174,12 +173,13 @@ impl Reading {
             return Ok(false);
         };
         let Operand { part: last, .. } = right;
+        let (_, strength, (text, ..)) = form;
         self.put(Operand {
             part,
-            is_truth: matches!(form.1, 1..=COMPARISON),
+            is_truth: strength <= COMPARISON,
             value: None,
-            compared: if form.1 == COMPARISON {
-                Some((form.2.0, last))
+            compared: if strength == COMPARISON {
+                Some((text, last))
             } else {
                 None
             },

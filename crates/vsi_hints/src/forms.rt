@@ -10,15 +10,22 @@ pub(crate) type Pattern = (&'static [u8], u8, u8, u8);
 /// An operator: its signs, how strongly it binds, and its translation.
 pub(crate) type Form = (&'static [u8], u8, Pattern);
 
-/// How strongly `or`, `and`, `not`, comparisons and powers bind.
+/// How strongly `or` binds.
 const OR: u8 = 1;
 
+/// How strongly `and` binds.
 pub(crate) const AND: u8 = 2;
 
+/// How strongly `not` binds.
 const NOT: u8 = 3;
 
+/// How strongly a comparison binds.
 pub(crate) const COMPARISON: u8 = 4;
 
+/// How strongly a sign before a number binds.
+const NEGATIVE: u8 = 7;
+
+/// How strongly a power binds.
 const POWER: u8 = 8;
 
 /// An open bracket, which joins nothing.
