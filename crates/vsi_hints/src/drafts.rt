@@ -166,7 +166,10 @@ impl<'s, 't> Draft<'s, 't> {
             b'R' => self.put_fresh(b"r left rest remainder"),
             b'T' => self.put_fresh(b"q times count quotient"),
             b'E' | b'V' | b'W' | b'X' | b'Y' => self.put_value(letter),
-            b'D' => self.put_number(self.scan.text(self.found.first), 0),
+            b'D' => {
+                let text = self.scan.text(self.found.first);
+                self.put_number(text, 0)
+            }
             b'L' => self.put_declarations(),
             b'B' => self.put_body(),
             b'F' | b'G' | b'I' => self.put_counting(letter),
