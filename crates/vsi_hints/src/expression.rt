@@ -79,7 +79,7 @@ impl Operand {
 /// compares its last operand no further.
 fn asks_truth(text: &[u8], last: Option<u64>, before: &[u8], middle: &Part) -> bool {
     let is_number = middle.text.iter().all(|byte| byte.is_ascii_digit());
-    let is_truth = before != b"P = Q" && matches!(last, Some(0 | 1));
+    let is_truth = before != b"P = Q".as_slice() && matches!(last, Some(0 | 1));
     text.contains(&b'=') && last.is_some() && (is_number || is_truth)
 }
 

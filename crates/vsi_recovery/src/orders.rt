@@ -95,7 +95,7 @@ fn any_gap(above: &[u64], below: &[u64]) -> Option<(u64, u64)> {
 }
 
 /// Classes and pairs that may complete an order, if few do.
-fn addition(
+fn proposed(
     alloc: Global,
     count: usize,
     pairs: &[(u8, u8)],
@@ -135,7 +135,7 @@ pub fn completion(
     if count > MOST_CLASSES {
         return Ok(None);
     }
-    let Some(addition) = addition(alloc, count, pairs)? else {
+    let Some(addition) = proposed(alloc, count, pairs)? else {
         return Ok(None);
     };
     let Some(lattice) = lattice_with(alloc, count, pairs, addition.count, &addition.pairs)? else {
