@@ -132,7 +132,8 @@ impl<'s> Advice<'s> {
     }
 
     /// The constructs and then the structures that need advice of their own beside that for the
-    /// refused piece: each that shares its advice with none before it, and whether it is a construct.
+    /// refused piece: each that shares its advice with none before it, with whether it is a
+    /// construct.
     fn chosen(&self) -> Result<Vec<(Found, bool)>, AllocError> {
         let mut all = Vec::from_slice(self.scan.alloc, &self.shapes)?;
         self.put_structures(&mut all)?;

@@ -67,7 +67,7 @@ fn joined(alloc: Global, pattern: Pattern, left: &Part, right: &Part) -> Result<
 }
 
 impl Operand {
-    /// What is 1 if it isn't 0, and 0 otherwise.
+    /// Its truth: 1 if it isn't 0, and 0 otherwise.
     fn truth(&self, alloc: Global) -> Result<Part, AllocError> {
         let same: Pattern = (b"P", self.part.level, 0, 0);
         let pattern = if self.is_truth { same } else { TRUTH };

@@ -12,7 +12,7 @@ const DECLARED: [Kind; DECLARATION] = [Var, Name, Colon, Name, Semicolon];
 /// The most tokens that are passed over in search of one.
 const MAX_PASSED: usize = 10_000;
 
-/// What begins a construct, and what ends it or its first part.
+/// The kinds that begin a construct, and those that end it or its first part.
 const ENDS: [(Kind, Kind); 5] = [
     (OpenBrace, CloseBrace),
     (Open, Close),
