@@ -3,16 +3,14 @@
 ghost use Rattle.std.specs.Prelude.{IfOk, IfSome};
 ghost use Rattle.vsi_hints.specs.Hints.{OffersRead};
 
-use crate::declaring::{declaration, local};
-use crate::expression::{is_false, is_true};
+use crate::expression::{FALSE, TRUE};
 use crate::found::{Found, Sense, Shape, say};
-use crate::loops::{COUNTED, loop_at};
-use crate::names::named;
+use crate::names::{declaration, local, named};
 use crate::offers::{hint_of, offer};
-use crate::pieces::{is_one_of, pieces_of};
+use crate::pieces::is_one_of;
 use crate::scan::Scan;
 use crate::signs::sign;
-use crate::structure::{halved_at, structure_at};
+use crate::structure::{COUNTED, halved_at, loop_at, structure_at};
 use crate::wording::{Hint, put_sentence};
 use std::alloc::{AllocError, Global};
 use vsi_syntax::put_place;
@@ -36,12 +34,10 @@ fn shape_at(scan: &Scan, at: usize) -> Option<Found> {
             body C and the guard E.";
         return say(at, at.saturating_add(1), "no loop begins with ", rest);
     }
-    if scan.is_name(at) {
-        if let Some(found) = named(scan, at) {
-            return Some(found);
-        }
+    if !scan.is_name(at) {
+        return sign(scan, at);
     }
-    sign(scan, at)
+    named(scan, at).or_else(|| sign(scan, at))
 }
 
 /// The constructs of other languages in order; none begins inside another one. A loop is one with
@@ -80,22 +76,25 @@ fn piece_number(scan: &Scan, at: usize) -> usize {
 
 /// A text with its constructs of other languages, and the piece at which it is refused.
 #[derive(Drop)]
-struct Advice<'s, 't> {
-    scan: Scan<'s, 't>,
+struct Advice<'s> {
+    scan: Scan<'s>,
     shapes: Vec<Found>,
     piece: usize,
 }
 
-/// The advice on a text whose pieces are known.
-fn advice_on<'s, 't>(scan: Scan<'s, 't>, at: usize) -> Result<Advice<'s, 't>, AllocError> {
-    Ok(Advice {
-        scan,
-        shapes: all_shapes(&scan)?,
-        piece: piece_number(&scan, at),
-    })
-}
+impl<'s> Advice<'s> {
+    /// The advice on a text that is refused at this byte.
+    fn of(alloc: Global, source: &'s [u8], at: usize) -> Result<Advice<'s>, AllocError> {
+        let scan = Scan::of(alloc, source)?;
+        let shapes = all_shapes(&scan)?;
+        let piece = piece_number(&scan, at);
+        Ok(Advice {
+            scan,
+            shapes,
+            piece,
+        })
+    }
 
-impl<'s, 't> Advice<'s, 't> {
     /// The last construct that the refused piece belongs to or directly follows.
     fn covering(&self) -> Option<Found> {
         let mut last = None;
@@ -107,77 +106,58 @@ impl<'s, 't> Advice<'s, 't> {
         last
     }
 
-    /// The keywords and signs that are missing or superfluous, where they remain: not within a
-    /// construct that commands are offered for.
-    fn structures(&self) -> Result<Vec<Found>, AllocError> {
-        let scan = &self.scan;
-        let mut all = Vec::new(scan.alloc);
-        let mut rest = self.shapes.as_slice();
-        let mut stop: usize = 0;
-        for at in 0..scan.pieces.len() {
-            let is_replaced = at < stop;
-            if let [shape, others @ ..] = rest {
-                if shape.first == at {
-                    rest = others;
-                    stop = match shape.shape {
-                        Shape::Offer(Sense::Commands, _, _, _) => shape.next.saturating_sub(1),
-                        _ => 0,
-                    };
-                }
-            }
-            if is_replaced {
+    /// Whether a piece is within a construct that commands are offered for.
+    fn is_replaced(&self, at: usize) -> bool {
+        let replaces = |found: &Found| {
+            let is_within = found.first < at && at < found.next.saturating_sub(1);
+            is_within && matches!(found.shape, Shape::Offer(Sense::Commands, ..))
+        };
+        self.shapes.iter().any(replaces)
+    }
+
+    /// Adds the keywords and signs that are missing or superfluous, where they remain.
+    fn put_structures(&self, all: &mut Vec<Found>) -> Result<(), AllocError> {
+        for at in 0..self.scan.pieces.len() {
+            if self.is_replaced(at) {
                 continue;
             }
-            if let Some(found) = structure_at(scan, at) {
+            if let Some(found) = structure_at(&self.scan, at) {
                 all.push(found)?;
             }
-            if let Some(found) = halved_at(scan, at) {
+            if let Some(found) = halved_at(&self.scan, at) {
                 all.push(found)?;
-            }
-        }
-        Ok(all)
-    }
-
-    /// The constructs and the structures that need advice of their own beside that for the refused
-    /// piece, the first one of each sort, and the number of the constructs among them.
-    fn chosen(&self) -> Result<(Vec<Found>, usize), AllocError> {
-        let scan = &self.scan;
-        let mut keys = Vec::new(scan.alloc);
-        let mut chosen = Vec::new(scan.alloc);
-        if let Some(found) = self.covering() {
-            keys.push(found.key(scan))?;
-        }
-        self.choose(&self.shapes, &mut keys, &mut chosen)?;
-        let count = chosen.len();
-        let structures = self.structures()?;
-        self.choose(&structures, &mut keys, &mut chosen)?;
-        Ok((chosen, count))
-    }
-
-    /// Chooses each of these that shares its advice with none before it.
-    fn choose(
-        &self,
-        all: &[Found],
-        keys: &mut Vec<(&'s [u8], usize)>,
-        chosen: &mut Vec<Found>,
-    ) -> Result<(), AllocError> {
-        for found in all {
-            let key = found.key(&self.scan);
-            if !keys.contains(&key) && keys.len() <= MOST {
-                keys.push(key)?;
-                chosen.push(*found)?;
             }
         }
         Ok(())
     }
 
+    /// The constructs and then the structures that need advice of their own beside that for the
+    /// refused piece: each that shares its advice with none before it, with whether it is a
+    /// construct.
+    fn chosen(&self) -> Result<Vec<(Found, bool)>, AllocError> {
+        let mut all = Vec::from_slice(self.scan.alloc, &self.shapes)?;
+        self.put_structures(&mut all)?;
+        let mut keys = Vec::new(self.scan.alloc);
+        let mut chosen = Vec::new(self.scan.alloc);
+        if let Some(found) = self.covering() {
+            keys.push(found.key(&self.scan))?;
+        }
+        for (number, found) in all.iter().enumerate() {
+            let key = found.key(&self.scan);
+            if !keys.contains(&key) && keys.len() <= MOST {
+                keys.push(key)?;
+                chosen.push((*found, number < self.shapes.len()))?;
+            }
+        }
+        Ok(chosen)
+    }
+
     /// Adds a line for each further place.
     fn put_places(&self, words: &mut Vec<u8>) -> Result<(), AllocError> {
         let scan = &self.scan;
-        let (chosen, count) = self.chosen()?;
-        for (number, found) in chosen.iter().enumerate() {
+        for (found, is_construct) in &self.chosen()? {
             let is_refused = found.first == self.piece || found.next == self.piece;
-            if is_refused || number < count && found.covers(self.piece) {
+            if is_refused || *is_construct && found.covers(self.piece) {
                 continue;
             }
             let Some(hint) = hint_of(scan, found)? else {
@@ -192,84 +172,68 @@ impl<'s, 't> Advice<'s, 't> {
         Ok(())
     }
 
-    /// The names in the positions of classes that are none of these classes, in order.
-    fn no_classes(&self, classes: &[&[u8]]) -> Result<Vec<&'s [u8]>, AllocError> {
-        let scan = &self.scan;
-        let mut names = Vec::new(scan.alloc);
-        for at in 0..scan.pieces.len() {
-            let name = scan.text(at);
-            if !scan.is_class(at) || (&*classes).contains(&name) || names.contains(&name) {
-                continue;
-            }
-            if names.len() < MOST {
-                names.push(name)?;
-            }
-        }
-        Ok(names)
-    }
-
     /// Whether a piece belongs to a construct whose replacement doesn't contain the name.
     fn is_said(&self, at: usize) -> bool {
-        for found in &self.shapes {
-            let is_said = match found.shape {
-                Shape::Say(_, _) | Shape::Tell(_) | Shape::Put(_, _) => true,
-                Shape::Offer(Sense::Expression | Sense::Declarations, _, _, _) => true,
-                _ => false,
-            };
-            if is_said && found.first <= at && at < found.next {
-                return true;
-            }
-        }
-        false
+        let says = |found: &Found| {
+            let is_kept = matches!(
+                found.shape,
+                Shape::Value(_) | Shape::Comment | Shape::Offer(Sense::Commands, ..)
+            );
+            !is_kept && found.first <= at && at < found.next
+        };
+        self.shapes.iter().any(says)
     }
 
     /// Whether a name is declared after the hints for the text are followed.
     fn gets_declared(&self, name: &[u8]) -> bool {
         let scan = &self.scan;
-        for found in &self.shapes {
-            let gets = match found.shape {
-                Shape::Say(_, _) | Shape::Put(_, _) => found.has(scan, found.next, name),
-                Shape::Offer(Sense::Declarations, _, _, _) => found.has(scan, found.next, name),
-                Shape::Offer(Sense::Commands, _, rule, _) if rule == COUNTED => {
-                    found.has(scan, found.value, name)
-                }
-                // The offer for a name that isn't valid here begins with it.
-                Shape::Offer(Sense::Expression, _, _, _) => {
-                    match name.strip_prefix(scan.text(found.first)) {
-                        Some(rest) => rest.first() == Some(&b'_'),
-                        None => false,
-                    }
-                }
-                _ => false,
-            };
-            if gets {
-                return true;
+        let declares = |found: &Found| match found.shape {
+            Shape::Say(..) | Shape::Put(..) | Shape::Offer(Sense::Declarations, ..) => {
+                found.has(scan, found.next, name)
             }
-        }
-        false
+            Shape::Offer(Sense::Commands, _, rule, _) => {
+                rule == COUNTED && found.has(scan, found.value, name)
+            }
+            // The offer for a name that isn't valid here begins with it.
+            Shape::Offer(Sense::Expression, ..) => {
+                matches!(name.strip_prefix(scan.text(found.first)), Some([b'_', ..]))
+            }
+            _ => false,
+        };
+        self.shapes.iter().any(declares)
     }
 
-    /// The names that the text uses and doesn't declare, in order.
-    fn undeclared(&self) -> Result<Vec<&'s [u8]>, AllocError> {
+    /// Whether a piece is a name that the text uses and doesn't declare.
+    fn is_undeclared(&self, at: usize) -> bool {
         let scan = &self.scan;
-        let refused = scan.text(self.piece);
+        let name = scan.text(at);
+        scan.is_variable(at)
+            && !scan.is_declared(name)
+            && !self.is_said(at)
+            && name != scan.text(self.piece)
+            && !self.gets_declared(name)
+            && !is_one_of(TRUE, name)
+            && !is_one_of(FALSE, name)
+            && !is_one_of(b"default repeat", name)
+    }
+
+    /// The names in the positions of classes that are none of these classes, in order; without
+    /// classes, the names that the text uses and doesn't declare.
+    fn names(&self, classes: Option<&[&[u8]]>) -> Result<Vec<&'s [u8]>, AllocError> {
+        let scan = &self.scan;
         let mut names = Vec::new(scan.alloc);
         for at in 0..scan.pieces.len() {
             let name = scan.text(at);
-            if !scan.is_variable(at)
-                || scan.is_declared(name)
-                || self.is_said(at)
-                || name == refused
-                || names.len() >= MOST
-                || names.contains(&name)
-                || self.gets_declared(name)
-            {
+            if names.len() >= MOST || names.contains(&name) {
                 continue;
             }
-            if is_true(name) || is_false(name) || is_one_of(b"default repeat", name) {
-                continue;
+            let is_wrong = match classes {
+                Some(classes) => scan.is_class(at) && !(&*classes).contains(&name),
+                None => self.is_undeclared(at),
+            };
+            if is_wrong {
+                names.push(name)?;
             }
-            names.push(name)?;
         }
         Ok(names)
     }
@@ -283,14 +247,9 @@ pub fn hint_at<'s>(
 ) -> Result<Option<Hint<'s>>, AllocError>
     ensures read { IfOk result (λ hint. IfSome hint OffersRead) }
 {
-    let pieces = &pieces_of(alloc, source)?;
-    let scan = Scan {
-        alloc,
-        source,
-        pieces,
-    };
-    match advice_on(scan, at)?.covering() {
-        Some(found) => hint_of(&scan, &found),
+    let advice = Advice::of(alloc, source, at)?;
+    match advice.covering() {
+        Some(found) => hint_of(&advice.scan, &found),
         None => Ok(None),
     }
 }
@@ -317,22 +276,16 @@ pub fn put_further(
     at: usize,
     classes: &[&[u8]],
 ) -> Result<(), AllocError> {
-    let pieces = &pieces_of(alloc, source)?;
-    let scan = Scan {
-        alloc,
-        source,
-        pieces,
-    };
-    let advice = advice_on(scan, at)?;
+    let advice = Advice::of(alloc, source, at)?;
     advice.put_places(words)?;
-    let no_classes = advice.no_classes(classes)?;
+    let no_classes = advice.names(Some(classes))?;
     if !no_classes.is_empty() {
         put_names(words, b"Also not classes: ", &no_classes)?;
         let known = &classes[..classes.len().min(MOST)];
         put_names(words, b": the lattice has ", known)?;
         words.extend_from_slice(b".\n")?;
     }
-    let undeclared = advice.undeclared()?;
+    let undeclared = advice.names(None)?;
     if !undeclared.is_empty() {
         put_names(words, b"Also undeclared: ", &undeclared)?;
         words.extend_from_slice(b": declare each at the beginning, as in `var x : L;`.\n")?;
@@ -343,16 +296,10 @@ pub fn put_further(
 /// The places of a text for which `hint_at` and `put_further` have hints, if it is refused at this
 /// byte.
 pub fn listed_places(alloc: Global, source: &[u8], at: usize) -> Result<Vec<usize>, AllocError> {
-    let pieces = &pieces_of(alloc, source)?;
-    let scan = Scan {
-        alloc,
-        source,
-        pieces,
-    };
+    let advice = Advice::of(alloc, source, at)?;
     let mut places = Vec::new(alloc);
-    let (chosen, _) = advice_on(scan, at)?.chosen()?;
-    for found in &chosen {
-        places.push(scan.piece(found.first).at)?;
+    for (found, _) in &advice.chosen()? {
+        places.push(advice.scan.piece(found.first).at)?;
     }
     Ok(places)
 }

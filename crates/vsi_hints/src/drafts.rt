@@ -8,9 +8,9 @@
 
 use crate::expression::rewritten;
 use crate::found::Found;
-use crate::loops::counting_at;
-use crate::numbers::number_of;
+use crate::pieces::number_of;
 use crate::scan::Scan;
+use crate::structure::counting_at;
 use std::alloc::AllocError;
 use vsi_syntax::put_number;
 
@@ -18,7 +18,7 @@ use vsi_syntax::put_number;
 /// what it adds could be written.
 #[derive(Drop)]
 pub(crate) struct Draft<'s, 't> {
-    pub(crate) scan: Scan<'s, 't>,
+    pub(crate) scan: &'t Scan<'s>,
     pub(crate) found: Found,
     pub(crate) words: Vec<u8>,
 }
@@ -38,7 +38,7 @@ impl<'s, 't> Draft<'s, 't> {
 
     /// Adds the first of some names that occurs in no piece.
     fn put_fresh(&mut self, names: &'static [u8]) -> Result<bool, AllocError> {
-        let pieces = self.scan.pieces;
+        let pieces = &self.scan.pieces;
         for name in names.split(|byte| *byte == b' ') {
             if pieces.iter().all(|piece| piece.text != name) {
                 return self.put(name);
@@ -143,7 +143,7 @@ impl<'s, 't> Draft<'s, 't> {
     /// Adds what a letter stands for in the commands for a loop that counts.
     fn put_counting(&mut self, letter: u8) -> Result<bool, AllocError> {
         let scan = self.scan;
-        let Some((counter, first, limit, _)) = counting_at(&scan, self.found.first) else {
+        let Some((counter, first, limit, _)) = counting_at(scan, self.found.first) else {
             return Ok(false);
         };
         match letter {
@@ -152,13 +152,6 @@ impl<'s, 't> Draft<'s, 't> {
             b'F' => self.put(scan.text(first)),
             _ => self.put_limit(limit),
         }
-    }
-
-    /// Adds the number of the construct's first piece.
-    fn put_found_number(&mut self) -> Result<bool, AllocError> {
-        let scan = self.scan;
-        let text = scan.text(self.found.first);
-        self.put_number(text, 0)
     }
 
     /// Adds what a letter of an offer stands for.
@@ -173,7 +166,10 @@ impl<'s, 't> Draft<'s, 't> {
             b'R' => self.put_fresh(b"r left rest remainder"),
             b'T' => self.put_fresh(b"q times count quotient"),
             b'E' | b'V' | b'W' | b'X' | b'Y' => self.put_value(letter),
-            b'D' => self.put_found_number(),
+            b'D' => {
+                let text = self.scan.text(self.found.first);
+                self.put_number(text, 0)
+            }
             b'L' => self.put_declarations(),
             b'B' => self.put_body(),
             b'F' | b'G' | b'I' => self.put_counting(letter),

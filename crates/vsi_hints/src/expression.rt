@@ -1,14 +1,16 @@
 //! An expression of another language, written in this one while it is read from the left.
 
-use crate::forms::{BOTH, Form, Pattern, form_before, form_between, pattern_of};
-use crate::numbers::number_of;
-use crate::pieces::{Piece, Sort, is_one_of};
+use crate::forms::{
+    AND, BOTH, COMPARISON, Form, OPEN, Pattern, TRUTH, form_before, form_between, is_before,
+    pattern_of,
+};
+use crate::pieces::{Piece, Sort, is_one_of, number_of};
 use crate::wording::LONGEST;
 use std::alloc::{AllocError, Global};
 use vsi_syntax::put_number;
 
 /// The keywords that are no operands.
-const NO_OPERANDS: &[u8] =
+pub(crate) const NO_OPERANDS: &[u8] =
     b"var letvar in if then else while do and or not mod div AND OR NOT MOD DIV is xor";
 
 /// The names that mean 1.
@@ -16,21 +18,6 @@ pub(crate) const TRUE: &[u8] = b"true True TRUE";
 
 /// The names that mean 0.
 pub(crate) const FALSE: &[u8] = b"false False FALSE";
-
-/// Whether a name can't be an operand.
-pub(crate) fn is_no_operand(word: &[u8]) -> bool {
-    is_one_of(NO_OPERANDS, word)
-}
-
-/// Whether a name means 1.
-pub fn is_true(word: &[u8]) -> bool {
-    is_one_of(TRUE, word)
-}
-
-/// Whether a name means 0.
-pub fn is_false(word: &[u8]) -> bool {
-    is_one_of(FALSE, word)
-}
 
 /// A text and its level, as in a `Pattern`.
 #[derive(Drop)]
@@ -47,8 +34,9 @@ struct Operand {
     is_truth: bool,
     /// Its value, if it is a number.
     value: Option<u64>,
-    /// How it compares, and its last operand, if it is a comparison without brackets around it.
-    compared: Option<(Form, Part)>,
+    /// The translation of its sign, and its last operand, if it is a comparison without brackets
+    /// around it.
+    compared: Option<(&'static [u8], Part)>,
 }
 
 /// Adds a part in brackets if its level is below this one.
@@ -78,12 +66,21 @@ fn joined(alloc: Global, pattern: Pattern, left: &Part, right: &Part) -> Result<
     Ok(Part { text, level })
 }
 
+impl Operand {
+    /// Its truth: 1 if it isn't 0, and 0 otherwise.
+    fn truth(&self, alloc: Global) -> Result<Part, AllocError> {
+        let same: Pattern = (b"P", self.part.level, 0, 0);
+        let pattern = if self.is_truth { same } else { TRUTH };
+        joined(alloc, pattern, &self.part, &self.part)
+    }
+}
+
 /// Whether a comparison with a number asks whether the one before it holds, as in `a < 5 = 1`, and
 /// compares its last operand no further.
-fn asks_truth(form: Form, last: Option<u64>, before: Form, middle: &Part) -> bool {
+fn asks_truth(text: &[u8], last: Option<u64>, before: &[u8], middle: &Part) -> bool {
     let is_number = middle.text.iter().all(|byte| byte.is_ascii_digit());
-    let is_truth = before != Form::Equal && matches!(last, Some(0 | 1));
-    matches!(form, Form::Equal | Form::Differs) && last.is_some() && (is_number || is_truth)
+    let is_truth = before != b"P = Q".as_slice() && matches!(last, Some(0 | 1));
+    text.contains(&b'=') && last.is_some() && (is_number || is_truth)
 }
 
 /// An operator between two operands, or before one that is given twice, if it can be written. A
@@ -94,12 +91,17 @@ fn applied(
     left: &Operand,
     right: &Operand,
 ) -> Result<Option<Part>, AllocError> {
-    let Some(pattern) = pattern_of(form, left.is_truth, right.is_truth, right.value) else {
+    let are_truths = left.is_truth && right.is_truth;
+    let Some(pattern) = pattern_of(form, are_truths, right.value) else {
         return Ok(None);
     };
-    if form.compares() {
+    if form.1 == AND {
+        let first = left.truth(alloc)?;
+        return Ok(Some(joined(alloc, pattern, &first, &right.truth(alloc)?)?));
+    }
+    if form.1 == COMPARISON {
         if let Some((before, middle)) = &left.compared {
-            if !asks_truth(form, right.value, *before, middle) {
+            if !asks_truth(pattern.0, right.value, *before, middle) {
                 let second = joined(alloc, pattern, middle, &right.part)?;
                 return Ok(Some(joined(alloc, BOTH, &left.part, &second)?));
             }
@@ -108,26 +110,21 @@ fn applied(
     Ok(Some(joined(alloc, pattern, &left.part, &right.part)?))
 }
 
-/// The value of a piece, if it is a number or a name for one.
-fn value_of(piece: Piece) -> Option<u64> {
-    if piece.sort == Sort::Number {
+/// The operand of a piece, if it is one.
+fn operand_of(alloc: Global, piece: Piece) -> Result<Option<Operand>, AllocError> {
+    let value = if piece.sort == Sort::Number {
         number_of(piece.text)
-    } else if is_true(piece.text) {
+    } else if is_one_of(TRUE, piece.text) {
         Some(1)
-    } else if is_false(piece.text) {
+    } else if is_one_of(FALSE, piece.text) {
         Some(0)
     } else {
         None
-    }
-}
-
-/// The operand of a piece, if it is one.
-fn operand_of(alloc: Global, piece: Piece) -> Result<Option<Operand>, AllocError> {
-    let value = value_of(piece);
+    };
     let mut text = Vec::new(alloc);
     if let Some(number) = value {
         put_number(&mut text, number as usize)?;
-    } else if piece.sort == Sort::Word && !is_no_operand(piece.text) {
+    } else if piece.sort == Sort::Word && !is_one_of(NO_OPERANDS, piece.text) {
         text.extend_from_slice(piece.text)?;
     } else {
         return Ok(None);
@@ -164,7 +161,7 @@ impl Reading {
         let Some(right) = self.operands.pop() else {
             return Ok(false);
         };
-        let made = if form.is_before() {
+        let made = if is_before(form) {
             applied(self.alloc, form, &right, &right)?
         } else {
             let Some(left) = self.operands.pop() else {
@@ -176,12 +173,13 @@ impl Reading {
             return Ok(false);
         };
         let Operand { part: last, .. } = right;
+        let (_, strength, (text, ..)) = form;
         self.put(Operand {
             part,
-            is_truth: form.is_truth(),
+            is_truth: strength <= COMPARISON,
             value: None,
-            compared: if form.compares() {
-                Some((form, last))
+            compared: if strength == COMPARISON {
+                Some((text, last))
             } else {
                 None
             },
@@ -194,7 +192,7 @@ impl Reading {
             let Some(form) = self.waiting.last().copied() else {
                 return Ok(true);
             };
-            if form == Form::Open || form.strength() < strength {
+            if form.1 == 0 || form.1 < strength {
                 return Ok(true);
             }
             self.waiting.truncate(self.waiting.len().saturating_sub(1));
@@ -208,7 +206,7 @@ impl Reading {
     /// Reads a piece where an operand may begin.
     fn read_operand(&mut self, piece: Piece) -> Result<bool, AllocError> {
         let form = match piece.text {
-            [b'('] => Some(Form::Open),
+            [b'('] => Some(OPEN),
             sign => form_before(sign),
         };
         if let Some(form) = form {
@@ -227,7 +225,7 @@ impl Reading {
         if !self.join_stronger(0)? {
             return Ok(false);
         }
-        let (Some(Form::Open), Some(operand)) = (self.waiting.pop(), self.operands.pop()) else {
+        let (Some((_, 0, _)), Some(operand)) = (self.waiting.pop(), self.operands.pop()) else {
             return Ok(false);
         };
         let mut operand = operand;
@@ -246,7 +244,7 @@ impl Reading {
         let Some(form) = form_between(piece.text) else {
             return Ok(false);
         };
-        if !self.join_stronger(form.strength())? {
+        if !self.join_stronger(form.1)? {
             return Ok(false);
         }
         self.waiting.push(form)?;

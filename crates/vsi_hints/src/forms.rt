@@ -2,49 +2,67 @@
 
 use crate::pieces::is_one_of;
 
-/// An operator, or an open bracket.
-#[derive(Clone, Copy, PartialEq, Eq)]
-pub(crate) enum Form {
-    Open,
-    Or,
-    And,
-    Not,
-    Equal,
-    Less,
-    Greater,
-    AtMost,
-    AtLeast,
-    Differs,
-    Plus,
-    Minus,
-    Times,
-    Power,
-    Negative,
-}
+/// The translation of an operator: a text with its operands in the places of P and Q, its own
+/// level, and the levels that its operands must have. The levels are 0 for a comparison, 1 for a
+/// sum, 2 for a product, and 3 for a name, a number or brackets.
+pub(crate) type Pattern = (&'static [u8], u8, u8, u8);
 
-/// The operators between two operands, each with its signs.
-const BETWEEN: [(&[u8], Form); 12] = [
-    (b"or OR || |", Form::Or),
-    (b"and AND && &", Form::And),
-    (b"= == ===", Form::Equal),
-    (b"<", Form::Less),
-    (b">", Form::Greater),
-    (b"<= =<", Form::AtMost),
-    (b">=", Form::AtLeast),
-    (b"!= !== <> ~=", Form::Differs),
-    (b"+", Form::Plus),
-    (b"-", Form::Minus),
-    (b"*", Form::Times),
-    (b"** ^", Form::Power),
+/// An operator: its signs, how strongly it binds, and its translation.
+pub(crate) type Form = (&'static [u8], u8, Pattern);
+
+/// How strongly `or` binds.
+const OR: u8 = 1;
+
+/// How strongly `and` binds.
+pub(crate) const AND: u8 = 2;
+
+/// How strongly `not` binds.
+const NOT: u8 = 3;
+
+/// How strongly a comparison binds.
+pub(crate) const COMPARISON: u8 = 4;
+
+/// How strongly a sign before a number binds.
+const NEGATIVE: u8 = 7;
+
+/// How strongly a power binds.
+const POWER: u8 = 8;
+
+/// An open bracket, which joins nothing.
+pub(crate) const OPEN: Form = (b"(", 0, (b"", 0, 0, 0));
+
+/// The translation of `and` between operands that are 0 or 1.
+pub(crate) const BOTH: Pattern = (b"P * Q", 2, 2, 3);
+
+/// Whether a number isn't 0.
+pub(crate) const TRUTH: Pattern = (b"1 - (P = 0)", 1, 1, 1);
+
+/// The operators between two operands.
+const BETWEEN: [Form; 12] = [
+    (b"or OR || |", OR, (b"1 - (P = 0) * (Q = 0)", 1, 1, 1)),
+    (b"and AND && &", AND, BOTH),
+    (b"= == ===", COMPARISON, (b"P = Q", 0, 1, 1)),
+    (b"<", COMPARISON, (b"P < Q", 0, 1, 1)),
+    (b">", COMPARISON, (b"Q < P", 0, 1, 1)),
+    (b"<= =<", COMPARISON, (b"1 - (Q < P)", 1, 1, 1)),
+    (b">=", COMPARISON, (b"1 - (P < Q)", 1, 1, 1)),
+    (b"!= !== <> ~=", COMPARISON, (b"1 - (P = Q)", 1, 1, 1)),
+    (b"+", 5, (b"P + Q", 1, 1, 2)),
+    (b"-", 5, (b"P - Q", 1, 1, 2)),
+    (b"*", 6, BOTH),
+    (b"** ^", POWER, (b"P * P", 2, 3, 3)),
 ];
 
-/// The operators before one operand, each with its signs.
-const BEFORE: [(&[u8], Form); 2] = [(b"not NOT !", Form::Not), (b"-", Form::Negative)];
+/// The operators before one operand.
+const BEFORE: [Form; 2] = [
+    (b"not NOT !", NOT, (b"P = 0", 0, 1, 1)),
+    (b"-", NEGATIVE, (b"0 - P", 1, 2, 2)),
+];
 
 /// The operator with a sign in a table.
-fn form_in(forms: &[(&[u8], Form)], sign: &[u8]) -> Option<Form> {
-    for (signs, form) in forms {
-        if is_one_of(*signs, sign) {
+fn form_in(forms: &[Form], sign: &[u8]) -> Option<Form> {
+    for form in forms {
+        if is_one_of(form.0, sign) {
             return Some(*form);
         }
     }
@@ -61,92 +79,33 @@ pub(crate) fn form_before(sign: &[u8]) -> Option<Form> {
     form_in(&BEFORE, sign)
 }
 
+/// Whether an operator has one operand.
+pub(crate) fn is_before(form: Form) -> bool {
+    form.1 == NOT || form.1 == NEGATIVE
+}
+
 /// Whether a sign or a name is an operator of this language or another one.
 pub(crate) fn is_operator(sign: &[u8]) -> bool {
     form_between(sign).is_some() || form_before(sign).is_some()
 }
 
-impl Form {
-    /// How strongly it binds; 0 for an open bracket.
-    pub(crate) fn strength(self) -> u8 {
-        match self {
-            Form::Open => 0,
-            Form::Or => 1,
-            Form::And => 2,
-            Form::Not => 3,
-            Form::Equal | Form::Less | Form::Greater => 4,
-            Form::AtMost | Form::AtLeast | Form::Differs => 4,
-            Form::Plus | Form::Minus => 5,
-            Form::Times => 6,
-            Form::Negative => 7,
-            Form::Power => 8,
-        }
-    }
-
-    /// Whether it has one operand.
-    pub(crate) fn is_before(self) -> bool {
-        matches!(self, Form::Not | Form::Negative)
-    }
-
-    /// Whether it compares two numbers.
-    pub(crate) fn compares(self) -> bool {
-        self.strength() == 4
-    }
-
-    /// Whether its value is 0 or 1.
-    pub(crate) fn is_truth(self) -> bool {
-        matches!(self.strength(), 1..=4)
-    }
-}
-
-/// The translation of an operator: a text with its operands in the places of P and Q, its own
-/// level, and the levels that its operands must have. The levels are 0 for a comparison, 1 for a
-/// sum, 2 for a product, and 3 for a name, a number or brackets.
-pub(crate) type Pattern = (&'static [u8], u8, u8, u8);
-
-/// The translation of `and` between operands that are 0 or 1.
-pub(crate) const BOTH: Pattern = (b"P * Q", 2, 2, 3);
-
-/// The translation of an operator, if it has one. The flags say whether its operands are always 0
+/// The translation of an operator, if it has one. The flag says whether its operands are always 0
 /// or 1, and `exponent` is the last operand, if it is a number.
-pub(crate) fn pattern_of(
-    form: Form,
-    is_left_truth: bool,
-    is_right_truth: bool,
-    exponent: Option<u64>,
-) -> Option<Pattern> {
-    Some(match (form, is_left_truth, is_right_truth) {
-        (Form::Or, true, true) => (b"0 < P + Q", 0, 1, 2),
-        (Form::Or, _, _) => (b"1 - (P = 0) * (Q = 0)", 1, 1, 1),
-        (Form::And, true, true) => BOTH,
-        (Form::And, true, false) => (b"P * (1 - (Q = 0))", 2, 2, 1),
-        (Form::And, false, true) => (b"(1 - (P = 0)) * Q", 2, 1, 3),
-        (Form::And, false, false) => (b"(1 - (P = 0)) * (1 - (Q = 0))", 2, 1, 1),
-        (Form::Not, true, _) => (b"1 - P", 1, 2, 2),
-        (Form::Not, false, _) => (b"P = 0", 0, 1, 1),
-        (Form::Equal, _, _) => (b"P = Q", 0, 1, 1),
-        (Form::Less, _, _) => (b"P < Q", 0, 1, 1),
-        (Form::Greater, _, _) => (b"Q < P", 0, 1, 1),
-        (Form::AtMost, _, _) => (b"1 - (Q < P)", 1, 1, 1),
-        (Form::AtLeast, _, _) => (b"1 - (P < Q)", 1, 1, 1),
-        (Form::Differs, _, _) => (b"1 - (P = Q)", 1, 1, 1),
-        (Form::Plus, _, _) => (b"P + Q", 1, 1, 2),
-        (Form::Minus, _, _) => (b"P - Q", 1, 1, 2),
-        (Form::Times, _, _) => (b"P * Q", 2, 2, 3),
-        (Form::Negative, _, _) => (b"0 - P", 1, 2, 2),
-        (Form::Power, _, _) => match exponent {
-            Some(2) => (b"P * P", 2, 3, 3),
-            Some(3) => (b"P * P * P", 2, 3, 3),
-            Some(4) => (b"P * P * P * P", 2, 3, 3),
-            _ => return None,
-        },
-        (Form::Open, _, _) => return None,
-    })
+pub(crate) fn pattern_of(form: Form, are_truths: bool, exponent: Option<u64>) -> Option<Pattern> {
+    let (_, strength, pattern) = form;
+    match (strength, are_truths, exponent) {
+        (OR, true, _) => Some((b"0 < P + Q", 0, 1, 2)),
+        (NOT, true, _) => Some((b"1 - P", 1, 2, 2)),
+        (POWER, _, Some(3)) => Some((b"P * P * P", 2, 3, 3)),
+        (POWER, _, Some(4)) => Some((b"P * P * P * P", 2, 3, 3)),
+        (POWER, _, exponent) if exponent != Some(2) => None,
+        _ => Some(pattern),
+    }
 }
 
 /// The translation of the operator between two operands with this sign, where P and Q are its
 /// operands and each is 0 or 1.
 pub(crate) fn operator_text(sign: &[u8]) -> Option<&'static [u8]> {
-    let (text, _, _, _) = pattern_of(form_between(sign)?, true, true, Some(2))?;
+    let (text, ..) = pattern_of(form_between(sign)?, true, Some(2))?;
     Some(text)
 }

@@ -96,7 +96,7 @@ impl Found {
 
     /// The part of the advice that constructs with the same advice share. Texts of the same length in
     /// place of a piece count as the same, as for `true` and `false`.
-    pub(crate) fn key<'s>(&self, scan: &Scan<'s, '_>) -> (&'s [u8], usize) {
+    pub(crate) fn key<'s>(&self, scan: &Scan<'s>) -> (&'s [u8], usize) {
         match self.shape {
             Shape::Say(before, after) => (after.as_bytes(), before.len()),
             Shape::Tell(sentence) => (sentence.as_bytes(), 0),

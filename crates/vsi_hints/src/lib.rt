@@ -4,7 +4,7 @@
 //! text. A text that a hint offers has been read by the reader of the language (`OffersRead`), and
 //! `put_hint` writes exactly the line of a hint (`hint_line`). Which hint is chosen is only tested.
 //!
-//! `pieces` cuts a text, `names`, `signs`, `loops` and `structure` find the constructs, `drafts` and
+//! `pieces` cuts a text, `names`, `signs` and `structure` find the constructs, `drafts` and
 //! `expression` write them in this language, and `offered` lets through only texts that the reader
 //! of the language has read.
 //!
@@ -12,14 +12,11 @@
 #![tactic(auto)]
 
 mod advice;
-mod declaring;
 mod drafts;
 mod expression;
 mod forms;
 mod found;
-mod loops;
 mod names;
-mod numbers;
 mod offered;
 mod offers;
 mod pieces;
@@ -30,7 +27,4 @@ mod structure;
 mod wording;
 
 pub use advice::{hint_at, listed_places, put_further};
-pub use declaring::{is_idle, is_type};
-pub use expression::{is_false, is_true};
-pub use names::is_else_if;
 pub use wording::{Hint, Reason, put_hint};

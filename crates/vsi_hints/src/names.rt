@@ -1,13 +1,151 @@
-//! The constructs of other languages that begin with a name.
+//! The constructs of other languages that begin with a name, and declarations.
 
-use crate::declaring::{declaring_word, hyphen};
 use crate::expression::{FALSE, TRUE};
 use crate::forms::is_operator;
-use crate::found::{Found, Letters, Shape, commands, put, say, shaped};
-use crate::pieces::is_one_of;
+use crate::found::{Found, Letters, Sense, Shape, commands, offered, put, say, shaped};
+use crate::pieces::{Sort, is_one_of};
 use crate::sayings::{CALLS, COMMANDS, NONE, Saying, said, saying_in};
 use crate::scan::{Scan, after};
 use crate::signs::is_beyond;
+
+/// Names that declare a variable.
+const TYPES: &[u8] = b"let const local auto int long unsigned float double bool boolean char \
+    string val mut static global integer short dim";
+
+/// Names that do nothing.
+const IDLE: &[u8] = b"skip pass nop noop nothing SKIP";
+
+/// The end of a sentence on declarations.
+const ONE_EACH: &str = " declares one variable with its class, as in `var x : L; var y : L;`.";
+
+/// A declaration with a value.
+const INITIAL: Letters = (
+    b"var A : C",
+    ": a global gets its value from the store.",
+    "declare a global without a value.",
+);
+
+/// A declaration of several names by one word.
+const LISTED: Letters = (
+    b"L",
+    ": each `var` declares one variable.",
+    "declare each variable on its own.",
+);
+
+/// A name with a `-` in it.
+const HYPHEN: Letters = (b"N_P", ": a name has only letters, digits and `_`.", "");
+
+/// A keyword in the position of a declared name.
+const KEYWORD: Letters = (b"N_1", ": a keyword can't be a name.", "");
+
+/// A name that declares a variable, or does nothing.
+fn declaring_word(scan: &Scan, at: usize) -> Option<Found> {
+    if !scan.is_command_start(at) {
+        return None;
+    }
+    let word = scan.text(at);
+    let (next, colon, _, _, value) = after(at);
+    if is_one_of(IDLE, word) {
+        let rest = ": assign a variable to itself to do nothing, as in `x := x`.";
+        return say(at, next, NONE, rest);
+    }
+    if !is_one_of(TYPES, word) {
+        return None;
+    }
+    let (sign, stop) = local_value(scan, at);
+    if scan.is_any(sign, b":= =") && scan.is(stop, b"in") {
+        let shape = Shape::Put("letvar", ": it declares a variable for one command.");
+        return shaped(at, sign, shape);
+    }
+    if scan.is(colon, b":") {
+        return offered(at, scan.value_stop(value), Sense::Declarations, INITIAL);
+    }
+    if !scan.is_name(next) {
+        return None;
+    }
+    let rest = ": declare a global with `var x : L;` at the beginning, where L is a class of \
+        the lattice file, and set its value in the store, or begin the command that uses the \
+        variable with `letvar x := 1 in`.";
+    say(at, scan.command_stop(at), NONE, rest)
+}
+
+/// A name with a `-` in it, which begins with a piece.
+fn hyphen(scan: &Scan, at: usize) -> Option<Found> {
+    if !scan.is_hyphened(at) {
+        return None;
+    }
+    offered(at, at.saturating_add(3), Sense::Expression, HYPHEN)
+}
+
+/// A keyword in the position of a declared name.
+fn bad_name(scan: &Scan, at: usize) -> Option<Found> {
+    if !scan.is_keyword(at) {
+        return None;
+    }
+    offered(at, at.saturating_add(1), Sense::Expression, KEYWORD)
+}
+
+/// A declaration by `var` that isn't valid here.
+pub(crate) fn declaration(scan: &Scan, at: usize) -> Option<Found> {
+    let name = at.saturating_add(1);
+    bad_name(scan, name)
+        .or_else(|| hyphen(scan, name))
+        .or_else(|| declared(scan, at))
+}
+
+/// A declaration by `var` of a name that is valid, but not followed by a class and a `;`.
+fn declared(scan: &Scan, at: usize) -> Option<Found> {
+    let (_, sign, _, end, value) = after(at);
+    if scan.is(sign, b",") {
+        let stop = scan.command_stop(at);
+        if scan.is(stop, b":") {
+            return offered(at, stop.saturating_add(2), Sense::Declarations, LISTED);
+        }
+        return say(at, stop, "", ONE_EACH);
+    }
+    if scan.piece(sign).sort == Sort::Strange || scan.piece(end).sort == Sort::Strange {
+        return None;
+    }
+    if !scan.is(sign, b":") {
+        let rest = " declares a variable with a class and no value, as in `var x : L;`: set its \
+            value in the store.";
+        return say(at, scan.command_stop(sign), "", rest);
+    }
+    match scan.text(end) {
+        [b'='] | [b':', b'='] => offered(at, scan.value_stop(value), Sense::Declarations, INITIAL),
+        [b';'] => None,
+        [b','] => say(at, scan.command_stop(end), "", ONE_EACH),
+        _ => say(
+            at,
+            end,
+            "a declaration with ",
+            " needs a `;` after the class, as in `var x : L;`.",
+        ),
+    }
+}
+
+/// The sign that assigns in a declaration by `letvar`, which may have a class before it, and the
+/// piece after the value that it assigns.
+pub(crate) fn local_value(scan: &Scan, at: usize) -> (usize, usize) {
+    let mut sign = at.saturating_add(2);
+    if scan.is(sign, b":") {
+        sign = sign.saturating_add(2);
+    }
+    (sign, scan.value_stop(sign.saturating_add(1)))
+}
+
+/// A declaration by `letvar` that isn't valid here.
+pub(crate) fn local(scan: &Scan, at: usize) -> Option<Found> {
+    if let Some(found) = bad_name(scan, at.saturating_add(1)) {
+        return Some(found);
+    }
+    let (sign, _) = local_value(scan, at);
+    if !scan.is(sign, b"=") {
+        return None;
+    }
+    let rest = ": `=` compares, as in `letvar y := x + 1 in z := y`.";
+    put(sign, ":=", rest)
+}
 
 /// Names for an `if` in an `else`.
 const ELSE_IF: &[u8] = b"elif elsif elseif";
@@ -133,15 +271,18 @@ fn word(scan: &Scan, at: usize) -> Option<Found> {
             return put(at, *new, *rest);
         }
     }
-    if let Some(found) = declaring_word(scan, at) {
-        return Some(found);
+    declaring_word(scan, at)
+        .or_else(|| command_word(scan, at))
+        .or_else(|| call(scan, at))
+}
+
+/// A name that begins or ends a command.
+fn command_word(scan: &Scan, at: usize) -> Option<Found> {
+    if !scan.is_after_operand(at) && !scan.is_command_start(at) {
+        return None;
     }
-    if scan.is_after_operand(at) || scan.is_command_start(at) {
-        if let Some(saying) = saying_in(&COMMANDS, text) {
-            return said(at, command_next(scan, at, saying), saying);
-        }
-    }
-    call(scan, at)
+    let saying = saying_in(&COMMANDS, scan.text(at))?;
+    said(at, command_next(scan, at, saying), saying)
 }
 
 /// Commands in place of pieces with a value up to a piece; in place of those before the value, if it
@@ -151,11 +292,11 @@ fn rewriting(scan: &Scan, at: usize, value: usize, stop: usize, letters: Letters
     commands(at, value, if is_whole { stop } else { value }, letters)
 }
 
-/// An operand that is divided by another one, in a value that begins at a piece.
-fn division(scan: &Scan, at: usize, value: usize) -> Option<Found> {
-    let (sign, last, next, ..) = after(value);
+/// An operand that is divided by another one, in the value that a command assigns.
+fn division(scan: &Scan, at: usize) -> Option<Found> {
+    let (assign, value, sign, last, next) = after(at);
     let is_whole = scan.ends_operand(value) && scan.ends_operand(last);
-    if !is_whole || scan.value_stop(last) != next {
+    if !scan.is_any(assign, b":= =") || !is_whole || scan.value_stop(last) != next {
         return None;
     }
     let text = if scan.is_any(sign, b"% mod MOD") {
@@ -175,7 +316,8 @@ fn division(scan: &Scan, at: usize, value: usize) -> Option<Found> {
 /// A value that is assigned to two names by one command.
 fn twice(scan: &Scan, at: usize) -> Option<Found> {
     let (sign, second, other, value, end) = after(at);
-    if !scan.is(other, scan.text(sign)) || !scan.is_name(second) {
+    let is_chain = scan.is_any(sign, b":= =") && scan.is(other, scan.text(sign));
+    if !is_chain || !scan.is_name(second) {
         return None;
     }
     let plain = "assign to one variable at a time, as in `y := 1; x := y`.";
@@ -193,15 +335,17 @@ fn twice(scan: &Scan, at: usize) -> Option<Found> {
 
 /// A command that begins with a name and isn't valid here.
 fn assignment(scan: &Scan, at: usize) -> Option<Found> {
-    let (sign, value, second, last, _) = after(at);
-    if scan.is_any(sign, b":= =") {
-        if let Some(found) = twice(scan, at) {
-            return Some(found);
-        }
-        if let Some(found) = division(scan, at, value) {
-            return Some(found);
-        }
+    if !scan.is_command_start(at) {
+        return None;
     }
+    twice(scan, at)
+        .or_else(|| division(scan, at))
+        .or_else(|| assigned(scan, at))
+}
+
+/// A command that assigns by another sign, or to several names, or declares.
+fn assigned(scan: &Scan, at: usize) -> Option<Found> {
+    let (sign, value, second, last, _) = after(at);
     if scan.is(sign, b",") {
         if !scan.is_name(value) || !scan.is_any(second, b"= :=") {
             return None;
@@ -229,15 +373,7 @@ fn assignment(scan: &Scan, at: usize) -> Option<Found> {
 
 /// The construct that a name begins.
 pub(crate) fn named(scan: &Scan, at: usize) -> Option<Found> {
-    if let Some(found) = word(scan, at) {
-        return Some(found);
-    }
-    if let Some(found) = hyphen(scan, at) {
-        return Some(found);
-    }
-    if scan.is_command_start(at) {
-        assignment(scan, at)
-    } else {
-        None
-    }
+    word(scan, at)
+        .or_else(|| hyphen(scan, at))
+        .or_else(|| assignment(scan, at))
 }

@@ -17,7 +17,7 @@ use std::alloc::{AllocError, Global};
 /// The text of an offer for pieces, if it can be written.
 fn text_of(scan: &Scan, found: &Found, letters: &[u8]) -> Result<Option<Vec<u8>>, AllocError> {
     let mut draft = Draft {
-        scan: *scan,
+        scan,
         found: *found,
         words: Vec::new(scan.alloc),
     };
@@ -74,7 +74,7 @@ pub(crate) fn offer(scan: &Scan, found: &Found) -> Result<Option<Vec<u8>>, Alloc
 }
 
 /// The reason why a text is offered as a replacement for pieces.
-fn reason<'s>(scan: &Scan<'s, '_>, shape: Shape) -> Reason<'s> {
+fn reason<'s>(scan: &Scan<'s>, shape: Shape) -> Reason<'s> {
     match shape {
         Shape::Value(cause) => match scan.text(cause) {
             [b'-'] => Reason::Rule(": a number has no sign before it."),
@@ -113,7 +113,7 @@ fn operator_hint<'s>(sign: &'s [u8]) -> Option<Hint<'s>>
 }
 
 /// The hint for pieces for which no text is offered, if there is one.
-fn fixed_hint<'s>(scan: &Scan<'s, '_>, found: &Found, replaced: &'s [u8]) -> Option<Hint<'s>>
+fn fixed_hint<'s>(scan: &Scan<'s>, found: &Found, replaced: &'s [u8]) -> Option<Hint<'s>>
     ensures { IfSome result OffersRead }
 {
     let text = scan.text(found.first);
@@ -138,10 +138,7 @@ fn can_show(part: &[u8]) -> bool {
 }
 
 /// The hint for pieces, if there is one.
-pub(crate) fn hint_of<'s>(
-    scan: &Scan<'s, '_>,
-    found: &Found,
-) -> Result<Option<Hint<'s>>, AllocError>
+pub(crate) fn hint_of<'s>(scan: &Scan<'s>, found: &Found) -> Result<Option<Hint<'s>>, AllocError>
     ensures { IfOk result (λ hint. IfSome hint OffersRead) }
 {
     let replaced = scan.span(found.first, found.next);

@@ -1,17 +1,17 @@
 //! The pieces around a position in a text.
 
-use crate::expression::is_no_operand;
+use crate::expression::NO_OPERANDS;
 use crate::forms::is_operator;
-use crate::pieces::{Piece, Sort, is_one_of};
+use crate::pieces::{Piece, Sort, is_one_of, pieces_of};
 use crate::sayings::narrow;
-use std::alloc::Global;
+use std::alloc::{AllocError, Global};
 
 /// A text and its pieces.
-#[derive(Clone, Copy)]
-pub(crate) struct Scan<'s, 't> {
+#[derive(Drop)]
+pub(crate) struct Scan<'s> {
     pub(crate) alloc: Global,
     pub(crate) source: &'s [u8],
-    pub(crate) pieces: &'t [Piece<'s>],
+    pub(crate) pieces: Vec<Piece<'s>>,
 }
 
 /// The keywords and signs after which an expression begins.
@@ -41,7 +41,16 @@ pub(crate) fn after(at: usize) -> (usize, usize, usize, usize, usize) {
     )
 }
 
-impl<'s, 't> Scan<'s, 't> {
+impl<'s> Scan<'s> {
+    /// A text, cut into its pieces.
+    pub(crate) fn of(alloc: Global, source: &'s [u8]) -> Result<Scan<'s>, AllocError> {
+        Ok(Scan {
+            alloc,
+            source,
+            pieces: pieces_of(alloc, source)?,
+        })
+    }
+
     /// A piece, or an empty one if there is none.
     pub(crate) fn piece(&self, at: usize) -> Piece<'s> {
         match self.pieces.get(at) {
@@ -169,7 +178,7 @@ impl<'s, 't> Scan<'s, 't> {
         let text = self.text(at);
         (self.is_name(at) || self.piece(at).sort == Sort::Number)
             && !is_operator(text)
-            && !is_no_operand(text)
+            && !is_one_of(NO_OPERANDS, text)
     }
 
     /// Whether a piece is a name in the position of a class.

@@ -2,8 +2,7 @@
 
 use crate::forms::is_operator;
 use crate::found::{Found, Sense, Shape, offered, say, shaped};
-use crate::numbers::number_of;
-use crate::pieces::Sort;
+use crate::pieces::{Sort, number_of};
 use crate::sayings::{BITS, SIGNS, Saying, character_saying, narrow, said, saying_in};
 use crate::scan::Scan;
 

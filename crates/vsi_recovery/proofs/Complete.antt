@@ -7,8 +7,8 @@ use Rattle.vsi_syntax.specs.declared.operator.Op.TheVariants as o
 use Rattle.vsi_syntax.specs.Tree.{Named, Lexeme, Called, Sign, Tree, Number, Name, Bracket, Binary, Command, Assign, If, While, Letvar, Block, Body, Done, Then, Declared, Whole, sign, write, write_class, write_command, write_body, write_rest, write_globals, write_program, level, left_level, right_level, IsLevelled, IsCommandLevelled, IsBodyLevelled, IsRestLevelled}
 use Rattle.vsi_syntax.specs.Parsing.{◌>>=◌}
 use Rattle.vsi_recovery.specs.declared.sort.Sort.TheVariants as s
-use Rattle.vsi_recovery.specs.declared.wanted.Wanted.{Wanted}
-use Rattle.vsi_recovery.specs.declared.wanted.Wanted.TheVariants as w
+use Rattle.vsi_recovery.specs.declared.rules.Wanted.{Wanted}
+use Rattle.vsi_recovery.specs.declared.rules.Wanted.TheVariants as w
 use Rattle.vsi_recovery.specs.Sorts.{lexeme_sort}
 use Rattle.vsi_recovery.specs.Rules.{rules, parts_of, may_be_empty, step, can_end, run, start}
 use Rattle.vsi_recovery.proofs.Joining.{weaken, left_sum, right_sum}

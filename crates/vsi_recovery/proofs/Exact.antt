@@ -7,7 +7,7 @@ use Rattle.vsi_syntax.specs.Tree.{Lexeme}
 use Rattle.vsi_syntax.specs.View.{lexemes}
 use Rattle.vsi_syntax.proofs.Pairs.{some_is}
 use Rattle.vsi_recovery.specs.declared.sort.Sort.{Sort}
-use Rattle.vsi_recovery.specs.declared.wanted.Wanted.{Wanted}
+use Rattle.vsi_recovery.specs.declared.rules.Wanted.{Wanted}
 use Rattle.vsi_recovery.specs.Goes.{IsWritten, CanFollow}
 use Rattle.vsi_recovery.specs.Sorts.{lexeme_sort}
 use Rattle.vsi_recovery.specs.Rules.{step, can_end, run, start}

@@ -13,8 +13,8 @@ use Rattle.vsi_syntax.specs.Words.{keyword, is_name}
 use Rattle.vsi_syntax.specs.Spelling.{IsNamed}
 use Rattle.vsi_recovery.specs.declared.sort.Sort.{Sort}
 use Rattle.vsi_recovery.specs.declared.sort.Sort.TheVariants as s
-use Rattle.vsi_recovery.specs.declared.wanted.Wanted.{Wanted}
-use Rattle.vsi_recovery.specs.declared.wanted.Wanted.TheVariants as w
+use Rattle.vsi_recovery.specs.declared.rules.Wanted.{Wanted}
+use Rattle.vsi_recovery.specs.declared.rules.Wanted.TheVariants as w
 use Rattle.vsi_recovery.specs.Goes.{IsLexemeSpelled}
 use Rattle.vsi_recovery.specs.Sorts.{lexeme_sort}
 use Rattle.vsi_recovery.specs.Rules.{Rule, rules}

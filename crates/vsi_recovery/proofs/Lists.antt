@@ -6,8 +6,8 @@ use Rattle.vsi_recovery.specs.contracts.sort.Sort.{the_type}
 use Rattle.vsi_recovery.specs.declared.sort.Sort.{Sort}
 use Rattle.vsi_recovery.specs.declared.sort.Sort.TheVariants as s
 use Rattle.vsi_recovery.specs.declared.sort.TheConstants.{SORTS}
-use Rattle.vsi_recovery.specs.declared.wanted.Wanted.{Wanted}
-use Rattle.vsi_recovery.specs.declared.wanted.Wanted.TheVariants as w
+use Rattle.vsi_recovery.specs.declared.rules.Wanted.{Wanted}
+use Rattle.vsi_recovery.specs.declared.rules.Wanted.TheVariants as w
 use Rattle.vsi_recovery.specs.Sorts.{same}
 use Rattle.vsi_recovery.specs.Told.{told}
 

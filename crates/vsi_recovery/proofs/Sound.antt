@@ -4,8 +4,8 @@ use Rattle.std.proofs.lemmas.List.{append-nil}
 use Rattle.vsi_syntax.specs.Tree.{Lexeme, Name, Assign, Done, Then, write, write_command}
 use Rattle.vsi_syntax.proofs.Pairs.{some_is, bind_some}
 use Rattle.vsi_recovery.specs.declared.sort.Sort.{Sort}
-use Rattle.vsi_recovery.specs.declared.wanted.Wanted.{Wanted}
-use Rattle.vsi_recovery.specs.declared.wanted.Wanted.TheVariants as w
+use Rattle.vsi_recovery.specs.declared.rules.Wanted.{Wanted}
+use Rattle.vsi_recovery.specs.declared.rules.Wanted.TheVariants as w
 use Rattle.vsi_recovery.specs.Goes.{AreSpelled, IsWritten}
 use Rattle.vsi_recovery.specs.Sorts.{lexeme_sort}
 use Rattle.vsi_recovery.specs.Sorts.{same}

@@ -3,8 +3,8 @@ use Rattle.std.proofs.Common.{◌≡◌, ℕ, ◌+◌, ◌-◌, ◌<◌, Bool, t
 use Rattle.std.proofs.lemmas.List.{drop_more, get_or-reverse, length-reverse}
 use Rattle.std.specs.Prelude.{is_some}
 use Rattle.vsi_recovery.specs.declared.sort.Sort.{Sort}
-use Rattle.vsi_recovery.specs.declared.wanted.Wanted.{Wanted}
-use Rattle.vsi_recovery.specs.declared.wanted.Wanted.TheVariants as w
+use Rattle.vsi_recovery.specs.declared.rules.Wanted.{Wanted}
+use Rattle.vsi_recovery.specs.declared.rules.Wanted.TheVariants as w
 use Rattle.vsi_recovery.specs.Rules.{rules, parts_of, may_be_empty, step, Puts}
 
 -- The pending part at a position counted from the end.

@@ -5,8 +5,8 @@ use Rattle.vsi_syntax.specs.Parsing.{◌>>=◌}
 use Rattle.vsi_recovery.specs.declared.sort.Sort.{Sort}
 use Rattle.vsi_recovery.specs.declared.sort.Sort.TheVariants as s
 use Rattle.vsi_recovery.specs.Sorts.{same}
-use Rattle.vsi_recovery.specs.declared.wanted.Wanted.{Wanted}
-use Rattle.vsi_recovery.specs.declared.wanted.Wanted.TheVariants as w
+use Rattle.vsi_recovery.specs.declared.rules.Wanted.{Wanted}
+use Rattle.vsi_recovery.specs.declared.rules.Wanted.TheVariants as w
 
 -- A rule: after a token of this sort these parts are pending.
 pub record Rule : Type 0 where

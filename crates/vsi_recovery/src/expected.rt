@@ -1,15 +1,16 @@
-//! The sorts of tokens that may follow the beginning of a program.
+//! The sorts of tokens that may follow the beginning of a program: its tokens are read with a list of
+//! the parts that are pending after them.
 
-ghost use Rattle.std.specs.Prelude.{◌≡◌, ◌↔◌, IfOk, is_some, reverse, true};
+ghost use Rattle.std.specs.Prelude.{◌≡◌, ◌↔◌, ◌∷◌, [], IfOk, is_some, map, option_map, reverse, true};
 ghost use Rattle.vsi_syntax.specs.View.{lexemes};
 ghost use Rattle.vsi_recovery.specs.declared.sort.Sort.{Sort};
 ghost use Rattle.vsi_recovery.specs.Goes.{CanFollow, IsWritten};
-ghost use Rattle.vsi_recovery.specs.Rules.{step};
+ghost use Rattle.vsi_recovery.specs.Rules as spec;
+ghost use Rattle.vsi_recovery.specs.Sorts.{lexeme_sort};
 ghost use Rattle.vsi_recovery.specs.Told.{told};
 
-use crate::reading::{can_end, may_stand, read};
+use crate::rules::{Wanted, put_rule};
 use crate::sort::{SORTS, Sort};
-use crate::wanted::Wanted;
 use std::alloc::{AllocError, Global};
 use vsi_syntax::Token;
 
@@ -34,10 +35,73 @@ impl Expected {
     }
 }
 
+/// Reads a token of this sort, and returns whether one may come next.
+fn step(ahead: &mut Vec<Wanted>, sort: Sort) -> Result<bool, AllocError>
+    ensures { IfOk result (λ stands. spec.step (reverse ahead.old.items) sort
+        ≡ spec.reached stands (reverse ahead.new.items)) }
+{
+    while let Some(wanted) = ahead.pop() {
+        if put_rule(ahead, wanted, sort)? {
+            return Ok(true);
+        }
+        if !wanted.may_be_empty() {
+            return Ok(false);
+        }
+    }
+    Ok(false)
+}
+
+/// Whether a token of this sort may come next.
+fn may_stand(alloc: Global, ahead: &[Wanted], sort: Sort) -> Result<bool, AllocError>
+    ensures { IfOk result (λ stands. is_some (spec.step (reverse ahead.now) sort) ≡ stands) }
+{
+    let mut parts = Vec::new(alloc);
+    for i in 0..ahead.len() {
+        let wanted = ahead[ahead.len() - 1 - i];
+        if put_rule(&mut parts, wanted, sort)? {
+            return Ok(true);
+        }
+        if !wanted.may_be_empty() {
+            return Ok(false);
+        }
+    }
+    Ok(false)
+}
+
+/// Whether all pending parts may be omitted.
+fn can_end(ahead: Vec<Wanted>) -> bool
+    ensures { result ≡ spec.can_end (reverse ahead.items) }
+{
+    let mut ahead = ahead;
+    while let Some(wanted) = ahead.pop() {
+        if !wanted.may_be_empty() {
+            return false;
+        }
+    }
+    true
+}
+
+/// The parts that are pending after these tokens, or nothing if no program begins with them.
+fn read<'a>(alloc: Global, tokens: &[Token<'a>]) -> Result<Option<Vec<Wanted>>, AllocError>
+    ensures { IfOk result (λ found. option_map (λ ahead. reverse ahead.items) found
+        ≡ spec.run spec.start (map lexeme_sort (lexemes tokens.now))) }
+{
+    let mut ahead = Vec::new(alloc);
+    ahead.push(Wanted::Rest)?;
+    ahead.push(Wanted::Command)?;
+    ahead.push(Wanted::Globals)?;
+    for token in tokens {
+        if !step(&mut ahead, Sort::of(token.kind))? {
+            return Ok(None);
+        }
+    }
+    Ok(Some(ahead))
+}
+
 /// The sorts of tokens that may come next before these pending parts.
 fn sorts_of(alloc: Global, ahead: &[Wanted]) -> Result<Vec<Sort>, AllocError>
     ensures { IfOk result (λ sorts. (s : Sort) → told sorts.items s
-        ≡ is_some (step (reverse ahead.now) s)) }
+        ≡ is_some (spec.step (reverse ahead.now) s)) }
 {
     let mut sorts = Vec::new(alloc);
     for sort in SORTS {

@@ -21,18 +21,13 @@
 //! `specs/Completed`. `specs/Rules` is a stepping stone of proofs.
 #![tactic(auto)]
 
-mod adding;
 mod check;
 mod context;
 mod expected;
 mod fault;
-mod finding;
 mod holes;
-mod linking;
-mod listing;
 mod naming;
-mod placing;
-mod reading;
+mod orders;
 mod repairs;
 mod rows;
 mod rules;
@@ -41,13 +36,10 @@ mod skipping;
 mod sort;
 mod tokens;
 mod walk;
-mod wanted;
 mod words;
 
-pub use adding::{Addition, completion};
 pub use expected::{Expected, expected_after};
 pub use fault::{Cause, Fault};
-pub use finding::{MAX_FURTHER, further_faults};
-pub use linking::{links, nearest};
-pub use placing::{Placement, Rank, placements};
+pub use orders::{Addition, Placement, Rank, completion, links, nearest, placements};
 pub use sort::Sort;
+pub use walk::further_faults;

@@ -1,11 +1,10 @@
 //! The names of a program that can't be resolved.
 
 use crate::fault::{Cause, Fault};
-use crate::finding::MAX_FAULTS;
 use crate::repairs::NAME;
 use crate::skipping::DECLARATION;
 use crate::tokens::{number_of, put_at, put_numbered, put_text, span, tokens_of};
-use crate::walk::Walk;
+use crate::walk::{MAX_FAULTS, Walk};
 use indexmap::IndexSet;
 use std::alloc::{AllocError, Global};
 use vsi_lattice::{Class, Classes};

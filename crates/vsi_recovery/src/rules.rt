@@ -4,12 +4,45 @@
 //! its parts are appended; the answer says whether there is one.
 
 ghost use Rattle.std.specs.Prelude.{◌≡◌, ◌++◌, ◌∷◌, [], IfOk, OnOk, IsTrue, reverse};
-ghost use Rattle.vsi_recovery.specs.Rules.{Puts, arithmetic, operand, parts_of, rules};
-ghost use Rattle.vsi_recovery.specs.declared.wanted.Wanted.TheVariants as w;
+ghost use Rattle.vsi_recovery.specs.Rules.{Puts, arithmetic, may_be_empty, operand, parts_of, rules};
+ghost use Rattle.vsi_recovery.specs.declared.rules.Wanted.TheVariants as w;
 
+use self::Wanted::*;
 use crate::sort::Sort;
-use crate::wanted::Wanted;
+use crate::sort::Sort::*;
 use std::alloc::AllocError;
+
+/// A pending part of a program.
+#[derive(Clone, Copy, Debug)]
+pub(crate) enum Wanted {
+    /// Globals, any number of them.
+    Globals,
+    /// A command.
+    Command,
+    /// The commands after a command, each after its semicolon.
+    Rest,
+    /// The class of a local variable, which may be omitted.
+    Class,
+    /// An expression.
+    Expression,
+    /// An expression that is not a comparison.
+    Sum,
+    /// The continuation of an expression after an operand.
+    Operators,
+    /// The continuation of an expression after an operand if a comparison was read.
+    SumOperators,
+    /// A token of this sort.
+    Token(Sort),
+}
+
+impl Wanted {
+    /// Whether the part may be omitted.
+    pub(crate) fn may_be_empty(self) -> bool
+        ensures { result ≡ may_be_empty self }
+    {
+        matches!(self, Globals | Rest | Class | Operators | SumOperators)
+    }
+}
 
 /// Makes these parts the first pending ones, in this order.
 fn put(ahead: &mut Vec<Wanted>, parts: &[Wanted]) -> Result<bool, AllocError>
@@ -28,40 +61,24 @@ fn put_command(ahead: &mut Vec<Wanted>, sort: Sort) -> Result<bool, AllocError>
         (reverse ahead.old.items) (reverse ahead.new.items)) }
 {
     match sort {
-        Sort::Name => put(ahead, &[Wanted::Token(Sort::Assign), Wanted::Expression]),
-        Sort::If => put(
+        Name => put(ahead, &[Token(Assign), Expression]),
+        If => put(
+            ahead,
+            &[Expression, Token(Then), Command, Token(Else), Command],
+        ),
+        While => put(ahead, &[Expression, Token(Do), Command]),
+        Letvar => put(
             ahead,
             &[
-                Wanted::Expression,
-                Wanted::Token(Sort::Then),
-                Wanted::Command,
-                Wanted::Token(Sort::Else),
-                Wanted::Command,
+                Token(Name),
+                Class,
+                Token(Assign),
+                Expression,
+                Token(In),
+                Command,
             ],
         ),
-        Sort::While => put(
-            ahead,
-            &[Wanted::Expression, Wanted::Token(Sort::Do), Wanted::Command],
-        ),
-        Sort::Letvar => put(
-            ahead,
-            &[
-                Wanted::Token(Sort::Name),
-                Wanted::Class,
-                Wanted::Token(Sort::Assign),
-                Wanted::Expression,
-                Wanted::Token(Sort::In),
-                Wanted::Command,
-            ],
-        ),
-        Sort::OpenBrace => put(
-            ahead,
-            &[
-                Wanted::Command,
-                Wanted::Rest,
-                Wanted::Token(Sort::CloseBrace),
-            ],
-        ),
+        OpenBrace => put(ahead, &[Command, Rest, Token(CloseBrace)]),
         _ => Ok(false),
     }
 }
@@ -72,12 +89,8 @@ fn put_operand(ahead: &mut Vec<Wanted>, sort: Sort, behind: Wanted) -> Result<bo
         (reverse ahead.old.items) (reverse ahead.new.items)) }
 {
     match sort {
-        Sort::Name => put(ahead, &[behind]),
-        Sort::Number => put(ahead, &[behind]),
-        Sort::Open => put(
-            ahead,
-            &[Wanted::Expression, Wanted::Token(Sort::Close), behind],
-        ),
+        Name | Number => put(ahead, &[behind]),
+        Open => put(ahead, &[Expression, Token(Close), behind]),
         _ => Ok(false),
     }
 }
@@ -88,24 +101,8 @@ fn put_operators(ahead: &mut Vec<Wanted>, sort: Sort) -> Result<bool, AllocError
         (reverse ahead.old.items) (reverse ahead.new.items)) }
 {
     match sort {
-        Sort::Plus => put(ahead, &[Wanted::Expression]),
-        Sort::Minus => put(ahead, &[Wanted::Expression]),
-        Sort::Star => put(ahead, &[Wanted::Expression]),
-        Sort::Equal => put(ahead, &[Wanted::Sum]),
-        Sort::Less => put(ahead, &[Wanted::Sum]),
-        _ => Ok(false),
-    }
-}
-
-/// The parts of the continuation after an operand if a comparison was read.
-fn put_sum_operators(ahead: &mut Vec<Wanted>, sort: Sort) -> Result<bool, AllocError>
-    ensures { IfOk result (λ put. Puts (parts_of sort (rules w.SumOperators)) put
-        (reverse ahead.old.items) (reverse ahead.new.items)) }
-{
-    match sort {
-        Sort::Plus => put(ahead, &[Wanted::Sum]),
-        Sort::Minus => put(ahead, &[Wanted::Sum]),
-        Sort::Star => put(ahead, &[Wanted::Sum]),
+        Plus | Minus | Star => put(ahead, &[Expression]),
+        Equal | Less => put(ahead, &[Sum]),
         _ => Ok(false),
     }
 }
@@ -120,32 +117,35 @@ pub(crate) fn put_rule(
         (reverse ahead.old.items) (reverse ahead.new.items)) }
 {
     match wanted {
-        Wanted::Globals => match sort {
-            Sort::Var => put(
+        Globals => match sort {
+            Var => put(
                 ahead,
                 &[
-                    Wanted::Token(Sort::Name),
-                    Wanted::Token(Sort::Colon),
-                    Wanted::Token(Sort::Name),
-                    Wanted::Token(Sort::Semicolon),
-                    Wanted::Globals,
+                    Token(Name),
+                    Token(Colon),
+                    Token(Name),
+                    Token(Semicolon),
+                    Globals,
                 ],
             ),
             _ => Ok(false),
         },
-        Wanted::Command => put_command(ahead, sort),
-        Wanted::Rest => match sort {
-            Sort::Semicolon => put(ahead, &[Wanted::Command, Wanted::Rest]),
+        Command => put_command(ahead, sort),
+        Rest => match sort {
+            Semicolon => put(ahead, &[Command, Rest]),
             _ => Ok(false),
         },
-        Wanted::Class => match sort {
-            Sort::Colon => put(ahead, &[Wanted::Token(Sort::Name)]),
+        Class => match sort {
+            Colon => put(ahead, &[Token(Name)]),
             _ => Ok(false),
         },
-        Wanted::Expression => put_operand(ahead, sort, Wanted::Operators),
-        Wanted::Sum => put_operand(ahead, sort, Wanted::SumOperators),
-        Wanted::Operators => put_operators(ahead, sort),
-        Wanted::SumOperators => put_sum_operators(ahead, sort),
-        Wanted::Token(this) => Ok(this == sort),
+        Expression => put_operand(ahead, sort, Operators),
+        Sum => put_operand(ahead, sort, SumOperators),
+        Operators => put_operators(ahead, sort),
+        SumOperators => match sort {
+            Plus | Minus | Star => put(ahead, &[Sum]),
+            _ => Ok(false),
+        },
+        Token(this) => Ok(this == sort),
     }
 }

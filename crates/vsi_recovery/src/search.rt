@@ -2,7 +2,7 @@
 
 use crate::context::{Open, Start};
 use crate::repairs::{COMMAND, ENDINGS, FILLINGS, SMALL};
-use crate::skipping::{DECLARATION, OUTSIDE, lone_close, lone_else, misplaced};
+use crate::skipping::{DECLARATION, OUTSIDE, UNBRACKETED, lone_end, misplaced};
 use crate::tokens::{Reading, landmark_from, put_numbered, read, tokens_of};
 use std::alloc::{AllocError, Global};
 use vsi_syntax::{Kind, Token};
@@ -134,19 +134,13 @@ impl Search<'_, '_> {
         self.attempt(choice)
     }
 
-    /// Tries a repair of one token. A token that begins a construct is left out only if reading goes
+    /// Tries repairs of one token. A token that begins a construct is left out only if reading goes
     /// on over two landmarks.
-    fn try_one(&mut self, here: Start, out: usize, put: &'static [u8]) -> Result<(), AllocError> {
-        if self.landmarks < 2 && has_opening(self.rest.get(..out).unwrap_or(&[])) {
-            return Ok(());
-        }
-        self.attempt(replacing(here, out, put))
-    }
-
-    /// Tries repairs of one token.
     fn try_small(&mut self, here: Start) -> Result<(), AllocError> {
         for (out, put) in SMALL.as_slice() {
-            self.try_one(here, *out, *put)?;
+            if 1 < self.landmarks || !has_opening(self.rest.get(..*out).unwrap_or(&[])) {
+                self.attempt(replacing(here, *out, *put))?;
+            }
         }
         Ok(())
     }
@@ -155,7 +149,7 @@ impl Search<'_, '_> {
     /// before, and with the beginning of a construct.
     fn try_sure(&mut self, here: Start) -> Result<(), AllocError> {
         self.landmarks = 2;
-        if let Some(number) = lone_close(self.rest) {
+        if let Some(number) = lone_end(self.rest, Kind::Open, Kind::Close, &UNBRACKETED) {
             self.attempt(replacing(here, number, b""))?;
             self.attempt(replacing(here, number, b"0"))?;
         }
@@ -244,7 +238,7 @@ impl Search<'_, '_> {
         if token.kind == Kind::Colon && is_named {
             self.attempt_before(item, b"var")?;
         }
-        if let Some(number) = lone_else(self.rest) {
+        if let Some(number) = lone_end(self.rest, Kind::If, Kind::Else, &[]) {
             self.attempt(replacing(here, number, b""))?;
         }
         self.try_sure(here)?;
@@ -254,26 +248,25 @@ impl Search<'_, '_> {
 }
 
 /// The repair of the fault at the first of these tokens, if one is found. `open` has what was read
-/// before them, `place` counts the tokens before them, and at most `left` tokens are read, from
-/// which those that were read are taken away.
+/// before them, `place` counts the tokens before them, and at most `left` tokens are read; those
+/// that are left then are the second part of the answer.
 pub(crate) fn repair_of<'a>(
     alloc: Global,
     open: &Open<'a>,
     place: usize,
     rest: &[Token<'a>],
-    left: &mut usize,
-) -> Result<Option<Choice>, AllocError> {
+    left: usize,
+) -> Result<(Option<Choice>, usize), AllocError> {
     let mut search = Search {
         alloc,
         rest,
         open,
-        left: *left,
+        left,
         best: None,
         is_found: false,
         landmarks: 1,
     };
     let kept = open.kept.len();
     search.run(Start { place, kept })?;
-    *left = search.left;
-    Ok(search.best)
+    Ok((search.best, search.left))
 }

@@ -1,112 +1,99 @@
 //! The tokens at which reading can go on after a part that is skipped.
 
+use vsi_syntax::Kind::*;
 use vsi_syntax::{Kind, Token};
 
 /// The number of tokens of a declaration of a global.
 pub(crate) const DECLARATION: usize = 5;
 
 /// The tokens of a declaration of a global.
-const DECLARED: [Kind; DECLARATION] = [
-    Kind::Var,
-    Kind::Name,
-    Kind::Colon,
-    Kind::Name,
-    Kind::Semicolon,
-];
+const DECLARED: [Kind; DECLARATION] = [Var, Name, Colon, Name, Semicolon];
 
 /// The most tokens that are passed over in search of one.
 const MAX_PASSED: usize = 10_000;
 
-/// The constructs that begin in a skipped part and haven't ended.
+/// The kinds that begin a construct, and those that end it or its first part.
+const ENDS: [(Kind, Kind); 5] = [
+    (OpenBrace, CloseBrace),
+    (Open, Close),
+    (If, Else),
+    (While, Do),
+    (Letvar, In),
+];
+
+/// The constructs that begin in a skipped part and haven't ended: how many there are for each row
+/// of `ENDS`. Within braces only braces count.
 #[derive(Clone, Copy)]
 pub(crate) struct Nest {
-    braces: usize,
-    rounds: usize,
-    ifs: usize,
-    whiles: usize,
-    letvars: usize,
+    open: [usize; 5],
 }
 
 /// No construct.
-pub(crate) const OUTSIDE: Nest = Nest {
-    braces: 0,
-    rounds: 0,
-    ifs: 0,
-    whiles: 0,
-    letvars: 0,
-};
+pub(crate) const OUTSIDE: Nest = Nest { open: [0; 5] };
 
 impl Nest {
     /// Whether reading can go on at a token of this kind: it doesn't belong to a construct of the
     /// skipped part.
     pub(crate) fn serves(&self, kind: Kind) -> bool {
-        if self.braces != 0 {
-            return false;
-        }
-        match kind {
-            Kind::Semicolon | Kind::Var => self.rounds == 0,
-            Kind::CloseBrace => true,
-            Kind::Else => self.ifs == 0,
-            Kind::Do => self.whiles == 0,
-            Kind::In => self.letvars == 0,
+        let [braces, rounds, ifs, whiles, letvars] = self.open;
+        let is_outside = match kind {
+            Semicolon | Var => rounds == 0,
+            CloseBrace => true,
+            Else => ifs == 0,
+            Do => whiles == 0,
+            In => letvars == 0,
             _ => false,
-        }
+        };
+        braces == 0 && is_outside
     }
 
     /// The constructs after one more token.
     pub(crate) fn noted(&self, kind: Kind) -> Nest {
-        let mut nest = *self;
-        if kind == Kind::OpenBrace || kind == Kind::CloseBrace {
-            nest.rounds = 0;
+        let mut open = self.open;
+        if kind == OpenBrace || kind == CloseBrace {
+            open[1] = 0;
         }
-        match kind {
-            Kind::OpenBrace => nest.braces = self.braces.saturating_add(1),
-            Kind::CloseBrace => nest.braces = self.braces.saturating_sub(1),
-            _ if self.braces != 0 => {}
-            Kind::Semicolon if self.rounds == 0 => nest = OUTSIDE,
-            Kind::Open => nest.rounds = self.rounds.saturating_add(1),
-            Kind::Close => nest.rounds = self.rounds.saturating_sub(1),
-            Kind::If => nest.ifs = self.ifs.saturating_add(1),
-            Kind::Else => nest.ifs = self.ifs.saturating_sub(1),
-            Kind::While => nest.whiles = self.whiles.saturating_add(1),
-            Kind::Do => nest.whiles = self.whiles.saturating_sub(1),
-            Kind::Letvar => nest.letvars = self.letvars.saturating_add(1),
-            Kind::In => nest.letvars = self.letvars.saturating_sub(1),
-            _ => {}
+        if kind == Semicolon && open[0] == 0 && open[1] == 0 {
+            return OUTSIDE;
         }
-        nest
+        for number in 0..5 {
+            if 0 < number && self.open[0] != 0 {
+                break;
+            }
+            let (begin, end) = ENDS[number];
+            if kind == begin {
+                open[number] = open[number].saturating_add(1);
+            } else if kind == end {
+                open[number] = open[number].saturating_sub(1);
+            }
+        }
+        Nest { open }
     }
 }
 
-/// The number of the first `else` that belongs to an `if` before these tokens, if it is near.
-pub(crate) fn lone_else(list: &[Token<'_>]) -> Option<usize> {
+/// The kinds of tokens that are in no brackets.
+pub(crate) const UNBRACKETED: [Kind; 7] = [OpenBrace, CloseBrace, Then, Do, Else, In, Var];
+
+/// The number of the first token outside braces that ends what began before these tokens, if it is
+/// near and no token of the kinds in `stops` comes before it.
+pub(crate) fn lone_end(
+    list: &[Token<'_>],
+    begin: Kind,
+    end: Kind,
+    stops: &[Kind],
+) -> Option<usize> {
     let mut braces = 0usize;
-    let mut ifs = 0usize;
+    let mut open = 0usize;
     for (number, token) in list.iter().enumerate().take(MAX_PASSED) {
         match token.kind {
-            Kind::OpenBrace => braces = braces.saturating_add(1),
-            Kind::CloseBrace if braces == 0 => return None,
-            Kind::CloseBrace => braces = braces.saturating_sub(1),
-            Kind::If if braces == 0 => ifs = ifs.saturating_add(1),
-            Kind::Else if braces == 0 && ifs == 0 => return Some(number),
-            Kind::Else if braces == 0 => ifs = ifs.saturating_sub(1),
-            _ => {}
-        }
-    }
-    None
-}
-
-/// The number of the first `)` that belongs to a bracket before these tokens, if it is near: there
-/// is none after a keyword or a brace.
-pub(crate) fn lone_close(list: &[Token<'_>]) -> Option<usize> {
-    let mut rounds = 0usize;
-    for (number, token) in list.iter().enumerate().take(MAX_PASSED) {
-        match token.kind {
-            Kind::Open => rounds = rounds.saturating_add(1),
-            Kind::Close if rounds == 0 => return Some(number),
-            Kind::Close => rounds = rounds.saturating_sub(1),
-            Kind::OpenBrace | Kind::CloseBrace => return None,
-            Kind::Then | Kind::Do | Kind::Else | Kind::In | Kind::Var => return None,
+            kind if stops.contains(&kind) => return None,
+            OpenBrace => braces = braces.saturating_add(1),
+            CloseBrace if braces == 0 => return None,
+            CloseBrace => braces = braces.saturating_sub(1),
+            _ if braces != 0 => {}
+            kind if kind == begin => open = open.saturating_add(1),
+            kind if kind == end && open == 0 => return Some(number),
+            kind if kind == end => open = open.saturating_sub(1),
             _ => {}
         }
     }
@@ -124,8 +111,5 @@ pub(crate) fn misplaced(list: &[Token<'_>]) -> Option<bool> {
     let Some(next) = list.get(DECLARATION) else {
         return Some(false);
     };
-    Some(matches!(
-        next.kind,
-        Kind::Name | Kind::If | Kind::While | Kind::Letvar | Kind::OpenBrace | Kind::Var
-    ))
+    Some(matches!(next.kind, Name | If | While | Letvar | OpenBrace | Var))
 }

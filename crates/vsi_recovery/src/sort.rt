@@ -3,6 +3,7 @@
 ghost use Rattle.std.specs.Prelude.{◌≡◌};
 ghost use Rattle.vsi_recovery.specs.Sorts.{sort_of};
 
+use self::Sort::*;
 use vsi_syntax::Kind;
 
 /// A sort of tokens: a keyword, a symbol, any name or any number.
@@ -56,28 +57,8 @@ pub enum Sort {
 
 /// All sorts of tokens.
 pub(crate) static SORTS: [Sort; 22] = [
-    Sort::Var,
-    Sort::Letvar,
-    Sort::In,
-    Sort::If,
-    Sort::Then,
-    Sort::Else,
-    Sort::While,
-    Sort::Do,
-    Sort::Assign,
-    Sort::Colon,
-    Sort::Semicolon,
-    Sort::Plus,
-    Sort::Minus,
-    Sort::Star,
-    Sort::Equal,
-    Sort::Less,
-    Sort::Open,
-    Sort::Close,
-    Sort::OpenBrace,
-    Sort::CloseBrace,
-    Sort::Name,
-    Sort::Number,
+    Var, Letvar, In, If, Then, Else, While, Do, Assign, Colon, Semicolon, Plus, Minus, Star, Equal,
+    Less, Open, Close, OpenBrace, CloseBrace, Name, Number,
 ];
 
 impl Sort {

@@ -5,31 +5,19 @@ ghost use Rattle.vsi_recovery.specs.Words as spec;
 
 use crate::expected::Expected;
 use crate::sort::Sort;
+use crate::sort::Sort::*;
 use std::alloc::{AllocError, Global};
 
 /// The sorts of operands, in the order of a sentence.
-static VALUES: [Sort; 2] = [Sort::Name, Sort::Number];
+static VALUES: [Sort; 2] = [Name, Number];
 
 /// The operators, in the order of a sentence.
-static OPERATORS: [Sort; 5] = [Sort::Plus, Sort::Minus, Sort::Star, Sort::Equal, Sort::Less];
+static OPERATORS: [Sort; 5] = [Plus, Minus, Star, Equal, Less];
 
 /// All other sorts, in the order of a sentence.
 static SIGNS: [Sort; 15] = [
-    Sort::Open,
-    Sort::Var,
-    Sort::If,
-    Sort::While,
-    Sort::Letvar,
-    Sort::OpenBrace,
-    Sort::Assign,
-    Sort::Colon,
-    Sort::Semicolon,
-    Sort::Then,
-    Sort::Else,
-    Sort::Do,
-    Sort::In,
-    Sort::Close,
-    Sort::CloseBrace,
+    Open, Var, If, While, Letvar, OpenBrace, Assign, Colon, Semicolon, Then, Else, Do, In, Close,
+    CloseBrace,
 ];
 
 /// A sort in a sentence: a token as it is written, in back quotes, or a description.

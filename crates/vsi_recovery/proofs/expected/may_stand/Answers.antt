@@ -1,6 +1,6 @@
 use Rattle.std.proofs.Common.{sym, ◌∙◌, arith}
 use Rattle.vsi_recovery.proofs.Standing.{begun_stands, stopped_stands, left_stands}
-use Rattle.vsi_recovery.proofs.reading.may_stand.Goals as goal
+use Rattle.vsi_recovery.proofs.expected.may_stand.Goals as goal
 
 pub returns-then-branch : goal.returns-then-branch
 returns-then-branch c =

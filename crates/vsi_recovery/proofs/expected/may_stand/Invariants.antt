@@ -1,7 +1,7 @@
 use Rattle.std.proofs.Common.{◌≡◌, drop, reverse}
 use Rattle.std.specs.Prelude.{is_some}
 use Rattle.vsi_recovery.specs.Rules.{step}
-use Rattle.vsi_recovery.proofs.reading.may_stand.Given as goal
+use Rattle.vsi_recovery.proofs.expected.may_stand.Given as goal
 
 abbrev pub invariant-loop-i : goal.invariant-loop-i
 invariant-loop-i l =

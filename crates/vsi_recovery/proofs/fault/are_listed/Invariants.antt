@@ -1,6 +1,6 @@
 use Rattle.std.proofs.Common.{length}
 use Rattle.vsi_recovery.specs.Listed.{AreListed}
-use Rattle.vsi_recovery.proofs.listing.are_listed.Given as goal
+use Rattle.vsi_recovery.proofs.fault.are_listed.Given as goal
 
 -- If what is left is listed after the byte, the whole list is.
 abbrev pub invariant-loop-rest : goal.invariant-loop-rest

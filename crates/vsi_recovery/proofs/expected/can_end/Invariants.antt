@@ -1,9 +1,9 @@
 use Rattle.std.proofs.Common.{◌≡◌, length, reverse}
-use Rattle.vsi_recovery.specs.Rules.{step}
-use Rattle.vsi_recovery.proofs.reading.step.Given as goal
+use Rattle.vsi_recovery.specs.Rules.{can_end}
+use Rattle.vsi_recovery.proofs.expected.can_end.Given as goal
 
 abbrev pub invariant-loop-wanted : goal.invariant-loop-wanted
-invariant-loop-wanted l = step (reverse l.ahead.items) l.sort ≡ step (reverse l.initial.ahead.items) l.sort
+invariant-loop-wanted l = can_end (reverse l.ahead.items) ≡ can_end (reverse l.initial.ahead.items)
 
 abbrev pub decreases-loop-wanted : goal.decreases-loop-wanted
 decreases-loop-wanted l = length l.ahead.items

@@ -2,8 +2,8 @@ use Rattle.std.proofs.Common.{sym, subst}
 use Rattle.std.proofs.lemmas.List.Elements.{All-push}
 use Rattle.std.specs.Prelude.{All}
 use Rattle.vsi_recovery.specs.Completed.{IsLatticeWith}
-use Rattle.vsi_recovery.specs.declared.placing.Placement.{Placement}
-use Rattle.vsi_recovery.proofs.placing.put_placement.Goals as goal
+use Rattle.vsi_recovery.specs.declared.orders.Placement.{Placement}
+use Rattle.vsi_recovery.proofs.orders.put_placement.Goals as goal
 
 pub returns-in_ok-push : goal.returns-in_ok-push
 returns-in_ok-push c =

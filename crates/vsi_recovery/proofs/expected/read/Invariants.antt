@@ -2,7 +2,7 @@ use Rattle.std.proofs.Common.{◌≡◌, map, drop, reverse}
 use Rattle.vsi_syntax.specs.View.{lexemes}
 use Rattle.vsi_recovery.specs.Sorts.{lexeme_sort}
 use Rattle.vsi_recovery.specs.Rules.{run, start}
-use Rattle.vsi_recovery.proofs.reading.read.Given as goal
+use Rattle.vsi_recovery.proofs.expected.read.Given as goal
 
 abbrev pub invariant-loop-token : goal.invariant-loop-token
 invariant-loop-token l =

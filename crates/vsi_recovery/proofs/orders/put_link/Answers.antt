@@ -2,7 +2,7 @@ use Rattle.std.proofs.Common.{ℕ, ◌∷◌, [], sym, subst}
 use Rattle.std.proofs.lemmas.List.Elements.{All-push}
 use Rattle.std.specs.Prelude.{All}
 use Rattle.vsi_recovery.specs.Completed.{IsLatticeWith}
-use Rattle.vsi_recovery.proofs.linking.put_link.Goals as goal
+use Rattle.vsi_recovery.proofs.orders.put_link.Goals as goal
 
 pub returns-in_ok-push : goal.returns-in_ok-push
 returns-in_ok-push c =
