@@ -87,13 +87,13 @@ fn judged_errors(
     };
     let (from, to) = (first.source, last.target);
     let mut errors = Vec::new(document.alloc);
-    errors.push(text.flow(first.read, from, to, &walk.steps)?)?;
     for flow in &further_flows(document.alloc, document.profile, source, from, to)? {
         if let Some(last) = flow.steps.last() {
             let (from, to) = (flow.pair.source, flow.pair.target);
             errors.push(text.flow(last.written, from, to, &flow.steps)?)?;
         }
     }
+    errors.insert(0, text.flow(first.read, from, to, &walk.steps)?)?;
     Ok(errors)
 }
 
