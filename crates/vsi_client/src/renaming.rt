@@ -14,6 +14,7 @@ use crate::places::{Encoding, Range};
 use std::alloc::{AllocError, Global};
 use vsi_code::generate;
 use vsi_compiler::{CompileError, Source, read_source};
+use vsi_image::Instr;
 use vsi_scope::{Entry, Global as Declared, Resolved};
 use vsi_syntax::{Span, is_name};
 
@@ -91,13 +92,32 @@ fn keep_variables(variable: usize, name: &[u8], old: &Resolved<'_>, new: &Resolv
         && keep_letvars(place, name, old.letvars(), new.letvars())
 }
 
+/// Whether two codes are the same.
+fn is_same_code(old: &[Instr], new: &[Instr]) -> bool
+    ensures { result ≡ true → new.now ≡ old.now }
+{
+    let mut olds = old;
+    let mut news = new;
+    while let [instruction, more @ ..] = olds {
+        let [other, others @ ..] = news else {
+            return false;
+        };
+        if *other != *instruction {
+            return false;
+        }
+        olds = more;
+        news = others;
+    }
+    news.is_empty()
+}
+
 /// Whether the code of two programs is the same.
 fn code_alike(alloc: Global, old: &Source<'_>, new: &Source<'_>) -> Result<bool, AllocError>
     ensures { IfOk result (λ same. same ≡ true → spec.SameCode old.now.resolved new.now.resolved) }
 {
     let before = generate(alloc, old.resolved())?;
     let after = generate(alloc, new.resolved())?;
-    Ok(before.image().code.as_slice() == after.image().code.as_slice())
+    Ok(is_same_code(&before.image().code, &after.image().code))
 }
 
 /// Whether a program is another one but for the name of a variable.
