@@ -8,7 +8,7 @@ use vsi_lattice::Lattice;
 use vsi_syntax::{LexError, Span, Token, lex};
 use vsi_types::Profile;
 
-/// What is made, unless memory runs out.
+/// A result whose only error is that memory ran out.
 pub(crate) type Made<T> = Result<T, AllocError>;
 
 /// A document: the allocator of the objects about it, the code units of its positions, the profile
