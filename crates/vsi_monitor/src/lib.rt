@@ -10,13 +10,16 @@
 //! To be believed: all files of `specs/`.
 #![tactic(auto)]
 
+mod json;
 pub mod laws;
 mod measure;
+mod rule;
 mod run;
 mod stop;
 mod text;
 mod watch;
 
+pub use json::monitor_json;
 pub use stop::{Stop, Unfinished};
 pub use text::{Naming, monitor_text};
 pub use watch::{Watched, monitored};
