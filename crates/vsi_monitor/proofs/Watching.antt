@@ -90,9 +90,9 @@ module _ (L : Lattice) (classes : ℕ → ℕ) where
   -- An assignment that is judged to have no label is stopped.
   pub stopped_at : (a b : Held) (pc n l k t class : ℕ) (s : Span) (e : Expression) → k ≡ slice_index a.labels l →
       Judged L pc k t class None → Watched L classes pc n (Assign l s e) a b (Err (ends.Stopped (upgrade s pc k)))
-  stopped_at a b pc n l k t class s e is no =
+  stopped_at a b pc n l k t class s e is not =
       subst (λ x. Monitored L classes a.variables pc n (Assign l s e) a.words a.labels (Stopped (upgrade s pc x)))
-      (sym is) (UPGRADE (subst (λ x. Below L pc x → ⊥) is no))
+      (sym is) (UPGRADE (subst (λ x. Below L pc x → ⊥) is not))
 
   -- An assignment that is judged to have a label stores its word with it.
   pub assigned_at : (a b : Held) (pc n l k t class v : ℕ) (s : Span) (e : Expression) (x : ℤ) (done : ⊤) →

@@ -1,5 +1,5 @@
 -- The monitored run of a program.
-use Rattle.std.proofs.Common.{◌≡◌, ℕ, ◌+◌, ◌≤◌, List, ◌++◌, length, take, refl, sym, ap, ◌∙◌, subst, arith}
+use Rattle.std.proofs.Common.{◌≡◌, ℕ, ◌+◌, ◌<◌, ◌≤◌, List, ◌++◌, length, take, refl, sym, ap, ◌∙◌, subst, arith}
 use Rattle.std.specs.Prelude.{◌≢◌, ⊤, Result, Ok, Err, IfErr, IsErrAnd}
 use Rattle.std.specs.List.{All}
 use Rattle.std.proofs.lemmas.List.{length-map, length-take-le, take_at}
@@ -24,12 +24,12 @@ use Rattle.vsi_monitor.specs.Watched.{Held, IsHeld, IsReady, Watched, RunEnds}
 use Rattle.vsi_monitor.proofs.Passing.{typable_passes}
 
 -- A run that isn't finished for want of memory isn't stopped.
-memory_not_stopped : (x : Stop) → ends.Memory ≢ ends.Stopped x
-memory_not_stopped x e = ?
+memory_not_stopped : (x : Stop) → ◌≡◌ {A = Unfinished} ends.Memory (ends.Stopped x) → ⊥
+memory_not_stopped x e = cc
 
 -- A run that comes to its limit isn't stopped.
-limit_not_stopped : (x : Stop) → ends.Limit ≢ ends.Stopped x
-limit_not_stopped x e = ?
+limit_not_stopped : (x : Stop) → ◌≡◌ {A = Unfinished} ends.Limit (ends.Stopped x) → ⊥
+limit_not_stopped x e = cc
 
 module _ (L : Lattice) (laws : IsLattice L) (table : List ℕ) (r : Resolved) (kept : IsResolved r)
     (all : All (IsClass L) table) (each : length table ≡ length r.globals + letvars (sequence r.body)) where
@@ -118,7 +118,7 @@ module _ (L : Lattice) (laws : IsLattice L) (table : List ℕ) (r : Resolved) (k
   not_stopped m (Err (ends.Stopped y)) h P s is typed =
       let size = length-map r.globals (λ g. g.class) in
       let firsts_are : firsts ≡ (program r).globals =
-      ap (take (length r.globals)) is ∙ take_at (program r).globals s (length r.globals) (sym size) in
+      ap (take (length r.globals)) is ∙ take_at (program r).globals s (length r.globals) size in
       let classes = subst (All (IsClass L)) firsts_are (All-take (IsClass L) (length r.globals) table all) in
       absurd (typable_passes L P (program r) s laws (resolved_program L r classes kept) typed m (Stopped y)
       (subst (λ k. Monitored L (class_of L ((program r).globals ++ s)) (program r).globals L.bottom k (sequence r.body) m

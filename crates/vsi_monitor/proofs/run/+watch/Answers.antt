@@ -68,10 +68,30 @@ run_if-returns-in_err-take g t c =
 
 pub run_if-returns-then-word-ne0 : goal.run_if-returns-then-word-ne0
 run_if-returns-then-word-ne0 g t c =
-    let d = c.label in let v = c.value-word in let j = c.join-inside in let k = c.in_ok-take in let r = c.run_all in ?
+    let L = g.C.Classes.lattice c.args.lattice.now in
+    let e = expression c.args.guard.now in
+    let l = leads_yes L (class_of L c.args.classes.now) c.args.classes.now c.args.counter c.args.next c.label.result
+    c.join-inside.result e (sequence c.args.yes.now) (sequence c.args.no.now) c.value-word.result
+    (held c.args.state.now) c.take.new.left c.requires.ready c.requires.few
+    (omega (arith, c.in_ok-take.ensures.taken))
+    (subst (λ y. HasLabel L y e c.label.result) c.deref.ensures.value c.label.ensures.label) c.join-inside.ensures
+    (c.value-word.ensures ∙ ap (value e) c.deref-2.ensures.value) (λ z. c.if-word-ne0.true (ap (of_z w64) z)) in
+    leads_watched L (class_of L c.args.classes.now) _ _ _ _ _ _ _ _ _ _ c.run_all.result l c.run_all.ensures
 
 pub run_if-returns-else-word-ne0 : goal.run_if-returns-else-word-ne0
-run_if-returns-else-word-ne0 g t c = let r = c.run_all-else-word-ne0 in let l = c.letvars in ?
+run_if-returns-else-word-ne0 g t c =
+    let L = g.C.Classes.lattice c.args.lattice.now in
+    let e = expression c.args.guard.now in
+    let l = leads_no L (class_of L c.args.classes.now) c.args.classes.now c.args.counter c.args.next
+    (c.args.next + c.letvars.result) c.label.result c.join-inside.result e (sequence c.args.yes.now)
+    (sequence c.args.no.now) c.value-word.result (held c.args.state.now) c.take.new.left
+    (small (letvars (sequence c.args.yes.now)) c.args.next c.letvars.result c.letvars.ensures
+    (omega (arith, c.requires.few))) c.requires.ready c.requires.few (omega (arith, c.in_ok-take.ensures.taken))
+    (subst (λ y. HasLabel L y e c.label.result) c.deref.ensures.value c.label.ensures.label) c.join-inside.ensures
+    (c.value-word.ensures ∙ ap (value e) c.deref-2.ensures.value)
+    (zero_word c.value-word.result (search rules) c.if-word-ne0.false) in
+    leads_watched L (class_of L c.args.classes.now) _ _ _ _ _ _ _ _ _ _ c.run_all-else-word-ne0.result l
+    c.run_all-else-word-ne0.ensures
 
 pub run_letvar-returns-in_err-take : goal.run_letvar-returns-in_err-take
 run_letvar-returns-in_err-take g t c =
@@ -79,10 +99,10 @@ run_letvar-returns-in_err-take g t c =
     limit_err L (class_of L c.args.classes.now) _ _ _ _ _ _ _ c.from_residual.ensures.1 c.in_err-take.ensures.limit
 
 pub run_letvar-returns-in_err-run_all : goal.run_letvar-returns-in_err-run_all
-run_letvar-returns-in_err-run_all g t c = let r = c.in_err-run_all in ?
+run_letvar-returns-in_err-run_all g t c = ?
 
 pub run_letvar-returns : goal.run_letvar-returns
-run_letvar-returns g t c = let r = c.in_ok-run_all in ?
+run_letvar-returns g t c = ?
 
 pub run_while-returns-in_err-take : goal.run_while-returns-in_err-take
 run_while-returns-in_err-take g t c =
@@ -90,10 +110,33 @@ run_while-returns-in_err-take g t c =
     limit_err L (class_of L c.args.classes.now) _ _ _ _ _ _ _ c.from_residual.ensures.1 c.in_err-take.ensures.limit
 
 pub run_while-returns-then-word-eq0 : goal.run_while-returns-then-word-eq0
-run_while-returns-then-word-eq0 g t c = let l = c.loop-word in let w = c.if-word-eq0 in ?
+run_while-returns-then-word-eq0 g t c =
+    let L = g.C.Classes.lattice c.args.lattice.now in
+    let e = expression c.args.guard.now in
+    loop_ends L (class_of L c.args.classes.now) (g.met.C.Classes.laws c.args.lattice.now) _ _ _ _ e _
+    c.value-word.result _ (held c.loop-state.state) c.take.new.left c.loop-state.invariant
+    (omega (arith, c.in_ok-take.ensures.taken)) (c.value-word.ensures ∙ ap (value e) c.deref.ensures.value) tt
+    (zero_word c.value-word.result (search rules) c.if-word-eq0.true)
 
 pub run_while-returns-in_err-run_all : goal.run_while-returns-in_err-run_all
-run_while-returns-in_err-run_all g t c = let l = c.loop-word in let r = c.in_err-run_all in ?
+run_while-returns-in_err-run_all g t c =
+    let L = g.C.Classes.lattice c.args.lattice.now in
+    let e = expression c.args.guard.now in
+    watched_err L (class_of L c.args.classes.now) _ _ _ _ _ (held c.run_all.new.state) _ _ c.from_residual.ensures.1
+    (turn_stop L (class_of L c.args.classes.now) (g.met.C.Classes.laws c.args.lattice.now) _ _ _ _ e _
+    c.value-word.result _ (held c.loop-state.state) c.take.new.left c.loop-state.invariant
+    (omega (arith, c.in_ok-take.ensures.taken)) (c.value-word.ensures ∙ ap (value e) c.deref.ensures.value)
+    c.label.result c.join.result (λ z. c.if-word-eq0.false (ap (of_z w64) z))
+    (subst (λ y. HasLabel L y e c.label.result) c.deref-2.ensures.value c.label.ensures.label) c.join.ensures
+    (held c.run_all.new.state) _ c.in_err-run_all.ensures)
 
-pub run_while-loop-word-preserved : goal.run_while-loop-word-preserved
-run_while-loop-word-preserved g t c = let r = c.in_ok-run_all in ?
+pub run_while-loop-state-preserved : goal.run_while-loop-state-preserved
+run_while-loop-state-preserved g t c =
+    let L = g.C.Classes.lattice c.args.lattice.now in
+    let e = expression c.args.guard.now in
+    leads_turn L (class_of L c.args.classes.now) (g.met.C.Classes.laws c.args.lattice.now) _ _ _ _ e _
+    c.value-word.result _ (held c.loop-state.state) c.take.new.left c.loop-state.invariant
+    (omega (arith, c.in_ok-take.ensures.taken)) (c.value-word.ensures ∙ ap (value e) c.deref.ensures.value)
+    c.label.result c.join.result (λ z. c.if-word-eq0.false (ap (of_z w64) z))
+    (subst (λ y. HasLabel L y e c.label.result) c.deref-2.ensures.value c.label.ensures.label) c.join.ensures
+    (held c.run_all.new.state) _ c.in_ok-run_all.ensures
