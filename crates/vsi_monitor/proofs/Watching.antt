@@ -217,7 +217,8 @@ module _ (L : Lattice) (classes : ℕ → ℕ) where
         (l : Leads table pc n (While e c) a pc' n (While e c) b) (le : k ≤ b.left) (is : x ≡ value e b.words) where
       -- A loop ends with its guard.
       pub loop_ends : (u : ⊤) → x ≡ pos 0 → Watched L classes pc n (While e c) a (with_left b k) (Ok u)
-      loop_ends u z = (l.runs (Halted b.words b.labels) (WHILE_FALSE (sym is ∙ z)), l.variables, omega (arith, le, l.left))
+      loop_ends u z =
+          (l.runs (Halted b.words b.labels) (WHILE_FALSE (sym is ∙ z)), l.variables, omega (arith, le, l.left))
 
       module _ (t u : ℕ) (z : x ≢ pos 0) (has : HasLabel L b.labels e t) (j : IsJoin L.count (Below L) pc' t u) where
         -- The body of a loop can be run.

@@ -46,8 +46,8 @@ module _ (L : Lattice) (laws : IsLattice L) (table : List ℕ) (r : Resolved) (k
     pub whole_few : n + letvars (sequence cs) ≤ max_declarations
     whole_few = omega (arith, count, ap (λ l. letvars (sequence l)) is, kept.few_declarations)
 
-    module _ (pc : ℕ) (low : pc ≡ L.bottom) (m : Store) (long : length m ≡ length r.globals) (a : Held) (words : a.words ≡ m)
-        (labels : a.labels ≡ firsts) (variables : a.variables ≡ firsts) where
+    module _ (pc : ℕ) (low : pc ≡ L.bottom) (m : Store) (long : length m ≡ length r.globals) (a : Held)
+        (words : a.words ≡ m) (labels : a.labels ≡ firsts) (variables : a.variables ≡ firsts) where
       -- Its body can be run from a store whose words have the classes of their globals as labels.
       pub whole_ready : IsReady L table pc n (sequence cs) a
       whole_ready =
@@ -121,8 +121,8 @@ module _ (L : Lattice) (laws : IsLattice L) (table : List ℕ) (r : Resolved) (k
       ap (take (length r.globals)) is ∙ take_at (program r).globals s (length r.globals) size in
       let classes = subst (All (IsClass L)) firsts_are (All-take (IsClass L) (length r.globals) table all) in
       absurd (typable_passes L P (program r) s laws (resolved_program L r classes kept) typed m (Stopped y)
-      (subst (λ k. Monitored L (class_of L ((program r).globals ++ s)) (program r).globals L.bottom k (sequence r.body) m
-      (program r).globals (Stopped y)) (sym size)
+      (subst (λ k. Monitored L (class_of L ((program r).globals ++ s)) (program r).globals L.bottom k (sequence r.body)
+      m (program r).globals (Stopped y)) (sym size)
       (subst (λ l. Monitored L (class_of L ((program r).globals ++ s)) l L.bottom (length r.globals) (sequence r.body) m
       l (Stopped y)) firsts_are
       (subst (λ l. Monitored L (class_of L l) firsts L.bottom (length r.globals) (sequence r.body) m firsts (Stopped y))

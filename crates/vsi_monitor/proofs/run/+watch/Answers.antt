@@ -169,8 +169,8 @@ run_while-returns-in_err-run_all g t c =
     c.value-word.result _ (held c.loop-state.state) c.take.new.left c.loop-state.invariant
     (omega (arith, c.in_ok-take.ensures.taken)) (c.value-word.ensures ∙ ap (value e) c.deref.ensures.value)
     c.label.result c.join-inside.result (λ z. c.if-word-eq0.false (ap (of_z w64) z))
-    (subst (λ y. HasLabel L y e c.label.result) c.deref-in-loop-state.ensures.value c.label.ensures.label) c.join-inside.ensures
-    (held c.run_all.new.state) _ c.in_err-run_all.ensures)
+    (subst (λ y. HasLabel L y e c.label.result) c.deref-in-loop-state.ensures.value c.label.ensures.label)
+    c.join-inside.ensures (held c.run_all.new.state) _ c.in_err-run_all.ensures)
 
 pub run_while-loop-state-preserved : goal.run_while-loop-state-preserved
 run_while-loop-state-preserved g t c =
@@ -180,5 +180,5 @@ run_while-loop-state-preserved g t c =
     c.value-word.result _ (held c.loop-state.state) c.take.new.left c.loop-state.invariant
     (omega (arith, c.in_ok-take.ensures.taken)) (c.value-word.ensures ∙ ap (value e) c.deref.ensures.value)
     c.label.result c.join-inside.result (λ z. c.if-word-eq0.false (ap (of_z w64) z))
-    (subst (λ y. HasLabel L y e c.label.result) c.deref-in-loop-state.ensures.value c.label.ensures.label) c.join-inside.ensures
-    (held c.run_all.new.state) _ c.in_ok-run_all.ensures
+    (subst (λ y. HasLabel L y e c.label.result) c.deref-in-loop-state.ensures.value c.label.ensures.label)
+    c.join-inside.ensures (held c.run_all.new.state) _ c.in_ok-run_all.ensures

@@ -20,6 +20,6 @@ returns-in_err-run_all-clause-typable g c =
     (whole_stop L laws c.args.classes.now c.args.program.now kept c.requires.classes c.requires.each
     c.body-body.result.now c.body-body.ensures.value _ (ap length c.globals-globals.ensures) _ c.bottom.ensures
     c.args.words.now c.requires.words a (c.in_ok-to_vec.ensures.items_if_clones_equal (λ x y h. h)) (search rules)
-    (search rules) (held c.run_all.new.state) c.from_residual-in_err-run_all.result _ c.from_residual-in_err-run_all.ensures.1
-    c.in_err-run_all.ensures)
+    (search rules) (held c.run_all.new.state) c.from_residual-in_err-run_all.result _
+    c.from_residual-in_err-run_all.ensures.1 c.in_err-run_all.ensures)
     P s is typed
