@@ -1,5 +1,5 @@
 -- The monitored run of a program.
-use Rattle.std.proofs.Common.{◌≡◌, ℕ, ◌+◌, ◌<◌, ◌≤◌, List, ◌++◌, length, take, refl, sym, ap, ◌∙◌, subst, arith}
+use Rattle.std.proofs.Common.{◌≡◌, ℕ, ◌+◌, ◌<◌, ◌≤◌, List, ◌++◌, length, take, sym, ap, ◌∙◌, subst, arith}
 use Rattle.std.specs.Prelude.{◌≢◌, ⊤, Result, Ok, Err, IfErr, IsErrAnd}
 use Rattle.std.specs.List.{All}
 use Rattle.std.proofs.lemmas.List.{length-map, length-take-le, take_at}
@@ -20,7 +20,7 @@ use Rattle.vsi_monitor.specs.declared.stop.Unfinished.{Unfinished}
 use Rattle.vsi_monitor.specs.declared.stop.Unfinished.TheVariants as ends
 use Rattle.vsi_monitor.specs.declared.watch.Watched as watch
 use Rattle.vsi_monitor.specs.Monitor.{Outcome, Halted, Stopped, Monitored}
-use Rattle.vsi_monitor.specs.Watched.{Held, IsHeld, IsReady, Watched, RunEnds}
+use Rattle.vsi_monitor.specs.Watched.{Held, IsReady, Watched, RunEnds}
 use Rattle.vsi_monitor.proofs.Passing.{typable_passes}
 
 -- A run that isn't finished for want of memory isn't stopped.
