@@ -5,3 +5,4 @@ pub mod Secret
 pub mod Agreeing
 pub mod Passing
 pub mod Watching
+pub mod Whole

@@ -101,7 +101,8 @@ module _ (L : Lattice) (laws : IsLattice L) (P : Profile) (classes : ℕ → ℕ
     passes f all pc n c m q r same t w le d (run.ASSIGN {l = l} {t = t'} {v = v} {s = s} {e = e} up has is) =
         let h = typed f all n (Assign l s e) t d in
         let at = at_location L laws f all l h.0 in
-        let below = laws.transitive pc t (slice_index f l) w (cmd_class L laws P classes each f all n c t d) at le h.1 in
+        let below = laws.transitive pc t (slice_index f l) w (cmd_class L laws P classes each f all n c t d) at le h.1
+        in
         let label = label_typed f all e (slice_index f l) t' h.2 (subst (λ x. HasLabel L x e t') same has) in
         ap (λ x. set x l v) same ∙ ap (set f l) (stored_same (slice_index f l) t' pc v at label below is)
         ∙ set-get_or f l 0
@@ -111,26 +112,31 @@ module _ (L : Lattice) (laws : IsLattice L) (P : Profile) (classes : ℕ → ℕ
         (cmd_class L laws P classes each f all n c t d) (at_location L laws f all l h.0) le h.1))
     passes f all pc n c m q r same t w le d (run.COMPOSE {q₁ = q₁} {a = a} {b = b} {m₁ = m₁} x y) =
         let h = typed f all n (Sequence a b) t d in
-        passes f all pc (n + letvars a) b m₁ q₁ r (passes f all pc n a m q (Halted m₁ q₁) same t w le h.0 x) t w le h.1 y
+        passes f all pc (n + letvars a) b m₁ q₁ r (passes f all pc n a m q (Halted m₁ q₁) same t w le h.0 x) t w le h.1
+        y
     passes f all pc n c m q r same t w le d (run.COMPOSE_STOP {a = a} {b = b} {x = stop} x) =
         passes f all pc n a m q (Stopped stop) same t w le (typed f all n (Sequence a b) t d).0 x
     passes f all pc n c m q r same t w le d (run.IF_TRUE {t = k} {u = u} {e = e} {a = a} {b = b} z has is x) =
         let h = typed f all n (If e a b) t d in
-        let up = inside f q all same e pc t h.0 u k w (cmd_class L laws P classes each f all n c t d) le h.1 h.2 has is in
+        let up = inside f q all same e pc t h.0 u k w (cmd_class L laws P classes each f all n c t d) le h.1 h.2 has is
+        in
         passes f all u n a m q r same h.0 is.within up h.3 x
     passes f all pc n c m q r same t w le d (run.IF_FALSE {t = k} {u = u} {e = e} {a = a} {b = b} z has is x) =
         let h = typed f all n (If e a b) t d in
-        let up = inside f q all same e pc t h.0 u k w (cmd_class L laws P classes each f all n c t d) le h.1 h.2 has is in
+        let up = inside f q all same e pc t h.0 u k w (cmd_class L laws P classes each f all n c t d) le h.1 h.2 has is
+        in
         passes f all u (n + letvars a) b m q r same h.0 is.within up h.4 x
     passes f all pc n c m q r same t w le d
         (run.WHILE_TRUE {q₁ = q₁} {t = k} {u = u} {e = e} {c = c'} {m₁ = m₁} z has is x y) =
         let h = typed f all n (While e c') t d in
-        let up = inside f q all same e pc t h.0 u k w (cmd_class L laws P classes each f all n c t d) le h.1 h.2 has is in
+        let up = inside f q all same e pc t h.0 u k w (cmd_class L laws P classes each f all n c t d) le h.1 h.2 has is
+        in
         passes f all u n (While e c') m₁ q₁ r (passes f all u n c' m q (Halted m₁ q₁) same h.0 is.within up h.3 x)
         h.0 is.within up h.4 y
     passes f all pc n c m q r same t w le d (run.WHILE_STOP {t = k} {u = u} {e = e} {c = c'} {x = stop} z has is x) =
         let h = typed f all n (While e c') t d in
-        let up = inside f q all same e pc t h.0 u k w (cmd_class L laws P classes each f all n c t d) le h.1 h.2 has is in
+        let up = inside f q all same e pc t h.0 u k w (cmd_class L laws P classes each f all n c t d) le h.1 h.2 has is
+        in
         passes f all u n c' m q (Stopped stop) same h.0 is.within up h.3 x
     passes f all pc n c m q r same t w le d (run.WHILE_FALSE z) = same
     passes f all pc n c m q r same t w le d

@@ -10,13 +10,14 @@
 //! To be believed: all files of `specs/`.
 #![tactic(auto)]
 
+mod answer;
 pub mod laws;
 mod measure;
+mod rule;
 mod run;
 mod stop;
-mod text;
 mod watch;
 
+pub use answer::{Naming, monitor_json, monitor_text};
 pub use stop::{Stop, Unfinished};
-pub use text::{Naming, monitor_text};
 pub use watch::{Watched, monitored};

@@ -10,6 +10,7 @@ ghost use Rattle.vsi_monitor.specs.declared.stop.Unfinished.TheVariants as ends;
 ghost use Rattle.vsi_monitor.specs.Watched.{held, IsHeld, IsReady, Watched};
 
 use crate::measure::{label, letvars, letvars_in, value};
+use crate::rule::judge;
 use crate::stop::{Stop, Unfinished};
 use vsi_lattice::{Class, Classes};
 use vsi_scope::{Cmd, Ex};
@@ -57,20 +58,18 @@ fn run_assign<C: Classes>(
         (Assign location place (expression e.now)) (held state.old) (held state.new) result }
 {
     take(&mut state.left)?;
-    let present = state.labels[location as usize];
-    if !lattice.leq(counter, present) {
+    let at = location as usize;
+    let present = state.labels[at];
+    let read = label(lattice, e, &state.labels);
+    let Some(risen) = judge(lattice, counter, present, read, state.variables[at]) else {
         return Err(Unfinished::Stopped(Stop {
             place,
             counter,
             label: present,
         }));
-    }
-    let word = value(e, &state.words);
-    let read = label(lattice, e, &state.labels);
-    let class = state.variables[location as usize];
-    let risen = lattice.join(lattice.join(read, counter), class);
-    state.words[location as usize] = word;
-    state.labels[location as usize] = risen;
+    };
+    state.words[at] = value(e, &state.words);
+    state.labels[at] = risen;
     Ok(())
 }
 
