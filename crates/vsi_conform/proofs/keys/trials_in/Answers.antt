@@ -5,7 +5,7 @@ use Rattle.std.specs.List.{All}
 use Rattle.vsi_image.specs.Fields.{globals}
 use Rattle.vsi_lattice.proofs.ShapeLemmas.{so_far_push}
 use Rattle.vsi_conform.specs.Reading.{NamesGlobals, run, run_of}
-use Rattle.vsi_conform.proofs.keys.trials_of.Goals as goal
+use Rattle.vsi_conform.proofs.keys.trials_in.Goals as goal
 
 pub loop-i-preserved : goal.loop-i-preserved
 loop-i-preserved c =
@@ -14,7 +14,7 @@ loop-i-preserved c =
     in
     record {
       so_far =
-          so_far_push run run_of c.args.array.now c.loop-i.trials.items c.push.new.self.items
+          so_far_push run run_of c.in_ok-array.array.now c.loop-i.trials.items c.push.new.self.items
           c.in_ok-trial.trial c.loop-i.i c.index-array-i.result c.loop-i-test.true c.index-array-i.is
           (sym c.in_ok-trial.ensures.run) c.in_ok-push.ensures.items c.loop-i.invariant.so_far;
       named =

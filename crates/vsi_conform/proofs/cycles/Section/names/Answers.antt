@@ -7,18 +7,18 @@ use Rattle.toml.specs.Data.{as_str}
 use Rattle.vsi_image.specs.Fields.{globals}
 use Rattle.vsi_lattice.proofs.ShapeLemmas.{so_far_push}
 use Rattle.vsi_conform.specs.Reading.{IsKnown, bytes_of}
-use Rattle.vsi_conform.proofs.cycles.names_of.Goals as goal
+use Rattle.vsi_conform.proofs.cycles.Section.names.Goals as goal
 
 pub loop-value-preserved : goal.loop-value-preserved
 loop-value-preserved c =
-    let P = IsKnown (globals c.args.globals.now) in
+    let P = IsKnown (globals c.args.self.now.globals.now) in
     let bytes : Vec ℕ → List ℕ = λ name. name.items in
     let all =
     ap (map bytes) c.in_ok-push.ensures.items ∙ map-append bytes c.loop-value.names.items (c.in_ok-name.name ∷ [])
     in
     record {
       so_far =
-          so_far_push bytes as_str c.args.array.now c.loop-value.names.items c.push.new.self.items
+          so_far_push bytes as_str c.in_ok-array.array.now.items c.loop-value.names.items c.push.new.self.items
           c.in_ok-name.name c.loop-value.value-index c.value-item.result c.loop-value-test.true c.value-item.is
           (sym c.in_ok-name.ensures.name) c.in_ok-push.ensures.items c.loop-value.invariant.so_far;
       known =
