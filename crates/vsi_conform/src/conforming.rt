@@ -213,9 +213,6 @@ pub fn judged(
     }
 }
 
-/// The word of a global that a run doesn't name.
-const UNNAMED: i64 = 0;
-
 /// The word given for a name, or 0.
 fn given_word(entries: &[(Vec<u8>, i64)], name: &[u8]) -> i64
     ensures { result ≡ points_spec.given_word (points_spec.entries entries.now) name.now }
@@ -225,7 +222,7 @@ fn given_word(entries: &[(Vec<u8>, i64)], name: &[u8]) -> i64
             return entry.1;
         }
     }
-    UNNAMED
+    0
 }
 
 /// The words at the start of a run.
@@ -260,26 +257,6 @@ fn word_of(variables: &[(Vec<u8>, Vec<u8>)], words: &[i64], name: &[u8]) -> Opti
     None
 }
 
-/// The point of one expected word, by the word found.
-fn word_point(trial: usize, wanted: usize, expected: i64, found: Option<i64>) -> Option<Point>
-    ensures { result ≡ points_spec.word_point trial wanted expected found }
-{
-    match found {
-        Some(word) => {
-            if word == expected {
-                None
-            } else {
-                Some(Point::WrongWord {
-                    trial,
-                    wanted,
-                    word,
-                })
-            }
-        }
-        None => Some(Point::NoWord { trial, wanted }),
-    }
-}
-
 /// The point of the word expected for a name.
 fn expected_point(
     trial: usize,
@@ -291,8 +268,17 @@ fn expected_point(
     ensures { result ≡ points_spec.expected_point trial wanted (points_spec.entry entry.now)
         (globals variables.now) words.now }
 {
-    let found = word_of(variables, words, entry.0.as_slice());
-    word_point(trial, wanted, entry.1, found)
+    let Some(word) = word_of(variables, words, entry.0.as_slice()) else {
+        return Some(Point::NoWord { trial, wanted });
+    };
+    if word == entry.1 {
+        return None;
+    }
+    Some(Point::WrongWord {
+        trial,
+        wanted,
+        word,
+    })
 }
 
 /// Adds the points of the expected words.
@@ -307,10 +293,8 @@ fn put_words(
         ++ points_spec.word_points trial 0 (points_spec.entries expect.now) (globals variables.now) words.now) }
 {
     for (wanted, entry) in expect.iter().enumerate() {
-        put_told(
-            points,
-            expected_point(trial, wanted, entry, variables, words),
-        )?;
+        let point = expected_point(trial, wanted, entry, variables, words);
+        put_told(points, point)?;
     }
     Ok(())
 }
@@ -421,17 +405,9 @@ pub fn bound_report(
 {
     match bounded {
         Bounded::No => Ok(None),
-        Bounded::Yes => {
-            if answer.is_bounded {
-                return Ok(None);
-            }
-            Ok(Some(answer.text))
-        }
-        Bounded::AtMost(maximum) => {
-            if answer.is_bounded {
-                return report_within(alloc, verified, maximum);
-            }
-            Ok(Some(answer.text))
-        }
+        Bounded::Yes if answer.is_bounded => Ok(None),
+        Bounded::Yes => Ok(Some(answer.text)),
+        Bounded::AtMost(maximum) if answer.is_bounded => report_within(alloc, verified, maximum),
+        Bounded::AtMost(_) => Ok(Some(answer.text)),
     }
 }

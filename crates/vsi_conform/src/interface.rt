@@ -1,9 +1,10 @@
 //! The requirements on a text, why they are refused, and how a text differs from them.
 
-ghost use Rattle.std.specs.Prelude.{◌≡◌, IfOk, ◌++◌, OnOk};
+ghost use Rattle.std.specs.Prelude.{◌≡◌, ◌<◌, ◌≤◌, false, true, IfOk, ◌++◌, OnOk};
 ghost use Rattle.std.specs.Option.{option_copied};
 ghost use Rattle.vsi_conform.specs.declared.interface.InterfaceError.TheVariants.{Memory};
 ghost use Rattle.vsi_conform.specs.Points.{told, is_conforming};
+ghost use Rattle.vsi_conform.specs.Totals.{sum_of, total_of};
 ghost use Rattle.vsi_conform.specs.Bounded as spec;
 ghost use Rattle.vsi_conform.specs.Faulty as faulty_spec;
 
@@ -298,4 +299,21 @@ pub(crate) fn put_told(points: &mut Vec<Point>, point: Option<Point>) -> Result<
         }
         None => Ok(()),
     }
+}
+
+/// Whether the runs of an interface take together at most this number of instructions.
+pub fn is_within(interface: &Interface, budget: u64) -> bool
+    ensures within { result ≡ true → total_of interface.now ≤ budget }
+    ensures above { result ≡ false → budget < total_of interface.now }
+{
+    let mut left = budget;
+    let mut rest = interface.trials.as_slice();
+    while let [trial, behind @ ..] = rest {
+        if trial.budget > left {
+            return false;
+        }
+        left -= trial.budget;
+        rest = behind;
+    }
+    true
 }

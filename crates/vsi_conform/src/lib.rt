@@ -21,15 +21,11 @@ mod conforming;
 mod cycles;
 mod globals;
 mod interface;
-mod json;
 mod keys;
-mod reached;
-mod reached_lines;
 mod reaching;
 mod reader;
 mod rows;
 mod texts;
-mod totals;
 
 pub use checking::{
     Checked, audit_diagnostic, check_json, check_json_for, check_json_of, judgement_by,
@@ -39,15 +35,16 @@ pub use conforming::{bound_report, conform, image_points, judged, judged_of};
 pub use cycles::{Cycle, unknown_cycle};
 pub use globals::declarations;
 pub use interface::{
-    Answer, Bounded, Interface, InterfaceError, Judgement, Point, Trial, fault_name, interface_text,
+    Answer, Bounded, Interface, InterfaceError, Judgement, Point, Trial, fault_name,
+    interface_text, is_within,
 };
-pub use json::{points_json, rows_json};
-pub use reached::{flows_profile, text_reaches};
-pub use reached_lines::{with_reached_json, with_reached_lines};
-pub use reaching::{GlobalFlows, Reach, are_within, have_released, is_among, reaches_of};
+pub use reaching::{
+    GlobalFlows, Reach, are_within, flows_profile, have_released, is_among, reaches_of,
+    text_reaches, with_reached_json, with_reached_lines,
+};
 pub use reader::{InterfaceFile, Policy, path_beside, read_interface, unknown_class};
 pub use rows::{Detail, Held, Judged, Kind, Row, asked, numbered, rows_of};
 pub use texts::{
-    points_text, put_parts, put_row, refusal_lines, refusal_lines_of, rows_text, text_rows,
+    points_json, points_text, put_parts, put_row, refusal_lines, refusal_lines_of, rows_json,
+    rows_text, text_rows,
 };
-pub use totals::is_within;

@@ -157,22 +157,15 @@ pub fn asked<'a>(interface: &'a Interface, number: usize) -> (&'a [u8], &'a [u8]
     }
 }
 
-/// The name and the word with this number that a run expects.
-fn expected_of(trial: &Trial, wanted: usize) -> (&[u8], i64)
-    ensures { (result.0.now, result.1) ≡ shown.expected_of (Some trial.now) wanted }
-{
-    match trial.expect.get(wanted) {
-        Some(entry) => (entry.0.as_slice(), entry.1),
-        None => (b"", 0),
-    }
-}
-
 /// The name and the word that a run expects, by number.
 fn expected(interface: &Interface, trial: usize, wanted: usize) -> (&[u8], i64)
     ensures { (result.0.now, result.1) ≡ shown.expected interface.now trial wanted }
 {
-    match interface.trials.get(trial) {
-        Some(trial) => expected_of(trial, wanted),
+    let Some(trial) = interface.trials.get(trial) else {
+        return (b"", 0);
+    };
+    match trial.expect.get(wanted) {
+        Some(entry) => (entry.0.as_slice(), entry.1),
         None => (b"", 0),
     }
 }

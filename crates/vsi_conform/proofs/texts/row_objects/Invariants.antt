@@ -2,7 +2,7 @@ use Rattle.std.proofs.Common.{◌≡◌, ◌++◌, drop, map}
 use Rattle.serde_json.specs.View.{view}
 use Rattle.vsi_conform.specs.Json.{objects}
 use Rattle.vsi_conform.specs.Rows.{row}
-use Rattle.vsi_conform.proofs.json.row_objects.Given as goal
+use Rattle.vsi_conform.proofs.texts.row_objects.Given as goal
 
 -- The objects so far and those of the remaining rows are all objects.
 abbrev pub invariant-loop-point : goal.invariant-loop-point

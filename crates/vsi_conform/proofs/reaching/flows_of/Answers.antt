@@ -1,6 +1,6 @@
 use Rattle.std.proofs.Common.{refl}
 use Rattle.vsi_compiler.proofs.Held.{of_parts, globals_at, declared_at}
-use Rattle.vsi_conform.proofs.reached.flows_of.Goals as goal
+use Rattle.vsi_conform.proofs.reaching.flows_of.Goals as goal
 
 pub flows_in-requires-clause-globals : goal.flows_in-requires-clause-globals
 flows_in-requires-clause-globals c =

@@ -1,6 +1,6 @@
 use Rattle.std.proofs.Common.{◌≡◌, map, take}
 use Rattle.vsi_conform.specs.Reading.{bytes_of}
-use Rattle.vsi_conform.proofs.reached.names_of.Given as goal
+use Rattle.vsi_conform.proofs.reaching.names_of.Given as goal
 
 -- The names so far are those of the globals so far.
 abbrev pub invariant-loop-global : goal.invariant-loop-global

@@ -1,7 +1,7 @@
 use Rattle.std.proofs.Common.{◌≡◌, ◌++◌, drop, map}
 use Rattle.vsi_conform.specs.Reaching.{released}
 use Rattle.vsi_conform.specs.ReachedLines as spec
-use Rattle.vsi_conform.proofs.reached_lines.put_objects.Given as goal
+use Rattle.vsi_conform.proofs.reaching.put_objects.Given as goal
 
 -- The objects so far are followed by the remaining ones.
 abbrev pub invariant-loop-i : goal.invariant-loop-i
