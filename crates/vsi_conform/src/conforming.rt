@@ -40,23 +40,6 @@ pub fn image_points(
     Ok(points)
 }
 
-/// The line about the bound of an image, if it isn't as required.
-fn bound_line(
-    alloc: Global,
-    lattice: &Lattice,
-    text: &[u8],
-    verified: &Verified,
-    interface: &Interface,
-) -> Result<Option<Vec<u8>>, AllocError>
-    ensures { IfOk result (λ line. ReportsBound interface.now.bounded verified.now line) }
-{
-    if !interface.demands_bound() {
-        return Ok(None);
-    }
-    let answer = bound_in(alloc, lattice, text, verified)?;
-    bound_report(alloc, verified, interface.bounded, answer)
-}
-
 /// The differences between an image and the requirements, and the line about its bound.
 fn image_differences(
     alloc: Global,
@@ -70,7 +53,11 @@ fn image_differences(
         (λ pair. ReportsBound interface.now.bounded verified.now pair.1) }
 {
     let points = image_points(alloc, verified, interface)?;
-    let line = bound_line(alloc, lattice, text, verified, interface)?;
+    if !interface.demands_bound() {
+        return Ok((points, None));
+    }
+    let answer = bound_in(alloc, lattice, text, verified)?;
+    let line = bound_report(alloc, verified, interface.bounded, answer)?;
     Ok((points, line))
 }
 
@@ -299,22 +286,6 @@ fn put_words(
     Ok(())
 }
 
-/// A machine at the start of a run.
-fn started<'a>(
-    alloc: Global,
-    verified: &'a Verified,
-    trial: &Trial,
-) -> Result<Machine<'a>, AllocError>
-    ensures image { IfOk result (λ m. m.image ≡ verified.now) }
-    ensures state { IfOk result (λ m. m.state ≡ points_spec.start_of verified.now trial.now) }
-{
-    let words = given_words(alloc, &trial.store, &verified.image().globals)?;
-    match Machine::new(alloc, verified, &words) {
-        Ok(machine) => Ok(machine),
-        Err(_) => Err(AllocError),
-    }
-}
-
 /// Adds the points of one run.
 fn put_trial(
     alloc: Global,
@@ -326,7 +297,10 @@ fn put_trial(
     ensures { OnOk result (points.new.items ≡ points.old.items
         ++ points_spec.trial_points verified.now number trial.now) }
 {
-    let mut machine = started(alloc, verified, trial)?;
+    let words = given_words(alloc, &trial.store, &verified.image().globals)?;
+    let Ok(mut machine) = Machine::new(alloc, verified, &words) else {
+        return Err(AllocError);
+    };
     match machine.run(trial.budget) {
         Outcome::Halted => put_words(
             points,

@@ -24,13 +24,8 @@ pub(crate) fn table_in(alloc: Global, text: &[u8]) -> Result<Table, InterfaceErr
 {
     match toml::table_from_slice(alloc, text) {
         Ok(table) => Ok(table),
-        Err(error) => {
-            if error.is_memory() {
-                Err(InterfaceError::Memory)
-            } else {
-                Err(InterfaceError::NotToml)
-            }
-        }
+        Err(error) if error.is_memory() => Err(InterfaceError::Memory),
+        Err(_) => Err(InterfaceError::NotToml),
     }
 }
 

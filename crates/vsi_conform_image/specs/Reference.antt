@@ -4,20 +4,12 @@ use Rattle.vsi_conform_image.specs.declared.reference.Comparison.{Comparison}
 use Rattle.vsi_conform_image.specs.declared.reference.Comparison.TheVariants.{Alike, Apart, Lacking, Extra, Untried}
 use Rattle.vsi_conform_image.specs.declared.reference.Contrast.{Contrast}
 use Rattle.vsi_conform_image.specs.declared.reference.Contrast.TheVariants.{Word, Endless, Halts}
-use Rattle.vsi_conform_image.specs.declared.reference.End.{End}
-use Rattle.vsi_conform_image.specs.declared.reference.End.TheVariants as end
 
 -- A contrast of words is one of different words.
 abbrev pub IsContrast : Contrast → Type 0
 IsContrast (Word global word expected) = word ≢ expected
 IsContrast (Endless budget) = Unit {0}
 IsContrast (Halts budget) = Unit {0}
-
--- The same of the end of a cycle.
-abbrev pub IsEnd : End → Type 0
-IsEnd end.Alike = Unit {0}
-IsEnd (end.Apart contrast) = IsContrast contrast
-IsEnd end.Spent = Unit {0}
 
 -- A reported difference of words is one of different words.
 abbrev pub IsFound : Comparison → Type 0

@@ -5,13 +5,13 @@
 ghost use Rattle.std.specs.Prelude.{◌≡◌, IfOk, IfSome};
 ghost use Rattle.vsi_conform_image.specs.Reference as spec;
 
-use crate::conforming::{Side, place_of};
 use rand_core::{Rng, SeedableRng};
 use rand_xoshiro::SplitMix64;
 use std::alloc::{AllocError, Global};
 use vsi_conform::{Cycle, Interface, is_among};
 use vsi_image::{Image, Instr, Verified};
 use vsi_lattice::Lattice;
+use vsi_machine::{Machine, Outcome};
 use vsi_store::sees;
 
 /// The runs of a boundary.
@@ -92,6 +92,95 @@ struct Boundary {
     outputs: Vec<usize>,
 }
 
+/// An image with its store, and the place of each global of the interface in it.
+#[derive(Drop)]
+struct Side<'a> {
+    verified: &'a Verified,
+    places: Vec<usize>,
+    store: Vec<i64>,
+}
+
+/// The place of a global among others, by its name and its class.
+fn place_of(
+    globals: &[(Vec<u8>, Vec<u8>)],
+    global: &(Vec<u8>, Vec<u8>),
+) -> Option<usize> {
+    for (place, found) in globals.iter().enumerate() {
+        if found.0.as_slice() == global.0.as_slice() && found.1.as_slice() == global.1.as_slice() {
+            return Some(place);
+        }
+    }
+    None
+}
+
+/// The place of each of these globals in an image, up to the first that it lacks.
+fn places_in(
+    alloc: Global,
+    image: &Image,
+    globals: &[(Vec<u8>, Vec<u8>)],
+) -> Result<Vec<usize>, AllocError> {
+    let mut places = Vec::new(alloc);
+    for global in globals {
+        let Some(place) = place_of(&image.globals, global) else {
+            return Ok(places);
+        };
+        places.push(place)?;
+    }
+    Ok(places)
+}
+
+impl<'a> Side<'a> {
+    /// An image with a store of zeros, beside an interface with these globals.
+    fn of(
+        alloc: Global,
+        verified: &'a Verified,
+        globals: &[(Vec<u8>, Vec<u8>)],
+    ) -> Result<Side<'a>, AllocError> {
+        let places = places_in(alloc, verified.image(), globals)?;
+        let mut store = Vec::new(alloc);
+        store.resize(verified.image().globals.len(), 0)?;
+        Ok(Side {
+            verified,
+            places,
+            store,
+        })
+    }
+
+    /// The word of a global, by its number in the interface.
+    fn word(&self, number: usize) -> i64 {
+        let Some(place) = self.places.get(number) else {
+            return 0;
+        };
+        self.store.get(*place).copied().unwrap_or(0)
+    }
+
+    /// Sets a global, by its number in the interface.
+    fn set(&mut self, number: usize, word: i64) {
+        let Some(place) = self.places.get(number) else {
+            return;
+        };
+        let place = *place;
+        if place < self.store.len() {
+            self.store[place] = word;
+        }
+    }
+
+    /// Runs a cycle, and returns whether it halts within the budget. Only then the store changes.
+    fn run(&mut self, alloc: Global, budget: u64) -> Result<bool, AllocError> {
+        let Ok(mut machine) = Machine::new(alloc, self.verified, &self.store) else {
+            return Err(AllocError);
+        };
+        match machine.run(budget) {
+            Outcome::Halted => {
+                let store = machine.store().to_vec(alloc)?;
+                self.store = store;
+                Ok(true)
+            }
+            Outcome::OutOfBudget => Ok(false),
+        }
+    }
+}
+
 /// Both images, with their generator and the words to draw around.
 #[derive(Drop)]
 struct Trial<'a> {
@@ -101,14 +190,6 @@ struct Trial<'a> {
     constants: Vec<i64>,
     random: SplitMix64,
     budget: u64,
-}
-
-/// How a cycle of both images ends.
-enum End {
-    Alike,
-    Apart(Contrast),
-    /// Neither halts within the budget.
-    Spent,
 }
 
 /// Whether a line of a boundary's class may set a global.
@@ -168,13 +249,6 @@ impl<'a> Trial<'a> {
         self.reference.set(number, word);
     }
 
-    /// Draws both stores, which are equal then.
-    fn begin(&mut self, count: usize) {
-        for number in 0..count {
-            self.draw(number);
-        }
-    }
-
     /// Draws most of the inputs, and leaves the others as they are.
     fn feed(&mut self, inputs: &[usize]) {
         for number in inputs {
@@ -184,41 +258,25 @@ impl<'a> Trial<'a> {
         }
     }
 
-    /// A cycle of both images.
-    fn cycle(&mut self, boundary: &Boundary) -> Result<End, AllocError>
-        ensures { IfOk result spec.IsEnd }
-    {
-        self.feed(&boundary.inputs);
-        let is_halted = self.image.run(self.alloc, self.budget)?;
-        let is_expected = self.reference.run(self.alloc, self.budget)?;
-        if is_halted != is_expected {
-            let contrast = if is_halted {
-                Contrast::Halts(self.budget)
-            } else {
-                Contrast::Endless(self.budget)
-            };
-            return Ok(End::Apart(contrast));
-        }
-        if !is_halted {
-            return Ok(End::Spent);
-        }
-        match contrast_of(&self.image, &self.reference, &boundary.outputs) {
-            Some(contrast) => Ok(End::Apart(contrast)),
-            None => Ok(End::Alike),
-        }
-    }
-
-    /// A run of both images: how many cycles are alike, and how the next one differs.
+    /// A run of both images from equal stores: how many cycles are alike, and how the next one
+    /// differs. If neither halts within the budget, the run is over.
     fn run(&mut self, boundary: &Boundary) -> Result<(usize, Option<Contrast>), AllocError>
         ensures { IfOk result (λ pair. IfSome pair.1 spec.IsContrast) }
     {
-        let count = self.reference.places.len();
-        self.begin(count);
+        for number in 0..self.reference.places.len() {
+            self.draw(number);
+        }
         for cycle in 0..CYCLES {
-            match self.cycle(boundary)? {
-                End::Alike => {}
-                End::Apart(contrast) => return Ok((cycle, Some(contrast))),
-                End::Spent => return Ok((cycle, None)),
+            self.feed(&boundary.inputs);
+            let is_halted = self.image.run(self.alloc, self.budget)?;
+            let contrast = match (is_halted, self.reference.run(self.alloc, self.budget)?) {
+                (true, true) => contrast_of(&self.image, &self.reference, &boundary.outputs),
+                (true, false) => Some(Contrast::Halts(self.budget)),
+                (false, true) => Some(Contrast::Endless(self.budget)),
+                (false, false) => return Ok((cycle, None)),
+            };
+            if contrast.is_some() {
+                return Ok((cycle, contrast));
             }
         }
         Ok((CYCLES, None))
@@ -230,34 +288,18 @@ impl<'a> Trial<'a> {
     {
         let mut cycles: usize = 0;
         for run in 0..RUNS {
-            let (alike, contrast) = self.run(boundary)?;
+            let (cycle, contrast) = self.run(boundary)?;
             if let Some(contrast) = contrast {
                 return Ok(Comparison::Apart(Difference {
                     boundary: number,
                     run,
-                    cycle: alike,
+                    cycle,
                     contrast,
                 }));
             }
-            cycles = cycles.saturating_add(alike);
+            cycles = cycles.saturating_add(cycle);
         }
         Ok(Comparison::Alike { runs: RUNS, cycles })
-    }
-}
-
-/// Two trials one after the other, of which the first shows no difference in these runs and cycles.
-fn and_then(runs: usize, cycles: usize, next: Comparison) -> Comparison
-    ensures { spec.IsFound next → spec.IsFound result }
-{
-    match next {
-        Comparison::Alike {
-            runs: more_runs,
-            cycles: more_cycles,
-        } => Comparison::Alike {
-            runs: runs.saturating_add(more_runs),
-            cycles: cycles.saturating_add(more_cycles),
-        },
-        other => other,
     }
 }
 
@@ -269,36 +311,43 @@ fn tried(
 ) -> Result<Comparison, AllocError>
     ensures { IfOk result spec.IsFound }
 {
-    let mut runs_done: usize = 0;
-    let mut cycles_done: usize = 0;
+    let mut all_runs: usize = 0;
+    let mut all_cycles: usize = 0;
     for (number, cycle) in reference.cycles.iter().enumerate() {
         let boundary = boundary_of(trial.alloc, lattice, reference.interface, cycle)?;
         if boundary.outputs.is_empty() {
             continue;
         }
-        match and_then(runs_done, cycles_done, trial.runs(number, &boundary)?) {
+        match trial.runs(number, &boundary)? {
             Comparison::Alike { runs, cycles } => {
-                runs_done = runs;
-                cycles_done = cycles;
+                all_runs = all_runs.saturating_add(runs);
+                all_cycles = all_cycles.saturating_add(cycles);
             }
             other => return Ok(other),
         }
     }
     Ok(Comparison::Alike {
-        runs: runs_done,
-        cycles: cycles_done,
+        runs: all_runs,
+        cycles: all_cycles,
     })
 }
 
-/// The numbers in the code of two images, each with its neighbours.
+/// The numbers in the code of two images, each with its neighbours and none twice.
 fn constants_of(
     alloc: Global,
-    verified: &Verified,
     reference: &Verified,
+    verified: &Verified,
 ) -> Result<Vec<i64>, AllocError> {
     let mut constants = Vec::new(alloc);
-    put_constants(&mut constants, reference.image())?;
-    put_constants(&mut constants, verified.image())?;
+    for image in [reference.image(), verified.image()] {
+        for instr in image.code.iter() {
+            if let Instr::Push(word) = instr {
+                for near in [*word, word.wrapping_add(1), word.wrapping_sub(1)] {
+                    add(&mut constants, near)?;
+                }
+            }
+        }
+    }
     Ok(constants)
 }
 
@@ -344,7 +393,7 @@ pub fn compare_reference(
         alloc,
         image,
         reference: expected,
-        constants: constants_of(alloc, verified, reference.verified)?,
+        constants: constants_of(alloc, reference.verified, verified)?,
         random: SplitMix64::seed_from_u64(SEED),
         budget: budget.min(MOST_INSTRUCTIONS),
     };
@@ -365,33 +414,15 @@ fn add(constants: &mut Vec<i64>, word: i64) -> Result<(), AllocError> {
     Ok(())
 }
 
-/// Adds the numbers in the code of an image, each with its neighbours.
-pub(crate) fn put_constants(constants: &mut Vec<i64>, image: &Image) -> Result<(), AllocError> {
-    for instr in image.code.iter() {
-        if let Instr::Push(word) = instr {
-            add(constants, *word)?;
-            add(constants, word.wrapping_add(1))?;
-            add(constants, word.wrapping_sub(1))?;
-        }
-    }
-    Ok(())
-}
-
 /// A random number below a bound, or 0 if the bound is 0.
-pub(crate) fn below(random: &mut SplitMix64, bound: usize) -> usize {
-    match random.next_u64().checked_rem(bound as u64) {
-        Some(number) => number as usize,
-        None => 0,
-    }
+fn below(random: &mut SplitMix64, bound: usize) -> usize {
+    random.next_u64().checked_rem(bound as u64).unwrap_or(0) as usize
 }
 
 /// One of the words, or 0 if there is none.
 fn one_of(random: &mut SplitMix64, words: &[i64]) -> i64 {
     let place = below(random, words.len());
-    match words.get(place) {
-        Some(word) => *word,
-        None => 0,
-    }
+    words.get(place).copied().unwrap_or(0)
 }
 
 /// A random number with few digits.
@@ -414,7 +445,7 @@ fn near(random: &mut SplitMix64, words: &[i64]) -> i64 {
 }
 
 /// A random word for a global beside a store.
-pub(crate) fn drawn(random: &mut SplitMix64, constants: &[i64], store: &[i64]) -> i64 {
+fn drawn(random: &mut SplitMix64, constants: &[i64], store: &[i64]) -> i64 {
     match below(random, 16) {
         0 | 1 => 0,
         2 | 3 => 1,

@@ -143,26 +143,6 @@ pub fn points_json(
     Ok(line)
 }
 
-/// The first line of an answer that conforms.
-const CONFORMS: &[u8] = b"conforms\n";
-
-/// The beginning of its JSON.
-const CONFORMING: &[u8] = b"{\"conforms\":true";
-
-/// The beginning of the JSON of a file that doesn't conform.
-const DIFFERING: &[u8] = b"{\"conforms\":false";
-
-/// Adds a word, and then a number.
-fn put_counted(text: &mut Vec<u8>, word: &[u8], number: usize) -> Result<(), AllocError> {
-    text.extend_from_slice(word)?;
-    put_number(text, number)
-}
-
-/// Adds a global.
-fn put_global(text: &mut Vec<u8>, kind: &[u8], global: (&[u8], &[u8])) -> Result<(), AllocError> {
-    put_parts(text, &[kind, global.0, b" : ", global.1])
-}
-
 /// Adds how an image differs from the reference in a cycle.
 fn put_contrast(
     text: &mut Vec<u8>,
@@ -175,38 +155,30 @@ fn put_contrast(
             word,
             expected,
         } => {
-            put_parts(text, &[b" ", asked(interface, global).0, b" = "])?;
+            put_parts(text, &[b": ", asked(interface, global).0, b" = "])?;
             put_word(text, word)?;
             text.extend_from_slice(b", expected ")?;
             put_word(text, expected)
         }
         Contrast::Endless(budget) => {
-            put_counted(text, b" out of budget ", budget as usize)?;
+            text.extend_from_slice(b": out of budget ")?;
+            put_number(text, budget as usize)?;
             text.extend_from_slice(b", the reference halts")
         }
         Contrast::Halts(budget) => {
-            put_counted(
-                text,
-                b" halts, the reference is out of budget ",
-                budget as usize,
-            )
+            text.extend_from_slice(b": halts, the reference is out of budget ")?;
+            put_number(text, budget as usize)
         }
     }
 }
 
-/// Adds a difference from the reference.
-fn put_difference(
-    text: &mut Vec<u8>,
-    reference: Reference<'_>,
-    difference: Difference,
-) -> Result<(), AllocError> {
-    if let Some(cycle) = reference.cycles.get(difference.boundary) {
-        put_parts(text, &[b"class ", &cycle.class])?;
+/// Adds two numbers, each after its words.
+fn put_numbers(text: &mut Vec<u8>, numbers: [(&[u8], usize); 2]) -> Result<(), AllocError> {
+    for (words, number) in numbers {
+        text.extend_from_slice(words)?;
+        put_number(text, number)?;
     }
-    put_counted(text, b" run ", difference.run.saturating_add(1))?;
-    put_counted(text, b" cycle ", difference.cycle.saturating_add(1))?;
-    text.extend_from_slice(b":")?;
-    put_contrast(text, reference.interface, difference.contrast)
+    Ok(())
 }
 
 /// Adds what a trial shows.
@@ -217,17 +189,25 @@ fn put_comparison(
 ) -> Result<(), AllocError> {
     match comparison {
         Comparison::Alike { runs, cycles } => {
-            put_counted(text, b"no difference in ", runs)?;
-            put_counted(text, b" runs with ", cycles)?;
+            put_numbers(text, [(b"no difference in ", runs), (b" runs with ", cycles)])?;
             text.extend_from_slice(b" cycles (a test, no proof)")
         }
-        Comparison::Apart(difference) => put_difference(text, reference, difference),
+        Comparison::Apart(difference) => {
+            if let Some(cycle) = reference.cycles.get(difference.boundary) {
+                put_parts(text, &[b"class ", &cycle.class])?;
+            }
+            let run = difference.run.saturating_add(1);
+            let cycle = difference.cycle.saturating_add(1);
+            put_numbers(text, [(b" run ", run), (b" cycle ", cycle)])?;
+            put_contrast(text, reference.interface, difference.contrast)
+        }
         Comparison::Lacking(number) => {
-            put_global(text, b"missing ", asked(reference.interface, number))
+            let (name, class) = asked(reference.interface, number);
+            put_parts(text, &[b"missing ", name, b" : ", class])
         }
         Comparison::Extra(place) => {
             let held = numbered(reference.verified.image(), place);
-            put_global(text, b"unexpected ", (held.name, held.class))
+            put_parts(text, &[b"unexpected ", held.name, b" : ", held.class])
         }
         Comparison::Untried => {
             text.extend_from_slice(b"not compared, no program with the globals of the interface")
@@ -249,14 +229,6 @@ pub fn reference_line(
     Ok(text)
 }
 
-/// The line as an object of JSON with `agrees` and `text`, and a line feed.
-fn object_of(alloc: Global, agrees: bool, line: &[u8]) -> Result<Vec<u8>, AllocError> {
-    Object::new(alloc)
-        .flag("agrees", agrees)?
-        .text("text", line)?
-        .line()
-}
-
 /// An answer after its beginning, if it begins so.
 fn after<'a>(answer: &'a [u8], beginning: &[u8]) -> &'a [u8] {
     answer.strip_prefix(beginning).unwrap_or(answer)
@@ -273,7 +245,7 @@ pub fn lines_with(
     ensures begins { IfOk result (λ text. reference_spec.Begins is_alone answer.items text.items) }
 {
     let mut text = if is_alone {
-        Vec::from_slice(alloc, after(&answer, CONFORMS))?
+        Vec::from_slice(alloc, after(&answer, b"conforms\n"))?
     } else {
         answer
     };
@@ -294,10 +266,11 @@ pub fn json_with(
         reference_spec.Begins is_alone (reference_spec.opened answer.now) text.items) }
 {
     let open = &answer[..answer.len().saturating_sub(2)];
-    let object = object_of(alloc, agrees, line)?;
+    let object = Object::new(alloc).flag("agrees", agrees)?;
+    let object = object.text("text", line)?.line()?;
     let mut text = Vec::new(alloc);
     if is_alone {
-        put_parts(&mut text, &[DIFFERING, after(open, CONFORMING)])?;
+        put_parts(&mut text, &[b"{\"conforms\":false", after(open, b"{\"conforms\":true")])?;
     } else {
         text.extend_from_slice(open)?;
     }
