@@ -29,10 +29,9 @@ use vsi_arguments::{AnswerForm, Conformance};
 use vsi_audit::{AuditError, audit_in};
 use vsi_compiler::{CompileError, unjudged_image};
 use vsi_conform::{
-    Answer, Cycle, Interface, InterfaceError, InterfaceFile, Judgement, Policy, interface_text,
-    is_within, path_beside, points_json, points_text, read_interface, unknown_class, unknown_cycle,
+    Answer, Cycle, Interface, InterfaceError, InterfaceFile, Judgement, Policy, conform_image,
+    images, interface_text, is_within, path_beside, points_json, points_text, read_interface, unknown_class, unknown_cycle,
 };
-use vsi_conform_image::conform_image;
 use vsi_image::Image;
 use vsi_lattice::Lattice;
 use vsi_sarif::{image_sarif, points_sarif};
@@ -313,17 +312,17 @@ fn image_text(
     lattice: &Lattice,
     image: &Image,
     interface: &Interface,
-    answer: &vsi_conform_image::Answer,
+    answer: &images::Answer,
 ) -> Result<Vec<u8>, AllocError>
     ensures { IfOk result (λ out.
         IsSuppliedAs form path.now lattice.now image.now interface.now answer.now out.items) }
 {
     match form {
         AnswerForm::Lines => {
-            vsi_conform_image::points_text(alloc, lattice, image, interface, answer)
+            images::points_text(alloc, lattice, image, interface, answer)
         }
         AnswerForm::Json => {
-            vsi_conform_image::points_json(alloc, lattice, image, interface, answer)
+            images::points_json(alloc, lattice, image, interface, answer)
         }
         AnswerForm::Sarif => image_sarif(alloc, lattice, path, image, interface, answer),
     }

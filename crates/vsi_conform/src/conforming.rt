@@ -26,7 +26,7 @@ use vsi_syntax::put_number;
 use vsi_types::Profile;
 
 /// The differences between the globals and runs of an image and the required ones.
-pub fn image_points(
+pub(crate) fn image_points(
     alloc: Global,
     verified: &Verified,
     interface: &Interface,
@@ -368,7 +368,7 @@ fn report_within(
 
 /// The line about the bound of an image that isn't as required, by the answer of `vsi bound`.
 #[tactic(auto, using(crate::proofs::BoundLines::answer_bounded, crate::proofs::BoundLines::answer_lacks, crate::proofs::BoundLines::answer_above))]
-pub fn bound_report(
+pub(crate) fn bound_report(
     alloc: Global,
     verified: &Verified,
     bounded: Bounded,

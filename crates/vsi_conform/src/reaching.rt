@@ -17,7 +17,7 @@ use vsi_types::Profile;
 
 /// The flows of a program between its globals.
 #[derive(Debug, Drop)]
-pub struct GlobalFlows {
+pub(crate) struct GlobalFlows {
     /// The names of the globals, in order.
     pub names: Vec<Vec<u8>>,
     /// The pairs of the table of flows. Without a table, each global counts as reaching every other
@@ -187,7 +187,7 @@ fn put_reaches(
 
 /// The released outputs of boundaries, in their order, each with the globals of a program that reach
 /// it.
-pub fn reaches_of(
+pub(crate) fn reaches_of(
     alloc: Heap,
     flows: &GlobalFlows,
     cycles: &[Cycle],
@@ -203,7 +203,7 @@ pub fn reaches_of(
 }
 
 /// Whether a boundary releases an output.
-pub fn have_released(cycles: &[Cycle]) -> bool
+pub(crate) fn have_released(cycles: &[Cycle]) -> bool
     ensures released { result ≡ spec.releases (map cycle_of cycles.now) }
 {
     for cycle in cycles {

@@ -79,7 +79,7 @@ pub struct Row {
 
 /// What is judged: a source text and the globals that it declares, or an image.
 #[derive(Clone, Copy)]
-pub enum Judged<'a> {
+pub(crate) enum Judged<'a> {
     Text(&'a [u8], &'a [Declaration<'a>]),
     Image(&'a Image),
 }
@@ -87,7 +87,7 @@ pub enum Judged<'a> {
 /// A global: its name, its class name and, if it is one of a text, the line and the column of one of
 /// them.
 #[derive(Clone, Copy)]
-pub struct Held<'a> {
+pub(crate) struct Held<'a> {
     pub name: &'a [u8],
     pub class: &'a [u8],
     pub place: Option<(usize, usize)>,
@@ -120,7 +120,7 @@ fn declared_at<'a>(text: &[u8], found: &[Declaration<'a>], place: usize, is_clas
 }
 
 /// The global of an image at an index; one with an empty name if there is none.
-pub fn numbered(image: &Image, place: usize) -> Held<'_>
+pub(crate) fn numbered(image: &Image, place: usize) -> Held<'_>
     ensures global { spec.held result ≡ spec.image_held image.now place }
 {
     match image.globals.get(place) {
@@ -148,7 +148,7 @@ fn held_at<'a>(judged: &Judged<'a>, place: usize, is_class: bool) -> Held<'a>
 }
 
 /// The required global with this number.
-pub fn asked<'a>(interface: &'a Interface, number: usize) -> (&'a [u8], &'a [u8])
+pub(crate) fn asked<'a>(interface: &'a Interface, number: usize) -> (&'a [u8], &'a [u8])
     ensures { (result.0.now, result.1.now) ≡ shown.asked interface.now number }
 {
     match interface.globals.get(number) {
@@ -317,7 +317,7 @@ fn put_lines(
 
 /// The rows of an answer about what is judged: that of the refusal, if it is refused, one for each
 /// point, and that of the bound, if it isn't as required.
-pub fn rows_of(
+pub(crate) fn rows_of(
     alloc: Global,
     judged: &Judged,
     interface: &Interface,

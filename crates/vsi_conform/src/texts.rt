@@ -263,7 +263,7 @@ fn row_lines(alloc: Global, rows: &[Row]) -> Result<Vec<u8>, AllocError>
 }
 
 /// The lines of an answer: `conforms`, or those of its rows.
-pub fn rows_text(alloc: Global, rows: &[Row]) -> Result<Vec<u8>, AllocError>
+pub(crate) fn rows_text(alloc: Global, rows: &[Row]) -> Result<Vec<u8>, AllocError>
     ensures text { IfOk result (λ out. out.items ≡ spec.rows_text (map row rows.now)) }
 {
     match rows {
@@ -363,7 +363,7 @@ fn row_objects(alloc: Global, rows: &[Row]) -> Result<Objects, AllocError>
 
 /// The line of JSON of an answer with these rows: an object with `conforms`, whether there are none,
 /// and `points`, an array with an object for each.
-pub fn rows_json(alloc: Global, rows: &[Row]) -> Result<Vec<u8>, AllocError>
+pub(crate) fn rows_json(alloc: Global, rows: &[Row]) -> Result<Vec<u8>, AllocError>
     ensures json { IfOk result (λ out. out.items ≡ json_spec.rows_json (map row rows.now)) }
 {
     let objects = row_objects(alloc, rows)?;

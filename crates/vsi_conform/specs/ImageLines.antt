@@ -10,13 +10,13 @@ use Rattle.vsi_diagnostics.specs.Diagnostic.{Diagnostic}
 use Rattle.vsi_conform.specs.declared.interface.Interface.{Interface}
 use Rattle.vsi_conform.specs.declared.interface.Judgement.{Judgement}
 use Rattle.vsi_conform.specs.Checking.{audit_diagnostic, steady_diagnostic}
-use Rattle.vsi_conform_image.specs.Conforms.{IsJudged}
+use Rattle.vsi_conform.specs.ImageConforms.{IsJudged}
 use Rattle.vsi_conform.specs.Json.{rows_json}
 use Rattle.vsi_conform.specs.Lines.{rows_text}
 use Rattle.vsi_conform.specs.Rows.{Row, numbered_held, rows_of}
-use Rattle.vsi_conform_image.specs.declared.conforming.Answer.{Answer}
-use Rattle.vsi_conform_image.specs.declared.conforming.Refusal.{Refusal}
-use Rattle.vsi_conform_image.specs.declared.conforming.Refusal.TheVariants.{Audit, Steady}
+use Rattle.vsi_conform.specs.declared.images.Answer.{Answer}
+use Rattle.vsi_conform.specs.declared.images.Refusal.{Refusal}
+use Rattle.vsi_conform.specs.declared.images.Refusal.TheVariants.{Audit, Steady}
 
 -- The lines of a refusal are those of `audit`.
 abbrev pub IsRefusalLines : Lattice → Image → Refusal → List ℕ → Type 0

@@ -3,12 +3,14 @@
 //! and proves nothing about the words that it doesn't draw.
 
 ghost use Rattle.std.specs.Prelude.{◌≡◌, IfOk, IfSome};
-ghost use Rattle.vsi_conform_image.specs.Reference as spec;
+ghost use Rattle.vsi_conform.specs.Reference as spec;
 
+use crate::cycles::Cycle;
+use crate::interface::Interface;
+use crate::reaching::is_among;
 use rand_core::{Rng, SeedableRng};
 use rand_xoshiro::SplitMix64;
 use std::alloc::{AllocError, Global};
-use vsi_conform::{Cycle, Interface, is_among};
 use vsi_image::{Image, Instr, Verified};
 use vsi_lattice::Lattice;
 use vsi_machine::{Machine, Outcome};

@@ -1,9 +1,9 @@
 -- The results of a trial beside a reference, and the beginning of an answer to which its line is added.
 use Rattle.std.specs.Prelude.{◌≡◌, ◌≢◌, ℕ, ◌-◌, Bool, true, false, List, ◌++◌, length, take}
-use Rattle.vsi_conform_image.specs.declared.reference.Comparison.{Comparison}
-use Rattle.vsi_conform_image.specs.declared.reference.Comparison.TheVariants.{Alike, Apart, Lacking, Extra, Untried}
-use Rattle.vsi_conform_image.specs.declared.reference.Contrast.{Contrast}
-use Rattle.vsi_conform_image.specs.declared.reference.Contrast.TheVariants.{Word, Endless, Halts}
+use Rattle.vsi_conform.specs.declared.reference.Comparison.{Comparison}
+use Rattle.vsi_conform.specs.declared.reference.Comparison.TheVariants.{Alike, Apart, Lacking, Extra, Untried}
+use Rattle.vsi_conform.specs.declared.reference.Contrast.{Contrast}
+use Rattle.vsi_conform.specs.declared.reference.Contrast.TheVariants.{Word, Endless, Halts}
 
 -- A contrast of words is one of different words.
 abbrev pub IsContrast : Contrast → Type 0

@@ -1,4 +1,4 @@
-use Rattle.vsi_conform_image.proofs.conforming.audited_in.Goals as goal
+use Rattle.vsi_conform.proofs.images.audited_in.Goals as goal
 
 pub returns-in-Ok : goal.returns-in-Ok
 returns-in-Ok c =

@@ -16,8 +16,8 @@ use Rattle.vsi_conform.specs.Points.{is_none_told, points_of}
 use Rattle.vsi_conform.proofs.BoundLines.{bounded_so}
 use Rattle.vsi_conform.proofs.Converse.{fitting_told}
 use Rattle.vsi_conform.proofs.Fitting.{image_fits}
-use Rattle.vsi_conform_image.specs.Conforms.{Conforms, IsAcceptedAs, IsJudged}
-use Rattle.vsi_conform_image.specs.declared.conforming.Refusal.{Refusal}
+use Rattle.vsi_conform.specs.ImageConforms.{Conforms, IsAcceptedAs, IsJudged}
+use Rattle.vsi_conform.specs.declared.images.Refusal.{Refusal}
 
 -- An image without a refusal is as the profile requires.
 accepted_so : (known : Known) (L : Lattice) (j : Judgement) (image : Image) → IsJudged known L j image None →

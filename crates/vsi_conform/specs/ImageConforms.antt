@@ -21,9 +21,9 @@ use Rattle.vsi_conform.specs.declared.interface.Judgement.TheVariants.{Base, Str
 use Rattle.vsi_conform.specs.Bounded.{ReportsBound}
 use Rattle.vsi_conform.specs.Conforms.{Fits}
 use Rattle.vsi_conform.specs.Points.{is_none_told, points_of}
-use Rattle.vsi_conform_image.specs.declared.conforming.Answer.{Answer}
-use Rattle.vsi_conform_image.specs.declared.conforming.Refusal.{Refusal}
-use Rattle.vsi_conform_image.specs.declared.conforming.Refusal.TheVariants as refusal
+use Rattle.vsi_conform.specs.declared.images.Answer.{Answer}
+use Rattle.vsi_conform.specs.declared.images.Refusal.{Refusal}
+use Rattle.vsi_conform.specs.declared.images.Refusal.TheVariants as refusal
 
 -- An image is noninterfering, and its runs end alike where the strict profile judges it.
 pub record IsAudited (known : Known) (L : Lattice) (P : Profile) (image : Image) : Type 0 where

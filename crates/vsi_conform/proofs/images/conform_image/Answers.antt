@@ -1,5 +1,5 @@
-use Rattle.vsi_conform_image.proofs.Fitting.{conforms_so, fitting_so}
-use Rattle.vsi_conform_image.proofs.conforming.conform_image.Goals as goal
+use Rattle.vsi_conform.proofs.ImageFitting.{conforms_so, fitting_so}
+use Rattle.vsi_conform.proofs.images.conform_image.Goals as goal
 
 pub returns-clause-conforms : goal.returns-clause-conforms
 returns-clause-conforms c = λ h.

@@ -1,6 +1,6 @@
 use Rattle.std.proofs.Common.{sym, ◌∙◌}
 use Rattle.vsi_conform.proofs.BoundLines.{nothing_reported}
-use Rattle.vsi_conform_image.proofs.conforming.bound_line.Goals as goal
+use Rattle.vsi_conform.proofs.images.bound_line.Goals as goal
 
 pub returns-then-not-demands_bound : goal.returns-then-not-demands_bound
 returns-then-not-demands_bound c =
