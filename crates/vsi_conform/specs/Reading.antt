@@ -1,10 +1,10 @@
 -- The contents of an interface file, in terms of the table that its text denotes.
-use Rattle.std.specs.Prelude.{◌≡◌, ℕ, ◌+◌, nat_lt, ℤ, pos, negsuc, List, [], ◌∷◌, Bool, true, false, not, ◌&&◌, ◌||◌, if◌then◌else◌, Option, Some, None, IfSome, is_some, option_map, option_and_then, map, codes, bytes_eq}
+use Rattle.std.specs.Prelude.{◌≡◌, ℕ, zero, suc, ◌+◌, ℤ, pos, negsuc, List, [], ◌∷◌, Bool, true, false, not, ◌&&◌, ◌||◌, if◌then◌else◌, Option, Some, None, IfSome, is_some, option_map, option_and_then, unwrap_or, map, codes, bytes_eq}
 use Rattle.std.specs.Borrow.{Bor}
 use Rattle.std.specs.Global.{Vec}
 use Rattle.std.specs.List.{All}
 use Rattle.std.specs.Str.{IsUtf8}
-use Rattle.toml.specs.Data.{Data, Members, no_members, member, get_member, as_str, as_integer, as_bool, as_array, as_table}
+use Rattle.toml.specs.Data.{Data, Items, no_items, Members, no_members, member, get_member, as_str, as_integer, as_bool, as_array, as_table}
 use Rattle.toml.specs.Parse.{parse_document}
 use Rattle.vsi_lattice.specs.Known.{Known}
 use Rattle.vsi_lattice.specs.Shape.{pair_of, all_of, array_at}
@@ -92,7 +92,7 @@ natural (negsuc n) = None
 
 -- The maximum, if it is at least 1.
 abbrev pub at_most : ℕ → Option Bounded
-at_most 0 = None
+at_most zero = None
 at_most (suc n) = Some (AtMost (suc n))
 
 -- The required bound, by its maximum.
@@ -134,8 +134,8 @@ entries_of d = option_and_then numbers_of (as_table d)
 -- ---- runs.
 
 -- The elements of the array that is a value, which may be missing.
-abbrev pub elements_from : Option Data → Option (List Data)
-elements_from None = Some []
+abbrev pub elements_from : Option Data → Option Items
+elements_from None = Some no_items
 elements_from (Some d) = as_array d
 
 -- A required run, as a value of these definitions.

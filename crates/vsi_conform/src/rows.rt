@@ -275,24 +275,6 @@ fn row_of(
     }
 }
 
-/// Adds the rows of points.
-fn put_points(
-    alloc: Global,
-    found: &mut Vec<Row>,
-    judged: &Judged,
-    interface: &Interface,
-    points: &[Point],
-) -> Result<(), AllocError>
-    ensures { OnOk result (map spec.row found.new.items ≡ map spec.row found.old.items
-        ++ map (spec.row_of interface.now (spec.held_of judged.now)) points.now) }
-{
-    for point in points {
-        let row = row_of(alloc, judged, interface, *point)?;
-        found.push(row)?;
-    }
-    Ok(())
-}
-
 /// Adds the row of a refusal or a bound, if there are lines about it.
 fn put_lines(
     alloc: Global,
@@ -330,7 +312,10 @@ pub(crate) fn rows_of(
 {
     let mut found = Vec::new(alloc);
     put_lines(alloc, &mut found, Kind::Refused, refusal)?;
-    put_points(alloc, &mut found, judged, interface, points)?;
+    for point in points {
+        let row = row_of(alloc, judged, interface, *point)?;
+        found.push(row)?;
+    }
     put_lines(alloc, &mut found, Kind::Bound, unbounded)?;
     Ok(found)
 }

@@ -251,25 +251,18 @@ pub fn put_row(text: &mut Vec<u8>, point: &Row) -> Result<(), AllocError>
     put_detail(text, point.kind, &point.detail)
 }
 
-/// The lines of rows.
-fn row_lines(alloc: Global, rows: &[Row]) -> Result<Vec<u8>, AllocError>
-    ensures { IfOk result (λ out. out.items ≡ flat_map spec.line (map row rows.now)) }
+/// The lines of an answer: `conforms`, or those of its rows.
+pub(crate) fn rows_text(alloc: Global, rows: &[Row]) -> Result<Vec<u8>, AllocError>
+    ensures text { IfOk result (λ out. out.items ≡ spec.rows_text (map row rows.now)) }
 {
+    if let [] = rows {
+        return Vec::from_slice(alloc, b"conforms\n");
+    }
     let mut lines = Vec::new(alloc);
     for point in rows {
         put_row(&mut lines, point)?;
     }
     Ok(lines)
-}
-
-/// The lines of an answer: `conforms`, or those of its rows.
-pub(crate) fn rows_text(alloc: Global, rows: &[Row]) -> Result<Vec<u8>, AllocError>
-    ensures text { IfOk result (λ out. out.items ≡ spec.rows_text (map row rows.now)) }
-{
-    match rows {
-        [] => Vec::from_slice(alloc, b"conforms\n"),
-        [_, ..] => row_lines(alloc, rows),
-    }
 }
 
 /// The lines of an answer: `conforms`, or those of the refusal, one for each point and one about the
