@@ -30,7 +30,8 @@ use vsi_audit::{AuditError, audit_in};
 use vsi_compiler::{CompileError, unjudged_image};
 use vsi_conform::{
     Answer, Cycle, Interface, InterfaceError, InterfaceFile, Judgement, Policy, conform_image,
-    images, interface_text, is_within, path_beside, points_json, points_text, read_interface, unknown_class, unknown_cycle,
+    images, interface_text, is_within, path_beside, points_json, points_text, read_interface,
+    unknown_class, unknown_cycle,
 };
 use vsi_image::Image;
 use vsi_lattice::Lattice;
@@ -318,12 +319,8 @@ fn image_text(
         IsSuppliedAs form path.now lattice.now image.now interface.now answer.now out.items) }
 {
     match form {
-        AnswerForm::Lines => {
-            images::points_text(alloc, lattice, image, interface, answer)
-        }
-        AnswerForm::Json => {
-            images::points_json(alloc, lattice, image, interface, answer)
-        }
+        AnswerForm::Lines => { images::points_text(alloc, lattice, image, interface, answer) }
+        AnswerForm::Json => { images::points_json(alloc, lattice, image, interface, answer) }
         AnswerForm::Sarif => image_sarif(alloc, lattice, path, image, interface, answer),
     }
 }

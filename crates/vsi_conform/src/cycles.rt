@@ -42,9 +42,7 @@ impl Section<'_> {
         ensures known { IfOk result
             (λ name. spec.IsKnown (image.globals self.now.globals.now) name.items) }
     {
-        let name = value
-            .as_str()
-            .ok_or(InterfaceError::BadCycle(self.number))?;
+        let name = value.as_str().ok_or(InterfaceError::BadCycle(self.number))?;
         let known = Vec::from_slice(self.alloc, name.as_bytes())?;
         if !is_named(self.globals, name.as_bytes()) {
             return Err(InterfaceError::UnknownInCycle(self.number, known));

@@ -116,7 +116,10 @@ pub(crate) fn global_points(
 }
 
 /// The globals of a text, in its order; a text without a tree has none.
-pub(crate) fn declarations<'a>(alloc: Global, text: &'a [u8]) -> Result<Vec<Declaration<'a>>, AllocError>
+pub(crate) fn declarations<'a>(
+    alloc: Global,
+    text: &'a [u8],
+) -> Result<Vec<Declaration<'a>>, AllocError>
     ensures { IfOk result (λ found. shown_spec.Declares text.now (map declared found.items)) }
 {
     let tokens = match lex(alloc, text) {

@@ -403,7 +403,10 @@ fn put_comparison(
 ) -> Result<(), AllocError> {
     match comparison {
         Comparison::Alike { runs, cycles } => {
-            put_numbers(text, [(b"no difference in ", runs), (b" runs with ", cycles)])?;
+            put_numbers(
+                text,
+                [(b"no difference in ", runs), (b" runs with ", cycles)],
+            )?;
             text.extend_from_slice(b" cycles (a test, no proof)")
         }
         Comparison::Apart(difference) => {
@@ -484,7 +487,10 @@ pub fn json_with(
     let object = object.text("text", line)?.line()?;
     let mut text = Vec::new(alloc);
     if is_alone {
-        put_parts(&mut text, &[b"{\"conforms\":false", after(open, b"{\"conforms\":true")])?;
+        put_parts(
+            &mut text,
+            &[b"{\"conforms\":false", after(open, b"{\"conforms\":true")],
+        )?;
     } else {
         text.extend_from_slice(open)?;
     }

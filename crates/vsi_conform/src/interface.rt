@@ -195,7 +195,11 @@ fn fault_parts(error: &InterfaceError) -> (&'static [u8], Option<usize>, Option<
             (b"UnknownInCycle", Some(*number), Some(word.as_slice()))
         }
         InterfaceError::BadReference => (b"BadReference", None, None),
-        InterfaceError::RefusedReference(word) => (b"RefusedReference", None, Some(word.as_slice())),
+        InterfaceError::RefusedReference(word) => (
+            b"RefusedReference",
+            None,
+            Some(word.as_slice()),
+        ),
         InterfaceError::AboveBudget(budget) => (b"AboveBudget", Some(*budget as usize), None),
         InterfaceError::Memory => (b"Memory", None, None),
     }

@@ -48,8 +48,7 @@ pub use interface::{
     interface_text, is_within,
 };
 pub use reaching::{
-    Reach, are_within, flows_profile, is_among, text_reaches, with_reached_json,
-    with_reached_lines,
+    Reach, are_within, flows_profile, is_among, text_reaches, with_reached_json, with_reached_lines,
 };
 pub use reader::{InterfaceFile, Policy, path_beside, read_interface, unknown_class};
 pub use reference::{Comparison, Contrast, Difference, Reference, compare_reference};

@@ -116,11 +116,7 @@ pub fn is_among(listed: &[Vec<u8>], name: &[u8]) -> bool
 }
 
 /// The names that aren't in a list.
-fn unlisted(
-    alloc: Heap,
-    listed: &[Vec<u8>],
-    names: &[Vec<u8>],
-) -> Result<Vec<Vec<u8>>, AllocError>
+fn unlisted(alloc: Heap, listed: &[Vec<u8>], names: &[Vec<u8>]) -> Result<Vec<Vec<u8>>, AllocError>
     ensures { IfOk result (λ found. bytes_of found.items
         ≡ spec.unlisted (bytes_of listed.now) (bytes_of names.now)) }
 {

@@ -103,16 +103,10 @@ struct Side<'a> {
 }
 
 /// The place of a global among others, by its name and its class.
-fn place_of(
-    globals: &[(Vec<u8>, Vec<u8>)],
-    global: &(Vec<u8>, Vec<u8>),
-) -> Option<usize> {
-    for (place, found) in globals.iter().enumerate() {
-        if found.0.as_slice() == global.0.as_slice() && found.1.as_slice() == global.1.as_slice() {
-            return Some(place);
-        }
-    }
-    None
+fn place_of(globals: &[(Vec<u8>, Vec<u8>)], global: &(Vec<u8>, Vec<u8>)) -> Option<usize> {
+    globals.iter().position(|found| {
+        found.0.as_slice() == global.0.as_slice() && found.1.as_slice() == global.1.as_slice()
+    })
 }
 
 /// The place of each of these globals in an image, up to the first that it lacks.
@@ -355,12 +349,8 @@ fn constants_of(
 
 /// The first global of an image that an interface doesn't have.
 fn extra_of(verified: &Verified, interface: &Interface) -> Option<usize> {
-    for (place, global) in verified.image().globals.iter().enumerate() {
-        if place_of(&interface.globals, global).is_none() {
-            return Some(place);
-        }
-    }
-    None
+    let mut globals = verified.image().globals.iter();
+    globals.position(|global| place_of(&interface.globals, global).is_none())
 }
 
 /// Runs an image beside a reference, for each boundary that releases outputs: 64 runs of 32 cycles

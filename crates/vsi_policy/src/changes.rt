@@ -144,9 +144,5 @@ pub fn seen_changes(alloc: Global, lattice: &Lattice, old: &Lattice) -> Result<V
 {
     let globals = own_globals(alloc, lattice)?;
     let olds = own_globals(alloc, old)?;
-    changed(
-        alloc,
-        &alone(lattice, &globals),
-        &alone(old, &olds),
-    )
+    changed(alloc, &alone(lattice, &globals), &alone(old, &olds))
 }
