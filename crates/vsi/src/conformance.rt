@@ -319,8 +319,8 @@ fn image_text(
         IsSuppliedAs form path.now lattice.now image.now interface.now answer.now out.items) }
 {
     match form {
-        AnswerForm::Lines => { images::points_text(alloc, lattice, image, interface, answer) }
-        AnswerForm::Json => { images::points_json(alloc, lattice, image, interface, answer) }
+        AnswerForm::Lines => images::points_text(alloc, lattice, image, interface, answer),
+        AnswerForm::Json => images::points_json(alloc, lattice, image, interface, answer),
         AnswerForm::Sarif => image_sarif(alloc, lattice, path, image, interface, answer),
     }
 }

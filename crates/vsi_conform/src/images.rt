@@ -375,24 +375,20 @@ fn put_contrast(
             put_word(text, expected)
         }
         Contrast::Endless(budget) => {
-            text.extend_from_slice(b": out of budget ")?;
-            put_number(text, budget as usize)?;
+            put_counted(text, b": out of budget ", budget as usize)?;
             text.extend_from_slice(b", the reference halts")
         }
         Contrast::Halts(budget) => {
-            text.extend_from_slice(b": halts, the reference is out of budget ")?;
-            put_number(text, budget as usize)
+            let words = b": halts, the reference is out of budget ";
+            put_counted(text, words, budget as usize)
         }
     }
 }
 
-/// Adds two numbers, each after its words.
-fn put_numbers(text: &mut Vec<u8>, numbers: [(&[u8], usize); 2]) -> Result<(), AllocError> {
-    for (words, number) in numbers {
-        text.extend_from_slice(words)?;
-        put_number(text, number)?;
-    }
-    Ok(())
+/// Adds words, and then a number.
+fn put_counted(text: &mut Vec<u8>, words: &[u8], number: usize) -> Result<(), AllocError> {
+    text.extend_from_slice(words)?;
+    put_number(text, number)
 }
 
 /// Adds what a trial shows.
@@ -403,10 +399,8 @@ fn put_comparison(
 ) -> Result<(), AllocError> {
     match comparison {
         Comparison::Alike { runs, cycles } => {
-            put_numbers(
-                text,
-                [(b"no difference in ", runs), (b" runs with ", cycles)],
-            )?;
+            put_counted(text, b"no difference in ", runs)?;
+            put_counted(text, b" runs with ", cycles)?;
             text.extend_from_slice(b" cycles (a test, no proof)")
         }
         Comparison::Apart(difference) => {
@@ -415,7 +409,8 @@ fn put_comparison(
             }
             let run = difference.run.saturating_add(1);
             let cycle = difference.cycle.saturating_add(1);
-            put_numbers(text, [(b" run ", run), (b" cycle ", cycle)])?;
+            put_counted(text, b" run ", run)?;
+            put_counted(text, b" cycle ", cycle)?;
             put_contrast(text, reference.interface, difference.contrast)
         }
         Comparison::Lacking(number) => {
@@ -487,10 +482,8 @@ pub fn json_with(
     let object = object.text("text", line)?.line()?;
     let mut text = Vec::new(alloc);
     if is_alone {
-        put_parts(
-            &mut text,
-            &[b"{\"conforms\":false", after(open, b"{\"conforms\":true")],
-        )?;
+        let rest = after(open, b"{\"conforms\":true");
+        put_parts(&mut text, &[b"{\"conforms\":false", rest])?;
     } else {
         text.extend_from_slice(open)?;
     }

@@ -72,10 +72,8 @@ fn sees(side: &Side, class: &[u8], name: &[u8]) -> bool
     let Some(found) = class_of(side.globals, name) else {
         return false;
     };
-    match (
-        side.lattice.class_named(class),
-        side.lattice.class_named(found),
-    ) {
+    let seen = side.lattice.class_named(found);
+    match (side.lattice.class_named(class), seen) {
         (Some(viewer), Some(seen)) => side.lattice.leq(seen, viewer),
         _ => false,
     }

@@ -149,10 +149,8 @@ pub fn unused_warnings(
     for class in 0..lattice.count() {
         let name = name_of(lattice, class);
         if !is_used(&interface.globals, name) {
-            put_parts(
-                &mut text,
-                &[b"warning: no global has the class ", name, b"\n"],
-            )?;
+            text.extend_from_slice(b"warning: no global has the class ")?;
+            put_parts(&mut text, &[name, b"\n"])?;
         }
     }
     Ok(text)
