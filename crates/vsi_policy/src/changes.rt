@@ -28,7 +28,9 @@ impl Change<'_> {
         for variable in self.side.globals {
             let name = variable.0.as_slice();
             if may(role, self.side, class, name) && !may(role, self.other, class, name) {
-                put_parts(text, &[class, self.adverb, verb(role), b" ", name, b"\n"])?;
+                put_parts(text, &[class, self.adverb])?;
+                text.extend_from_slice(verb(role))?;
+                put_parts(text, &[b" ", name, b"\n"])?;
             }
         }
         Ok(())

@@ -56,7 +56,8 @@ fn put_row(text: &mut Vec<u8>, role: Role, side: &Side, class: &[u8]) -> Result<
     ensures { OnOk result
         (text.new.items ≡ text.old.items ++ spec.role_row role (view side.now) class.now) }
 {
-    put_parts(text, &[class, b" ", verb(role)])?;
+    put_parts(text, &[class, b" "])?;
+    text.extend_from_slice(verb(role))?;
     put_names(text, role, side, class)?;
     text.extend_from_slice(b"\n")
 }
