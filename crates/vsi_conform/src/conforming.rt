@@ -379,9 +379,17 @@ pub(crate) fn bound_report(
 {
     match bounded {
         Bounded::No => Ok(None),
-        Bounded::Yes if answer.is_bounded => Ok(None),
-        Bounded::Yes => Ok(Some(answer.text)),
-        Bounded::AtMost(maximum) if answer.is_bounded => report_within(alloc, verified, maximum),
-        Bounded::AtMost(_) => Ok(Some(answer.text)),
+        Bounded::Yes => {
+            if answer.is_bounded {
+                return Ok(None);
+            }
+            Ok(Some(answer.text))
+        }
+        Bounded::AtMost(maximum) => {
+            if answer.is_bounded {
+                return report_within(alloc, verified, maximum);
+            }
+            Ok(Some(answer.text))
+        }
     }
 }

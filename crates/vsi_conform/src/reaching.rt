@@ -332,7 +332,8 @@ fn put_quoted(text: &mut Vec<u8>, names: &[Vec<u8>]) -> Result<(), AllocError>
         (text.new.items ≡ text.old.items ++ lines_spec.quoted 0 (bytes_of names.now)) }
 {
     for (i, name) in names.iter().enumerate() {
-        put_parts(text, &[comma(i), b"\"", name, b"\""])?;
+        text.extend_from_slice(comma(i))?;
+        put_parts(text, &[b"\"", name, b"\""])?;
     }
     Ok(())
 }

@@ -181,7 +181,8 @@ fn put_global(
     ensures { OnOk result (text.new.items ≡ text.old.items ++ spec.global_text kind name.now
         class.now (option_map (λ e. e.items) expected.now)) }
 {
-    put_parts(text, &[kind.word(), b" ", name])?;
+    text.extend_from_slice(kind.word())?;
+    put_parts(text, &[b" ", name])?;
     put_class(text, kind, class)?;
     if let Some(expected) = expected {
         put_parts(text, &[b", expected ", expected])?;

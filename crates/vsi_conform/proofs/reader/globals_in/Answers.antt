@@ -6,6 +6,6 @@ use Rattle.vsi_conform.proofs.reader.globals_in.Goals as goal
 
 pub loop-value-preserved : goal.loop-value-preserved
 loop-value-preserved c =
-    so_far_push global pair_of c.in_ok-array.array.now.items c.loop-value.found.items c.push.new.self.items
+    so_far_push global pair_of c.loop-value.value-items c.loop-value.found.items c.push.new.self.items
     c.in_ok-entry.entry c.loop-value.value-index c.value-item.result c.loop-value-test.true c.value-item.is
     (sym c.in_ok-entry.ensures) c.in_ok-push.ensures.items c.loop-value.invariant

@@ -5,4 +5,4 @@ use Rattle.vsi_conform.proofs.reader.globals_in.Given as goal
 
 -- The globals found so far and those of the rest are all globals.
 abbrev pub invariant-loop-value : goal.invariant-loop-value
-invariant-loop-value l = IsSoFar pair_of l.array.now.items (globals l.found.items) l.value-index
+invariant-loop-value l = IsSoFar pair_of l.value-items (globals l.found.items) l.value-index
