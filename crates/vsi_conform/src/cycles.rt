@@ -50,16 +50,13 @@ impl Section<'_> {
         Ok(known)
     }
 
-    /// The names of a value that is an array.
-    fn names(&self, value: &Value) -> Result<Vec<Vec<u8>>, InterfaceError>
-        ensures names { IfOk result
-            (λ names. spec.names_of (view value.now) ≡ Some (spec.bytes_of names.items)) }
+    /// The names of an array.
+    fn names(&self, array: &[Value]) -> Result<Vec<Vec<u8>>, InterfaceError>
+        ensures names { IfOk result (λ names. shape.all_of as_str (items_view array.now)
+            ≡ Some (spec.bytes_of names.items)) }
         ensures known { IfOk result (λ names.
             All (spec.IsKnown (image.globals self.now.globals.now)) (spec.bytes_of names.items)) }
     {
-        let array = value
-            .as_array()
-            .ok_or(InterfaceError::BadCycle(self.number))?;
         let mut names = Vec::new(self.alloc);
         for value in array {
             let name = self.name(value)?;
@@ -79,7 +76,10 @@ impl Section<'_> {
         let Some(value) = value_at(table, key) else {
             return Ok(None);
         };
-        let names = self.names(value)?;
+        let array = value
+            .as_array()
+            .ok_or(InterfaceError::BadCycle(self.number))?;
+        let names = self.names(array.as_slice())?;
         Ok(Some(names))
     }
 

@@ -237,6 +237,14 @@ fn globals_in(alloc: Global, table: &Table) -> Result<Vec<(Vec<u8>, Vec<u8>)>, I
     if array.len() > MOST_GLOBALS {
         return Err(InterfaceError::BadGlobals);
     }
+    globals_of(alloc, array.as_slice())
+}
+
+/// The globals of an array.
+fn globals_of(alloc: Global, array: &[Value]) -> Result<Vec<(Vec<u8>, Vec<u8>)>, InterfaceError>
+    ensures { IfOk result (λ found. shape.all_of shape.pair_of (items_view array.now)
+        ≡ Some (globals found.items)) }
+{
     let mut found = Vec::new(alloc);
     for value in array {
         let entry = global_of(alloc, value, &found)?;

@@ -18,7 +18,7 @@ loop-value-preserved c =
     in
     record {
       so_far =
-          so_far_push bytes as_str c.loop-value.value-items c.loop-value.names.items c.push.new.self.items
+          so_far_push bytes as_str c.args.array.now c.loop-value.names.items c.push.new.self.items
           c.in_ok-name.name c.loop-value.value-index c.value-item.result c.loop-value-test.true c.value-item.is
           (sym c.in_ok-name.ensures.name) c.in_ok-push.ensures.items c.loop-value.invariant.so_far;
       known =

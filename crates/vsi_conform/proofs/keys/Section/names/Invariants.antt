@@ -8,6 +8,6 @@ use Rattle.vsi_conform.proofs.keys.Section.names.Given as goal
 -- The names found so far and those of the rest are all names; those found are names of globals.
 abbrev pub invariant-loop-value : goal.invariant-loop-value
 invariant-loop-value l = record {
-  so_far : IsSoFar as_str l.value-items (bytes_of l.names.items) l.value-index;
+  so_far : IsSoFar as_str l.array (bytes_of l.names.items) l.value-index;
   known : All (IsKnown (globals l.self.globals.now)) (bytes_of l.names.items);
 }
