@@ -9,8 +9,8 @@ use Rattle.vsi_conform.specs.Reaching.{AreTextReleased, Released, are_within}
 use Rattle.vsi_conform.specs.ReachedLines.{with_lines, with_member}
 use Rattle.vsi_conform.specs.Reading.{cycle}
 use Rattle.vsi_conform.specs.declared.reader.InterfaceFile.{InterfaceFile}
-use Rattle.vsi_conform_image.specs.Lines.{IsConformText}
-use Rattle.vsi_conform_image.specs.Reaching.{AreImageReleased}
+use Rattle.vsi_conform.specs.ImageLines.{IsConformText}
+use Rattle.vsi_conform.specs.ImageReaching.{AreImageReleased}
 use Rattle.vsi.specs.Supplied.{TellsImage}
 
 -- The released outputs of an interface, by the flows of the image with these bytes or of this source text.

@@ -3,7 +3,7 @@ use Rattle.std.specs.Prelude.{◌≡◌, ℕ, Bool, true, not, ◌&&◌, List, O
 use Rattle.std.specs.Global.{Vec}
 use Rattle.vsi_arguments.specs.declared.request.AnswerForm.{AnswerForm}
 use Rattle.vsi_arguments.specs.declared.request.AnswerForm.TheVariants.{Lines, Json, Sarif}
-use Rattle.vsi_conform_image.specs.Reference.{Begins, opened}
+use Rattle.vsi_conform.specs.Reference.{Begins, opened}
 
 -- The text begins with the answer, unless only the reference differs; a document of SARIF is the answer.
 abbrev pub BeginsSo : AnswerForm → Bool → List ℕ → List ℕ → Type 0

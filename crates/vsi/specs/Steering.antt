@@ -9,7 +9,7 @@ use Rattle.vsi_conform.specs.Bounded.{demands_bound}
 use Rattle.vsi_conform.specs.Reading.{cycle}
 use Rattle.vsi_conform.specs.Totals.{total_of}
 use Rattle.vsi_conform.specs.declared.reader.InterfaceFile.{InterfaceFile}
-use Rattle.vsi_conform_image.specs.Conforms.{Conforms}
+use Rattle.vsi_conform.specs.ImageConforms.{Conforms}
 use Rattle.vsi_arguments.specs.declared.request.DrivePolicy.{DrivePolicy}
 use Rattle.vsi_arguments.specs.declared.request.DrivePolicy.TheVariants as policy
 use Rattle.vsi_arguments.specs.declared.request.Driving.{Driving}

@@ -6,9 +6,9 @@ use Rattle.vsi_answers.specs.Judged.{AreImage}
 use Rattle.vsi_arguments.specs.declared.request.AnswerForm.{AnswerForm}
 use Rattle.vsi_arguments.specs.declared.request.AnswerForm.TheVariants.{Lines, Json, Sarif}
 use Rattle.vsi_conform.specs.declared.interface.Interface.{Interface}
-use Rattle.vsi_conform_image.specs.Conforms.{Conforms, Tells, is_conforming}
-use Rattle.vsi_conform_image.specs.Lines.{IsConformJson, IsConformText}
-use Rattle.vsi_conform_image.specs.declared.conforming.Answer.{Answer}
+use Rattle.vsi_conform.specs.ImageConforms.{Conforms, Tells, is_conforming}
+use Rattle.vsi_conform.specs.ImageLines.{IsConformJson, IsConformText}
+use Rattle.vsi_conform.specs.declared.images.Answer.{Answer}
 use Rattle.vsi_documents.specs.Findings.{IsImageSarif}
 
 -- The bytes begin as those of an image: with its three first bytes and a version below 9, which no source text has.

@@ -29,10 +29,10 @@ use vsi_arguments::{AnswerForm, Conformance};
 use vsi_audit::{AuditError, audit_in};
 use vsi_compiler::{CompileError, unjudged_image};
 use vsi_conform::{
-    Answer, Cycle, Interface, InterfaceError, InterfaceFile, Judgement, Policy, interface_text,
-    is_within, path_beside, points_json, points_text, read_interface, unknown_class, unknown_cycle,
+    Answer, Cycle, Interface, InterfaceError, InterfaceFile, Judgement, Policy, conform_image,
+    images, interface_text, is_within, path_beside, points_json, points_text, read_interface,
+    unknown_class, unknown_cycle,
 };
-use vsi_conform_image::conform_image;
 use vsi_documents::{image_sarif, points_sarif};
 use vsi_image::Image;
 use vsi_lattice::Lattice;
@@ -313,18 +313,14 @@ fn image_text(
     lattice: &Lattice,
     image: &Image,
     interface: &Interface,
-    answer: &vsi_conform_image::Answer,
+    answer: &images::Answer,
 ) -> Result<Vec<u8>, AllocError>
     ensures { IfOk result (λ out.
         IsSuppliedAs form path.now lattice.now image.now interface.now answer.now out.items) }
 {
     match form {
-        AnswerForm::Lines => {
-            vsi_conform_image::points_text(alloc, lattice, image, interface, answer)
-        }
-        AnswerForm::Json => {
-            vsi_conform_image::points_json(alloc, lattice, image, interface, answer)
-        }
+        AnswerForm::Lines => images::points_text(alloc, lattice, image, interface, answer),
+        AnswerForm::Json => images::points_json(alloc, lattice, image, interface, answer),
         AnswerForm::Sarif => image_sarif(alloc, lattice, path, image, interface, answer),
     }
 }

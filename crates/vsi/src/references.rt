@@ -19,11 +19,9 @@ use vsi_answers::judged_image;
 use vsi_arguments::{AnswerForm, Conformance};
 use vsi_compiler::{CompileError, unjudged_image};
 use vsi_conform::{
-    InterfaceError, InterfaceFile, Judgement, Reach, are_within, judged, refusal_lines,
-    text_reaches, with_reached_json, with_reached_lines,
-};
-use vsi_conform_image::{
-    Reference, compare_reference, image_reaches, json_with, lines_with, reference_line,
+    InterfaceError, InterfaceFile, Judgement, Reach, Reference, are_within, compare_reference,
+    image_reaches, json_with, judged, lines_with, reference_line, refusal_lines, text_reaches,
+    with_reached_json, with_reached_lines,
 };
 use vsi_diagnostics::without_end;
 use vsi_image::Verified;

@@ -2,7 +2,7 @@
 
 ghost use Rattle.std.specs.Prelude.{◌≡◌, ◌⊎◌, Some, false, map, option_map, true, IfErr, IfOk, OnOk, [], None, length};
 ghost use Rattle.vsi_conform.specs.Bounded.{demands_bound};
-ghost use Rattle.vsi_conform_image.specs.Conforms.{Conforms};
+ghost use Rattle.vsi_conform.specs.ImageConforms.{Conforms};
 ghost use Rattle.vsi_lattice.specs.Order.{IsClass};
 ghost use Rattle.vsi_lattice.specs.LatticeView.{order};
 ghost use Rattle.vsi.specs.Boundaries.{boundary_at, boundary_for, bound_by, table_of};
@@ -29,8 +29,10 @@ use crate::reading::{InputCache, class_in, image_in, policy_and_image, store_in}
 use crate::running::words_in;
 use std::alloc::{AllocError, Global};
 use vsi_arguments::{DrivePolicy, RUNS_BUDGET, Viewing};
-use vsi_conform::{Cycle, Interface, InterfaceFile, are_within, with_reached_lines};
-use vsi_conform_image::{conform_image, image_reaches, points_text};
+use vsi_conform::images::points_text;
+use vsi_conform::{
+    Cycle, Interface, InterfaceFile, are_within, conform_image, image_reaches, with_reached_lines,
+};
 use vsi_drive::Controller;
 use vsi_image::Verified;
 use vsi_lattice::{Class, Lattice};

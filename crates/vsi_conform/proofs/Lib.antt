@@ -9,3 +9,4 @@ pub mod Tables
 pub mod Readable
 pub mod Allowed
 pub mod Profiles
+pub mod ImageFitting

@@ -1,14 +1,12 @@
 -- The answers of a check.
-use Rattle.std.proofs.Common.{◌≡◌, ℕ, true, false, List, Ok, Err, IfOk, refl, sym, subst, ◌∙◌}
-use Rattle.std.specs.Global.{Vec}
-use Rattle.std.specs.Prelude.{◌≢◌, Result}
+use Rattle.std.proofs.Common.{◌≡◌, ℕ, List, refl, ◌∙◌}
+use Rattle.std.specs.Prelude.{◌≢◌}
 use Rattle.vsi_lattice.specs.Known.{Known}
 use Rattle.vsi_lattice.specs.Order.{Lattice}
 use Rattle.vsi_lattice.specs.LatticeView.{class_named, order}
 use Rattle.vsi_lattice.specs.declared.lattice.Lattice as named
 use Rattle.vsi_types.specs.declared.rules.Profile.{Profile}
 use Rattle.vsi_types.specs.declared.rules.Profile.TheVariants as profile
-use Rattle.vsi_image.specs.declared.instr.Image.{Image}
 use Rattle.vsi_scope.specs.Language.{Command}
 use Rattle.vsi_scope.specs.Resolving.{IsResolution}
 use Rattle.vsi_syntax.specs.Tree.{Whole}
@@ -19,14 +17,12 @@ use Rattle.vsi_compiler.specs.Source.{Reads}
 use Rattle.vsi_compiler.proofs.Held.{program_refused}
 use Rattle.vsi_steady.specs.declared.unsteady.UnsteadyError.{UnsteadyError}
 use Rattle.vsi_steady.specs.declared.unsteady.UnsteadyError.TheVariants as unsteady
-use Rattle.vsi_diagnostics.specs.Json.{accepted_line}
 use Rattle.vsi_diagnostics.proofs.Begins.{begins}
 use Rattle.vsi_answers.proofs.Told.{steadily_told}
-use Rattle.vsi_conform.specs.declared.checking.Checked.{Checked}
 use Rattle.vsi_conform.specs.declared.interface.Judgement.{Judgement}
 use Rattle.vsi_conform.specs.declared.interface.Judgement.TheVariants as judgement
-use Rattle.vsi_conform.specs.Checking.{TellsAnswer, TellsRefused, WritesRefusal}
-use Rattle.vsi_conform.specs.Conforms.{IsAcceptedAs, IsRefused, IsRefusedAs}
+use Rattle.vsi_conform.specs.Checking.{TellsRefused, WritesRefusal}
+use Rattle.vsi_conform.specs.Conforms.{IsRefused, IsRefusedAs}
 
 -- The error is lack of memory if the text has a program.
 abbrev pub OnlyMemory : Known → List ℕ → CompileError → Type 0
@@ -68,22 +64,3 @@ pub tells_refused : (l : named.Lattice) (j : Judgement) (text : List ℕ) (e : U
 tells_refused l j text e out refused w =
     let b = begins w.diagnostic w.json.steps w.lines in
     record { error = e; refused = refused; writes = w; rest = b.0; line = w.json.line ∙ b.1 }
-
--- The answer with the fixed line is one for an accepted text.
-pub accepted_tells : {E : Type 0} (l : named.Lattice) (j : Judgement) (text : List ℕ) (image : Image) →
-    IsAcceptedAs (class_named l) (order l) j text image → (o : Result Checked E) →
-    IfOk o (λ c. c.is_accepted ≡ true) → IfOk o (λ c. c.line.items ≡ accepted_line) →
-    IfOk o (λ c. TellsAnswer l j text c.is_accepted c.line.items)
-accepted_tells l j text image is (Ok c) on line =
-    subst (λ flag. TellsAnswer l j text flag c.line.items) (sym on)
-    (record { image = image; accepted = is; line = line })
-accepted_tells l j text image is (Err e) on line = tt
-
--- The answer with the line of a refusal is one for a refused text.
-pub refused_tells : (l : named.Lattice) (j : Judgement) (text : List ℕ) (e : UnsteadyError) (c : Checked)
-    (line : Vec ℕ) → c.is_accepted ≡ false → c.line ≡ line → IsRefusedAs (class_named l) (order l) j text e →
-    WritesRefusal l j text e line.items → TellsAnswer l j text c.is_accepted c.line.items
-refused_tells l j text e c line off same refused w =
-    subst (λ flag. TellsAnswer l j text flag c.line.items) (sym off)
-    (subst (λ (v : Vec ℕ). TellsRefused l j text v.items) (sym same)
-    (tells_refused l j text e line.items refused w))

@@ -14,3 +14,7 @@ pub mod Rows
 pub mod Lines
 pub mod Json
 pub mod Checking
+pub mod ImageConforms
+pub mod ImageLines
+pub mod ImageReaching
+pub mod Reference

@@ -1,10 +1,10 @@
 -- The contents of an interface file, in terms of the table that its text denotes.
-use Rattle.std.specs.Prelude.{◌≡◌, ℕ, ◌+◌, nat_lt, ℤ, pos, negsuc, List, [], ◌∷◌, Bool, true, false, not, ◌&&◌, ◌||◌, if◌then◌else◌, Option, Some, None, IfSome, is_some, option_map, option_and_then, map, codes, bytes_eq}
+use Rattle.std.specs.Prelude.{◌≡◌, ℕ, zero, suc, ◌+◌, ℤ, pos, negsuc, List, [], ◌∷◌, Bool, true, false, not, ◌&&◌, ◌||◌, if◌then◌else◌, Option, Some, None, IfSome, is_some, option_map, option_and_then, unwrap_or, map, codes, bytes_eq}
 use Rattle.std.specs.Borrow.{Bor}
 use Rattle.std.specs.Global.{Vec}
 use Rattle.std.specs.List.{All}
 use Rattle.std.specs.Str.{IsUtf8}
-use Rattle.toml.specs.Data.{Data, Members, no_members, member, get_member, as_str, as_integer, as_bool, as_array, as_table}
+use Rattle.toml.specs.Data.{Data, Items, no_items, Members, no_members, member, get_member, as_str, as_integer, as_bool, as_array, as_table}
 use Rattle.toml.specs.Parse.{parse_document}
 use Rattle.vsi_lattice.specs.Known.{Known}
 use Rattle.vsi_lattice.specs.Shape.{pair_of, all_of, array_at}
@@ -92,7 +92,8 @@ natural (negsuc n) = None
 
 -- The maximum, if it is at least 1.
 abbrev pub at_most : ℕ → Option Bounded
-at_most maximum = if nat_lt 0 maximum then Some (AtMost maximum) else None
+at_most zero = None
+at_most (suc n) = Some (AtMost (suc n))
 
 -- The required bound, by its maximum.
 abbrev pub maximum_of : ℤ → Option Bounded
@@ -131,6 +132,11 @@ abbrev pub entries_of : Data → Option (List Entry)
 entries_of d = option_and_then numbers_of (as_table d)
 
 -- ---- runs.
+
+-- The elements of the array that is a value, which may be missing.
+abbrev pub elements_from : Option Data → Option Items
+elements_from None = Some no_items
+elements_from (Some d) = as_array d
 
 -- A required run, as a value of these definitions.
 pub record Run : Type 0 where
@@ -184,8 +190,7 @@ run_of d = option_and_then run_in (as_table d)
 
 -- The runs, from the value at `runs`, which may be missing.
 abbrev pub runs_from : Option Data → Option (List Run)
-runs_from None = Some []
-runs_from (Some d) = option_and_then (all_of run_of) (as_array d)
+runs_from o = option_and_then (all_of run_of) (elements_from o)
 
 -- ---- boundaries.
 
@@ -227,8 +232,7 @@ list_from (Some d) = option_map (λ names. Some names) (names_of d)
 
 -- The released outputs, from the value at `released`, which may be missing.
 abbrev pub released_from : Option Data → Option (List (List ℕ))
-released_from None = Some []
-released_from (Some d) = names_of d
+released_from o = option_map (λ list. unwrap_or list []) (list_from o)
 
 -- A boundary with these parts.
 abbrev pub cycle_from : Option (List ℕ) → Option (Option (List (List ℕ))) → Option (Option (List (List ℕ))) →
@@ -255,8 +259,7 @@ cycle_of d = option_and_then cycle_in (as_table d)
 
 -- The boundaries, from the value at `cycle`, which may be missing.
 abbrev pub cycles_from : Option Data → Option (List ClassBoundary)
-cycles_from None = Some []
-cycles_from (Some d) = option_and_then (all_of cycle_of) (as_array d)
+cycles_from o = option_and_then (all_of cycle_of) (elements_from o)
 
 -- The name is that of a global.
 abbrev pub IsKnown : List Global → List ℕ → Type 0

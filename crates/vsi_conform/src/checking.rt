@@ -1,7 +1,6 @@
 //! The answer of a check as a line of JSON.
 
-ghost use Rattle.std.specs.Prelude.{◌≡◌, true, false, IfOk, option_map};
-ghost use Rattle.vsi_diagnostics.specs.Json.{accepted_line};
+ghost use Rattle.std.specs.Prelude.{◌≡◌, IfOk, option_map};
 ghost use Rattle.vsi_diagnostics.specs.View.{diagnostic_of};
 ghost use Rattle.vsi_steady.specs.declared.unsteady.UnsteadyError.TheVariants as unsteady;
 ghost use Rattle.vsi_conform.specs.Checking as spec;
@@ -83,29 +82,6 @@ pub fn judgement_by(profile: Profile) -> Judgement
     }
 }
 
-/// The answer for an accepted text.
-fn accepted(alloc: Global) -> Result<Checked, AllocError>
-    ensures accepted { IfOk result (λ checked. checked.is_accepted ≡ true) }
-    ensures line { IfOk result (λ checked. checked.line.items ≡ accepted_line) }
-{
-    let line = accepted_json(alloc)?;
-    Ok(Checked {
-        is_accepted: true,
-        line,
-    })
-}
-
-/// The answer for a refused text with this line.
-fn refused(line: Vec<u8>) -> Checked
-    ensures refused { result.is_accepted ≡ false }
-    ensures line { result.line ≡ line }
-{
-    Checked {
-        is_accepted: false,
-        line,
-    }
-}
-
 /// The line of a source text that was read and is refused.
 fn source_line(
     alloc: Global,
@@ -134,10 +110,15 @@ pub fn check_json_of(
         source.now.text checked.is_accepted checked.line.items) }
 {
     match judged_of(alloc, judgement, source)? {
-        Ok(_verified) => accepted(alloc),
+        Ok(_verified) => {
+            let line = accepted_json(alloc)?;
+            let is_accepted = true;
+            Ok(Checked { is_accepted, line })
+        }
         Err(error) => {
             let line = source_line(alloc, judgement, source, &error)?;
-            Ok(refused(line))
+            let is_accepted = false;
+            Ok(Checked { is_accepted, line })
         }
     }
 }
@@ -197,7 +178,8 @@ pub fn check_json_for<O: Observer>(
         Err(CompileError::Memory) => Err(AllocError),
         Err(error) => {
             let line = unread_json(alloc, judgement, lattice, text, error)?;
-            Ok(refused(line))
+            let is_accepted = false;
+            Ok(Checked { is_accepted, line })
         }
     }
 }

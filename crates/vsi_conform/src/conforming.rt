@@ -26,7 +26,7 @@ use vsi_syntax::put_number;
 use vsi_types::Profile;
 
 /// The differences between the globals and runs of an image and the required ones.
-pub fn image_points(
+pub(crate) fn image_points(
     alloc: Global,
     verified: &Verified,
     interface: &Interface,
@@ -38,23 +38,6 @@ pub fn image_points(
     let mut points = global_points(alloc, is_ordered, &interface.globals, found)?;
     put_trials(alloc, &mut points, verified, &interface.trials)?;
     Ok(points)
-}
-
-/// The line about the bound of an image, if it isn't as required.
-fn bound_line(
-    alloc: Global,
-    lattice: &Lattice,
-    text: &[u8],
-    verified: &Verified,
-    interface: &Interface,
-) -> Result<Option<Vec<u8>>, AllocError>
-    ensures { IfOk result (λ line. ReportsBound interface.now.bounded verified.now line) }
-{
-    if !interface.demands_bound() {
-        return Ok(None);
-    }
-    let answer = bound_in(alloc, lattice, text, verified)?;
-    bound_report(alloc, verified, interface.bounded, answer)
 }
 
 /// The differences between an image and the requirements, and the line about its bound.
@@ -70,7 +53,11 @@ fn image_differences(
         (λ pair. ReportsBound interface.now.bounded verified.now pair.1) }
 {
     let points = image_points(alloc, verified, interface)?;
-    let line = bound_line(alloc, lattice, text, verified, interface)?;
+    if !interface.demands_bound() {
+        return Ok((points, None));
+    }
+    let answer = bound_in(alloc, lattice, text, verified)?;
+    let line = bound_report(alloc, verified, interface.bounded, answer)?;
     Ok((points, line))
 }
 
@@ -213,9 +200,6 @@ pub fn judged(
     }
 }
 
-/// The word of a global that a run doesn't name.
-const UNNAMED: i64 = 0;
-
 /// The word given for a name, or 0.
 fn given_word(entries: &[(Vec<u8>, i64)], name: &[u8]) -> i64
     ensures { result ≡ points_spec.given_word (points_spec.entries entries.now) name.now }
@@ -225,7 +209,7 @@ fn given_word(entries: &[(Vec<u8>, i64)], name: &[u8]) -> i64
             return entry.1;
         }
     }
-    UNNAMED
+    0
 }
 
 /// The words at the start of a run.
@@ -260,26 +244,6 @@ fn word_of(variables: &[(Vec<u8>, Vec<u8>)], words: &[i64], name: &[u8]) -> Opti
     None
 }
 
-/// The point of one expected word, by the word found.
-fn word_point(trial: usize, wanted: usize, expected: i64, found: Option<i64>) -> Option<Point>
-    ensures { result ≡ points_spec.word_point trial wanted expected found }
-{
-    match found {
-        Some(word) => {
-            if word == expected {
-                None
-            } else {
-                Some(Point::WrongWord {
-                    trial,
-                    wanted,
-                    word,
-                })
-            }
-        }
-        None => Some(Point::NoWord { trial, wanted }),
-    }
-}
-
 /// The point of the word expected for a name.
 fn expected_point(
     trial: usize,
@@ -291,8 +255,17 @@ fn expected_point(
     ensures { result ≡ points_spec.expected_point trial wanted (points_spec.entry entry.now)
         (globals variables.now) words.now }
 {
-    let found = word_of(variables, words, entry.0.as_slice());
-    word_point(trial, wanted, entry.1, found)
+    let Some(word) = word_of(variables, words, entry.0.as_slice()) else {
+        return Some(Point::NoWord { trial, wanted });
+    };
+    if word == entry.1 {
+        return None;
+    }
+    Some(Point::WrongWord {
+        trial,
+        wanted,
+        word,
+    })
 }
 
 /// Adds the points of the expected words.
@@ -307,28 +280,10 @@ fn put_words(
         ++ points_spec.word_points trial 0 (points_spec.entries expect.now) (globals variables.now) words.now) }
 {
     for (wanted, entry) in expect.iter().enumerate() {
-        put_told(
-            points,
-            expected_point(trial, wanted, entry, variables, words),
-        )?;
+        let point = expected_point(trial, wanted, entry, variables, words);
+        put_told(points, point)?;
     }
     Ok(())
-}
-
-/// A machine at the start of a run.
-fn started<'a>(
-    alloc: Global,
-    verified: &'a Verified,
-    trial: &Trial,
-) -> Result<Machine<'a>, AllocError>
-    ensures image { IfOk result (λ m. m.image ≡ verified.now) }
-    ensures state { IfOk result (λ m. m.state ≡ points_spec.start_of verified.now trial.now) }
-{
-    let words = given_words(alloc, &trial.store, &verified.image().globals)?;
-    match Machine::new(alloc, verified, &words) {
-        Ok(machine) => Ok(machine),
-        Err(_) => Err(AllocError),
-    }
 }
 
 /// Adds the points of one run.
@@ -342,7 +297,10 @@ fn put_trial(
     ensures { OnOk result (points.new.items ≡ points.old.items
         ++ points_spec.trial_points verified.now number trial.now) }
 {
-    let mut machine = started(alloc, verified, trial)?;
+    let words = given_words(alloc, &trial.store, &verified.image().globals)?;
+    let Ok(mut machine) = Machine::new(alloc, verified, &words) else {
+        return Err(AllocError);
+    };
     match machine.run(trial.budget) {
         Outcome::Halted => put_words(
             points,
@@ -410,7 +368,7 @@ fn report_within(
 
 /// The line about the bound of an image that isn't as required, by the answer of `vsi bound`.
 #[tactic(auto, using(crate::proofs::BoundLines::answer_bounded, crate::proofs::BoundLines::answer_lacks, crate::proofs::BoundLines::answer_above))]
-pub fn bound_report(
+pub(crate) fn bound_report(
     alloc: Global,
     verified: &Verified,
     bounded: Bounded,

@@ -12,7 +12,7 @@ ghost use Rattle.vsi_conform.specs.Reading as spec;
 
 use crate::globals::is_named;
 use crate::interface::InterfaceError;
-use crate::keys::{other_key, text_at, value_at};
+use crate::keys::{Section, elements_at, table_of, text_at, value_at};
 use std::alloc::Global;
 use toml::{Table, Value};
 use vsi_lattice::Lattice;
@@ -35,150 +35,80 @@ pub struct Cycle {
     pub from: Option<Vec<Vec<u8>>>,
 }
 
-/// The name of a value that is a text, if it is that of a global.
-fn name_of(
-    alloc: Global,
-    number: usize,
-    value: &Value,
-    globals: &[(Vec<u8>, Vec<u8>)],
-) -> Result<Vec<u8>, InterfaceError>
-    ensures name { IfOk result (λ name. as_str (view value.now) ≡ Some name.items) }
-    ensures known { IfOk result
-        (λ name. spec.IsKnown (image.globals globals.now) name.items) }
-{
-    let name = value.as_str().ok_or(InterfaceError::BadCycle(number))?;
-    let known = Vec::from_slice(alloc, name.as_bytes())?;
-    if !is_named(globals, name.as_bytes()) {
-        return Err(InterfaceError::UnknownInCycle(number, known));
+impl Section<'_> {
+    /// The name of a value that is a text, if it is that of a global.
+    fn name(&self, value: &Value) -> Result<Vec<u8>, InterfaceError>
+        ensures name { IfOk result (λ name. as_str (view value.now) ≡ Some name.items) }
+        ensures known { IfOk result
+            (λ name. spec.IsKnown (image.globals self.now.globals.now) name.items) }
+    {
+        let name = value.as_str().ok_or(InterfaceError::BadCycle(self.number))?;
+        let known = Vec::from_slice(self.alloc, name.as_bytes())?;
+        if !is_named(self.globals, name.as_bytes()) {
+            return Err(InterfaceError::UnknownInCycle(self.number, known));
+        }
+        Ok(known)
     }
-    Ok(known)
-}
 
-/// The names of an array.
-fn names_of(
-    alloc: Global,
-    number: usize,
-    array: &[Value],
-    globals: &[(Vec<u8>, Vec<u8>)],
-) -> Result<Vec<Vec<u8>>, InterfaceError>
-    ensures names { IfOk result (λ names. shape.all_of as_str (items_view array.now)
-        ≡ Some (spec.bytes_of names.items)) }
-    ensures known { IfOk result
-        (λ names. All (spec.IsKnown (image.globals globals.now)) (spec.bytes_of names.items)) }
-{
-    let mut names = Vec::new(alloc);
-    for value in array {
-        let name = name_of(alloc, number, value, globals)?;
-        names.push(name)?;
+    /// The names of an array.
+    fn names(&self, array: &[Value]) -> Result<Vec<Vec<u8>>, InterfaceError>
+        ensures names { IfOk result (λ names. shape.all_of as_str (items_view array.now)
+            ≡ Some (spec.bytes_of names.items)) }
+        ensures known { IfOk result (λ names.
+            All (spec.IsKnown (image.globals self.now.globals.now)) (spec.bytes_of names.items)) }
+    {
+        let mut names = Vec::new(self.alloc);
+        for value in array {
+            let name = self.name(value)?;
+            names.push(name)?;
+        }
+        Ok(names)
     }
-    Ok(names)
-}
 
-/// The names of a value that is an array.
-fn names_in(
-    alloc: Global,
-    number: usize,
-    value: &Value,
-    globals: &[(Vec<u8>, Vec<u8>)],
-) -> Result<Vec<Vec<u8>>, InterfaceError>
-    ensures names { IfOk result
-        (λ names. spec.names_of (view value.now) ≡ Some (spec.bytes_of names.items)) }
-    ensures known { IfOk result
-        (λ names. All (spec.IsKnown (image.globals globals.now)) (spec.bytes_of names.items)) }
-{
-    let array = value.as_array().ok_or(InterfaceError::BadCycle(number))?;
-    names_of(alloc, number, array.as_slice(), globals)
-}
+    /// The names at a key, if it is there.
+    fn names_at(&self, table: &Table, key: &str) -> Result<Option<Vec<Vec<u8>>>, InterfaceError>
+        ensures names { IfOk result (λ list.
+            spec.list_from (get_member key.now (table_view table.now))
+            ≡ Some (option_map (λ names. spec.bytes_of names.items) list)) }
+        ensures known { IfOk result (λ list. IfSome list (λ names.
+            All (spec.IsKnown (image.globals self.now.globals.now)) (spec.bytes_of names.items))) }
+    {
+        let Some(value) = value_at(table, key) else {
+            return Ok(None);
+        };
+        let array = value
+            .as_array()
+            .ok_or(InterfaceError::BadCycle(self.number))?;
+        let names = self.names(array.as_slice())?;
+        Ok(Some(names))
+    }
 
-/// The names at a key, if it is there.
-fn names_at(
-    alloc: Global,
-    number: usize,
-    table: &Table,
-    key: &str,
-    globals: &[(Vec<u8>, Vec<u8>)],
-) -> Result<Option<Vec<Vec<u8>>>, InterfaceError>
-    ensures names { IfOk result (λ list. spec.list_from (get_member key.now (table_view table.now))
-        ≡ Some (option_map (λ names. spec.bytes_of names.items) list)) }
-    ensures known { IfOk result (λ list. IfSome list
-        (λ names. All (spec.IsKnown (image.globals globals.now)) (spec.bytes_of names.items))) }
-{
-    let Some(value) = value_at(table, key) else {
-        return Ok(None);
-    };
-    let names = names_in(alloc, number, value, globals)?;
-    Ok(Some(names))
-}
-
-/// The released names; without the key there are none.
-fn released_in(
-    alloc: Global,
-    number: usize,
-    table: &Table,
-    globals: &[(Vec<u8>, Vec<u8>)],
-) -> Result<Vec<Vec<u8>>, InterfaceError>
-    ensures names { IfOk result (λ names. spec.released_from
-        (get_member (codes "released") (table_view table.now))
-        ≡ Some (spec.bytes_of names.items)) }
-    ensures known { IfOk result
-        (λ names. All (spec.IsKnown (image.globals globals.now)) (spec.bytes_of names.items)) }
-{
-    match value_at(table, "released") {
-        Some(value) => names_in(alloc, number, value, globals),
-        None => Ok(Vec::new(alloc)),
+    /// A boundary.
+    fn cycle(&self, value: &Value) -> Result<Cycle, InterfaceError>
+        ensures cycle { IfOk result
+            (λ cycle. spec.cycle_of (view value.now) ≡ Some (spec.cycle cycle)) }
+        ensures named { IfOk result (λ cycle.
+            spec.BoundsGlobals (image.globals self.now.globals.now) (spec.cycle cycle)) }
+    {
+        let fault = InterfaceError::BadCycle(self.number);
+        let table = table_of(value, &CYCLE_KEYS).ok_or(fault)?;
+        let class = text_at(table, "class").ok_or(InterfaceError::BadCycle(self.number))?;
+        let class = Vec::from_slice(self.alloc, class.as_bytes())?;
+        let inputs = self.names_at(table, "inputs")?;
+        let outputs = self.names_at(table, "outputs")?;
+        let released = self.names_at(table, "released")?;
+        let from = self.names_at(table, "from")?;
+        Ok(Cycle {
+            class,
+            inputs,
+            outputs,
+            released: released.unwrap_or(Vec::new(self.alloc)),
+            from,
+        })
     }
 }
 
-/// The name of the class of a boundary.
-fn class_in(alloc: Global, number: usize, table: &Table) -> Result<Vec<u8>, InterfaceError>
-    ensures { IfOk result
-        (λ class. spec.text_at (codes "class") (table_view table.now) ≡ Some class.items) }
-{
-    let class = text_at(table, "class").ok_or(InterfaceError::BadCycle(number))?;
-    Ok(Vec::from_slice(alloc, class.as_bytes())?)
-}
-
-/// The table of a boundary, if it has only the keys of one.
-fn cycle_table(number: usize, value: &Value) -> Result<&Table, InterfaceError>
-    ensures table { IfOk result (λ table. as_table (view value.now) ≡ Some (table_view table.now)) }
-    ensures keys { IfOk result
-        (λ table. spec.has_keys spec.cycle_keys (table_view table.now) ≡ true) }
-{
-    let table = value.as_table().ok_or(InterfaceError::BadCycle(number))?;
-    match other_key(table, &CYCLE_KEYS) {
-        Some(_) => Err(InterfaceError::BadCycle(number)),
-        None => Ok(table),
-    }
-}
-
-/// A boundary; the numbers of boundaries begin with 1.
-fn cycle_of(
-    alloc: Global,
-    number: usize,
-    value: &Value,
-    globals: &[(Vec<u8>, Vec<u8>)],
-) -> Result<Cycle, InterfaceError>
-    ensures cycle { IfOk result
-        (λ cycle. spec.cycle_of (view value.now) ≡ Some (spec.cycle cycle)) }
-    ensures named { IfOk result
-        (λ cycle. spec.BoundsGlobals (image.globals globals.now) (spec.cycle cycle)) }
-{
-    let table = cycle_table(number, value)?;
-    let class = class_in(alloc, number, table)?;
-    let inputs = names_at(alloc, number, table, "inputs", globals)?;
-    let outputs = names_at(alloc, number, table, "outputs", globals)?;
-    let released = released_in(alloc, number, table, globals)?;
-    let from = names_at(alloc, number, table, "from", globals)?;
-    Ok(Cycle {
-        class,
-        inputs,
-        outputs,
-        released,
-        from,
-    })
-}
-
-/// The boundaries of an array.
+/// The boundaries of an array; several may have the same class.
 fn cycles_of(
     alloc: Global,
     array: &[Value],
@@ -191,28 +121,16 @@ fn cycles_of(
 {
     let mut cycles = Vec::new(alloc);
     for (i, item) in array.iter().enumerate() {
-        let cycle = cycle_of(alloc, i.saturating_add(1), item, globals)?;
+        let number = i.saturating_add(1);
+        let section = Section {
+            alloc,
+            number,
+            globals,
+        };
+        let cycle = section.cycle(item)?;
         cycles.push(cycle)?;
     }
     Ok(cycles)
-}
-
-/// The boundaries of an interface; several may have the same class.
-fn all_cycles(
-    alloc: Global,
-    table: &Table,
-    globals: &[(Vec<u8>, Vec<u8>)],
-) -> Result<Vec<Cycle>, InterfaceError>
-    ensures cycles { IfOk result (λ cycles. spec.cycles_from
-        (get_member (codes "cycle") (table_view table.now)) ≡ Some (map spec.cycle cycles.items)) }
-    ensures named { IfOk result (λ cycles. All (spec.BoundsGlobals (image.globals globals.now))
-        (map spec.cycle cycles.items)) }
-{
-    let Some(value) = value_at(table, "cycle") else {
-        return Ok(Vec::new(alloc));
-    };
-    let array = value.as_array().ok_or(InterfaceError::BadCycle(1))?;
-    cycles_of(alloc, array.as_slice(), globals)
 }
 
 /// Whether one of these boundaries is that of a class.
@@ -255,7 +173,8 @@ pub(crate) fn cycles_in(
     ensures { IfOk result (λ cycles. spec.Bounds (table_view table.now)
         (image.globals globals.now) cycles.items) }
 {
-    let cycles = all_cycles(alloc, table, globals)?;
+    let array = elements_at(table, "cycle").ok_or(InterfaceError::BadCycle(1))?;
+    let cycles = cycles_of(alloc, array, globals)?;
     match repeated(&cycles) {
         Some(number) => Err(InterfaceError::BadCycle(number)),
         None => Ok(cycles),

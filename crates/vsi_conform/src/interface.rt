@@ -1,9 +1,10 @@
 //! The requirements on a text, why they are refused, and how a text differs from them.
 
-ghost use Rattle.std.specs.Prelude.{◌≡◌, IfOk, ◌++◌, OnOk};
+ghost use Rattle.std.specs.Prelude.{◌≡◌, ◌<◌, ◌≤◌, false, true, IfOk, ◌++◌, OnOk};
 ghost use Rattle.std.specs.Option.{option_copied};
 ghost use Rattle.vsi_conform.specs.declared.interface.InterfaceError.TheVariants.{Memory};
 ghost use Rattle.vsi_conform.specs.Points.{told, is_conforming};
+ghost use Rattle.vsi_conform.specs.Totals.{sum_of, total_of};
 ghost use Rattle.vsi_conform.specs.Bounded as spec;
 ghost use Rattle.vsi_conform.specs.Faulty as faulty_spec;
 
@@ -163,59 +164,52 @@ impl<T: Drop> From<AllocFailed<T>> for InterfaceError {
     }
 }
 
+/// A fault: its name, the number of a run or of a boundary, or a budget, and a name or a key, or what
+/// is said of the reference.
+fn fault_parts(error: &InterfaceError) -> (&'static [u8], Option<usize>, Option<&[u8]>)
+    ensures name { result.0.now ≡ faulty_spec.name_of error.now }
+    ensures run { result.1 ≡ faulty_spec.run_of error.now }
+    ensures word { option_copied result.2 ≡ faulty_spec.word_of error.now }
+{
+    match error {
+        InterfaceError::NotToml => (b"NotToml", None, None),
+        InterfaceError::UnknownKey(word) => (b"UnknownKey", None, Some(word.as_slice())),
+        InterfaceError::BadLattice => (b"BadLattice", None, None),
+        InterfaceError::BadProfile => (b"BadProfile", None, None),
+        InterfaceError::BadOrder => (b"BadOrder", None, None),
+        InterfaceError::BadBounded => (b"BadBounded", None, None),
+        InterfaceError::BadGlobals => (b"BadGlobals", None, None),
+        InterfaceError::BadName(word) => (b"BadName", None, Some(word.as_slice())),
+        InterfaceError::RepeatedGlobal(word) => (b"RepeatedGlobal", None, Some(word.as_slice())),
+        InterfaceError::UnknownClass(word) => (b"UnknownClass", None, Some(word.as_slice())),
+        InterfaceError::BadRuns => (b"BadRuns", None, None),
+        InterfaceError::BadRun(number) => (b"BadRun", Some(*number), None),
+        InterfaceError::BadStore(number) => (b"BadStore", Some(*number), None),
+        InterfaceError::NoBudget(number) => (b"NoBudget", Some(*number), None),
+        InterfaceError::NothingExpected(number) => (b"NothingExpected", Some(*number), None),
+        InterfaceError::UnknownGlobal(number, word) => {
+            (b"UnknownGlobal", Some(*number), Some(word.as_slice()))
+        }
+        InterfaceError::BadCycle(number) => (b"BadCycle", Some(*number), None),
+        InterfaceError::UnknownInCycle(number, word) => {
+            (b"UnknownInCycle", Some(*number), Some(word.as_slice()))
+        }
+        InterfaceError::BadReference => (b"BadReference", None, None),
+        InterfaceError::RefusedReference(word) => (
+            b"RefusedReference",
+            None,
+            Some(word.as_slice()),
+        ),
+        InterfaceError::AboveBudget(budget) => (b"AboveBudget", Some(*budget as usize), None),
+        InterfaceError::Memory => (b"Memory", None, None),
+    }
+}
+
 /// The name of a fault.
 pub fn fault_name(error: &InterfaceError) -> &'static [u8]
     ensures { result.now ≡ faulty_spec.name_of error.now }
 {
-    match error {
-        InterfaceError::NotToml => b"NotToml",
-        InterfaceError::UnknownKey(_) => b"UnknownKey",
-        InterfaceError::BadLattice => b"BadLattice",
-        InterfaceError::BadProfile => b"BadProfile",
-        InterfaceError::BadOrder => b"BadOrder",
-        InterfaceError::BadBounded => b"BadBounded",
-        InterfaceError::BadGlobals => b"BadGlobals",
-        InterfaceError::BadName(_) => b"BadName",
-        InterfaceError::RepeatedGlobal(_) => b"RepeatedGlobal",
-        InterfaceError::UnknownClass(_) => b"UnknownClass",
-        InterfaceError::BadRuns => b"BadRuns",
-        InterfaceError::BadRun(_) => b"BadRun",
-        InterfaceError::BadStore(_) => b"BadStore",
-        InterfaceError::NoBudget(_) => b"NoBudget",
-        InterfaceError::NothingExpected(_) => b"NothingExpected",
-        InterfaceError::UnknownGlobal(_, _) => b"UnknownGlobal",
-        InterfaceError::BadCycle(_) => b"BadCycle",
-        InterfaceError::UnknownInCycle(_, _) => b"UnknownInCycle",
-        InterfaceError::BadReference => b"BadReference",
-        InterfaceError::RefusedReference(_) => b"RefusedReference",
-        InterfaceError::AboveBudget(_) => b"AboveBudget",
-        InterfaceError::Memory => b"Memory",
-    }
-}
-
-/// The fields after the name of a fault: the number of a run or of a boundary, or a budget, and a
-/// name or a key, or what is said of the reference.
-fn fault_fields(error: &InterfaceError) -> (Option<usize>, Option<&[u8]>)
-    ensures run { result.0 ≡ faulty_spec.run_of error.now }
-    ensures word { option_copied result.1 ≡ faulty_spec.word_of error.now }
-{
-    match error {
-        InterfaceError::UnknownKey(word)
-        | InterfaceError::BadName(word)
-        | InterfaceError::RepeatedGlobal(word)
-        | InterfaceError::UnknownClass(word)
-        | InterfaceError::RefusedReference(word) => (None, Some(word.as_slice())),
-        InterfaceError::BadRun(run)
-        | InterfaceError::BadStore(run)
-        | InterfaceError::NoBudget(run)
-        | InterfaceError::NothingExpected(run)
-        | InterfaceError::BadCycle(run) => (Some(*run), None),
-        InterfaceError::UnknownGlobal(run, word) | InterfaceError::UnknownInCycle(run, word) => {
-            (Some(*run), Some(word.as_slice()))
-        }
-        InterfaceError::AboveBudget(budget) => (Some(*budget as usize), None),
-        _ => (None, None),
-    }
+    fault_parts(error).0
 }
 
 /// The line of a refused interface: the name of the fault and, if there is one, the faulty run or
@@ -224,11 +218,11 @@ pub fn interface_text(alloc: Global, error: &InterfaceError) -> Result<Vec<u8>, 
     ensures line { IfOk result (λ text. text.items ≡ faulty_spec.interface_line error.now) }
 {
     let mut text = Vec::new(alloc);
-    put_parts(&mut text, &[b"refused interface: ", fault_name(error)])?;
-    let (run, word) = fault_fields(error);
-    if let Some(run) = run {
+    let (name, number, word) = fault_parts(error);
+    put_parts(&mut text, &[b"refused interface: ", name])?;
+    if let Some(number) = number {
         text.extend_from_slice(b" ")?;
-        put_number(&mut text, run)?;
+        put_number(&mut text, number)?;
     }
     if let Some(word) = word {
         put_parts(&mut text, &[b" ", word])?;
@@ -298,4 +292,21 @@ pub(crate) fn put_told(points: &mut Vec<Point>, point: Option<Point>) -> Result<
         }
         None => Ok(()),
     }
+}
+
+/// Whether the runs of an interface take together at most this number of instructions.
+pub fn is_within(interface: &Interface, budget: u64) -> bool
+    ensures within { result ≡ true → total_of interface.now ≤ budget }
+    ensures above { result ≡ false → budget < total_of interface.now }
+{
+    let mut left = budget;
+    let mut rest = interface.trials.as_slice();
+    while let [trial, behind @ ..] = rest {
+        if trial.budget > left {
+            return false;
+        }
+        left -= trial.budget;
+        rest = behind;
+    }
+    true
 }

@@ -24,13 +24,8 @@ pub(crate) fn table_in(alloc: Global, text: &[u8]) -> Result<Table, InterfaceErr
 {
     match toml::table_from_slice(alloc, text) {
         Ok(table) => Ok(table),
-        Err(error) => {
-            if error.is_memory() {
-                Err(InterfaceError::Memory)
-            } else {
-                Err(InterfaceError::NotToml)
-            }
-        }
+        Err(error) if error.is_memory() => Err(InterfaceError::Memory),
+        Err(_) => Err(InterfaceError::NotToml),
     }
 }
 
@@ -77,18 +72,40 @@ pub(crate) fn text_at<'t>(table: &'t Table, key: &str) -> Option<&'t str>
     }
 }
 
-/// The names and the words of a table of numbers; nothing if a value isn't a number.
-pub(crate) fn entries_of(
-    alloc: Global,
-    value: &Value,
-) -> Result<Option<Vec<(Vec<u8>, i64)>>, AllocError>
-    ensures { IfOk result (λ found. option_map (λ es. entries es.items) found
-        ≡ spec.entries_of (view value.now)) }
+/// The table of a value, if it has no keys but these.
+pub(crate) fn table_of<'t>(value: &'t Value, keys: &[&str]) -> Option<&'t Table>
+    ensures table { IfSome result (λ t. as_table (view value.now) ≡ Some (table_view t.now)) }
+    ensures keys { IfSome result
+        (λ t. spec.has_keys (spec.shown keys.now) (table_view t.now) ≡ true) }
 {
-    let Some(table) = value.as_table() else {
-        return Ok(None);
+    let table = value.as_table()?;
+    match other_key(table, keys) {
+        Some(_) => None,
+        None => Some(table),
+    }
+}
+
+/// The elements of the array at a key; without the key there are none.
+pub(crate) fn elements_at<'t>(table: &'t Table, key: &str) -> Option<&'t [Value]>
+    ensures { option_map (λ e. items_view e.now) result
+        ≡ spec.elements_from (get_member key.now (table_view table.now)) }
+{
+    let Some(value) = value_at(table, key) else {
+        return Some(&[]);
     };
-    numbers_of(alloc, table)
+    let array = value.as_array()?;
+    Some(array.as_slice())
+}
+
+/// A number of at least 0.
+pub(crate) fn natural(number: i64) -> Option<u64>
+    ensures { result ≡ spec.natural number }
+{
+    if number < 0 {
+        None
+    } else {
+        Some(number as u64)
+    }
 }
 
 /// The names and the words of a table; nothing if a value isn't a number.
@@ -110,155 +127,106 @@ fn numbers_of(alloc: Global, table: &Table) -> Result<Option<Vec<(Vec<u8>, i64)>
 /// The keys of a run.
 const RUN_KEYS: [&str; 4] = ["store", "budget", "expect", "halts"];
 
-/// The names and the words of a table of numbers, if each name is one of the globals; nothing if a
-/// value isn't a number.
-fn known_entries(
-    alloc: Global,
-    number: usize,
-    value: &Value,
-    globals: &[(Vec<u8>, Vec<u8>)],
-) -> Result<Option<Vec<(Vec<u8>, i64)>>, InterfaceError>
-    ensures entries { IfOk result (λ found. option_map (λ es. entries es.items) found
-        ≡ spec.entries_of (view value.now)) }
-    ensures named { IfOk result (λ found. IfSome found
-        (λ es. spec.are_named (image.globals globals.now) (entries es.items) ≡ true)) }
-{
-    let Some(entries) = entries_of(alloc, value)? else {
-        return Ok(None);
-    };
-    know_names(alloc, number, globals, &entries)?;
-    Ok(Some(entries))
-}
-
-/// Whether each name is one of the globals.
-fn know_names(
-    alloc: Global,
-    number: usize,
-    globals: &[(Vec<u8>, Vec<u8>)],
-    found: &[(Vec<u8>, i64)],
-) -> Result<(), InterfaceError>
-    ensures { OnOk result (spec.are_named (image.globals globals.now) (entries found.now) ≡ true) }
-{
-    for entry in found {
-        if !is_named(globals, &entry.0) {
-            let name = Vec::from_slice(alloc, &entry.0)?;
-            return Err(InterfaceError::UnknownGlobal(number, name));
-        }
-    }
-    Ok(())
-}
-
-/// The store of a run, numbered from 1; without one it is empty.
-fn store_in(
-    alloc: Global,
-    number: usize,
-    table: &Table,
-    globals: &[(Vec<u8>, Vec<u8>)],
-) -> Result<Vec<(Vec<u8>, i64)>, InterfaceError>
-    ensures store { IfOk result (λ store. spec.store_from
-        (get_member (codes "store") (table_view table.now)) ≡ Some (entries store.items)) }
-    ensures named { IfOk result
-        (λ store. spec.are_named (image.globals globals.now) (entries store.items) ≡ true) }
-{
-    let Some(value) = value_at(table, "store") else {
-        return Ok(Vec::new(alloc));
-    };
-    known_entries(alloc, number, value, globals)?.ok_or(InterfaceError::BadStore(number))
-}
-
 /// The budget of a run.
-fn budget_in(number: usize, table: &Table) -> Result<u64, InterfaceError>
-    ensures { IfOk result (λ budget. spec.budget_from
-        (get_member (codes "budget") (table_view table.now)) ≡ Some budget) }
+fn budget_in(table: &Table) -> Option<u64>
+    ensures { result ≡ spec.budget_from (get_member (codes "budget") (table_view table.now)) }
 {
-    let value = value_at(table, "budget").ok_or(InterfaceError::NoBudget(number))?;
-    let budget = value.as_integer().ok_or(InterfaceError::NoBudget(number))?;
-    natural(budget).ok_or(InterfaceError::NoBudget(number))
+    let budget = value_at(table, "budget")?.as_integer()?;
+    natural(budget)
 }
 
-/// A number of at least 0.
-pub(crate) fn natural(number: i64) -> Option<u64>
-    ensures { result ≡ spec.natural number }
-{
-    if number < 0 {
-        None
-    } else {
-        Some(number as u64)
-    }
+/// A run or a boundary that is read.
+#[derive(Clone, Copy)]
+pub(crate) struct Section<'a> {
+    pub(crate) alloc: Global,
+    /// Its number, from 1.
+    pub(crate) number: usize,
+    /// The globals that it may name.
+    pub(crate) globals: &'a [(Vec<u8>, Vec<u8>)],
 }
 
-/// Whether a run has `halts = true`.
-fn is_halting(table: &Table) -> bool
-    ensures { IsTrue result → option_and_then as_bool
-        (get_member (codes "halts") (table_view table.now)) ≡ Some true }
-{
-    let Some(value) = value_at(table, "halts") else {
-        return false;
-    };
-    let Some(halts) = value.as_bool() else {
-        return false;
-    };
-    halts
-}
-
-/// The words that a run expects; there are none if it only has to halt.
-fn expect_in(
-    alloc: Global,
-    number: usize,
-    table: &Table,
-    globals: &[(Vec<u8>, Vec<u8>)],
-) -> Result<Vec<(Vec<u8>, i64)>, InterfaceError>
-    ensures expect { IfOk result (λ expect. spec.expect_from
-        (get_member (codes "expect") (table_view table.now))
-        (get_member (codes "halts") (table_view table.now)) ≡ Some (entries expect.items)) }
-    ensures named { IfOk result
-        (λ expect. spec.are_named (image.globals globals.now) (entries expect.items) ≡ true) }
-{
-    let Some(value) = value_at(table, "expect") else {
-        if is_halting(table) {
-            return Ok(Vec::new(alloc));
+impl Section<'_> {
+    /// Whether each name is one of the globals.
+    fn know_names(&self, found: &[(Vec<u8>, i64)]) -> Result<(), InterfaceError>
+        ensures { OnOk result
+            (spec.are_named (image.globals self.now.globals.now) (entries found.now) ≡ true) }
+    {
+        for entry in found {
+            if !is_named(self.globals, &entry.0) {
+                let name = Vec::from_slice(self.alloc, &entry.0)?;
+                return Err(InterfaceError::UnknownGlobal(self.number, name));
+            }
         }
-        return Err(InterfaceError::NothingExpected(number));
-    };
-    if value_at(table, "halts").is_some() {
-        return Err(InterfaceError::NothingExpected(number));
+        Ok(())
     }
-    known_entries(alloc, number, value, globals)?.ok_or(InterfaceError::NothingExpected(number))
-}
 
-/// The table of a run, if it has only the keys of a run.
-fn run_table(number: usize, value: &Value) -> Result<&Table, InterfaceError>
-    ensures table { IfOk result (λ table. as_table (view value.now) ≡ Some (table_view table.now)) }
-    ensures keys { IfOk result
-        (λ table. spec.has_keys spec.run_keys (table_view table.now) ≡ true) }
-{
-    let table = value.as_table().ok_or(InterfaceError::BadRun(number))?;
-    match other_key(table, &RUN_KEYS) {
-        Some(_) => Err(InterfaceError::BadRun(number)),
-        None => Ok(table),
+    /// The names and the words of a table of numbers, if each name is one of the globals; nothing
+    /// if the value is no table of numbers.
+    fn entries(&self, value: &Value) -> Result<Option<Vec<(Vec<u8>, i64)>>, InterfaceError>
+        ensures entries { IfOk result (λ found. option_map (λ es. entries es.items) found
+            ≡ spec.entries_of (view value.now)) }
+        ensures named { IfOk result (λ found. IfSome found (λ es.
+            spec.are_named (image.globals self.now.globals.now) (entries es.items) ≡ true)) }
+    {
+        let Some(table) = value.as_table() else {
+            return Ok(None);
+        };
+        let Some(found) = numbers_of(self.alloc, table)? else {
+            return Ok(None);
+        };
+        self.know_names(&found)?;
+        Ok(Some(found))
     }
-}
 
-/// A run; the numbers of runs begin with 1.
-fn trial_of(
-    alloc: Global,
-    number: usize,
-    value: &Value,
-    globals: &[(Vec<u8>, Vec<u8>)],
-) -> Result<Trial, InterfaceError>
-    ensures run { IfOk result (λ trial. spec.run_of (view value.now) ≡ Some (spec.run trial)) }
-    ensures named { IfOk result
-        (λ trial. spec.NamesGlobals (image.globals globals.now) (spec.run trial)) }
-{
-    let table = run_table(number, value)?;
-    let store = store_in(alloc, number, table, globals)?;
-    let budget = budget_in(number, table)?;
-    let expect = expect_in(alloc, number, table, globals)?;
-    Ok(Trial {
-        store,
-        budget,
-        expect,
-    })
+    /// The store of a run; without one it is empty.
+    fn store(&self, table: &Table) -> Result<Vec<(Vec<u8>, i64)>, InterfaceError>
+        ensures store { IfOk result (λ store. spec.store_from
+            (get_member (codes "store") (table_view table.now)) ≡ Some (entries store.items)) }
+        ensures named { IfOk result (λ store.
+            spec.are_named (image.globals self.now.globals.now) (entries store.items) ≡ true) }
+    {
+        let Some(value) = value_at(table, "store") else {
+            return Ok(Vec::new(self.alloc));
+        };
+        self.entries(value)?
+            .ok_or(InterfaceError::BadStore(self.number))
+    }
+
+    /// The words that a run expects; there are none if it only has to halt.
+    fn expect(&self, table: &Table) -> Result<Vec<(Vec<u8>, i64)>, InterfaceError>
+        ensures expect { IfOk result (λ expect. spec.expect_from
+            (get_member (codes "expect") (table_view table.now))
+            (get_member (codes "halts") (table_view table.now)) ≡ Some (entries expect.items)) }
+        ensures named { IfOk result (λ expect.
+            spec.are_named (image.globals self.now.globals.now) (entries expect.items) ≡ true) }
+    {
+        match (value_at(table, "expect"), value_at(table, "halts")) {
+            (Some(value), None) => self
+                .entries(value)?
+                .ok_or(InterfaceError::NothingExpected(self.number)),
+            (None, Some(halts)) if matches!(halts.as_bool(), Some(true)) => {
+                Ok(Vec::new(self.alloc))
+            }
+            _ => Err(InterfaceError::NothingExpected(self.number)),
+        }
+    }
+
+    /// A run.
+    fn trial(&self, value: &Value) -> Result<Trial, InterfaceError>
+        ensures run { IfOk result (λ trial. spec.run_of (view value.now) ≡ Some (spec.run trial)) }
+        ensures named { IfOk result
+            (λ trial. spec.NamesGlobals (image.globals self.now.globals.now) (spec.run trial)) }
+    {
+        let table = table_of(value, &RUN_KEYS).ok_or(InterfaceError::BadRun(self.number))?;
+        let store = self.store(table)?;
+        let budget = budget_in(table).ok_or(InterfaceError::NoBudget(self.number))?;
+        let expect = self.expect(table)?;
+        Ok(Trial {
+            store,
+            budget,
+            expect,
+        })
+    }
 }
 
 /// The required runs.
@@ -272,50 +240,26 @@ pub(crate) fn trials_in(
     ensures named { IfOk result (λ trials. All (spec.NamesGlobals (image.globals globals.now))
         (map spec.run trials.items)) }
 {
-    let Some(value) = value_at(table, "runs") else {
-        return Ok(Vec::new(alloc));
-    };
-    let array = value.as_array().ok_or(InterfaceError::BadRuns)?;
-    trials_of(alloc, array.as_slice(), globals)
-}
-
-/// The runs of an array.
-fn trials_of(
-    alloc: Global,
-    array: &[Value],
-    globals: &[(Vec<u8>, Vec<u8>)],
-) -> Result<Vec<Trial>, InterfaceError>
-    ensures runs { IfOk result (λ trials. shape.all_of spec.run_of (items_view array.now)
-        ≡ Some (map spec.run trials.items)) }
-    ensures named { IfOk result (λ trials. All (spec.NamesGlobals (image.globals globals.now))
-        (map spec.run trials.items)) }
-{
+    let array = elements_at(table, "runs").ok_or(InterfaceError::BadRuns)?;
     let mut trials = Vec::new(alloc);
     for (i, item) in array.iter().enumerate() {
-        let trial = trial_of(alloc, i.saturating_add(1), item, globals)?;
+        let number = i.saturating_add(1);
+        let section = Section {
+            alloc,
+            number,
+            globals,
+        };
+        let trial = section.trial(item)?;
         trials.push(trial)?;
     }
     Ok(trials)
-}
-
-/// Whether a part of a path ends before these bytes.
-fn ends_part(rest: &[u8]) -> bool
-    ensures { result ≡ beside_spec.ends_part rest.now }
-{
-    match rest {
-        [first, ..] => *first == b'/',
-        [] => true,
-    }
 }
 
 /// Whether the first part of a path is `..`.
 fn is_parent(path: &[u8]) -> bool
     ensures { result ≡ beside_spec.is_parent path.now }
 {
-    match path {
-        [first, second, rest @ ..] => *first == b'.' && *second == b'.' && ends_part(rest),
-        _ => false,
-    }
+    matches!(path, [b'.', b'.'] | [b'.', b'.', b'/', ..])
 }
 
 /// Whether a part of a path after the first is `..`.
@@ -332,19 +276,18 @@ fn climbs(path: &[u8]) -> bool
     false
 }
 
-/// Whether a path begins at the root.
-fn is_rooted(path: &[u8]) -> bool
-    ensures { result ≡ beside_spec.is_rooted path.now }
-{
-    match path {
-        [first, ..] => *first == b'/',
-        [] => false,
-    }
-}
-
 /// Whether a path leads out of the folder that it is taken in.
-pub(crate) fn leads_out(path: &[u8]) -> bool
+fn leads_out(path: &[u8]) -> bool
     ensures { result ≡ beside_spec.leads_out path.now }
 {
-    is_rooted(path) || is_parent(path) || climbs(path)
+    path.starts_with(b"/") || is_parent(path) || climbs(path)
+}
+
+/// The path at a key, if it doesn't lead out of the folder that it is taken in.
+pub(crate) fn path_at<'t>(table: &'t Table, key: &str) -> Option<&'t [u8]>
+    ensures path { IfSome result (λ p. spec.text_at key.now (table_view table.now) ≡ Some p.now) }
+    ensures inside { IfSome result (λ p. beside_spec.leads_out p.now ≡ false) }
+{
+    let path = text_at(table, key)?.as_bytes();
+    if leads_out(path) { None } else { Some(path) }
 }

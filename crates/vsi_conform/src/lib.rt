@@ -1,17 +1,21 @@
-//! Interfaces that are fixed outside a program, and whether a text conforms to one.
+//! Interfaces that are fixed outside a program, and whether a text or an image conforms to one.
 //!
 //! `check_json` judges a source text as `vsi check` does, and writes the answer as a line of JSON
 //! (`specs/Checking`); `check_json_of` does the same for a text that was read already, and
 //! `unread_json` for one that can't be read. `read_interface` reads an interface file: the lattice,
 //! the judgement, the globals with their classes, the required runs, and the boundaries of
-//! controllers. `conform` reports each point in which a text differs from an interface; if there is
-//! none, the text conforms to it (`specs/Conforms`). `image_points` reports the points of an image.
-//! `is_within` compares the budgets of all runs with one budget (`specs/Totals`). `text_reaches` lists
-//! the globals that reach each released output, and `are_within` says whether the interface allows
-//! them (`specs/Reaching`, `specs/ReachedLines`). `rows_of` makes the points of a text or an image into
-//! rows (`specs/Rows`), which `rows_text` and `rows_json` write (`specs/Lines`, `specs/Json`);
-//! `points_text` and `points_json` do so for a text. `interface_text` writes why an interface is
-//! refused (`specs/Faulty`).
+//! controllers. `interface_text` writes why it is refused (`specs/Faulty`).
+//!
+//! `conform` reports each point in which a text differs from an interface; if there is none, the text
+//! conforms to it (`specs/Conforms`). `conform_image` does the same for a verified image, whoever made
+//! it (`specs/ImageConforms`), and `refused_image` says why an image isn't as a profile requires.
+//! `text_rows` and `image_rows` make the points into rows (`specs/Rows`), and `points_text` and
+//! `points_json` write them (`specs/Lines`, `specs/Json`, `specs/ImageLines`). `is_within` compares the
+//! budgets of all runs with one budget (`specs/Totals`). `text_reaches` and `image_reaches` list the
+//! globals that reach each released output, and `are_within` says whether the interface allows them
+//! (`specs/Reaching`, `specs/ReachedLines`, `specs/ImageReaching`). `compare_reference` runs an image
+//! beside that of a reference from random stores, and `reference_line` reports what it finds. This is a
+//! test: nothing is proved of the differences that it misses (`specs/Reference`).
 //!
 //! To be believed: all files of `specs/`.
 #![tactic(auto)]
@@ -20,34 +24,35 @@ mod checking;
 mod conforming;
 mod cycles;
 mod globals;
+pub mod images;
 mod interface;
-mod json;
 mod keys;
-mod reached;
-mod reached_lines;
 mod reaching;
 mod reader;
+mod reference;
 mod rows;
 mod texts;
-mod totals;
 
 pub use checking::{
     Checked, audit_diagnostic, check_json, check_json_for, check_json_of, judgement_by,
     steady_diagnostic, unread_json, unsteady_diagnostic,
 };
-pub use conforming::{bound_report, conform, image_points, judged, judged_of};
+pub use conforming::{conform, judged, judged_of};
 pub use cycles::{Cycle, unknown_cycle};
-pub use globals::declarations;
+pub use images::{
+    Refusal, conform_image, image_reaches, image_rows, json_with, lines_with, reference_line,
+    refused_image,
+};
 pub use interface::{
-    Answer, Bounded, Interface, InterfaceError, Judgement, Point, Trial, fault_name, interface_text,
+    Answer, Bounded, Interface, InterfaceError, Judgement, Point, Trial, fault_name,
+    interface_text, is_within,
 };
-pub use json::{points_json, rows_json};
-pub use reached::{flows_profile, text_reaches};
-pub use reached_lines::{with_reached_json, with_reached_lines};
-pub use reaching::{GlobalFlows, Reach, are_within, have_released, is_among, reaches_of};
+pub use reaching::{
+    Reach, are_within, flows_profile, is_among, text_reaches, with_reached_json, with_reached_lines,
+};
 pub use reader::{InterfaceFile, Policy, path_beside, read_interface, unknown_class};
-pub use rows::{Detail, Held, Judged, Kind, Row, asked, numbered, rows_of};
+pub use reference::{Comparison, Contrast, Difference, Reference, compare_reference};
+pub use rows::{Detail, Kind, Row};
 pub use texts::{
-    points_text, put_parts, put_row, refusal_lines, refusal_lines_of, rows_text, text_rows,
+    points_json, points_text, put_parts, put_row, refusal_lines, refusal_lines_of, text_rows,
 };
-pub use totals::is_within;

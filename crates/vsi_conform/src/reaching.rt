@@ -1,16 +1,23 @@
-//! The globals that released outputs can depend on.
+//! The globals that released outputs can depend on, and the lines and the JSON about them.
 
 ghost use Rattle.std.specs.Prelude.{◌≡◌, ◌++◌, map, option_map, IfOk, OnOk};
 ghost use Rattle.vsi_conform.specs.Reading.{bytes_of, cycle as cycle_of, is_among as is_among_of};
 ghost use Rattle.vsi_conform.specs.Reaching as spec;
+ghost use Rattle.vsi_conform.specs.ReachedLines as lines_spec;
 
 use crate::cycles::Cycle;
-use std::alloc::{AllocError, Global};
-use vsi_flows::Pair;
+use crate::interface::Judgement;
+use crate::texts::put_parts;
+use std::alloc::{AllocError, Global as Heap};
+use vsi_compiler::{CompileError, Source, read_source};
+use vsi_flows::{FlowsError, Pair, flows_in};
+use vsi_lattice::Lattice;
+use vsi_scope::Global;
+use vsi_types::Profile;
 
 /// The flows of a program between its globals.
 #[derive(Debug, Drop)]
-pub struct GlobalFlows {
+pub(crate) struct GlobalFlows {
     /// The names of the globals, in order.
     pub names: Vec<Vec<u8>>,
     /// The pairs of the table of flows. Without a table, each global counts as reaching every other
@@ -68,7 +75,7 @@ fn number_of(names: &[Vec<u8>], name: &[u8]) -> usize
 
 /// Adds a name, if it is one that counts.
 fn put_name(
-    alloc: Global,
+    alloc: Heap,
     names: &mut Vec<Vec<u8>>,
     name: &[u8],
     counts: bool,
@@ -85,7 +92,7 @@ fn put_name(
 }
 
 /// The names of the globals that reach this one.
-fn sources_of(alloc: Global, flows: &GlobalFlows, target: usize) -> Result<Vec<Vec<u8>>, AllocError>
+fn sources_of(alloc: Heap, flows: &GlobalFlows, target: usize) -> Result<Vec<Vec<u8>>, AllocError>
     ensures { IfOk result (λ found. bytes_of found.items ≡ spec.sources_of
         (spec.flowing flows.now).table target (spec.flowing flows.now).names 0) }
 {
@@ -109,11 +116,7 @@ pub fn is_among(listed: &[Vec<u8>], name: &[u8]) -> bool
 }
 
 /// The names that aren't in a list.
-fn unlisted(
-    alloc: Global,
-    listed: &[Vec<u8>],
-    names: &[Vec<u8>],
-) -> Result<Vec<Vec<u8>>, AllocError>
+fn unlisted(alloc: Heap, listed: &[Vec<u8>], names: &[Vec<u8>]) -> Result<Vec<Vec<u8>>, AllocError>
     ensures { IfOk result (λ found. bytes_of found.items
         ≡ spec.unlisted (bytes_of listed.now) (bytes_of names.now)) }
 {
@@ -126,7 +129,7 @@ fn unlisted(
 
 /// The names that aren't in a list; without a list there are none.
 fn beyond_of(
-    alloc: Global,
+    alloc: Heap,
     listed: &Option<Vec<Vec<u8>>>,
     names: &[Vec<u8>],
 ) -> Result<Vec<Vec<u8>>, AllocError>
@@ -141,7 +144,7 @@ fn beyond_of(
 
 /// A released output of a boundary.
 fn reach_of(
-    alloc: Global,
+    alloc: Heap,
     flows: &GlobalFlows,
     cycle: &Cycle,
     output: &[u8],
@@ -163,7 +166,7 @@ fn reach_of(
 
 /// Adds the released outputs of a boundary.
 fn put_reaches(
-    alloc: Global,
+    alloc: Heap,
     reaches: &mut Vec<Reach>,
     flows: &GlobalFlows,
     cycle: &Cycle,
@@ -180,8 +183,8 @@ fn put_reaches(
 
 /// The released outputs of boundaries, in their order, each with the globals of a program that reach
 /// it.
-pub fn reaches_of(
-    alloc: Global,
+pub(crate) fn reaches_of(
+    alloc: Heap,
     flows: &GlobalFlows,
     cycles: &[Cycle],
 ) -> Result<Vec<Reach>, AllocError>
@@ -196,7 +199,7 @@ pub fn reaches_of(
 }
 
 /// Whether a boundary releases an output.
-pub fn have_released(cycles: &[Cycle]) -> bool
+pub(crate) fn have_released(cycles: &[Cycle]) -> bool
     ensures released { result ≡ spec.releases (map cycle_of cycles.now) }
 {
     for cycle in cycles {
@@ -217,4 +220,198 @@ pub fn are_within(reaches: &[Reach]) -> bool
         }
     }
     true
+}
+
+/// The profile whose flows count for a judgement.
+pub fn flows_profile(judgement: Judgement) -> Profile
+    ensures profile { result ≡ spec.profile_of judgement }
+{
+    match judgement {
+        Judgement::Base => Profile::Base,
+        Judgement::Strict | Judgement::Steady => Profile::Strict,
+    }
+}
+
+/// The names of globals.
+fn names_of(alloc: Heap, globals: &[Global<'_>]) -> Result<Vec<Vec<u8>>, AllocError>
+    ensures { IfOk result
+        (λ names. bytes_of names.items ≡ map (λ g. g.name.now) globals.now) }
+{
+    let mut names = Vec::new(alloc);
+    for global in globals {
+        let name = Vec::from_slice(alloc, global.name)?;
+        names.push(name)?;
+    }
+    Ok(names)
+}
+
+/// The flows of a source text between its globals.
+fn flows_of(alloc: Heap, profile: Profile, source: &Source<'_>) -> Result<GlobalFlows, AllocError>
+    ensures { IfOk result (λ flows. spec.AreFlowsOf source.now.lattice profile source.now.text
+        (spec.flowing flows)) }
+{
+    let lattice = source.lattice();
+    let resolved = source.resolved();
+    let pairs = match flows_in(alloc, profile, lattice, resolved) {
+        Ok(pairs) => pairs,
+        Err(FlowsError::Memory) => return Err(AllocError),
+    };
+    let names = names_of(alloc, resolved.globals())?;
+    Ok(GlobalFlows {
+        names,
+        table: Some(pairs),
+    })
+}
+
+/// The released outputs of boundaries, in their order, each with the globals of a text that reach it.
+/// A text that has no program has none. An error means that memory ran out.
+pub fn text_reaches(
+    alloc: Heap,
+    lattice: &Lattice,
+    text: &[u8],
+    judgement: Judgement,
+    cycles: &[Cycle],
+) -> Result<Vec<Reach>, AllocError>
+    ensures reaches { IfOk result (λ reaches. spec.AreTextReleased lattice.now judgement text.now
+        (map cycle_of cycles.now) (map spec.released reaches.items)) }
+{
+    if !have_released(cycles) {
+        return Ok(Vec::new(alloc));
+    }
+    match read_source(alloc, lattice, text) {
+        Ok(source) => {
+            let flows = flows_of(alloc, flows_profile(judgement), &source)?;
+            reaches_of(alloc, &flows, cycles)
+        }
+        Err(CompileError::Memory) => Err(AllocError),
+        Err(_) => Ok(Vec::new(alloc)),
+    }
+}
+
+/// Adds names, each after a blank.
+fn put_spaced(text: &mut Vec<u8>, names: &[Vec<u8>]) -> Result<(), AllocError>
+    ensures { OnOk result
+        (text.new.items ≡ text.old.items ++ lines_spec.spaced (bytes_of names.now)) }
+{
+    for name in names {
+        put_parts(text, &[b" ", name])?;
+    }
+    Ok(())
+}
+
+/// Adds the line of a released output.
+fn put_line(text: &mut Vec<u8>, reach: &Reach) -> Result<(), AllocError>
+    ensures { OnOk result
+        (text.new.items ≡ text.old.items ++ lines_spec.released_line (spec.released reach.now)) }
+{
+    put_parts(
+        text,
+        &[&reach.class, b" releases ", &reach.output, b" from"],
+    )?;
+    if reach.sources.is_empty() {
+        text.extend_from_slice(b" (nothing)")?;
+    }
+    put_spaced(text, &reach.sources)?;
+    if !reach.beyond.is_empty() {
+        text.extend_from_slice(b", unexpected")?;
+    }
+    put_spaced(text, &reach.beyond)?;
+    text.extend_from_slice(b"\n")
+}
+
+/// The comma before the item of an array with this number.
+fn comma(number: usize) -> &'static [u8]
+    ensures { result.now ≡ lines_spec.comma number }
+{
+    if number == 0 { b"" } else { b"," }
+}
+
+/// Adds the items of an array of names. A name has no character that JSON escapes.
+fn put_quoted(text: &mut Vec<u8>, names: &[Vec<u8>]) -> Result<(), AllocError>
+    ensures { OnOk result
+        (text.new.items ≡ text.old.items ++ lines_spec.quoted 0 (bytes_of names.now)) }
+{
+    for (i, name) in names.iter().enumerate() {
+        text.extend_from_slice(comma(i))?;
+        put_parts(text, &[b"\"", name, b"\""])?;
+    }
+    Ok(())
+}
+
+/// Adds the object of a released output.
+fn put_object(text: &mut Vec<u8>, reach: &Reach) -> Result<(), AllocError>
+    ensures { OnOk result
+        (text.new.items ≡ text.old.items ++ lines_spec.released_object (spec.released reach.now)) }
+{
+    text.extend_from_slice(b"{\"beyond\":[")?;
+    put_quoted(text, &reach.beyond)?;
+    put_parts(text, &[b"],\"class\":\"", &reach.class, b"\",\"from\":["])?;
+    put_quoted(text, &reach.sources)?;
+    put_parts(text, &[b"],\"output\":\"", &reach.output, b"\"}"])
+}
+
+/// Adds the objects of released outputs.
+fn put_objects(text: &mut Vec<u8>, reaches: &[Reach]) -> Result<(), AllocError>
+    ensures { OnOk result (text.new.items
+        ≡ text.old.items ++ lines_spec.objects 0 (map spec.released reaches.now)) }
+{
+    for (i, reach) in reaches.iter().enumerate() {
+        text.extend_from_slice(comma(i))?;
+        put_object(text, reach)?;
+    }
+    Ok(())
+}
+
+/// Whether the points don't differ, and a released output does.
+fn is_overturned(fits: bool, reaches: &[Reach]) -> bool
+    ensures { result ≡ lines_spec.is_overturned fits (map spec.released reaches.now) }
+{
+    fits && !are_within(reaches)
+}
+
+/// The lines of an answer: those of its points and then one for each released output. If nothing but
+/// a released output differs, the line `conforms` isn't among them.
+pub fn with_reached_lines(
+    alloc: Heap,
+    fits: bool,
+    points: &[u8],
+    reaches: &[Reach],
+) -> Result<Vec<u8>, AllocError>
+    ensures lines { IfOk result
+        (λ text. text.items ≡ lines_spec.with_lines fits points.now (map spec.released reaches.now)) }
+{
+    let mut text = Vec::new(alloc);
+    if !is_overturned(fits, reaches) {
+        text.extend_from_slice(points)?;
+    }
+    for reach in reaches {
+        put_line(&mut text, reach)?;
+    }
+    Ok(text)
+}
+
+/// The line of JSON of an answer: that of its points, with a member for the released outputs if there
+/// are any.
+pub fn with_reached_json(
+    alloc: Heap,
+    fits: bool,
+    points: &[u8],
+    reaches: &[Reach],
+) -> Result<Vec<u8>, AllocError>
+    ensures line { IfOk result
+        (λ text. text.items ≡ lines_spec.with_member fits points.now (map spec.released reaches.now)) }
+{
+    if reaches.is_empty() {
+        return Vec::from_slice(alloc, points);
+    }
+    let line: &[u8] = if is_overturned(fits, reaches) {
+        b"{\"conforms\":false,\"points\":[]}\n"
+    } else {
+        points
+    };
+    let mut text = Vec::from_slice(alloc, &line[..line.len().saturating_sub(2)])?;
+    text.extend_from_slice(b",\"reached\":[")?;
+    put_objects(&mut text, reaches)?;
+    text.extend_from_slice(b"]}\n")?;
+    Ok(text)
 }

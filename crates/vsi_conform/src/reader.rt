@@ -17,7 +17,7 @@ ghost use Rattle.vsi_store.specs.View.{first_unknown};
 use crate::cycles::{Cycle, cycles_in};
 use crate::globals::is_named;
 use crate::interface::{Bounded, Interface, InterfaceError, Judgement};
-use crate::keys::{leads_out, natural, other_key, table_in, text_at, trials_in, value_at};
+use crate::keys::{natural, other_key, path_at, table_in, text_at, trials_in, value_at};
 use std::alloc::{AllocError, Global};
 use toml::{Table, Value};
 use vsi_lattice::Lattice;
@@ -132,119 +132,65 @@ fn has_tables(table: &Table) -> bool
     value_at(table, "below").is_some()
 }
 
-/// The path of the lattice file.
-fn file_in(alloc: Global, table: &Table) -> Result<Policy, InterfaceError>
-    ensures policy { IfOk result (spec.IsPolicy (table_view table.now)) }
-    ensures inside { IfOk result IsInside }
-{
-    if has_tables(table) {
-        return Err(InterfaceError::BadLattice);
-    }
-    let path = text_at(table, "lattice").ok_or(InterfaceError::BadLattice)?;
-    if leads_out(path.as_bytes()) {
-        return Err(InterfaceError::BadLattice);
-    }
-    let path = Vec::from_slice(alloc, path.as_bytes())?;
-    Ok(Policy::File(path))
-}
-
 /// The place of the lattice.
 fn policy_in(alloc: Global, table: &Table) -> Result<Policy, InterfaceError>
     ensures policy { IfOk result (spec.IsPolicy (table_view table.now)) }
     ensures inside { IfOk result IsInside }
 {
-    if value_at(table, "lattice").is_some() {
-        return file_in(alloc, table);
+    match (value_at(table, "lattice").is_some(), has_tables(table)) {
+        (true, false) => {
+            let path = path_at(table, "lattice").ok_or(InterfaceError::BadLattice)?;
+            let path = Vec::from_slice(alloc, path)?;
+            Ok(Policy::File(path))
+        }
+        (false, true) => {
+            let text = tables_text(alloc, table)?;
+            Ok(Policy::Tables(text))
+        }
+        _ => Err(InterfaceError::BadLattice),
     }
-    if !has_tables(table) {
-        return Err(InterfaceError::BadLattice);
-    }
-    let text = tables_text(alloc, table)?;
-    Ok(Policy::Tables(text))
 }
 
 /// How a text must be accepted.
-fn judgement_in(table: &Table) -> Result<Judgement, InterfaceError>
-    ensures { IfOk result (λ judgement. spec.judgement_at (table_view table.now) ≡ Some judgement) }
+fn judgement_in(table: &Table) -> Option<Judgement>
+    ensures { result ≡ spec.judgement_at (table_view table.now) }
 {
-    let word = text_at(table, "profile").ok_or(InterfaceError::BadProfile)?;
-    judgement_of(word.as_bytes()).ok_or(InterfaceError::BadProfile)
-}
-
-/// The judgement with this name.
-fn judgement_of(word: &[u8]) -> Option<Judgement>
-    ensures { result ≡ spec.judgement_of word.now }
-{
-    if word == b"base".as_slice() {
-        Some(Judgement::Base)
-    } else if word == b"strict".as_slice() {
-        Some(Judgement::Strict)
-    } else if word == b"steady".as_slice() {
-        Some(Judgement::Steady)
-    } else {
-        None
+    match text_at(table, "profile")? {
+        "base" => Some(Judgement::Base),
+        "strict" => Some(Judgement::Strict),
+        "steady" => Some(Judgement::Steady),
+        _ => None,
     }
 }
 
 /// Whether the order of the globals is required.
-fn order_in(table: &Table) -> Result<bool, InterfaceError>
-    ensures { IfOk result (λ is_ordered. spec.order_from
-        (get_member (codes "order") (table_view table.now)) ≡ Some is_ordered) }
+fn order_in(table: &Table) -> Option<bool>
+    ensures { result ≡ spec.order_from (get_member (codes "order") (table_view table.now)) }
 {
     let Some(value) = value_at(table, "order") else {
-        return Ok(true);
+        return Some(true);
     };
-    let word = value.as_str().ok_or(InterfaceError::BadOrder)?;
-    order_of(word.as_bytes()).ok_or(InterfaceError::BadOrder)
-}
-
-/// Whether the order of the globals is required, by name.
-fn order_of(word: &[u8]) -> Option<bool>
-    ensures { result ≡ spec.order_of word.now }
-{
-    if word == b"exact".as_slice() {
-        Some(true)
-    } else if word == b"set".as_slice() {
-        Some(false)
-    } else {
-        None
+    match value.as_str()? {
+        "exact" => Some(true),
+        "set" => Some(false),
+        _ => None,
     }
 }
 
-/// The required bound.
-fn bounded_in(table: &Table) -> Result<Bounded, InterfaceError>
-    ensures { IfOk result (λ bounded. spec.bounded_from
-        (get_member (codes "bounded") (table_view table.now)) ≡ Some bounded) }
+/// The required bound: a value `true` or `false`, or a maximum, which is at least 1.
+fn bounded_in(table: &Table) -> Option<Bounded>
+    ensures { result ≡ spec.bounded_from (get_member (codes "bounded") (table_view table.now)) }
 {
-    match value_at(table, "bounded") {
-        Some(value) => bounded_of(value).ok_or(InterfaceError::BadBounded),
-        None => Ok(Bounded::No),
-    }
-}
-
-/// The required bound, by its value: `true`, `false` or a maximum.
-fn bounded_of(value: &Value) -> Option<Bounded>
-    ensures { result ≡ spec.bounded_of (view value.now) }
-{
+    let Some(value) = value_at(table, "bounded") else {
+        return Some(Bounded::No);
+    };
     match value.as_bool() {
         Some(true) => Some(Bounded::Yes),
         Some(false) => Some(Bounded::No),
-        None => {
-            let number = value.as_integer()?;
-            maximum_of(number)
-        }
-    }
-}
-
-/// The required bound, by its maximum, which is at least 1.
-fn maximum_of(number: i64) -> Option<Bounded>
-    ensures { result ≡ spec.maximum_of number }
-{
-    let maximum = natural(number)?;
-    if 0 < maximum {
-        Some(Bounded::AtMost(maximum))
-    } else {
-        None
+        None => match natural(value.as_integer()?)? {
+            0 => None,
+            maximum => Some(Bounded::AtMost(maximum)),
+        },
     }
 }
 
@@ -261,24 +207,6 @@ fn pair_of(value: &Value) -> Option<(&str, &str)>
     Some((name, class))
 }
 
-/// The name of a global, if no earlier global has it.
-fn fresh_name(
-    alloc: Global,
-    name: &[u8],
-    before: &[(Vec<u8>, Vec<u8>)],
-) -> Result<Vec<u8>, InterfaceError>
-    ensures { IfOk result (λ fresh. fresh.items ≡ name.now) }
-{
-    let fresh = Vec::from_slice(alloc, name)?;
-    if !is_name(name) {
-        return Err(InterfaceError::BadName(fresh));
-    }
-    if is_named(before, name) {
-        return Err(InterfaceError::RepeatedGlobal(fresh));
-    }
-    Ok(fresh)
-}
-
 /// A required global, if no earlier global has its name.
 fn global_of(
     alloc: Global,
@@ -288,7 +216,13 @@ fn global_of(
     ensures { IfOk result (λ g. shape.pair_of (view value.now) ≡ Some (global g)) }
 {
     let (name, class) = pair_of(value).ok_or(InterfaceError::BadGlobals)?;
-    let name = fresh_name(alloc, name.as_bytes(), before)?;
+    let name = Vec::from_slice(alloc, name.as_bytes())?;
+    if !is_name(&name) {
+        return Err(InterfaceError::BadName(name));
+    }
+    if is_named(before, &name) {
+        return Err(InterfaceError::RepeatedGlobal(name));
+    }
     let class = Vec::from_slice(alloc, class.as_bytes())?;
     Ok((name, class))
 }
@@ -323,9 +257,9 @@ fn globals_of(alloc: Global, array: &[Value]) -> Result<Vec<(Vec<u8>, Vec<u8>)>,
 fn interface_in(alloc: Global, table: &Table) -> Result<Interface, InterfaceError>
     ensures { IfOk result (spec.Asks (table_view table.now)) }
 {
-    let judgement = judgement_in(table)?;
-    let is_ordered = order_in(table)?;
-    let bounded = bounded_in(table)?;
+    let judgement = judgement_in(table).ok_or(InterfaceError::BadProfile)?;
+    let is_ordered = order_in(table).ok_or(InterfaceError::BadOrder)?;
+    let bounded = bounded_in(table).ok_or(InterfaceError::BadBounded)?;
     let globals = globals_in(alloc, table)?;
     let trials = trials_in(alloc, table, &globals)?;
     Ok(Interface {
@@ -344,11 +278,8 @@ fn reference_in(alloc: Global, table: &Table) -> Result<Option<Vec<u8>>, Interfa
     if value_at(table, "reference").is_none() {
         return Ok(None);
     }
-    let named = text_at(table, "reference").ok_or(InterfaceError::BadReference)?;
-    if leads_out(named.as_bytes()) {
-        return Err(InterfaceError::BadReference);
-    }
-    let path = Vec::from_slice(alloc, named.as_bytes())?;
+    let path = path_at(table, "reference").ok_or(InterfaceError::BadReference)?;
+    let path = Vec::from_slice(alloc, path)?;
     Ok(Some(path))
 }
 

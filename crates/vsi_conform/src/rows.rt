@@ -79,7 +79,7 @@ pub struct Row {
 
 /// What is judged: a source text and the globals that it declares, or an image.
 #[derive(Clone, Copy)]
-pub enum Judged<'a> {
+pub(crate) enum Judged<'a> {
     Text(&'a [u8], &'a [Declaration<'a>]),
     Image(&'a Image),
 }
@@ -87,7 +87,7 @@ pub enum Judged<'a> {
 /// A global: its name, its class name and, if it is one of a text, the line and the column of one of
 /// them.
 #[derive(Clone, Copy)]
-pub struct Held<'a> {
+pub(crate) struct Held<'a> {
     pub name: &'a [u8],
     pub class: &'a [u8],
     pub place: Option<(usize, usize)>,
@@ -120,7 +120,7 @@ fn declared_at<'a>(text: &[u8], found: &[Declaration<'a>], place: usize, is_clas
 }
 
 /// The global of an image at an index; one with an empty name if there is none.
-pub fn numbered(image: &Image, place: usize) -> Held<'_>
+pub(crate) fn numbered(image: &Image, place: usize) -> Held<'_>
     ensures global { spec.held result ≡ spec.image_held image.now place }
 {
     match image.globals.get(place) {
@@ -148,7 +148,7 @@ fn held_at<'a>(judged: &Judged<'a>, place: usize, is_class: bool) -> Held<'a>
 }
 
 /// The required global with this number.
-pub fn asked<'a>(interface: &'a Interface, number: usize) -> (&'a [u8], &'a [u8])
+pub(crate) fn asked<'a>(interface: &'a Interface, number: usize) -> (&'a [u8], &'a [u8])
     ensures { (result.0.now, result.1.now) ≡ shown.asked interface.now number }
 {
     match interface.globals.get(number) {
@@ -157,22 +157,15 @@ pub fn asked<'a>(interface: &'a Interface, number: usize) -> (&'a [u8], &'a [u8]
     }
 }
 
-/// The name and the word with this number that a run expects.
-fn expected_of(trial: &Trial, wanted: usize) -> (&[u8], i64)
-    ensures { (result.0.now, result.1) ≡ shown.expected_of (Some trial.now) wanted }
-{
-    match trial.expect.get(wanted) {
-        Some(entry) => (entry.0.as_slice(), entry.1),
-        None => (b"", 0),
-    }
-}
-
 /// The name and the word that a run expects, by number.
 fn expected(interface: &Interface, trial: usize, wanted: usize) -> (&[u8], i64)
     ensures { (result.0.now, result.1) ≡ shown.expected interface.now trial wanted }
 {
-    match interface.trials.get(trial) {
-        Some(trial) => expected_of(trial, wanted),
+    let Some(trial) = interface.trials.get(trial) else {
+        return (b"", 0);
+    };
+    match trial.expect.get(wanted) {
+        Some(entry) => (entry.0.as_slice(), entry.1),
         None => (b"", 0),
     }
 }
@@ -282,24 +275,6 @@ fn row_of(
     }
 }
 
-/// Adds the rows of points.
-fn put_points(
-    alloc: Global,
-    found: &mut Vec<Row>,
-    judged: &Judged,
-    interface: &Interface,
-    points: &[Point],
-) -> Result<(), AllocError>
-    ensures { OnOk result (map spec.row found.new.items ≡ map spec.row found.old.items
-        ++ map (spec.row_of interface.now (spec.held_of judged.now)) points.now) }
-{
-    for point in points {
-        let row = row_of(alloc, judged, interface, *point)?;
-        found.push(row)?;
-    }
-    Ok(())
-}
-
 /// Adds the row of a refusal or a bound, if there are lines about it.
 fn put_lines(
     alloc: Global,
@@ -324,7 +299,7 @@ fn put_lines(
 
 /// The rows of an answer about what is judged: that of the refusal, if it is refused, one for each
 /// point, and that of the bound, if it isn't as required.
-pub fn rows_of(
+pub(crate) fn rows_of(
     alloc: Global,
     judged: &Judged,
     interface: &Interface,
@@ -337,7 +312,10 @@ pub fn rows_of(
 {
     let mut found = Vec::new(alloc);
     put_lines(alloc, &mut found, Kind::Refused, refusal)?;
-    put_points(alloc, &mut found, judged, interface, points)?;
+    for point in points {
+        let row = row_of(alloc, judged, interface, *point)?;
+        found.push(row)?;
+    }
     put_lines(alloc, &mut found, Kind::Bound, unbounded)?;
     Ok(found)
 }

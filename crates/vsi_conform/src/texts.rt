@@ -1,11 +1,13 @@
-//! The lines of an answer.
+//! The lines and the JSON of an answer.
 
 ghost use Rattle.std.specs.Prelude.{◌≡◌, ◌++◌, true, codes, map, option_map, IfOk, OnOk};
 ghost use Rattle.std.specs.Fmt.{signed_decimal};
 ghost use Rattle.std.specs.List.{flat_map};
+ghost use Rattle.serde_json.specs.View.{members_view, view};
 ghost use Rattle.vsi_conform.specs.Rows.{row};
 ghost use Rattle.vsi_conform.specs.Rows as rows_spec;
 ghost use Rattle.vsi_conform.specs.Lines as spec;
+ghost use Rattle.vsi_conform.specs.Json as json_spec;
 
 use crate::globals::declarations;
 use crate::interface::{Answer, Interface, Judgement};
@@ -13,10 +15,10 @@ use crate::rows::{Detail, Judged, Kind, Row, rows_of};
 use std::alloc::{AllocError, Global};
 use vsi_answers::{image_text, image_text_of, looped_text, looped_text_of};
 use vsi_compiler::{CompileError, Source};
-use vsi_diagnostics::{refusal_text, refusal_text_of};
+use vsi_diagnostics::{Object, Objects, refusal_text, refusal_text_of};
 use vsi_lattice::Lattice;
 use vsi_steady::UnsteadyError;
-use vsi_syntax::{put_number, put_word};
+use vsi_syntax::{put_line_column, put_number, put_word};
 
 /// Adds some texts.
 pub fn put_parts(text: &mut Vec<u8>, parts: &[&[u8]]) -> Result<(), AllocError>
@@ -26,25 +28,6 @@ pub fn put_parts(text: &mut Vec<u8>, parts: &[&[u8]]) -> Result<(), AllocError>
         text.extend_from_slice(part)?;
     }
     Ok(())
-}
-
-/// The lines of a refusal of a steady image.
-fn steady_lines(
-    alloc: Global,
-    lattice: &Lattice,
-    text: &[u8],
-    error: &CompileError,
-) -> Result<Vec<u8>, AllocError>
-    ensures { IfOk result (λ lines. spec.IsCompileText lattice.now text.now true
-        error.now lines.items) }
-{
-    match error {
-        CompileError::Flow(walk) => looped_text(alloc, lattice, text, walk),
-        CompileError::Lex(_) => refusal_text(alloc, lattice, text, error),
-        CompileError::Parse(_) => refusal_text(alloc, lattice, text, error),
-        CompileError::Scope(_) => refusal_text(alloc, lattice, text, error),
-        CompileError::Memory => refusal_text(alloc, lattice, text, error),
-    }
 }
 
 /// The lines of the refusal of a text. If a steady image is required, a flow is reported as it is
@@ -60,33 +43,12 @@ pub fn refusal_lines(
         error.now lines.items) }
 {
     match error {
-        UnsteadyError::Compile(error) => {
-            if is_steady {
-                steady_lines(alloc, lattice, text, error)
-            } else {
-                refusal_text(alloc, lattice, text, error)
-            }
-        }
+        UnsteadyError::Compile(error) => match error {
+            CompileError::Flow(walk) if is_steady => looped_text(alloc, lattice, text, walk),
+            _ => refusal_text(alloc, lattice, text, error),
+        },
         UnsteadyError::Image(error) => image_text(alloc, lattice, text, error),
         UnsteadyError::Memory => Err(AllocError),
-    }
-}
-
-/// The lines of a refusal of a source text, judged as for a steady image.
-fn source_steady_lines(
-    alloc: Global,
-    source: &Source<'_>,
-    error: &CompileError,
-) -> Result<Vec<u8>, AllocError>
-    ensures { IfOk result (λ lines. spec.IsCompileText source.now.lattice source.now.text true
-        error.now lines.items) }
-{
-    match error {
-        CompileError::Flow(walk) => looped_text_of(alloc, source, walk),
-        CompileError::Lex(_) => refusal_text_of(alloc, source, error),
-        CompileError::Parse(_) => refusal_text_of(alloc, source, error),
-        CompileError::Scope(_) => refusal_text_of(alloc, source, error),
-        CompileError::Memory => refusal_text_of(alloc, source, error),
     }
 }
 
@@ -101,13 +63,10 @@ pub fn refusal_lines_of(
         is_steady error.now lines.items) }
 {
     match error {
-        UnsteadyError::Compile(error) => {
-            if is_steady {
-                source_steady_lines(alloc, source, error)
-            } else {
-                refusal_text_of(alloc, source, error)
-            }
-        }
+        UnsteadyError::Compile(error) => match error {
+            CompileError::Flow(walk) if is_steady => looped_text_of(alloc, source, walk),
+            _ => refusal_text_of(alloc, source, error),
+        },
         UnsteadyError::Image(error) => image_text_of(alloc, source, error),
         UnsteadyError::Memory => Err(AllocError),
     }
@@ -173,9 +132,7 @@ fn put_place(text: &mut Vec<u8>, place: Option<(usize, usize)>) -> Result<(), Al
 {
     match place {
         Some((line, column)) => {
-            put_number(text, line)?;
-            text.extend_from_slice(b":")?;
-            put_number(text, column)?;
+            put_line_column(text, line, column)?;
             text.extend_from_slice(b" ")
         }
         None => Ok(()),
@@ -192,33 +149,12 @@ fn put_class(text: &mut Vec<u8>, kind: Kind, class: &[u8]) -> Result<(), AllocEr
     }
 }
 
-/// Adds what is expected, if anything is.
-fn put_expected(text: &mut Vec<u8>, expected: &Option<Vec<u8>>) -> Result<(), AllocError>
-    ensures { OnOk result (text.new.items ≡ text.old.items
-        ++ spec.expected_text (option_map (λ e. e.items) expected.now)) }
-{
-    match expected {
-        Some(expected) => put_parts(text, &[b", expected ", expected]),
-        None => Ok(()),
-    }
-}
-
 /// Adds the number of a run.
 fn put_run(text: &mut Vec<u8>, run: usize) -> Result<(), AllocError>
     ensures { OnOk result (text.new.items ≡ text.old.items ++ spec.run_text run) }
 {
     text.extend_from_slice(b"run ")?;
     put_number(text, run)
-}
-
-/// Adds a budget, if it is known.
-fn put_budget(text: &mut Vec<u8>, budget: Option<u64>) -> Result<(), AllocError>
-    ensures { OnOk result (text.new.items ≡ text.old.items ++ spec.budget_text budget) }
-{
-    match budget {
-        Some(budget) => put_number(text, budget as usize),
-        None => Ok(()),
-    }
 }
 
 /// Adds the word of a global after a run, or that there is no such global.
@@ -248,7 +184,9 @@ fn put_global(
     text.extend_from_slice(kind.word())?;
     put_parts(text, &[b" ", name])?;
     put_class(text, kind, class)?;
-    put_expected(text, expected)?;
+    if let Some(expected) = expected {
+        put_parts(text, &[b", expected ", expected])?;
+    }
     text.extend_from_slice(b"\n")
 }
 
@@ -259,7 +197,9 @@ fn put_spent(text: &mut Vec<u8>, run: usize, budget: Option<u64>) -> Result<(), 
 {
     put_run(text, run)?;
     text.extend_from_slice(b" out of budget ")?;
-    put_budget(text, budget)?;
+    if let Some(budget) = budget {
+        put_number(text, budget as usize)?;
+    }
     text.extend_from_slice(b"\n")
 }
 
@@ -312,25 +252,18 @@ pub fn put_row(text: &mut Vec<u8>, point: &Row) -> Result<(), AllocError>
     put_detail(text, point.kind, &point.detail)
 }
 
-/// The lines of rows.
-fn row_lines(alloc: Global, rows: &[Row]) -> Result<Vec<u8>, AllocError>
-    ensures { IfOk result (λ out. out.items ≡ flat_map spec.line (map row rows.now)) }
+/// The lines of an answer: `conforms`, or those of its rows.
+pub(crate) fn rows_text(alloc: Global, rows: &[Row]) -> Result<Vec<u8>, AllocError>
+    ensures text { IfOk result (λ out. out.items ≡ spec.rows_text (map row rows.now)) }
 {
+    if let [] = rows {
+        return Vec::from_slice(alloc, b"conforms\n");
+    }
     let mut lines = Vec::new(alloc);
     for point in rows {
         put_row(&mut lines, point)?;
     }
     Ok(lines)
-}
-
-/// The lines of an answer: `conforms`, or those of its rows.
-pub fn rows_text(alloc: Global, rows: &[Row]) -> Result<Vec<u8>, AllocError>
-    ensures text { IfOk result (λ out. out.items ≡ spec.rows_text (map row rows.now)) }
-{
-    match rows {
-        [] => Vec::from_slice(alloc, b"conforms\n"),
-        [_, ..] => row_lines(alloc, rows),
-    }
 }
 
 /// The lines of an answer: `conforms`, or those of the refusal, one for each point and one about the
@@ -348,4 +281,105 @@ pub fn points_text(
     let rows = text_rows(alloc, lattice, text, interface, answer)?;
     let lines = rows_text(alloc, &rows)?;
     Ok(lines)
+}
+
+/// The object with a position, if there is one.
+fn with_place(made: Object, place: Option<(usize, usize)>) -> Result<Object, AllocError>
+    ensures { IfOk result (λ all. members_view all ≡ json_spec.with_place place (members_view made)) }
+{
+    match place {
+        Some((line, column)) => made.natural("line", line)?.natural("column", column),
+        None => Ok(made),
+    }
+}
+
+/// The object with what is expected, if anything is.
+fn with_expected(made: Object, expected: &Option<Vec<u8>>) -> Result<Object, AllocError>
+    ensures { IfOk result (λ all. members_view all ≡ json_spec.with_expected
+        (option_map (λ e. e.items) expected.now) (members_view made)) }
+{
+    match expected {
+        Some(expected) => made.text("expected", expected),
+        None => Ok(made),
+    }
+}
+
+/// The object with a budget, if it is known.
+fn with_budget(made: Object, budget: Option<u64>) -> Result<Object, AllocError>
+    ensures { IfOk result (λ all. members_view all ≡ json_spec.with_budget budget (members_view made)) }
+{
+    match budget {
+        Some(budget) => made.natural("budget", budget as usize),
+        None => Ok(made),
+    }
+}
+
+/// The object of a row.
+fn row_object(alloc: Global, point: &Row) -> Result<Object, AllocError>
+    ensures { IfOk result (λ made. members_view made ≡ json_spec.members (row point.now)) }
+{
+    let made = Object::new(alloc).text("point", point.kind.word())?;
+    match &point.detail {
+        Detail::Lines(lines) => made.text("text", lines),
+        Detail::Global {
+            name,
+            class,
+            expected,
+        } => {
+            let made = made.text("name", name)?.text("class", class)?;
+            with_expected(with_place(made, point.place)?, expected)
+        }
+        Detail::Budget { run, budget } => with_budget(made.natural("run", *run)?, *budget),
+        Detail::Word {
+            run,
+            name,
+            expected,
+            found,
+        } => {
+            made.natural("run", *run)?
+                .text("name", name)?
+                .word("expected", *expected)?
+                .found("word", *found)
+        }
+    }
+}
+
+/// The objects of rows, in their order.
+fn row_objects(alloc: Global, rows: &[Row]) -> Result<Objects, AllocError>
+    ensures { IfOk result (λ found. map view found ≡ json_spec.objects (map row rows.now)) }
+{
+    let mut found = Objects::new(alloc);
+    for point in rows {
+        found.push(row_object(alloc, point)?)?;
+    }
+    Ok(found)
+}
+
+/// The line of JSON of an answer with these rows: an object with `conforms`, whether there are none,
+/// and `points`, an array with an object for each.
+pub(crate) fn rows_json(alloc: Global, rows: &[Row]) -> Result<Vec<u8>, AllocError>
+    ensures json { IfOk result (λ out. out.items ≡ json_spec.rows_json (map row rows.now)) }
+{
+    let objects = row_objects(alloc, rows)?;
+    Object::new(alloc)
+        .flag("conforms", rows.is_empty())?
+        .array("points", objects)?
+        .line()
+}
+
+/// An answer as a line of JSON: an object with `conforms` and `points`. `points` is an array with
+/// an object for each line, or block of lines, of `points_text`.
+pub fn points_json(
+    alloc: Global,
+    lattice: &Lattice,
+    text: &[u8],
+    interface: &Interface,
+    answer: &Answer,
+) -> Result<Vec<u8>, AllocError>
+    ensures json { IfOk result (λ out. json_spec.IsConformJson lattice.now text.now interface.now
+        answer.now out.items) }
+{
+    let rows = text_rows(alloc, lattice, text, interface, answer)?;
+    let line = rows_json(alloc, &rows)?;
+    Ok(line)
 }

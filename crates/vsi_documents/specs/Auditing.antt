@@ -8,8 +8,8 @@ use Rattle.vsi_diagnostics.specs.Diagnostic.{Diagnostic}
 use Rattle.vsi_conform.specs.Checking.{judgement_by}
 use Rattle.vsi_conform.specs.declared.interface.Judgement.{Judgement}
 use Rattle.vsi_conform.specs.declared.interface.Judgement.TheVariants.{Steady}
-use Rattle.vsi_conform_image.specs.Conforms.{IsJudged}
-use Rattle.vsi_conform_image.specs.Lines.{IsRefusedAs}
+use Rattle.vsi_conform.specs.ImageConforms.{IsJudged}
+use Rattle.vsi_conform.specs.ImageLines.{IsRefusedAs}
 use Rattle.vsi_documents.specs.Document.{document_text}
 use Rattle.vsi_documents.specs.Location.{uri_of}
 use Rattle.vsi_documents.specs.Refusals.{IsRefusalDocument}

@@ -9,8 +9,8 @@ use Rattle.vsi_diagnostics.specs.Json.{IsRefusalJson, accepted_line}
 use Rattle.vsi_conform.specs.Checking.{judgement_by}
 use Rattle.vsi_conform.specs.declared.interface.Judgement.{Judgement}
 use Rattle.vsi_conform.specs.declared.interface.Judgement.TheVariants.{Steady}
-use Rattle.vsi_conform_image.specs.Conforms.{IsJudged}
-use Rattle.vsi_conform_image.specs.Lines.{IsRefusedAs}
+use Rattle.vsi_conform.specs.ImageConforms.{IsJudged}
+use Rattle.vsi_conform.specs.ImageLines.{IsRefusedAs}
 
 -- The image is refused, and the line is that of its refusal, with the lines of `audit`.
 pub record TellsRefused (l : Lattice) (j : Judgement) (image : Image) (out : List ℕ) : Type 0 where

@@ -9,8 +9,8 @@ use Rattle.vsi_conform.specs.declared.rows.Kind.{Kind}
 use Rattle.vsi_conform.specs.declared.rows.Kind.TheVariants.{Refused, Missing, Unexpected, Class, Order, Budget, Word, Bound}
 use Rattle.vsi_conform.specs.Lines.{AreTextRows, line}
 use Rattle.vsi_conform.specs.Rows.{Row, word_of}
-use Rattle.vsi_conform_image.specs.Lines.{AreImageRows}
-use Rattle.vsi_conform_image.specs.declared.conforming.Answer as image
+use Rattle.vsi_conform.specs.ImageLines.{AreImageRows}
+use Rattle.vsi_conform.specs.declared.images.Answer as image
 use Rattle.vsi_documents.specs.Document.{document_text}
 use Rattle.vsi_documents.specs.Location.{location_members, uri_of}
 use Rattle.vsi_documents.specs.Objects.{text_members}

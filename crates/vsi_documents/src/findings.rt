@@ -9,8 +9,7 @@ use crate::location::{location, uri_of};
 use crate::refusal::result_object;
 use crate::sarif::document;
 use std::alloc::{AllocError, Global};
-use vsi_conform::{Answer, Interface, Kind, Row, put_row, text_rows};
-use vsi_conform_image::image_rows;
+use vsi_conform::{Answer, Interface, Kind, Row, image_rows, images, put_row, text_rows};
 use vsi_diagnostics::{Object, Objects};
 use vsi_image::Image;
 use vsi_lattice::Lattice;
@@ -121,7 +120,7 @@ pub fn image_sarif(
     path: &str,
     image: &Image,
     interface: &Interface,
-    answer: &vsi_conform_image::Answer,
+    answer: &images::Answer,
 ) -> Result<Vec<u8>, AllocError>
     ensures document { IfOk result (λ out. spec.IsImageSarif lattice.now path.now image.now
         interface.now answer.now out.items) }

@@ -14,9 +14,9 @@ use crate::refusal::{refusal_document, source_document};
 use std::alloc::{AllocError, Global};
 use vsi_compiler::{CompileError, Source, read_source};
 use vsi_conform::{
-    Judgement, judged_of, judgement_by, refusal_lines, refusal_lines_of, unsteady_diagnostic,
+    Judgement, judged_of, judgement_by, refusal_lines, refusal_lines_of, refused_image,
+    unsteady_diagnostic,
 };
-use vsi_conform_image::refused_image;
 use vsi_diagnostics::{Object, Objects};
 use vsi_image::Verified;
 use vsi_lattice::Lattice;

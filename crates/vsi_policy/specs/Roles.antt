@@ -1,5 +1,5 @@
 -- The globals that a class sees, sets, reads and releases.
-use Rattle.std.specs.Prelude.{ℕ, Bool, true, false, ◌||◌, List, [], ◌∷◌, Option, Some, None, is_some, map, codes, bytes_eq, if◌then◌else◌}
+use Rattle.std.specs.Prelude.{ℕ, Bool, true, false, not, ◌&&◌, ◌||◌, List, [], ◌∷◌, Option, Some, None, is_some, map, codes, bytes_eq, if◌then◌else◌}
 use Rattle.std.specs.Option.{option_map_or}
 use Rattle.vsi_lattice.specs.LatticeView.{class_named, order}
 use Rattle.vsi_lattice.specs.declared.lattice.Lattice.{Lattice}
@@ -21,6 +21,10 @@ pub record Boundaries : Type 0 where
 abbrev pub boundaries : Lattice → InterfaceFile → Boundaries
 boundaries l a =
     record { lattice = l; globals = globals a.interface.globals.items; tables = map cycle a.cycles.items }
+
+-- A lattice alone, with these globals and without tables.
+abbrev pub alone : Lattice → List Global → Boundaries
+alone l gs = record { lattice = l; globals = gs; tables = [] }
 
 -- Those of the code, as a value of these definitions.
 abbrev pub view : Side → Boundaries
@@ -58,31 +62,31 @@ is_listed (Some names) is_meant name = is_among names name
 
 -- The class of a table sets its inputs, without a list all globals that it sees; it reads its outputs, without a list
 -- those that it sees or that are released; and it releases the released.
-abbrev pub allows : Role → Boundaries → ClassBoundary → List ℕ → Bool
-allows Sees b t name = sees b t.class name
-allows Sets b t name = is_listed t.inputs (sees b t.class name) name
-allows Reads b t name = is_listed t.outputs (sees b t.class name || is_among t.released name) name
-allows Releases b t name = is_among t.released name
+abbrev pub allows : Role → ClassBoundary → Bool → List ℕ → Bool
+allows Sees t is_seen name = is_seen
+allows Sets t is_seen name = is_listed t.inputs is_seen name
+allows Reads t is_seen name = is_listed t.outputs (is_seen || is_among t.released name) name
+allows Releases t is_seen name = is_among t.released name
 
--- Where no table rules it, each class sets and reads the globals that it sees, and none is released.
-abbrev pub allows_untabled : Role → Boundaries → List ℕ → List ℕ → Bool
-allows_untabled Sees b class name = sees b class name
-allows_untabled Sets b class name = sees b class name
-allows_untabled Reads b class name = sees b class name
-allows_untabled Releases b class name = false
+-- A role is one of those that a class has without tables: it sets and reads the globals that it sees, and none is released.
+abbrev pub needs_table : Role → Bool
+needs_table Sees = false
+needs_table Sets = false
+needs_table Reads = false
+needs_table Releases = true
 
--- If there are tables, they rule what a class sets, reads and releases. None changes what it sees.
-abbrev pub is_ruled : Role → Boundaries → Bool
-is_ruled Sees b = false
-is_ruled Sets b = has_tables b.tables
-is_ruled Reads b = has_tables b.tables
-is_ruled Releases b = has_tables b.tables
+-- If there are tables, they rule what a class does with a global; a class without one does nothing.
+abbrev pub is_allowed : Role → List ClassBoundary → List ℕ → Bool → List ℕ → Bool
+is_allowed role tables class is_seen name =
+    if has_tables tables then option_map_or (λ t. allows role t is_seen name) (table_of tables class) false
+    else is_seen && not (needs_table role)
 
--- A class may do this with a global; a class that may not drive sets, reads and releases nothing.
+-- A class may do this with a global. No table changes what a class sees.
 abbrev pub may : Role → Boundaries → List ℕ → List ℕ → Bool
-may role b class name =
-    if is_ruled role b then option_map_or (λ t. allows role b t name) (table_of b.tables class) false
-    else allows_untabled role b class name
+may Sees b class name = sees b class name
+may Sets b class name = is_allowed Sets b.tables class (sees b class name) name
+may Reads b class name = is_allowed Reads b.tables class (sees b class name) name
+may Releases b class name = is_allowed Releases b.tables class (sees b class name) name
 
 -- The verb of a role.
 abbrev pub verb : Role → List ℕ

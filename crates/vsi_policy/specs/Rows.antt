@@ -5,7 +5,7 @@ use Rattle.vsi_lattice.specs.declared.lattice.Lattice.{Lattice}
 use Rattle.vsi_image.specs.Fields.{Global, globals}
 use Rattle.vsi_conform.specs.declared.interface.Interface.{Interface}
 use Rattle.vsi_conform.specs.declared.reader.InterfaceFile.{InterfaceFile}
-use Rattle.vsi_policy.specs.Roles.{Boundaries, boundaries, may, table_of, verb}
+use Rattle.vsi_policy.specs.Roles.{Boundaries, alone, boundaries, may, table_of, verb}
 use Rattle.vsi_policy.specs.declared.roles.Role.{Role}
 use Rattle.vsi_policy.specs.declared.roles.Role.TheVariants.{Sees, Sets, Reads, Releases}
 
@@ -69,7 +69,7 @@ globals_below l (suc n) = globals_below l n ++ (name_at l n, name_at l n) ∷ []
 
 -- A lattice alone: its classes as globals, and no tables.
 abbrev pub classes_alone : Lattice → Boundaries
-classes_alone l = record { lattice = l; globals = globals_below l (order l).count; tables = [] }
+classes_alone l = alone l (globals_below l (order l).count)
 
 -- The table of a lattice: for each class, in the order of the file, the names of exactly the classes that it sees.
 abbrev pub seen_table : Lattice → List ℕ

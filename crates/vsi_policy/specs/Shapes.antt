@@ -33,10 +33,6 @@ count_of Powerset names = set_count names
 
 -- ---- the names of classes. A class is a number below the count.
 
--- `L` and `H`.
-abbrev pub level_name : ℕ → List ℕ
-level_name class = get_or (codes "L" ∷ codes "H" ∷ []) class []
-
 -- The name at a position.
 abbrev pub given_name : List (List ℕ) → ℕ → List ℕ
 given_name given class = get_or given class []
@@ -63,7 +59,7 @@ set_name given set = or_none (members [] given set)
 
 -- The name of a class of a shape with these names.
 abbrev pub class_name : Shape → List (List ℕ) → ℕ → List ℕ
-class_name Two given class = level_name class
+class_name Two given class = given_name (codes "L" ∷ codes "H" ∷ []) class
 class_name Levels given class = given_name given class
 class_name Diamond given class = given_name given class
 class_name Powerset given class = set_name given class

@@ -2,7 +2,7 @@
 
 ghost use Rattle.std.specs.Prelude.{◌≡◌, is_some, map, option_map};
 ghost use Rattle.std.specs.Option.{option_copied};
-ghost use Rattle.vsi_image.specs.Fields.{globals};
+ghost use Rattle.vsi_image.specs.Fields.{globals as globals_of};
 ghost use Rattle.vsi_conform.specs.Asked as asked;
 ghost use Rattle.vsi_conform.specs.Reading as reading;
 ghost use Rattle.vsi_policy.specs.Roles as spec;
@@ -42,9 +42,20 @@ pub(crate) fn side_of<'a>(lattice: &'a Lattice, asked: &'a InterfaceFile) -> Sid
     }
 }
 
+/// A lattice alone, with its classes as globals and without tables.
+pub(crate) fn alone<'a>(lattice: &'a Lattice, globals: &'a [(Vec<u8>, Vec<u8>)]) -> Side<'a>
+    ensures { spec.view result ≡ spec.alone lattice.now (globals_of globals.now) }
+{
+    Side {
+        lattice,
+        globals,
+        cycles: &[],
+    }
+}
+
 /// The class name of the global with this name.
 fn class_of<'a>(variables: &'a [(Vec<u8>, Vec<u8>)], name: &[u8]) -> Option<&'a [u8]>
-    ensures { option_copied result ≡ asked.class_of (globals variables.now) name.now }
+    ensures { option_copied result ≡ asked.class_of (globals_of variables.now) name.now }
 {
     for variable in variables {
         if variable.0.as_slice() == name {
@@ -54,23 +65,17 @@ fn class_of<'a>(variables: &'a [(Vec<u8>, Vec<u8>)], name: &[u8]) -> Option<&'a 
     None
 }
 
-/// Whether the class of one name sees the class of another.
-fn sees_class(lattice: &Lattice, viewer: &[u8], class: &[u8]) -> bool
-    ensures { result ≡ spec.sees_class lattice.now viewer.now class.now }
-{
-    match (lattice.class_named(viewer), lattice.class_named(class)) {
-        (Some(viewer), Some(class)) => lattice.leq(class, viewer),
-        _ => false,
-    }
-}
-
 /// Whether a class sees a global, both by their names.
 fn sees(side: &Side, class: &[u8], name: &[u8]) -> bool
     ensures { result ≡ spec.sees (spec.view side.now) class.now name.now }
 {
-    match class_of(side.globals, name) {
-        Some(found) => sees_class(side.lattice, class, found),
-        None => false,
+    let Some(found) = class_of(side.globals, name) else {
+        return false;
+    };
+    let seen = side.lattice.class_named(found);
+    match (side.lattice.class_named(class), seen) {
+        (Some(viewer), Some(seen)) => side.lattice.leq(seen, viewer),
+        _ => false,
     }
 }
 
@@ -125,11 +130,10 @@ pub(crate) fn may_drive(side: &Side, class: &[u8]) -> bool
     side.lattice.class_named(class).is_some()
 }
 
-/// Whether a table lets its class do this with a global.
-fn allows(role: Role, side: &Side, cycle: &Cycle, name: &[u8]) -> bool
-    ensures { result ≡ spec.allows role (spec.view side.now) (reading.cycle cycle.now) name.now }
+/// Whether a table lets its class, which sees the global or doesn't, do this with it.
+fn allows(role: Role, cycle: &Cycle, is_seen: bool, name: &[u8]) -> bool
+    ensures { result ≡ spec.allows role (reading.cycle cycle.now) is_seen name.now }
 {
-    let is_seen = sees(side, cycle.class.as_slice(), name);
     let is_released = is_among(cycle.released.as_slice(), name);
     match role {
         Role::Sees => is_seen,
@@ -139,36 +143,27 @@ fn allows(role: Role, side: &Side, cycle: &Cycle, name: &[u8]) -> bool
     }
 }
 
-/// Whether a class may do this with a global where no table rules it.
-fn allows_untabled(role: Role, side: &Side, class: &[u8], name: &[u8]) -> bool
-    ensures { result ≡ spec.allows_untabled role (spec.view side.now) class.now name.now }
+/// Whether the tables of an interface, or their absence, let a class do this with a global.
+fn is_allowed(role: Role, side: &Side, class: &[u8], is_seen: bool, name: &[u8]) -> bool
+    ensures { result ≡ spec.is_allowed role (spec.view side.now).tables class.now is_seen name.now }
 {
-    match role {
-        Role::Sees | Role::Sets | Role::Reads => sees(side, class, name),
-        Role::Releases => false,
+    if !has_tables(side) {
+        return is_seen && !matches!(role, Role::Releases);
+    }
+    match table_of(side.cycles, class) {
+        Some(cycle) => allows(role, cycle, is_seen, name),
+        None => false,
     }
 }
 
-/// Whether tables rule a role. None changes what a class sees.
-fn is_ruled(role: Role, side: &Side) -> bool
-    ensures { result ≡ spec.is_ruled role (spec.view side.now) }
-{
-    match role {
-        Role::Sees => false,
-        Role::Sets | Role::Reads | Role::Releases => has_tables(side),
-    }
-}
-
-/// Whether a class may do this with a global.
+/// Whether a class may do this with a global. No table changes what a class sees.
 pub(crate) fn may(role: Role, side: &Side, class: &[u8], name: &[u8]) -> bool
     ensures { result ≡ spec.may role (spec.view side.now) class.now name.now }
 {
-    if !is_ruled(role, side) {
-        return allows_untabled(role, side, class, name);
-    }
-    match table_of(side.cycles, class) {
-        Some(cycle) => allows(role, side, cycle, name),
-        None => false,
+    let is_seen = sees(side, class, name);
+    match role {
+        Role::Sees => is_seen,
+        _ => is_allowed(role, side, class, is_seen, name),
     }
 }
 

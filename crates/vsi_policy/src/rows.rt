@@ -7,7 +7,7 @@ ghost use Rattle.vsi_lattice.specs.Order.{IsClass};
 ghost use Rattle.vsi_policy.specs.Roles.{view};
 ghost use Rattle.vsi_policy.specs.Rows as spec;
 
-use crate::roles::{Role, Side, has_table, may, side_of, verb};
+use crate::roles::{Role, Side, alone, has_table, may, side_of, verb};
 use std::alloc::{AllocError, Global};
 use vsi_conform::{Interface, InterfaceFile, put_parts};
 use vsi_lattice::{Class, Classes, Lattice};
@@ -38,30 +38,15 @@ pub(crate) fn own_globals(
     Ok(found)
 }
 
-/// Adds the name of a global if the class may do this with it.
-fn put_part(
-    text: &mut Vec<u8>,
-    role: Role,
-    side: &Side,
-    class: &[u8],
-    variable: &(Vec<u8>, Vec<u8>),
-) -> Result<(), AllocError>
-    ensures { OnOk result (text.new.items ≡ text.old.items
-        ++ spec.role_part role (view side.now) class.now (global variable.now)) }
-{
-    if may(role, side, class, variable.0.as_slice()) {
-        return put_parts(text, &[b" ", variable.0.as_slice()]);
-    }
-    Ok(())
-}
-
 /// Adds the names of the globals with which the class may do this.
 fn put_names(text: &mut Vec<u8>, role: Role, side: &Side, class: &[u8]) -> Result<(), AllocError>
     ensures { OnOk result (text.new.items ≡ text.old.items
         ++ spec.each_global (spec.role_part role (view side.now) class.now) (view side.now).globals) }
 {
     for variable in side.globals {
-        put_part(text, role, side, class, variable)?;
+        if may(role, side, class, variable.0.as_slice()) {
+            put_parts(text, &[b" ", variable.0.as_slice()])?;
+        }
     }
     Ok(())
 }
@@ -111,11 +96,8 @@ fn put_cycles(text: &mut Vec<u8>, side: &Side) -> Result<(), AllocError>
 }
 
 /// The table of an interface and its lattice: a row for each class, with the names of the globals
-/// whose class is at or below it, and then the rows of the tables `[[cycle]]`.
-///
-/// # Errors
-///
-/// Only if memory runs out.
+/// whose class is at or below it, and then the rows of the tables `[[cycle]]`. An error means that
+/// memory ran out.
 pub fn visible_table(
     alloc: Global,
     lattice: &Lattice,
@@ -132,21 +114,13 @@ pub fn visible_table(
 }
 
 /// The table of a lattice: a row for each class, with the names of the classes that it sees.
-///
-/// # Errors
-///
-/// Only if memory runs out.
+/// An error means that memory ran out.
 pub fn seen_table(alloc: Global, lattice: &Lattice) -> Result<Vec<u8>, AllocError>
     ensures table { IfOk result (λ text. text.items ≡ spec.seen_table lattice.now) }
 {
     let mut text = Vec::new(alloc);
     let globals = own_globals(alloc, lattice)?;
-    let side = Side {
-        lattice,
-        globals: globals.as_slice(),
-        cycles: &[],
-    };
-    put_seen(&mut text, &side)?;
+    put_seen(&mut text, &alone(lattice, &globals))?;
     Ok(text)
 }
 
@@ -162,27 +136,8 @@ fn is_used(variables: &[(Vec<u8>, Vec<u8>)], class: &[u8]) -> bool
     false
 }
 
-/// Adds the warning about a class, if no global has it.
-fn put_unused(
-    text: &mut Vec<u8>,
-    variables: &[(Vec<u8>, Vec<u8>)],
-    class: &[u8],
-) -> Result<(), AllocError>
-    ensures { OnOk result (text.new.items
-        ≡ text.old.items ++ spec.unused_line (globals variables.now) class.now) }
-{
-    if is_used(variables, class) {
-        return Ok(());
-    }
-    put_parts(text, &[b"warning: no global has the class ", class, b"\n"])
-}
-
 /// The warnings about the classes of an interface's lattice that no global of it has. Such a class
-/// is often a mistake.
-///
-/// # Errors
-///
-/// Only if memory runs out.
+/// is often a mistake. An error means that memory ran out.
 pub fn unused_warnings(
     alloc: Global,
     lattice: &Lattice,
@@ -193,11 +148,11 @@ pub fn unused_warnings(
 {
     let mut text = Vec::new(alloc);
     for class in 0..lattice.count() {
-        put_unused(
-            &mut text,
-            interface.globals.as_slice(),
-            name_of(lattice, class),
-        )?;
+        let name = name_of(lattice, class);
+        if !is_used(&interface.globals, name) {
+            text.extend_from_slice(b"warning: no global has the class ")?;
+            put_parts(&mut text, &[name, b"\n"])?;
+        }
     }
     Ok(text)
 }

@@ -23,27 +23,21 @@ pub enum Shape {
     Powerset,
 }
 
-/// The name of the class for the empty set of names.
-const EMPTY: &[u8] = b"none";
+/// The names of two classes.
+const LEVELS: [&[u8]; 2] = [b"L", b"H"];
 
 impl Shape {
     /// The shape of this name.
     pub fn named(name: &[u8]) -> Option<Shape>
         ensures { IfSome result (λ shape. spec.shape_name shape ≡ name.now) }
     {
-        if name == b"two".as_slice() {
-            return Some(Shape::Two);
+        match name {
+            b"two" => Some(Shape::Two),
+            b"levels" => Some(Shape::Levels),
+            b"diamond" => Some(Shape::Diamond),
+            b"powerset" => Some(Shape::Powerset),
+            _ => None,
         }
-        if name == b"levels".as_slice() {
-            return Some(Shape::Levels);
-        }
-        if name == b"diamond".as_slice() {
-            return Some(Shape::Diamond);
-        }
-        if name == b"powerset".as_slice() {
-            return Some(Shape::Powerset);
-        }
-        None
     }
 
     /// The number of classes of the shape with this many names, if the shape allows that many.
@@ -69,7 +63,7 @@ impl Shape {
             (λ name. name.items ≡ spec.class_name self (texts given.now) class) }
     {
         match self {
-            Shape::Two => Vec::from_slice(alloc, level_name(class)),
+            Shape::Two => Vec::from_slice(alloc, given_name(&LEVELS, class)),
             Shape::Levels | Shape::Diamond => Vec::from_slice(alloc, given_name(given, class)),
             Shape::Powerset => set_name(alloc, given, class),
         }
@@ -95,17 +89,6 @@ fn set_count(names: usize) -> Option<usize>
         5 => Some(32),
         6 => Some(64),
         _ => None,
-    }
-}
-
-/// The name of one of the two classes.
-fn level_name(class: usize) -> &'static [u8]
-    ensures { result.now ≡ spec.level_name class }
-{
-    match class {
-        0 => b"L",
-        1 => b"H",
-        _ => b"",
     }
 }
 
@@ -135,7 +118,7 @@ fn set_name(alloc: Global, given: &[&[u8]], set: usize) -> Result<Vec<u8>, Alloc
 {
     let name = members(alloc, given, set)?;
     if name.is_empty() {
-        return Vec::from_slice(alloc, EMPTY);
+        return Vec::from_slice(alloc, b"none");
     }
     Ok(name)
 }
@@ -166,7 +149,7 @@ pub fn named_policy(text: &[u8]) -> Option<&[u8]>
 {
     let comment = first_comment(text)?;
     let path = behind(START, comment)?;
-    Some(first_line(path))
+    Some(&path[..line_length(path)])
 }
 
 /// The text after the first `#`.
@@ -200,13 +183,6 @@ fn behind<'a>(start: &[u8], text: &'a [u8]) -> Option<&'a [u8]>
         rest = behind;
     }
     Some(rest)
-}
-
-/// The bytes before the first line feed or carriage return.
-fn first_line(text: &[u8]) -> &[u8]
-    ensures { result.now ≡ named_spec.first_line text.now }
-{
-    &text[..line_length(text)]
 }
 
 /// The number of bytes before the first line feed or carriage return.
@@ -281,16 +257,6 @@ pub(crate) fn has_order(shape: Shape, names: usize, lattice: &Lattice) -> bool
     true
 }
 
-/// Whether a lattice has the class of this name at this position.
-fn has_class_at(lattice: &Lattice, name: &[u8], place: usize) -> bool
-    ensures { IsTrue result → class_named lattice.now name.now ≡ Some place }
-{
-    match lattice.class_named(name) {
-        Some(class) => class.index() == place,
-        None => false,
-    }
-}
-
 /// Whether a lattice has the classes of the shape with these names, in their order.
 pub(crate) fn has_classes(
     alloc: Global,
@@ -303,8 +269,9 @@ pub(crate) fn has_classes(
 {
     for class in 0..lattice.count() {
         let name = shape.class_name(alloc, given, class)?;
-        if !has_class_at(lattice, &name, class) {
-            return Ok(false);
+        match lattice.class_named(&name) {
+            Some(found) if found.index() == class => {}
+            _ => return Ok(false),
         }
     }
     Ok(true)

@@ -4,6 +4,7 @@
 ghost use Rattle.vsi_lattice.specs.LatticeView.{order};
 ghost use Rattle.vsi_lattice.specs.Order.{IsClass};
 
+use crate::rows::name_of;
 use std::alloc::{AllocError, Global};
 use vsi_conform::put_parts;
 use vsi_lattice::{Class, Classes, Lattice};
@@ -33,6 +34,12 @@ const HIGH: [&[u8]; 9] = [
     b"top",
 ];
 
+/// The end of the warning about two names.
+const ALIKE: &[u8] = b" are different classes with names that look alike\n";
+
+/// The end of the warning about a viewer and a class whose names say the opposite.
+const REVERSED: &[u8] = b": is the order reversed?\n";
+
 /// A letter as it is compared: small, and the same for those that look alike. `_` has none.
 fn plain_letter(letter: u8) -> Option<u8> {
     match letter {
@@ -57,16 +64,6 @@ fn plain_name(alloc: Global, name: &[u8]) -> Result<Vec<u8>, AllocError> {
     Ok(plain)
 }
 
-/// Whether a name is one of these, in small letters and without `_`.
-fn is_one_of(name: &[u8], words: &[&[u8]]) -> bool {
-    for word in words {
-        if is_word(name, word) {
-            return true;
-        }
-    }
-    false
-}
-
 /// Whether a name is this word, whatever the size of its letters and where its `_` are.
 fn is_word(name: &[u8], word: &[u8]) -> bool {
     let mut rest = word;
@@ -82,40 +79,9 @@ fn is_word(name: &[u8], word: &[u8]) -> bool {
     rest.is_empty()
 }
 
-/// Whether two names look alike.
-fn are_alike(alloc: Global, first: &[u8], second: &[u8]) -> Result<bool, AllocError> {
-    let plain = plain_name(alloc, first)?;
-    let other = plain_name(alloc, second)?;
-    Ok(plain.as_slice() == other.as_slice())
-}
-
-/// Adds the warnings about two classes, the one that comes first in the file first.
-fn put_pair(
-    text: &mut Vec<u8>,
-    alloc: Global,
-    first: &[u8],
-    second: &[u8],
-) -> Result<(), AllocError> {
-    if are_alike(alloc, first, second)? {
-        put_parts(text, &[b"warning: ", first, b" and "])?;
-        put_parts(
-            text,
-            &[
-                second,
-                b" are different classes with names that look alike\n",
-            ],
-        )?;
-    }
-    Ok(())
-}
-
-/// Adds the warning about a viewer that sees another class although their names say the opposite.
-fn put_reversed(text: &mut Vec<u8>, viewer: &[u8], class: &[u8]) -> Result<(), AllocError> {
-    if is_one_of(viewer, LOW.as_slice()) && is_one_of(class, HIGH.as_slice()) {
-        put_parts(text, &[b"warning: ", viewer, b" sees "])?;
-        put_parts(text, &[class, b": is the order reversed?\n"])?;
-    }
-    Ok(())
+/// Whether a name is one of these, in small letters and without `_`.
+fn is_one_of(name: &[u8], words: &[&[u8]]) -> bool {
+    words.iter().any(|word| is_word(name, word))
 }
 
 /// Adds the warnings about a class and those after it.
@@ -127,25 +93,24 @@ fn put_class(
 ) -> Result<(), AllocError>
     requires { IsClass (order lattice.now) class }
 {
-    let name = lattice.name(Class::at(class as u8));
+    let name = name_of(lattice, class);
+    let plain = plain_name(alloc, name)?;
     for other in 0..lattice.count() {
-        let second = lattice.name(Class::at(other as u8));
-        if class < other {
-            put_pair(text, alloc, name, second)?;
+        let second = name_of(lattice, other);
+        if class < other && plain_name(alloc, second)?.as_slice() == plain.as_slice() {
+            put_parts(text, &[b"warning: ", name, b" and ", second, ALIKE])?;
         }
-        if lattice.leq(Class::at(other as u8), Class::at(class as u8)) {
-            put_reversed(text, name, second)?;
+        let is_seen = lattice.leq(Class::at(other as u8), Class::at(class as u8));
+        if is_seen && is_one_of(name, &LOW) && is_one_of(second, &HIGH) {
+            put_parts(text, &[b"warning: ", name, b" sees ", second, REVERSED])?;
         }
     }
     Ok(())
 }
 
 /// The warnings about a lattice: that it has one class alone, that two names look alike, and that a
-/// class with a name for secrets is at or below one with a name for the public.
-///
-/// # Errors
-///
-/// Only if memory runs out.
+/// class with a name for secrets is at or below one with a name for the public. An error means that
+/// memory ran out.
 pub fn policy_warnings(alloc: Global, lattice: &Lattice) -> Result<Vec<u8>, AllocError> {
     let mut text = Vec::new(alloc);
     if lattice.count() == 1 {

@@ -1,7 +1,7 @@
 use Rattle.std.proofs.Common.{map, subst}
 use Rattle.vsi_conform.specs.Reaching.{released}
 use Rattle.vsi_conform.specs.Reading.{cycle}
-use Rattle.vsi_conform_image.specs.Reaching.{AreImageReleased}
+use Rattle.vsi_conform.specs.ImageReaching.{AreImageReleased}
 use Rattle.vsi.proofs.references.image_released.Goals as goal
 
 pub returns : goal.returns

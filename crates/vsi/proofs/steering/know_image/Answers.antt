@@ -2,8 +2,8 @@ use Rattle.std.proofs.Common.{rules, ◌≡◌, ◌∙◌, map, sym, subst}
 use Rattle.vsi_conform.specs.Reaching.{released}
 use Rattle.vsi_conform.specs.ReachedLines.{with_lines}
 use Rattle.vsi_conform.specs.Reading.{cycle}
-use Rattle.vsi_conform_image.specs.Lines.{IsConformText}
-use Rattle.vsi_conform_image.specs.Reaching.{AreImageReleased}
+use Rattle.vsi_conform.specs.ImageLines.{IsConformText}
+use Rattle.vsi_conform.specs.ImageReaching.{AreImageReleased}
 use Rattle.vsi.proofs.steering.know_image.Goals as goal
 
 pub returns-clause-failed : goal.returns-clause-failed

@@ -2,7 +2,7 @@ use Rattle.std.proofs.Common.{rules}
 use Rattle.std.specs.Prelude.{◌≢◌}
 use Rattle.vsi_compiler.specs.declared.error.CompileError.TheVariants.{Memory}
 use Rattle.vsi_steady.specs.declared.unsteady.UnsteadyError.TheVariants as unsteady
-use Rattle.vsi_conform.proofs.Profiles.{refused_tells, unread_refused}
+use Rattle.vsi_conform.proofs.Profiles.{tells_refused, unread_refused}
 use Rattle.vsi_conform.proofs.checking.check_json_for.Goals as goal
 
 pub returns-in_ok-read-in-Ok : goal.returns-in_ok-read-in-Ok
@@ -19,7 +19,6 @@ returns-in_ok-line-in-Err g c =
     let e = c.in-Err.ensures in
     let other : error ≢ Memory = search rules in
     record {
-      answer = refused_tells l j text (unsteady.Compile error) c.refused.result c.in_ok-line-in-Err.line
-          c.refused.ensures.refused c.refused.ensures.line (unread_refused l j text error other e.refused e.exact)
-          c.in_ok-line-in-Err.ensures.refusal;
+      answer = tells_refused l j text (unsteady.Compile error) c.in_ok-line-in-Err.line.items
+          (unread_refused l j text error other e.refused e.exact) c.in_ok-line-in-Err.ensures.refusal;
     }

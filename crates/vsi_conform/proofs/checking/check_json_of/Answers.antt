@@ -1,19 +1,17 @@
-use Rattle.std.proofs.Common.{rules}
+use Rattle.std.proofs.Common.{◌≡◌, rules}
 use Rattle.vsi_lattice.specs.LatticeView.{class_named, order}
+use Rattle.vsi_diagnostics.specs.Json.{accepted_line}
 use Rattle.vsi_conform.specs.Conforms.{IsAcceptedAs, IsRefusedAs}
-use Rattle.vsi_conform.proofs.Profiles.{accepted_tells, refused_tells}
+use Rattle.vsi_conform.proofs.Profiles.{tells_refused}
 use Rattle.vsi_conform.proofs.checking.check_json_of.Goals as goal
 
-pub returns-in-Ok : goal.returns-in-Ok
-returns-in-Ok c =
+pub returns-in_ok-line-in-Ok : goal.returns-in_ok-line-in-Ok
+returns-in_ok-line-in-Ok c =
     let s = c.args.source.now in
-    let j = c.args.judgement in
     let image = c.in-Ok._verified in
-    let is : IsAcceptedAs (class_named s.lattice) (order s.lattice) j s.text image = search rules in
-    record {
-      answer = accepted_tells s.lattice j s.text image is c.accepted.result c.accepted.ensures.accepted
-          c.accepted.ensures.line;
-    }
+    let is : IsAcceptedAs (class_named s.lattice) (order s.lattice) c.args.judgement s.text image = search rules in
+    let line : c.in_ok-line-in-Ok.line.items ≡ accepted_line = search rules in
+    record { answer = record { image = image; accepted = is; line = line } }
 
 pub returns-in_ok-line-in-Err : goal.returns-in_ok-line-in-Err
 returns-in_ok-line-in-Err c =
@@ -22,6 +20,5 @@ returns-in_ok-line-in-Err c =
     let error = c.in-Err.error in
     let is : IsRefusedAs (class_named s.lattice) (order s.lattice) j s.text error = search rules in
     record {
-      answer = refused_tells s.lattice j s.text error c.refused.result c.in_ok-line-in-Err.line
-          c.refused.ensures.refused c.refused.ensures.line is c.in_ok-line-in-Err.ensures;
+      answer = tells_refused s.lattice j s.text error c.in_ok-line-in-Err.line.items is c.in_ok-line-in-Err.ensures;
     }

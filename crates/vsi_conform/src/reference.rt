@@ -1,0 +1,451 @@
+//! An image beside a reference: both run from the same random stores with the same random inputs,
+//! and the words of their released outputs are compared. This is a test: it finds some differences,
+//! and proves nothing about the words that it doesn't draw.
+
+ghost use Rattle.std.specs.Prelude.{◌≡◌, IfOk, IfSome};
+ghost use Rattle.vsi_conform.specs.Reference as spec;
+
+use crate::cycles::Cycle;
+use crate::interface::Interface;
+use crate::reaching::is_among;
+use rand_core::{Rng, SeedableRng};
+use rand_xoshiro::SplitMix64;
+use std::alloc::{AllocError, Global};
+use vsi_image::{Image, Instr, Verified};
+use vsi_lattice::Lattice;
+use vsi_machine::{Machine, Outcome};
+use vsi_store::sees;
+
+/// The runs of a boundary.
+const RUNS: usize = 64;
+
+/// The cycles of a run.
+const CYCLES: usize = 32;
+
+/// The most instructions of a cycle.
+const MOST_INSTRUCTIONS: u64 = 100_000;
+
+/// The seed of all trials.
+const SEED: u64 = 1;
+
+/// How an image differs from the reference in a cycle.
+#[derive(Clone, Copy, PartialEq, Eq, Debug)]
+pub enum Contrast {
+    /// A released output, by its number in the interface, has another word.
+    Word {
+        global: usize,
+        word: i64,
+        expected: i64,
+    },
+    /// Only the reference halts within this number of instructions.
+    Endless(u64),
+    /// Only the image halts within this number of instructions.
+    Halts(u64),
+}
+
+/// The first difference from the reference.
+#[derive(Clone, Copy, PartialEq, Eq, Debug)]
+pub struct Difference {
+    /// The number of the boundary, from 0.
+    pub boundary: usize,
+    /// The number of the run, from 0.
+    pub run: usize,
+    /// The number of the cycle, from 0.
+    pub cycle: usize,
+    pub contrast: Contrast,
+}
+
+/// The result of a trial of an image beside a reference.
+#[derive(Clone, Copy, PartialEq, Eq, Debug)]
+pub enum Comparison {
+    /// No difference in so many runs and cycles.
+    Alike { runs: usize, cycles: usize },
+    /// The first difference.
+    Apart(Difference),
+    /// The reference has no global with the name and the class of this one of the interface.
+    Lacking(usize),
+    /// The reference has this global, by its place, and the interface doesn't.
+    Extra(usize),
+    /// There is no program to compare, or its globals aren't those of the interface.
+    Untried,
+}
+
+impl Comparison {
+    /// Whether no difference was found.
+    pub fn agrees(&self) -> bool
+        ensures agrees { result ≡ spec.is_alike self.now }
+    {
+        matches!(self, Comparison::Alike { .. })
+    }
+}
+
+/// An interface with its boundaries, and the image of its reference.
+#[derive(Clone, Copy)]
+pub struct Reference<'a> {
+    pub interface: &'a Interface,
+    pub cycles: &'a [Cycle],
+    pub verified: &'a Verified,
+}
+
+/// The inputs and the released outputs of a boundary, as numbers of globals of the interface.
+#[derive(Drop)]
+struct Boundary {
+    inputs: Vec<usize>,
+    outputs: Vec<usize>,
+}
+
+/// An image with its store, and the place of each global of the interface in it.
+#[derive(Drop)]
+struct Side<'a> {
+    verified: &'a Verified,
+    places: Vec<usize>,
+    store: Vec<i64>,
+}
+
+/// The place of a global among others, by its name and its class.
+fn place_of(globals: &[(Vec<u8>, Vec<u8>)], global: &(Vec<u8>, Vec<u8>)) -> Option<usize> {
+    globals.iter().position(|found| {
+        found.0.as_slice() == global.0.as_slice() && found.1.as_slice() == global.1.as_slice()
+    })
+}
+
+/// The place of each of these globals in an image, up to the first that it lacks.
+fn places_in(
+    alloc: Global,
+    image: &Image,
+    globals: &[(Vec<u8>, Vec<u8>)],
+) -> Result<Vec<usize>, AllocError> {
+    let mut places = Vec::new(alloc);
+    for global in globals {
+        let Some(place) = place_of(&image.globals, global) else {
+            return Ok(places);
+        };
+        places.push(place)?;
+    }
+    Ok(places)
+}
+
+impl<'a> Side<'a> {
+    /// An image with a store of zeros, beside an interface with these globals.
+    fn of(
+        alloc: Global,
+        verified: &'a Verified,
+        globals: &[(Vec<u8>, Vec<u8>)],
+    ) -> Result<Side<'a>, AllocError> {
+        let places = places_in(alloc, verified.image(), globals)?;
+        let mut store = Vec::new(alloc);
+        store.resize(verified.image().globals.len(), 0)?;
+        Ok(Side {
+            verified,
+            places,
+            store,
+        })
+    }
+
+    /// The word of a global, by its number in the interface.
+    fn word(&self, number: usize) -> i64 {
+        let Some(place) = self.places.get(number) else {
+            return 0;
+        };
+        self.store.get(*place).copied().unwrap_or(0)
+    }
+
+    /// Sets a global, by its number in the interface.
+    fn set(&mut self, number: usize, word: i64) {
+        let Some(place) = self.places.get(number) else {
+            return;
+        };
+        let place = *place;
+        if place < self.store.len() {
+            self.store[place] = word;
+        }
+    }
+
+    /// Runs a cycle, and returns whether it halts within the budget. Only then the store changes.
+    fn run(&mut self, alloc: Global, budget: u64) -> Result<bool, AllocError> {
+        let Ok(mut machine) = Machine::new(alloc, self.verified, &self.store) else {
+            return Err(AllocError);
+        };
+        match machine.run(budget) {
+            Outcome::Halted => {
+                let store = machine.store().to_vec(alloc)?;
+                self.store = store;
+                Ok(true)
+            }
+            Outcome::OutOfBudget => Ok(false),
+        }
+    }
+}
+
+/// Both images, with their generator and the words to draw around.
+#[derive(Drop)]
+struct Trial<'a> {
+    alloc: Global,
+    image: Side<'a>,
+    reference: Side<'a>,
+    constants: Vec<i64>,
+    random: SplitMix64,
+    budget: u64,
+}
+
+/// Whether a line of a boundary's class may set a global.
+fn is_input(lattice: &Lattice, cycle: &Cycle, global: &(Vec<u8>, Vec<u8>)) -> bool {
+    if let Some(names) = &cycle.inputs {
+        return is_among(names, &global.0);
+    }
+    match lattice.class_named(&cycle.class) {
+        Some(class) => sees(lattice, class, &global.1),
+        None => false,
+    }
+}
+
+/// The boundary of a class by numbers.
+fn boundary_of(
+    alloc: Global,
+    lattice: &Lattice,
+    interface: &Interface,
+    cycle: &Cycle,
+) -> Result<Boundary, AllocError> {
+    let mut inputs = Vec::new(alloc);
+    let mut outputs = Vec::new(alloc);
+    for (number, global) in interface.globals.iter().enumerate() {
+        if is_input(lattice, cycle, global) {
+            inputs.push(number)?;
+        }
+        if is_among(&cycle.released, &global.0) {
+            outputs.push(number)?;
+        }
+    }
+    Ok(Boundary { inputs, outputs })
+}
+
+/// The first of these outputs in which two stores differ.
+fn contrast_of(image: &Side, reference: &Side, outputs: &[usize]) -> Option<Contrast>
+    ensures { IfSome result spec.IsContrast }
+{
+    for global in outputs {
+        let word = image.word(*global);
+        let expected = reference.word(*global);
+        if word != expected {
+            return Some(Contrast::Word {
+                global: *global,
+                word,
+                expected,
+            });
+        }
+    }
+    None
+}
+
+impl<'a> Trial<'a> {
+    /// Draws a word for a global of the interface, in both stores.
+    fn draw(&mut self, number: usize) {
+        let word = drawn(&mut self.random, &self.constants, &self.reference.store);
+        self.image.set(number, word);
+        self.reference.set(number, word);
+    }
+
+    /// Draws most of the inputs, and leaves the others as they are.
+    fn feed(&mut self, inputs: &[usize]) {
+        for number in inputs {
+            if below(&mut self.random, 4) != 0 {
+                self.draw(*number);
+            }
+        }
+    }
+
+    /// A run of both images from equal stores: how many cycles are alike, and how the next one
+    /// differs. If neither halts within the budget, the run is over.
+    fn run(&mut self, boundary: &Boundary) -> Result<(usize, Option<Contrast>), AllocError>
+        ensures { IfOk result (λ pair. IfSome pair.1 spec.IsContrast) }
+    {
+        for number in 0..self.reference.places.len() {
+            self.draw(number);
+        }
+        for cycle in 0..CYCLES {
+            self.feed(&boundary.inputs);
+            let is_halted = self.image.run(self.alloc, self.budget)?;
+            let contrast = match (is_halted, self.reference.run(self.alloc, self.budget)?) {
+                (true, true) => contrast_of(&self.image, &self.reference, &boundary.outputs),
+                (true, false) => Some(Contrast::Halts(self.budget)),
+                (false, true) => Some(Contrast::Endless(self.budget)),
+                (false, false) => return Ok((cycle, None)),
+            };
+            if contrast.is_some() {
+                return Ok((cycle, contrast));
+            }
+        }
+        Ok((CYCLES, None))
+    }
+
+    /// All runs of a boundary, which has this number.
+    fn runs(&mut self, number: usize, boundary: &Boundary) -> Result<Comparison, AllocError>
+        ensures { IfOk result spec.IsFound }
+    {
+        let mut cycles: usize = 0;
+        for run in 0..RUNS {
+            let (cycle, contrast) = self.run(boundary)?;
+            if let Some(contrast) = contrast {
+                return Ok(Comparison::Apart(Difference {
+                    boundary: number,
+                    run,
+                    cycle,
+                    contrast,
+                }));
+            }
+            cycles = cycles.saturating_add(cycle);
+        }
+        Ok(Comparison::Alike { runs: RUNS, cycles })
+    }
+}
+
+/// The trials of all boundaries that release outputs.
+fn tried(
+    trial: &mut Trial,
+    lattice: &Lattice,
+    reference: Reference<'_>,
+) -> Result<Comparison, AllocError>
+    ensures { IfOk result spec.IsFound }
+{
+    let mut all_runs: usize = 0;
+    let mut all_cycles: usize = 0;
+    for (number, cycle) in reference.cycles.iter().enumerate() {
+        let boundary = boundary_of(trial.alloc, lattice, reference.interface, cycle)?;
+        if boundary.outputs.is_empty() {
+            continue;
+        }
+        match trial.runs(number, &boundary)? {
+            Comparison::Alike { runs, cycles } => {
+                all_runs = all_runs.saturating_add(runs);
+                all_cycles = all_cycles.saturating_add(cycles);
+            }
+            other => return Ok(other),
+        }
+    }
+    Ok(Comparison::Alike {
+        runs: all_runs,
+        cycles: all_cycles,
+    })
+}
+
+/// The numbers in the code of two images, each with its neighbours and none twice.
+fn constants_of(
+    alloc: Global,
+    reference: &Verified,
+    verified: &Verified,
+) -> Result<Vec<i64>, AllocError> {
+    let mut constants = Vec::new(alloc);
+    for image in [reference.image(), verified.image()] {
+        for instr in image.code.iter() {
+            if let Instr::Push(word) = instr {
+                for near in [*word, word.wrapping_add(1), word.wrapping_sub(1)] {
+                    add(&mut constants, near)?;
+                }
+            }
+        }
+    }
+    Ok(constants)
+}
+
+/// The first global of an image that an interface doesn't have.
+fn extra_of(verified: &Verified, interface: &Interface) -> Option<usize> {
+    let mut globals = verified.image().globals.iter();
+    globals.position(|global| place_of(&interface.globals, global).is_none())
+}
+
+/// Runs an image beside a reference, for each boundary that releases outputs: 64 runs of 32 cycles
+/// from random stores with random inputs, each cycle within the budget and 100,000 instructions.
+/// Equal arguments give equal answers. Without an image only the globals of the reference are
+/// compared with those of the interface.
+pub fn compare_reference(
+    alloc: Global,
+    lattice: &Lattice,
+    verified: Option<&Verified>,
+    reference: Reference<'_>,
+    budget: u64,
+) -> Result<Comparison, AllocError>
+    ensures found { IfOk result spec.IsFound }
+{
+    let interface = reference.interface;
+    let expected = Side::of(alloc, reference.verified, &interface.globals)?;
+    if expected.places.len() < interface.globals.len() {
+        return Ok(Comparison::Lacking(expected.places.len()));
+    }
+    if let Some(place) = extra_of(reference.verified, interface) {
+        return Ok(Comparison::Extra(place));
+    }
+    let Some(verified) = verified else {
+        return Ok(Comparison::Untried);
+    };
+    let image = Side::of(alloc, verified, &interface.globals)?;
+    if image.places.len() < interface.globals.len() || extra_of(verified, interface).is_some() {
+        return Ok(Comparison::Untried);
+    }
+    let mut trial = Trial {
+        alloc,
+        image,
+        reference: expected,
+        constants: constants_of(alloc, reference.verified, verified)?,
+        random: SplitMix64::seed_from_u64(SEED),
+        budget: budget.min(MOST_INSTRUCTIONS),
+    };
+    tried(&mut trial, lattice, reference)
+}
+
+/// The most constants that are kept.
+const MOST_CONSTANTS: usize = 512;
+
+/// The most digits of a number that is drawn by its digits.
+const MOST_DIGITS: usize = 6;
+
+/// Adds a word, unless it is there or the list is full.
+fn add(constants: &mut Vec<i64>, word: i64) -> Result<(), AllocError> {
+    if constants.len() < MOST_CONSTANTS && !constants.contains(&word) {
+        constants.push(word)?;
+    }
+    Ok(())
+}
+
+/// A random number below a bound, or 0 if the bound is 0.
+fn below(random: &mut SplitMix64, bound: usize) -> usize {
+    random.next_u64().checked_rem(bound as u64).unwrap_or(0) as usize
+}
+
+/// One of the words, or 0 if there is none.
+fn one_of(random: &mut SplitMix64, words: &[i64]) -> i64 {
+    let place = below(random, words.len());
+    words.get(place).copied().unwrap_or(0)
+}
+
+/// A random number with few digits.
+fn few_digits(random: &mut SplitMix64) -> i64 {
+    let mut bound: usize = 10;
+    for _ in 0..below(random, MOST_DIGITS) {
+        bound = bound.saturating_mul(10);
+    }
+    (below(random, bound) as u64).cast_signed()
+}
+
+/// One of the words, or a neighbour of it.
+fn near(random: &mut SplitMix64, words: &[i64]) -> i64 {
+    let word = one_of(random, words);
+    match below(random, 4) {
+        0 => word.wrapping_add(1),
+        1 => word.wrapping_sub(1),
+        _ => word,
+    }
+}
+
+/// A random word for a global beside a store.
+fn drawn(random: &mut SplitMix64, constants: &[i64], store: &[i64]) -> i64 {
+    match below(random, 16) {
+        0 | 1 => 0,
+        2 | 3 => 1,
+        4 | 5 | 6 => (below(random, 11) as u64).cast_signed(),
+        7 | 8 => one_of(random, constants),
+        9 | 10 => few_digits(random),
+        11 | 12 => near(random, store),
+        13 | 14 => near(random, store).wrapping_add(one_of(random, constants)),
+        _ => random.next_u64().cast_signed(),
+    }
+}

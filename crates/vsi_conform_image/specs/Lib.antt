@@ -1,4 +1,0 @@
-pub mod Conforms
-pub mod Lines
-pub mod Reference
-pub mod Reaching
