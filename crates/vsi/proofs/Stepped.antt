@@ -1,6 +1,7 @@
 -- Runs of a source text in steps.
 use Rattle.std.proofs.Common.{◌≡◌, ◌∙◌, ◌++◌, ◌+◌, ℕ, ℤ, Bool, List, All, Result, Err, inl, inr, length, ap, sym, refl, subst}
-use Rattle.std.specs.Prelude.{◌≢◌, IfErr}
+use Rattle.std.specs.Prelude.{◌≢◌, IfErr, Option, Some}
+use Rattle.std.specs.Borrow.{Bor}
 use Rattle.std.proofs.lemmas.List.{length-append, length-map}
 use Rattle.std.proofs.lemmas.List.Elements.{All-append}
 use Rattle.std.proofs.lemmas.Slice.Zip.{AllZip-long}
@@ -18,7 +19,7 @@ use Rattle.vsi_infer.specs.Inference.{Refuses}
 use Rattle.vsi_infer.specs.declared.error.InferError.TheVariants as infer
 use Rattle.vsi_infer.specs.declared.walk.Walk.{Walk}
 use Rattle.vsi_image.specs.declared.instr.Image.{Image}
-use Rattle.vsi_image.specs.Fields.{global}
+use Rattle.vsi_image.specs.Fields.{global, globals}
 use Rattle.vsi_compiler.specs.Headline.{HasGlobals, declared_global}
 use Rattle.vsi_compiler.specs.SourceView.{IsSource, Source}
 use Rattle.vsi_compiler.proofs.Compiled.{lawful}
@@ -28,14 +29,16 @@ use Rattle.vsi_monitor.specs.declared.stop.Unfinished.{Unfinished}
 use Rattle.vsi_monitor.specs.declared.stop.Unfinished.TheVariants as ends
 use Rattle.vsi_monitor.specs.declared.watch.Watched.{Watched}
 use Rattle.vsi_answers.specs.Answers.{Because}
-use Rattle.vsi_answers.specs.Judged.{IsProgramFault, TellsSource}
+use Rattle.vsi_answers.specs.Judged.{IsProgramFault, IsStoreFault, TellsFault, TellsSource}
 use Rattle.vsi_answers.specs.declared.unanswered.Unanswered.{Unanswered}
+use Rattle.vsi_arguments.specs.declared.request.StepComparison.{StepComparison}
 use Rattle.vsi_arguments.specs.declared.request.Stepping.{Stepping}
 use Rattle.vsi.specs.declared.failure.Failure.{Failure}
-use Rattle.vsi.specs.Holding.{Holding}
+use Rattle.vsi.specs.Files.{IsStoredAt, LooksAt}
+use Rattle.vsi.specs.Holding.{Holding, IsReadAt, IsStoreAt}
 use Rattle.vsi.specs.Refusals.{FailsBy, NoOther}
-use Rattle.vsi.specs.Stepping.{AreStepFiles, EndsMonitored, EndsTraced, IsMonitored, IsStarted, IsStepped, IsTable, OfStepFiles}
-use Rattle.vsi.specs.Unstepped.{RefusesWords, WhySteps}
+use Rattle.vsi.specs.Stepping.{AreStepFiles, AreStepsCompared, AreWritten, Compared, ComparesSteps, EndsMonitored, EndsTraced, IsMonitored, IsStarted, IsStepped, IsTable, OfStepFiles}
+use Rattle.vsi.specs.Unstepped.{RefusesStepStore, RefusesWords, Spends, SpendsCompared, WhySteps}
 use Rattle.vsi.proofs.Reasons.{fails_by}
 
 -- The image of a source has as many globals as its program.
@@ -154,3 +157,75 @@ lacks_program holds s l text file given so f failure files same is =
       is = inl (subst (λ t. Because (TellsSource (IsProgramFault l t) l t) ⊥ reason) same why);
     })))
     failure is
+
+-- ---- two runs.
+
+module _ (holds : Holding) (c : StepComparison) (l : Lattice) (class : ℕ) (text given : List ℕ) (source : Source)
+    (im : Image) (looks : LooksAt holds c.lattice.now c.class.now l class) (read : IsReadAt holds c.source.now text)
+    (same : given ≡ text) (under : source.lattice ≡ l) (of : source.text ≡ given)
+    (written : AreWritten source.lattice source.text source.resolved im) where
+  -- What is compared is what the files hold.
+  pub are_compared : AreStepsCompared holds c l class source.resolved im
+  are_compared = record {
+    looks = looks;
+    text = text;
+    read = read;
+    written = subst (λ t. AreWritten l t source.resolved im) (of ∙ same)
+        (subst (λ m. AreWritten m source.text source.resolved im) under written);
+  }
+
+  -- The comparison of the program's runs is that of the files.
+  pub compares : (first second ones others : List ℤ) (alike : Bool) → IsStoredAt holds (Some c.stores.0) im first →
+      IsStoredAt holds (Some c.stores.1) im second → ones ≡ first → others ≡ second →
+      Compared source.lattice class source.resolved (globals im.globals.items) ones others c.budget alike →
+      ComparesSteps holds c alike
+  compares first second ones others alike from_first from_second one other is = record {
+    lattice = l;
+    class = class;
+    program = source.resolved;
+    image = im;
+    read = are_compared;
+    first = first;
+    second = second;
+    from_first = from_first;
+    from_second = from_second;
+    is = subst (λ m. Compared m class source.resolved (globals im.globals.items) first second c.budget alike) under
+        (subst (λ ws. Compared source.lattice class source.resolved (globals im.globals.items) first ws c.budget alike)
+        other
+        (subst
+        (λ ws. Compared source.lattice class source.resolved (globals im.globals.items) ws others c.budget alike) one
+        is));
+  }
+
+  -- A run that doesn't end within the budget is why there is none.
+  pub spends : (first second ones others : List ℤ) → IsStoredAt holds (Some c.stores.0) im first →
+      IsStoredAt holds (Some c.stores.1) im second → ones ≡ first → others ≡ second → (reason : Unanswered) →
+      Spends source.resolved ones others c.budget reason → SpendsCompared holds c reason
+  spends first second ones others from_first from_second one other reason is = record {
+    lattice = l;
+    class = class;
+    program = source.resolved;
+    image = im;
+    read = are_compared;
+    first = first;
+    second = second;
+    from_first = from_first;
+    from_second = from_second;
+    is = subst (λ ws. Spends source.resolved first ws c.budget reason) other
+        (subst (λ ws. Spends source.resolved ws others c.budget reason) one is);
+  }
+
+  -- So is a store that is refused for its image.
+  pub refuses_store : (path : Option (Bor (List ℕ))) (reason : Unanswered) →
+      (file : List ℕ) × IsStoreAt holds path file × Because (TellsFault (IsStoreFault im file)) ⊥ reason →
+      RefusesStepStore holds c path reason
+  refuses_store path reason (file, stored, is) = record {
+    lattice = l;
+    class = class;
+    program = source.resolved;
+    image = im;
+    read = are_compared;
+    file = file;
+    stored = stored;
+    is = is;
+  }
