@@ -1,10 +1,14 @@
 -- Runs of a source text in steps.
-use Rattle.std.proofs.Common.{◌≡◌, ◌∙◌, ◌++◌, ◌+◌, ℕ, ℤ, Bool, List, All, Result, Err, inl, inr, length, ap, sym, refl, subst}
-use Rattle.std.specs.Prelude.{◌≢◌, IfErr, Option, Some}
+use Rattle.std.proofs.Common.{◌≡◌, ◌∙◌, ◌++◌, ◌+◌, ℕ, ℤ, Bool, List, All, Result, Err, inl, inr, length, ap, sym, refl, subst, ◌∷◌, ◌<◌, [], Ok, Option, map}
+use Rattle.std.specs.Prelude.{◌≢◌, IfErr, Some, IfOk, IfSome}
 use Rattle.std.specs.Borrow.{Bor}
-use Rattle.std.proofs.lemmas.List.{length-append, length-map}
+use Rattle.std.proofs.lemmas.List.{length-append, length-map, get_or-map, map-append, take_more}
 use Rattle.std.proofs.lemmas.List.Elements.{All-append}
 use Rattle.std.proofs.lemmas.Slice.Zip.{AllZip-long}
+use Rattle.std.specs.Global.{Vec}
+use Rattle.std.specs.List.{AllZip}
+use Rattle.std.proofs.Math.ListN.{get_or, take}
+use Rattle.vsi_scope.specs.declared.resolved.Entry.{Entry}
 use Rattle.vsi_lattice.specs.LatticeView.{class_named, order}
 use Rattle.vsi_lattice.specs.Order as classes
 use Rattle.vsi_lattice.specs.declared.lattice.Lattice.{Lattice}
@@ -13,9 +17,9 @@ use Rattle.vsi_scope.specs.Program.{Resolved}
 use Rattle.vsi_scope.specs.Resolving.{global_of, shown}
 use Rattle.vsi_scope.specs.View.{sequence}
 use Rattle.vsi_types.specs.declared.rules.Profile.TheVariants.{Base}
-use Rattle.vsi_types.specs.Security.{IsTypable, IsWellFormed, Keeps, Program, program}
+use Rattle.vsi_types.specs.Security.{IsTypable, IsWellFormed, Keeps, Program, program, IsChoice}
 use Rattle.vsi_types.proofs.Walking.{bad_walks_refute}
-use Rattle.vsi_infer.specs.Inference.{Refuses}
+use Rattle.vsi_infer.specs.Inference.{Refuses, AreClasses}
 use Rattle.vsi_infer.specs.declared.error.InferError.TheVariants as infer
 use Rattle.vsi_infer.specs.declared.walk.Walk.{Walk}
 use Rattle.vsi_image.specs.declared.instr.Image.{Image}
@@ -37,7 +41,7 @@ use Rattle.vsi.specs.declared.failure.Failure.{Failure}
 use Rattle.vsi.specs.Files.{IsStoredAt, LooksAt}
 use Rattle.vsi.specs.Holding.{Holding, IsReadAt, IsStoreAt}
 use Rattle.vsi.specs.Refusals.{FailsBy, NoOther}
-use Rattle.vsi.specs.Stepping.{AreStepFiles, AreStepsCompared, AreWritten, Compared, ComparesSteps, EndsMonitored, EndsTraced, IsMonitored, IsStarted, IsStepped, IsTable, OfStepFiles}
+use Rattle.vsi.specs.Stepping.{AreStepFiles, AreStepsCompared, AreWritten, Compared, ComparesSteps, EndsMonitored, EndsTraced, IsMonitored, IsStarted, IsStepped, IsTable, OfStepFiles, IsChosen}
 use Rattle.vsi.specs.Unstepped.{RefusesStepStore, RefusesWords, Spends, SpendsCompared, WhySteps}
 use Rattle.vsi.proofs.Reasons.{fails_by}
 
@@ -57,6 +61,51 @@ pub untypable : (s : Source) → IsSource s → (w : Walk) →
 untypable s is w refused choice typable =
     bad_walks_refute (order s.lattice) Base (program s.resolved) w.steps.items choice (lawful s.lattice) (ready s is)
     refused.0 typable
+
+-- The declared class of one of the letvars is a class of the lattice.
+pub entry_class : (L : classes.Lattice) (ls items : List Entry) (i : ℕ) (e : Entry) →
+    AreClasses L (map (λ x. x.class) ls) → items ≡ ls → i < length items → e ≡ get_or items i e →
+    IfSome e.class (classes.IsClass L)
+entry_class L ls items i e all same within is =
+    let each = subst (λ xs. AreClasses L (map (λ x. x.class) xs)) (sym same) all in
+    subst (λ d. IfSome d (classes.IsClass L))
+    (get_or-map (λ (x : Entry). x.class) items i e e.class within ∙ ap (λ (x : Entry). x.class) (sym is))
+    (each i e.class (subst (λ n. i < n) (sym (length-map items (λ (x : Entry). x.class))) within))
+
+-- A choice that keeps the declared classes, with one more class, keeps one more.
+zip_push : (ds : List (Option ℕ)) (cs : List ℕ) (d : Option ℕ) (c : ℕ) → AllZip Keeps ds cs → Keeps d c →
+    AllZip Keeps (ds ++ d ∷ []) (cs ++ c ∷ [])
+zip_push [] [] d c all one = (one, tt)
+zip_push [] (x ∷ cs) d c all one = absurd all
+zip_push (x ∷ ds) [] d c all one = absurd all
+zip_push (x ∷ ds) (y ∷ cs) d c all one = (all.0, zip_push ds cs d c all.1 one)
+
+-- The same for one letvar more.
+pub kept_more : (items : List Entry) (i : ℕ) (e : Entry) (cs new : List ℕ) (c : ℕ) → i < length items →
+    e ≡ get_or items i e → AllZip Keeps (map (λ x. x.class) (take i items)) cs → Keeps e.class c →
+    new ≡ cs ++ c ∷ [] → AllZip Keeps (map (λ x. x.class) (take (i + 1) items)) new
+kept_more items i e cs new c within is all one pushed =
+    subst (λ ds. AllZip Keeps ds new)
+    (sym (ap (map (λ (x : Entry). x.class)) (take_more items i e within)
+    ∙ map-append (λ (x : Entry). x.class) (take i items) (get_or items i e ∷ [])
+    ∙ ap (λ (x : Entry). map (λ (y : Entry). y.class) (take i items) ++ x.class ∷ []) (sym is)))
+    (subst (λ xs. AllZip Keeps (map (λ x. x.class) (take i items) ++ e.class ∷ []) xs) (sym pushed)
+    (zip_push (map (λ x. x.class) (take i items)) cs e.class c all one))
+
+-- A choice that keeps the declared classes of a program with a bad walk is as good as any.
+pub refused_choice : {E : Type 0} (s : Source) (l : Lattice) (r : Resolved) (result : Result (Vec ℕ) E) → IsSource s →
+    l ≡ s.lattice → r ≡ s.resolved → (w : Walk) → Refuses (order l) Base (program r) (infer.Refused w) →
+    IfOk result (λ c. IsChoice (program r) c.items) → IfOk result (λ c. All (classes.IsClass (order l)) c.items) →
+    IfOk result (λ c. IsChosen (order s.lattice) (program s.resolved) c.items)
+refused_choice s l r (Err e) is here there w refused kept all = tt
+refused_choice s l r (Ok c) is here there w refused kept all = record {
+  kept = subst (λ p. IsChoice (program p) c.items) there kept;
+  classes = subst (λ m. All (classes.IsClass (order m)) c.items) here all;
+  least = λ choice typable. absurd (untypable s is w
+      (subst (λ m. Refuses (order m) Base (program s.resolved) (infer.Refused w)) here
+      (subst (λ p. Refuses (order l) Base (program p) (infer.Refused w)) there refused))
+      choice typable);
+}
 
 -- Each class of a table is one of the lattice.
 pub table_classes : (L : classes.Lattice) (p : Program) (table : List ℕ) → IsWellFormed L p → IsTable L p table →
