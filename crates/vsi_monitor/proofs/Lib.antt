@@ -5,3 +5,10 @@ pub mod Secret
 pub mod Agreeing
 pub mod Passing
 pub mod Watching
+pub mod PermissiveMarks
+pub mod PermissiveComputing
+pub mod PermissiveForms
+pub mod PermissiveWords
+pub mod PermissiveSecret
+pub mod PermissiveAgreeing
+pub mod PermissivePassing

@@ -1,4 +1,5 @@
 pub mod Labels
 pub mod Monitor
+pub mod Permissive
 pub mod Watched
 pub mod Laws

@@ -1,6 +1,8 @@
 //! The laws of monitored runs. Each function's contract is a law, and its body does nothing.
 
 ghost use Rattle.vsi_monitor.specs.Laws.{ComputesTheSame, MonitoredNoninterference, TypablePasses};
+ghost use Rattle.vsi_monitor.specs.Laws.{EitherComputesTheSame, EitherNoninterference};
+ghost use Rattle.vsi_monitor.specs.Laws.{EitherTypablePasses};
 
 /// A monitored run that isn't stopped computes the store that the rules of evaluation give.
 pub fn computes_the_same()
@@ -16,4 +18,23 @@ pub fn monitored_noninterference()
 /// A typable program whose variables begin with their classes as labels is never stopped.
 pub fn typable_passes()
     ensures { TypablePasses }
+{}
+
+/// By no-sensitive-upgrade and by permissive upgrade, a run that isn't stopped computes the store
+/// that the rules of evaluation give.
+pub fn either_computes_the_same()
+    ensures { EitherComputesTheSame }
+{}
+
+/// By either rule, two runs from stores that agree at and below a class, both of which halt without
+/// being stopped, end in stores that agree there. Words that are partly leaked in one of the runs
+/// count as agreeing, since no run branches on them.
+pub fn either_noninterference()
+    ensures { EitherNoninterference }
+{}
+
+/// By either rule, a typable program whose variables begin with their classes as labels is never
+/// stopped, and they end with them: none is partly leaked.
+pub fn either_typable_passes()
+    ensures { EitherTypablePasses }
 {}

@@ -12,11 +12,13 @@
 
 pub mod laws;
 mod measure;
+mod rule;
 mod run;
 mod stop;
 mod text;
 mod watch;
 
+pub use rule::Rule;
 pub use stop::{Stop, Unfinished};
 pub use text::{Naming, monitor_text};
 pub use watch::{Watched, monitored};

@@ -1,0 +1,10 @@
+//! The rules of the monitor.
+
+/// What happens at an assignment under a counter that isn't at or below the label of the variable.
+#[derive(Clone, Copy, Debug, PartialEq, Eq)]
+pub enum Rule {
+    /// The run is stopped.
+    NoSensitiveUpgrade,
+    /// The word is marked as partly leaked, and the run is stopped at a guard that reads it.
+    PermissiveUpgrade,
+}
