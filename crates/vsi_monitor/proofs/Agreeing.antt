@@ -17,7 +17,7 @@ use Rattle.vsi_monitor.proofs.Secret.{agree_back, agree_on, agree_same, agree_le
 
 module _ (L : Lattice) (laws : IsLattice L) where
   -- An expression has at most one label.
-  one_label : (q : Locations) (e : Expression) (t t' : ℕ) → HasLabel L q e t → HasLabel L q e t' → t ≡ t'
+  pub one_label : (q : Locations) (e : Expression) (t t' : ℕ) → HasLabel L q e t → HasLabel L q e t' → t ≡ t'
   one_label q (Number z) t t' h k = h ∙ sym k
   one_label q (Location l s) t t' h k = h ∙ sym k
   one_label q (Operator o a b) t t' h k =

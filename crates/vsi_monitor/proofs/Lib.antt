@@ -12,3 +12,4 @@ pub mod PermissiveWords
 pub mod PermissiveSecret
 pub mod PermissiveAgreeing
 pub mod PermissivePassing
+pub mod PermissiveMore

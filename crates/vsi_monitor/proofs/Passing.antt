@@ -45,7 +45,7 @@ module _ (L : Lattice) (laws : IsLattice L) (P : Profile) (classes : ℕ → ℕ
     typed_down f all n (Letvar e c) t t' w w' le h = (h.0, SUBTYPE_CMD le w h.1)
 
     -- A typed command has its parts.
-    typed : (f : Locations) → All (IsClass L) f → (n : ℕ) (c : Command) (t : ℕ) → HasCmd L P classes f n c t →
+    pub typed : (f : Locations) → All (IsClass L) f → (n : ℕ) (c : Command) (t : ℕ) → HasCmd L P classes f n c t →
         Typed f n c t
     typed f all n c t (EMPTY w) = tt
     typed f all n c t (ASSIGN (VARLOC {l = l} lt) d) =
@@ -68,24 +68,24 @@ module _ (L : Lattice) (laws : IsLattice L) (P : Profile) (classes : ℕ → ℕ
         (label_below f b t is.1 w (λ l r. h l (inr r)) is.3)
 
     -- The label of an expression is at or below its type.
-    label_typed : (f : Locations) → All (IsClass L) f → (e : Expression) (t u : ℕ) → HasData L f e t →
+    pub label_typed : (f : Locations) → All (IsClass L) f → (e : Expression) (t u : ℕ) → HasData L f e t →
         HasLabel L f e u → Below L u t
     label_typed f all e t u d is =
         label_below f e t u (data_class L laws f all e t d) (simple_security L f e t laws all d).0 is
 
     -- A word stored in a variable has the variable's class as its label.
-    stored_same : (class t pc v : ℕ) → IsClass L class → Below L t class → Below L pc class →
+    pub stored_same : (class t pc v : ℕ) → IsClass L class → Below L t class → Below L pc class →
         IsStored L t pc class v → v ≡ class
     stored_same class t pc v w le up is =
         laws.antisymmetric v class is.within w (is.least class w le up (laws.reflexive class w)) is.variable
 
     -- A new location has its class as the label.
-    new_same : (class t v : ℕ) → IsClass L class → Below L t class → IsJoin L.count (Below L) t class v → v ≡ class
+    pub new_same : (class t v : ℕ) → IsClass L class → Below L t class → IsJoin L.count (Below L) t class v → v ≡ class
     new_same class t v w le is =
         laws.antisymmetric v class is.within w (is.least class w le (laws.reflexive class w)) is.right
 
     -- The counter in a branch is at or below the type of its guard.
-    inside : (f q : Locations) → All (IsClass L) f → q ≡ f → (e : Expression) (pc t t' u k : ℕ) → IsClass L pc →
+    pub inside : (f q : Locations) → All (IsClass L) f → q ≡ f → (e : Expression) (pc t t' u k : ℕ) → IsClass L pc →
         IsClass L t → Below L pc t → Below L t t' → HasData L f e t' → HasLabel L q e k →
         IsJoin L.count (Below L) pc k u → Below L u t'
     inside f q all same e pc t t' u k w w' le up d has is =

@@ -89,24 +89,39 @@ module _ (L : Lattice) where
         (λ ka up'. below_more a c ka kc (laws.transitive a b c ka kb kc up' up))))
         (λ is. subst (λ x. Below (with_mark L) a x) (sym is) (below_mark a))
 
+    -- The join of two classes is their join among the labels.
+    pub join_more : (a b c : ℕ) → IsClass L a → IsClass L b → IsJoin L.count (Below L) a b c →
+        IsJoin (with_mark L).count (Below (with_mark L)) a b c
+    join_more a b c ka kb j = record {
+      within = class_label c j.within;
+      left = below_more a c ka j.within j.left;
+      right = below_more b c kb j.within j.right;
+      least = λ d kd h k. label_cases d kd
+          (λ kd'. below_more c d j.within kd' (j.least d kd' (below_back a d ka kd' h) (below_back b d kb kd' k)))
+          (λ is. subst (λ x. Below (with_mark L) c x) (sym is) (below_mark c));
+    }
+
+    -- The label of what is stored is the same among the labels.
+    pub stored_more : (t pc class v : ℕ) → IsClass L t → IsClass L pc → IsClass L class →
+        IsStored L t pc class v → IsStored (with_mark L) t pc class v
+    stored_more t pc class v kt kp kc st = record {
+      within = class_label v st.within;
+      value = below_more t v kt st.within st.value;
+      counter = below_more pc v kp st.within st.counter;
+      variable = below_more class v kc st.within st.variable;
+      least = λ d kd h k g. label_cases d kd
+          (λ kd'. below_more v d st.within kd' (st.least d kd' (below_back t d kt kd' h) (below_back pc d kp kd' k)
+          (below_back class d kc kd' g)))
+          (λ is. subst (λ x. Below (with_mark L) v x) (sym is) (below_mark v));
+    }
+
     -- Labels have a join.
     label_joins : (a b : ℕ) → IsClass (with_mark L) a → IsClass (with_mark L) b →
         HasJoin (with_mark L).count (Below (with_mark L)) a b
     label_joins a b w w' =
         label_cases a w
         (λ ka. label_cases b w'
-        (λ kb. let j = laws.joins a b ka kb in (
-          j.0,
-          record {
-            within = class_label j.0 j.1.within;
-            left = below_more a j.0 ka j.1.within j.1.left;
-            right = below_more b j.0 kb j.1.within j.1.right;
-            least = λ d kd h k. label_cases d kd
-                (λ kd'. below_more j.0 d j.1.within kd'
-                (j.1.least d kd' (below_back a d ka kd' h) (below_back b d kb kd' k)))
-                (λ is. subst (λ x. Below (with_mark L) j.0 x) (sym is) (below_mark j.0));
-          },
-        ))
+        (λ kb. let j = laws.joins a b ka kb in (j.0, join_more a b j.0 ka kb j.1))
         (λ is. (
           L.count,
           record {

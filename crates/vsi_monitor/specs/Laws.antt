@@ -7,7 +7,9 @@ use Rattle.vsi_types.specs.declared.rules.Profile.{Profile}
 use Rattle.vsi_types.specs.Typing.{Locations}
 use Rattle.vsi_types.specs.Security.{Program, IsWellFormed, IsTypable, class_of}
 use Rattle.vsi_monitor.specs.Labels.{IsLabelled, AgreeAt}
+use Rattle.std.specs.List.{All}
 use Rattle.vsi_monitor.specs.declared.rule.Rule.{Rule}
+use Rattle.vsi_monitor.specs.declared.rule.Rule.TheVariants.{NoSensitiveUpgrade, PermissiveUpgrade}
 use Rattle.vsi_monitor.specs.Monitor.{Outcome, Halted, Stopped, Monitored}
 use Rattle.vsi_monitor.specs.Permissive.{labels, Permitted, StoresAgree}
 
@@ -68,3 +70,13 @@ EitherTypablePasses =
     IsTypable L P p s → (m : Store) (r : Outcome) →
     Permitted R (labels R L) (class_of L (p.globals ++ s)) p.globals L.bottom (length p.globals) p.body m p.globals r →
     HaltsWith p.globals r
+
+-- Permissive upgrade stops fewer runs: a run that halts by no-sensitive-upgrade halts by permissive upgrade, with the
+-- same store and the same labels.
+abbrev pub StopsFewer : Type 0
+StopsFewer =
+    (L : Lattice) (classes : ℕ → ℕ) (f : Locations) (pc n : ℕ) (c : Command) → IsLattice L →
+    ((v : ℕ) → IsClass L (classes v)) → All (IsClass L) f → IsClass L pc → HasPlaces (length f) c →
+    (m m' : Store) (q q' : Locations) → IsLabelled L (length f) m q →
+    Permitted NoSensitiveUpgrade L classes f pc n c m q (Halted m' q') →
+    Permitted PermissiveUpgrade (labels PermissiveUpgrade L) classes f pc n c m q (Halted m' q')

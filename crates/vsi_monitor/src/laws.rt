@@ -2,7 +2,7 @@
 
 ghost use Rattle.vsi_monitor.specs.Laws.{ComputesTheSame, MonitoredNoninterference, TypablePasses};
 ghost use Rattle.vsi_monitor.specs.Laws.{EitherComputesTheSame, EitherNoninterference};
-ghost use Rattle.vsi_monitor.specs.Laws.{EitherTypablePasses};
+ghost use Rattle.vsi_monitor.specs.Laws.{EitherTypablePasses, StopsFewer};
 
 /// A monitored run that isn't stopped computes the store that the rules of evaluation give.
 pub fn computes_the_same()
@@ -37,4 +37,10 @@ pub fn either_noninterference()
 /// stopped, and they end with them: none is partly leaked.
 pub fn either_typable_passes()
     ensures { EitherTypablePasses }
+{}
+
+/// A run that halts by no-sensitive-upgrade halts by permissive upgrade, with the same store and
+/// the same labels.
+pub fn stops_fewer()
+    ensures { StopsFewer }
 {}
