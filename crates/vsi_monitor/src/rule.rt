@@ -1,6 +1,6 @@
 //! The rules of the monitor.
 
-/// What happens at an assignment under a counter that isn't at or below the label of the variable.
+/// How a run is judged at an assignment under a counter that isn't at or below the variable's label.
 #[derive(Clone, Copy, Debug, PartialEq, Eq)]
 pub enum Rule {
     /// The run is stopped.
