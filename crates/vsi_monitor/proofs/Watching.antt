@@ -1,7 +1,7 @@
 -- Combining the runs of the parts of a command into its run.
 use Rattle.std.proofs.Common.{◌≡◌, ◌≢◌, ℕ, ◌+◌, ◌<◌, ◌≤◌, List, [], ◌∷◌, ◌++◌, length, take, drop, set, get_or, min, ℤ, pos, w64, SFits, to_z, of_z, refl, sym, ap, ◌∙◌, subst, arith, rules}
 use Rattle.std.proofs.lemmas.Int.{to_z-of_z}
-use Rattle.std.specs.Prelude.{slice_index, true, false, ◌==◌, cond, ⊤, Result, Ok, Err, IsErrAnd}
+use Rattle.std.specs.Prelude.{slice_index, true, false, ◌==◌, cond, ⊤, Option, Some, None, Result, Ok, Err, IsErrAnd}
 use Rattle.std.specs.List.{All}
 use Rattle.std.proofs.lemmas.List.{drop_more, drop_all, length_push, take_at}
 use Rattle.std.proofs.lemmas.List.Elements.{All-push}
@@ -19,8 +19,8 @@ use Rattle.vsi_monitor.specs.declared.stop.Stop.{Stop}
 use Rattle.vsi_monitor.specs.declared.stop.Unfinished.{Unfinished}
 use Rattle.vsi_monitor.specs.declared.stop.Unfinished.TheVariants as ends
 use Rattle.vsi_monitor.specs.Labels.{HasLabel, IsStored, IsLabelled}
-use Rattle.vsi_monitor.specs.Monitor.{Outcome, Halted, Stopped, Monitored, NOTHING, ASSIGN, UPGRADE, COMPOSE, COMPOSE_STOP, IF_TRUE, IF_FALSE, WHILE_TRUE, WHILE_STOP, WHILE_FALSE, LETVAR, LETVAR_STOP}
-use Rattle.vsi_monitor.specs.Watched.{Held, IsHeld, IsReady, Watched}
+use Rattle.vsi_monitor.specs.Monitor.{Outcome, Halted, Stopped, upgrade, Monitored, NOTHING, ASSIGN, UPGRADE, COMPOSE, COMPOSE_STOP, IF_TRUE, IF_FALSE, WHILE_TRUE, WHILE_STOP, WHILE_FALSE, LETVAR, LETVAR_STOP}
+use Rattle.vsi_monitor.specs.Watched.{Held, IsHeld, IsReady, Judged, Watched}
 use Rattle.vsi_monitor.proofs.Labelled.{kept, fit_more}
 
 -- The rest of a list from a command on.
@@ -87,14 +87,28 @@ module _ (L : Lattice) (classes : ℕ → ℕ) where
   leads_watched table pc n c a pc' n' c' b d (Err ends.Limit) l h = tt
   leads_watched table pc n c a pc' n' c' b d (Err (ends.Stopped x)) l h = l.runs (Stopped x) h
 
-  -- An assignment whose counter isn't at or below the label is stopped.
-  pub stopped_at : (a : Held) (pc n l t : ℕ) (s : Span) (e : Expression) → t ≡ slice_index a.labels l →
-      L.leq pc t ≡ false → (b : Held) →
-      Watched L classes pc n (Assign l s e) a b (Err (ends.Stopped (record { place = s; counter = pc; label = t })))
-  stopped_at a pc n l t s e is no b =
-      subst (λ x. Monitored L classes a.variables pc n (Assign l s e) a.words a.labels
-      (Stopped (record { place = s; counter = pc; label = x })))
-      (sym is) (UPGRADE (λ h. false≢true (sym no ∙ ap (L.leq pc) is ∙ h)))
+  -- An assignment that is judged to have no label is stopped.
+  pub stopped_at : (a b : Held) (pc n l k t class : ℕ) (s : Span) (e : Expression) → k ≡ slice_index a.labels l →
+      Judged L pc k t class None → Watched L classes pc n (Assign l s e) a b (Err (ends.Stopped (upgrade s pc k)))
+  stopped_at a b pc n l k t class s e is no =
+      subst (λ x. Monitored L classes a.variables pc n (Assign l s e) a.words a.labels (Stopped (upgrade s pc x)))
+      (sym is) (UPGRADE (subst (λ x. Below L pc x → ⊥) is no))
+
+  -- An assignment that is judged to have a label stores its word with it.
+  pub assigned_at : (a b : Held) (pc n l k t class v : ℕ) (s : Span) (e : Expression) (x : ℤ) (done : ⊤) →
+      k ≡ slice_index a.labels l → class ≡ slice_index a.variables l → HasLabel L a.labels e t →
+      Judged L pc k t class (Some v) → x ≡ value e a.words → b.words ≡ set a.words l x → b.labels ≡ set a.labels l v →
+      b.variables ≡ a.variables → b.left ≤ a.left → Watched L classes pc n (Assign l s e) a b (Ok done)
+  assigned_at a b pc n l k t class v s e x done present is has judged value' words labels variables left =
+      let stored = subst (λ y. IsStored L t pc y v) is judged.1 in
+      let run = ASSIGN {s = s} (subst (Below L pc) present judged.0) has stored in (
+        subst (λ y. Monitored L classes a.variables pc n (Assign l s e) a.words a.labels (Halted y b.labels))
+            (sym (words ∙ ap (set a.words l) value'))
+            (subst (λ y. Monitored L classes a.variables pc n (Assign l s e) a.words a.labels
+            (Halted (set a.words l (value e a.words)) y)) (sym labels) run),
+        variables,
+        left,
+      )
 
   -- A choice whose guard is true leads to its first branch.
   pub leads_yes : (table : List ℕ) (pc n t u : ℕ) (e : Expression) (p q : Command) (x : ℤ) (a : Held) (k : ℕ) →
@@ -167,34 +181,6 @@ module _ (L : Lattice) (classes : ℕ → ℕ) where
         (subst (λ y. Leads table pc n c a pc n' y b) is l').runs (Stopped x) (COMPOSE_STOP h)
 
   module _ (laws : IsLattice L) where
-    -- Two joins give the label of what is stored.
-    joined : (t pc class u v : ℕ) → IsClass L t → IsClass L pc → IsJoin L.count (Below L) t pc u →
-        IsJoin L.count (Below L) u class v → IsStored L t pc class v
-    joined t pc class u v kt kp h k = record {
-      within = k.within;
-      value = laws.transitive t u v kt h.within k.within h.left k.left;
-      counter = laws.transitive pc u v kp h.within k.within h.right k.left;
-      variable = k.right;
-      least = λ d kd a b c. k.least d kd (h.least d kd a b) c;
-    }
-
-    -- An assignment whose counter is at or below the label.
-    pub assigned_at : (a b : Held) (pc n l t u v k class : ℕ) (s : Span) (e : Expression) (x : ℤ) (done : ⊤) →
-        IsClass L t → IsClass L pc → k ≡ slice_index a.labels l → L.leq pc k ≡ true → HasLabel L a.labels e t →
-        class ≡ slice_index a.variables l → IsJoin L.count (Below L) t pc u → IsJoin L.count (Below L) u class v →
-        x ≡ value e a.words → b.words ≡ set a.words l x → b.labels ≡ set a.labels l v →
-        b.variables ≡ a.variables → b.left ≤ a.left → Watched L classes pc n (Assign l s e) a b (Ok done)
-    assigned_at a b pc n l t u v k class s e x done kt kp present up has is h j value' words labels variables left =
-        let stored = subst (λ y. IsStored L t pc y v) is (joined t pc class u v kt kp h j) in
-        let run = ASSIGN {s = s} (sym (ap (L.leq pc) present) ∙ up) has stored in (
-          subst (λ y. Monitored L classes a.variables pc n (Assign l s e) a.words a.labels (Halted y b.labels))
-              (sym (words ∙ ap (set a.words l) value'))
-              (subst (λ y. Monitored L classes a.variables pc n (Assign l s e) a.words a.labels
-              (Halted (set a.words l (value e a.words)) y)) (sym labels) run),
-          variables,
-          left,
-        )
-
     -- A run keeps the form of the state.
     left_held : (pc n : ℕ) (c : Command) (a b : Held) → IsHeld L a → HasPlaces (length a.variables) c →
         Monitored L classes a.variables pc n c a.words a.labels (Halted b.words b.labels) →

@@ -1,7 +1,7 @@
 -- The contracts of the code that runs.
-use Rattle.std.specs.Prelude.{◌≡◌, ◌≤◌, ℕ, ◌+◌, List, length, take, ⊤, Result, Ok, Err}
+use Rattle.std.specs.Prelude.{◌≡◌, ◌≤◌, ℕ, ◌+◌, List, length, take, ⊤, Option, Some, None, Result, Ok, Err}
 use Rattle.std.specs.List.{All}
-use Rattle.vsi_lattice.specs.Order.{Lattice, IsClass}
+use Rattle.vsi_lattice.specs.Order.{Lattice, IsClass, Below}
 use Rattle.vsi_scope.specs.Language.{Command, letvars, HasPlaces}
 use Rattle.vsi_scope.specs.Meaning.{Store}
 use Rattle.vsi_scope.specs.Program.{Resolved}
@@ -12,7 +12,7 @@ use Rattle.vsi_monitor.specs.declared.run.State.{State}
 use Rattle.vsi_monitor.specs.declared.stop.Unfinished.{Unfinished}
 use Rattle.vsi_monitor.specs.declared.stop.Unfinished.TheVariants as ends
 use Rattle.vsi_monitor.specs.declared.watch.Watched as watch
-use Rattle.vsi_monitor.specs.Labels.{IsLabelled}
+use Rattle.vsi_monitor.specs.Labels.{IsStored, IsLabelled}
 use Rattle.vsi_monitor.specs.Monitor.{Halted, Stopped, Monitored}
 
 -- The words in scope, their labels, the classes of their variables, and the steps that are left.
@@ -40,6 +40,12 @@ pub record IsReady (L : Lattice) (table : List ℕ) (pc n : ℕ) (c : Command) (
   pub held : IsHeld L a
   pub counter : IsClass L pc
   pub places : HasPlaces (length a.variables) c
+
+-- How an assignment under a counter is judged, from the variable's present label, the label of the expression and the
+-- class of the variable: what is stored has a label, unless the counter isn't at or below the present one.
+abbrev pub Judged : Lattice → ℕ → ℕ → ℕ → ℕ → Option ℕ → Type 0
+Judged L pc present t class (Some v) = Below L pc present × IsStored L t pc class v
+Judged L pc present t class None = Below L pc present → ⊥
 
 -- How a run of a command under a counter, with n declarations before it, ends.
 abbrev pub Watched : Lattice → (ℕ → ℕ) → ℕ → ℕ → Command → Held → Held → Result ⊤ Unfinished → Type 0

@@ -16,7 +16,7 @@ pub struct Naming<'a> {
 }
 
 /// The name of a class.
-fn class_name(lattice: &Lattice, class: Class) -> &[u8] {
+pub(crate) fn class_name(lattice: &Lattice, class: Class) -> &[u8] {
     if class.index() < lattice.count() {
         lattice.name(class)
     } else {
@@ -24,12 +24,17 @@ fn class_name(lattice: &Lattice, class: Class) -> &[u8] {
     }
 }
 
+/// The name of the variable of an assignment.
+pub(crate) fn variable_name<'a>(naming: &Naming<'a>, stop: &Stop) -> &'a [u8] {
+    let name = naming.text.get(stop.place.start..stop.place.stop);
+    name.unwrap_or(b"?")
+}
+
 /// The line of a run that is stopped: `3:5 l : L may not be assigned under H`.
 fn put_stop(text: &mut Vec<u8>, naming: &Naming<'_>, stop: &Stop) -> Result<(), AllocError> {
     put_place(text, naming.text, stop.place.start)?;
     text.extend_from_slice(b" ")?;
-    let name = naming.text.get(stop.place.start..stop.place.stop);
-    text.extend_from_slice(name.unwrap_or(b"?"))?;
+    text.extend_from_slice(variable_name(naming, stop))?;
     text.extend_from_slice(b" : ")?;
     text.extend_from_slice(class_name(naming.lattice, stop.label))?;
     text.extend_from_slice(b" may not be assigned under ")?;

@@ -7,8 +7,7 @@ use Rattle.vsi_lattice.specs.Order.{Lattice, IsLattice, IsClass, Below}
 use Rattle.vsi_scope.specs.Meaning.{Store}
 use Rattle.vsi_types.specs.Typing.{Locations}
 use Rattle.vsi_monitor.specs.declared.rule.Rule.{Rule}
-use Rattle.vsi_monitor.specs.Labels.{IsLabelled}
-use Rattle.vsi_monitor.specs.Permissive.{IsMark, WordsAgree, StoresAgree}
+use Rattle.vsi_monitor.specs.Labels.{IsLabelled, IsMark, WordsAgree, StoresAgree}
 
 -- A relation of two labelled words.
 abbrev pub Words : Type 1

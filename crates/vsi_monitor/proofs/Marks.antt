@@ -9,8 +9,7 @@ use Rattle.vsi_types.specs.Security.{IsReadIn}
 use Rattle.vsi_syntax.specs.declared.token.Span.{Span}
 use Rattle.vsi_monitor.specs.declared.rule.Rule.{Rule}
 use Rattle.vsi_monitor.specs.declared.rule.Rule.TheVariants.{NoSensitiveUpgrade, PermissiveUpgrade}
-use Rattle.vsi_monitor.specs.Labels.{HasLabel, IsStored}
-use Rattle.vsi_monitor.specs.Permissive.{with_mark, labels, IsMark, ReadsNoMark, ReadsMarkAt}
+use Rattle.vsi_monitor.specs.Labels.{HasLabel, IsStored, with_mark, labelling, IsMark, ReadsNoMark, ReadsMarkAt}
 
 -- A number is equal to itself.
 same_number : (n : ℕ) → (n == n) ≡ true
@@ -193,28 +192,28 @@ module _ (L : Lattice) where
     }
 
 -- The labels by either rule are a lattice.
-pub labels_lattice : (R : Rule) (L : Lattice) → IsLattice L → IsLattice (labels R L)
+pub labels_lattice : (R : Rule) (L : Lattice) → IsLattice L → IsLattice (labelling R L)
 labels_lattice NoSensitiveUpgrade L laws = laws
 labels_lattice PermissiveUpgrade L laws = marked_lattice L laws
 
 -- A class is a label by either rule.
-pub labels_class : (R : Rule) (L : Lattice) (a : ℕ) → IsClass L a → IsClass (labels R L) a
+pub labels_class : (R : Rule) (L : Lattice) (a : ℕ) → IsClass L a → IsClass (labelling R L) a
 labels_class NoSensitiveUpgrade L a w = w
 labels_class PermissiveUpgrade L a w = class_label L a w
 
 -- The order of classes is kept by either rule.
 pub labels_below : (R : Rule) (L : Lattice) (a b : ℕ) → IsClass L a → IsClass L b → Below L a b →
-    Below (labels R L) a b
+    Below (labelling R L) a b
 labels_below NoSensitiveUpgrade L a b ka kb le = le
 labels_below PermissiveUpgrade L a b ka kb le = below_more L a b ka kb le
 
 -- The bottom class is the bottom label.
-pub labels_bottom : (R : Rule) (L : Lattice) → (labels R L).bottom ≡ L.bottom
+pub labels_bottom : (R : Rule) (L : Lattice) → (labelling R L).bottom ≡ L.bottom
 labels_bottom NoSensitiveUpgrade L = refl
 labels_bottom PermissiveUpgrade L = refl
 
 -- A class isn't the mark.
-pub class_clean : (R : Rule) (L : Lattice) (a : ℕ) → IsClass L a → IsMark R (labels R L) a → ⊥
+pub class_clean : (R : Rule) (L : Lattice) (a : ℕ) → IsClass L a → IsMark R (labelling R L) a → ⊥
 class_clean NoSensitiveUpgrade L a w mark = mark
 class_clean PermissiveUpgrade L a w mark = absurd (omega (arith, w, mark))
 
