@@ -240,3 +240,78 @@ label_clean R L laws q (Operator o a b) t has clean =
     (λ r. label_clean R L laws q a has.0 has.2 (λ m. clean (mark_up R L laws has.0 t has.4.within m has.4.left)) l r mark)
     (λ r. label_clean R L laws q b has.1 has.3 (λ m. clean (mark_up R L laws has.1 t has.4.within m has.4.right)) l r mark)
     read
+
+-- A label that isn't the number of the mark is a class.
+pub label_in : (R : Rule) (L : Lattice) (a : ℕ) → IsClass (labelling R L) a → (a ≡ L.count → ⊥) → IsClass L a
+label_in NoSensitiveUpgrade L a w not = w
+label_in PermissiveUpgrade L a w not = label_cases L a w (λ ka. ka) (λ is. absurd (not is))
+
+-- A label with the number of the mark is above every label.
+pub order_top : (R : Rule) (L : Lattice) (a b : ℕ) → IsClass (labelling R L) b → b ≡ L.count →
+    (labelling R L).leq a b ≡ true
+order_top NoSensitiveUpgrade L a b w is = absurd (omega (arith, w, is))
+order_top PermissiveUpgrade L a b w is = subst (λ x. Below (with_mark L) a x) (sym is) (below_mark L a)
+
+-- A label with the number of the mark isn't at or below a class.
+pub order_over : (R : Rule) (L : Lattice) (a b : ℕ) → IsClass (labelling R L) a → IsClass L b → a ≡ L.count →
+    (labelling R L).leq a b ≡ false
+order_over NoSensitiveUpgrade L a b w kb is = absurd (omega (arith, w, is))
+order_over PermissiveUpgrade L a b w kb is =
+    subst (λ x. (with_mark L).leq x b ≡ false) (sym is)
+    (ap (λ x. cond x true (cond (L.count == L.count) false (L.leq L.count b))) (smaller_number b L.count kb)
+    ∙ ap (λ x. cond x false (L.leq L.count b)) (same_number L.count))
+
+-- The order of classes is theirs among the labels.
+pub order_in : (R : Rule) (L : Lattice) (a b : ℕ) → IsClass L a → IsClass L b →
+    (labelling R L).leq a b ≡ L.leq a b
+order_in NoSensitiveUpgrade L a b ka kb = refl
+order_in PermissiveUpgrade L a b ka kb = order_same L a b ka kb
+
+-- The join of two labels of which the first has the number of the mark.
+pub join_first : (R : Rule) (L : Lattice) (a b : ℕ) → IsClass (labelling R L) a → a ≡ L.count →
+    IsJoin (labelling R L).count (Below (labelling R L)) a b L.count
+join_first NoSensitiveUpgrade L a b w is = absurd (omega (arith, w, is))
+join_first PermissiveUpgrade L a b w is = record {
+  within = mark_label L;
+  left = below_mark L a;
+  right = below_mark L b;
+  least = λ d kd h k. subst (λ x. Below (with_mark L) x d) is h;
+}
+
+-- The join of two labels of which the second has the number of the mark.
+pub join_second : (R : Rule) (L : Lattice) (a b : ℕ) → IsClass (labelling R L) b → b ≡ L.count →
+    IsJoin (labelling R L).count (Below (labelling R L)) a b L.count
+join_second NoSensitiveUpgrade L a b w is = absurd (omega (arith, w, is))
+join_second PermissiveUpgrade L a b w is = record {
+  within = mark_label L;
+  left = below_mark L a;
+  right = below_mark L b;
+  least = λ d kd h k. subst (λ x. Below (with_mark L) x d) is k;
+}
+
+-- The join of two classes is their join among the labels.
+pub join_in : (R : Rule) (L : Lattice) → IsLattice L → (a b c : ℕ) → IsClass L a → IsClass L b →
+    IsJoin L.count (Below L) a b c → IsJoin (labelling R L).count (Below (labelling R L)) a b c
+join_in NoSensitiveUpgrade L laws a b c ka kb j = j
+join_in PermissiveUpgrade L laws a b c ka kb j = join_more L laws a b c ka kb j
+
+-- A label that isn't the number of the mark isn't the mark.
+pub no_mark : (R : Rule) (L : Lattice) (t : ℕ) → (t ≡ L.count → ⊥) → IsMark R (labelling R L) t → ⊥
+no_mark NoSensitiveUpgrade L t not mark = mark
+no_mark PermissiveUpgrade L t not mark = not mark
+
+-- A label with the number of the mark is the mark.
+pub is_mark : (R : Rule) (L : Lattice) (t : ℕ) → IsClass (labelling R L) t → t ≡ L.count → IsMark R (labelling R L) t
+is_mark NoSensitiveUpgrade L t w is = absurd (omega (arith, w, is))
+is_mark PermissiveUpgrade L t w is = is
+
+-- Two joins give the label of what is stored.
+pub joined : (L : Lattice) → IsLattice L → (t pc class u v : ℕ) → IsClass L t → IsClass L pc →
+    IsJoin L.count (Below L) t pc u → IsJoin L.count (Below L) u class v → IsStored L t pc class v
+joined L laws t pc class u v kt kp h k = record {
+  within = k.within;
+  value = laws.transitive t u v kt h.within k.within h.left k.left;
+  counter = laws.transitive pc u v kp h.within k.within h.right k.left;
+  variable = k.right;
+  least = λ d kd a b c. k.least d kd (h.least d kd a b) c;
+}

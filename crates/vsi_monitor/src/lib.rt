@@ -12,17 +12,15 @@
 //! To be believed: all files of `specs/`.
 #![tactic(auto)]
 
-mod json;
+mod answer;
 pub mod laws;
 mod measure;
 mod rule;
 mod run;
 mod stop;
-mod text;
 mod watch;
 
-pub use json::monitor_json;
+pub use answer::{Naming, monitor_json, monitor_text};
 pub use rule::Rule;
 pub use stop::{Stop, Unfinished};
-pub use text::{Naming, monitor_text};
 pub use watch::{Watched, monitored};

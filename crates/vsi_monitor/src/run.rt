@@ -5,10 +5,9 @@ ghost use Rattle.vsi_lattice.specs.Order.{IsClass};
 ghost use Rattle.vsi_scope.specs.Language.{Assign, If, While, Letvar, letvars, HasPlaces};
 ghost use Rattle.vsi_scope.specs.Limits.{max_declarations};
 ghost use Rattle.vsi_scope.specs.View.{command, sequence, expression};
-ghost use Rattle.vsi_types.specs.Security.{class_of};
 ghost use Rattle.vsi_monitor.specs.declared.stop.Unfinished.TheVariants as ends;
 ghost use Rattle.vsi_monitor.specs.Labels.{labelling};
-ghost use Rattle.vsi_monitor.specs.Watched.{held, IsHeld, IsReady, Watched};
+ghost use Rattle.vsi_monitor.specs.Watched.{held, IsHeld, IsReady, Goes, Watched};
 
 use crate::measure::{guard_label, label, letvars, letvars_in, value};
 use crate::rule::Rule;
@@ -56,8 +55,9 @@ fn run_assign<C: Classes>(
     requires counter { IsClass (labelling rule (C.lattice lattice.now)) counter }
     requires places { HasPlaces (length state.old.variables.items)
         (Assign location place (expression e.now)) }
-    ensures { (classes : ℕ → ℕ) (n : ℕ) → Watched rule (labelling rule (C.lattice lattice.now)) classes counter n
-        (Assign location place (expression e.now)) (held state.old) (held state.new) result }
+    ensures { (classes : ℕ → ℕ) (n : ℕ) → Watched rule (labelling rule (C.lattice lattice.now))
+        classes counter n (Assign location place (expression e.now)) (held state.old)
+        (held state.new) result }
 {
     take(&mut state.left)?;
     let at = location as usize;
@@ -92,8 +92,8 @@ fn run_if<C: Classes>(
         (If (expression guard.now) (sequence yes.now) (sequence no.now)) (held state.old) }
     requires few { next + letvars (If (expression guard.now) (sequence yes.now) (sequence no.now))
         ≤ max_declarations }
-    ensures { Watched rule (labelling rule (C.lattice lattice.now)) (class_of (labelling rule (C.lattice lattice.now)) classes.now)
-        counter next (If (expression guard.now) (sequence yes.now) (sequence no.now))
+    ensures { Goes rule (C.lattice lattice.now) classes.now counter next
+        (If (expression guard.now) (sequence yes.now) (sequence no.now))
         (held state.old) (held state.new) result }
 {
     take(&mut state.left)?;
@@ -124,8 +124,8 @@ fn run_while<C: Classes>(
         (While (expression guard.now) (sequence body.now)) (held state.old) }
     requires few { next + letvars (While (expression guard.now) (sequence body.now))
         ≤ max_declarations }
-    ensures { Watched rule (labelling rule (C.lattice lattice.now)) (class_of (labelling rule (C.lattice lattice.now)) classes.now)
-        counter next (While (expression guard.now) (sequence body.now))
+    ensures { Goes rule (C.lattice lattice.now) classes.now counter next
+        (While (expression guard.now) (sequence body.now))
         (held state.old) (held state.new) result }
 {
     let mut inside = counter;
@@ -157,8 +157,8 @@ fn run_letvar<C: Classes>(
         (Letvar (expression e.now) (sequence body.now)) (held state.old) }
     requires few { next + letvars (Letvar (expression e.now) (sequence body.now))
         ≤ max_declarations }
-    ensures { Watched rule (labelling rule (C.lattice lattice.now)) (class_of (labelling rule (C.lattice lattice.now)) classes.now)
-        counter next (Letvar (expression e.now) (sequence body.now))
+    ensures { Goes rule (C.lattice lattice.now) classes.now counter next
+        (Letvar (expression e.now) (sequence body.now))
         (held state.old) (held state.new) result }
 {
     take(&mut state.left)?;
@@ -190,8 +190,8 @@ pub(crate) fn run_all<C: Classes>(
     requires ready { IsReady (labelling rule (C.lattice lattice.now)) classes.now counter first
         (sequence body.now) (held state.old) }
     requires few { first + letvars (sequence body.now) ≤ max_declarations }
-    ensures { Watched rule (labelling rule (C.lattice lattice.now)) (class_of (labelling rule (C.lattice lattice.now)) classes.now)
-        counter first (sequence body.now) (held state.old) (held state.new) result }
+    ensures { Goes rule (C.lattice lattice.now) classes.now counter first
+        (sequence body.now) (held state.old) (held state.new) result }
 {
     let mut next = first;
     for c in body {
@@ -215,8 +215,8 @@ fn run_one<C: Classes>(
     requires ready { IsReady (labelling rule (C.lattice lattice.now)) classes.now counter next
         (command c.now) (held state.old) }
     requires few { next + letvars (command c.now) ≤ max_declarations }
-    ensures { Watched rule (labelling rule (C.lattice lattice.now)) (class_of (labelling rule (C.lattice lattice.now)) classes.now)
-        counter next (command c.now) (held state.old) (held state.new) result }
+    ensures { Goes rule (C.lattice lattice.now) classes.now counter next (command c.now)
+        (held state.old) (held state.new) result }
 {
     match c {
         Cmd::Assign { loc, span, value } => run_assign(rule, lattice, state, counter, *loc, *span, value),

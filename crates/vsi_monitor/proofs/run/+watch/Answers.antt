@@ -6,8 +6,9 @@ use Rattle.vsi_scope.specs.Meaning.{value}
 use Rattle.vsi_scope.specs.View.{command, expression, sequence}
 use Rattle.vsi_types.specs.Security.{class_of}
 use Rattle.vsi_types.proofs.Visiting.{seen_if, seen_while, seen_letvar}
-use Rattle.vsi_monitor.specs.Labels.{HasLabel}
+use Rattle.vsi_monitor.specs.Labels.{HasLabel, labelling}
 use Rattle.vsi_monitor.specs.Watched.{held, Watched}
+use Rattle.vsi_monitor.proofs.Marks.{labels_lattice}
 use Rattle.vsi_monitor.proofs.Watching.{at_command, at_end, small, zero_word, watched_err, limit_err, leads_watched, leads_yes, leads_no, leads_end, first_few, leads_stop, leads_next, loop_ends, turn_stop, leads_turn, letvar_stop, letvar_done}
 use Rattle.vsi_monitor.proofs.run.+watch.Goals as goal
 
@@ -40,60 +41,105 @@ run_one-returns-in-Letvar g t c =
 
 pub run_all-returns-in_err-run_one : goal.run_all-returns-in_err-run_one
 run_all-returns-in_err-run_one g t c =
-    let L = g.C.Classes.lattice c.args.lattice.now in
+    let L = labelling c.args.rule (g.C.Classes.lattice c.args.lattice.now) in
     let e = at_command c.args.body.now c.loop-c.c-index c.c-item.result c.loop-c-test.true c.c-item.is in
-    watched_err L (class_of L c.args.classes.now) _ _ _ _ _ (held c.run_one.new.state) _ _ c.from_residual.ensures.1
-    (leads_stop L (class_of L c.args.classes.now) _ _ _ _ _ _ _ _ _ _ e c.loop-c.invariant (held c.run_one.new.state) _
+    watched_err c.args.rule L (class_of L c.args.classes.now) _ _ _ _ _ (held c.run_one.new.state) _ _ c.from_residual.ensures.1
+    (leads_stop c.args.rule L (class_of L c.args.classes.now) _ _ _ _ _ _ _ _ _ _ e c.loop-c.invariant (held c.run_one.new.state) _
     c.in_err-run_one.ensures)
 
 pub run_all-loop-c-preserved : goal.run_all-loop-c-preserved
 run_all-loop-c-preserved g t c =
-    let L = g.C.Classes.lattice c.args.lattice.now in
+    let L = labelling c.args.rule (g.C.Classes.lattice c.args.lattice.now) in
     let e = at_command c.args.body.now c.loop-c.c-index c.c-item.result c.loop-c-test.true c.c-item.is in
-    leads_next L (class_of L c.args.classes.now) (g.met.C.Classes.laws c.args.lattice.now) _ _ _ _ _ _ _ _ _ _
+    leads_next c.args.rule L (class_of L c.args.classes.now) (labels_lattice c.args.rule _ (g.met.C.Classes.laws c.args.lattice.now)) _ _ _ _ _ _ _ _ _ _
     (held c.run_one.new.state) (c.loop-c.next + c.letvars_in.result) _ e c.loop-c.invariant c.in_ok-run_one.ensures
     (small (letvars (command c.c-item.result)) c.loop-c.next c.letvars_in.result c.letvars_in.ensures
-    (first_few L (class_of L c.args.classes.now) _ _ _ _ _ _ _ _ _ _ e c.loop-c.invariant))
+    (first_few c.args.rule L (class_of L c.args.classes.now) _ _ _ _ _ _ _ _ _ _ e c.loop-c.invariant))
 
 pub run_all-returns : goal.run_all-returns
 run_all-returns g t c =
-    let L = g.C.Classes.lattice c.args.lattice.now in
-    leads_end L (class_of L c.args.classes.now) _ _ _ _ _ _ _ _ _
+    let L = labelling c.args.rule (g.C.Classes.lattice c.args.lattice.now) in
+    leads_end c.args.rule L (class_of L c.args.classes.now) _ _ _ _ _ _ _ _ _
     (at_end c.args.body.now c.loop-c.c-index c.loop-c-test.false) c.loop-c.invariant
 
 pub run_if-returns-in_err-take : goal.run_if-returns-in_err-take
 run_if-returns-in_err-take g t c =
-    let L = g.C.Classes.lattice c.args.lattice.now in
-    limit_err L (class_of L c.args.classes.now) _ _ _ _ _ _ _ c.from_residual.ensures.1 c.in_err-take.ensures.limit
+    let L = labelling c.args.rule (g.C.Classes.lattice c.args.lattice.now) in
+    limit_err c.args.rule L (class_of L c.args.classes.now) _ _ _ _ _ _ _ c.from_residual.ensures.1 c.in_err-take.ensures.limit
 
 pub run_if-returns-then-word-ne0 : goal.run_if-returns-then-word-ne0
 run_if-returns-then-word-ne0 g t c =
-    let d = c.label in let v = c.value-word in let j = c.join-inside in let k = c.in_ok-take in let r = c.run_all in ?
+    let L = labelling c.args.rule (g.C.Classes.lattice c.args.lattice.now) in
+    let e = expression c.args.guard.now in
+    let l = leads_yes c.args.rule L (class_of L c.args.classes.now) c.args.classes.now c.args.counter c.args.next c.guard_label-read.result
+    c.join-inside.result e (sequence c.args.yes.now) (sequence c.args.no.now) c.value-word.result
+    (held c.args.state.now) c.take.new.left c.requires.ready c.requires.few
+    (omega (arith, c.in_ok-take.ensures.taken))
+    (subst (λ y. Guarded c.args.rule L c.args.counter y e (Ok c.guard_label-read.result)) c.deref.ensures.value c.in_ok-guard_label.ensures)
+    c.join-inside.ensures
+    (c.value-word.ensures ∙ ap (value e) c.deref-2.ensures.value) (λ z. c.if-word-ne0.true (ap (of_z w64) z)) in
+    leads_watched c.args.rule L (class_of L c.args.classes.now) _ _ _ _ _ _ _ _ _ _ c.run_all.result l c.run_all.ensures
 
 pub run_if-returns-else-word-ne0 : goal.run_if-returns-else-word-ne0
-run_if-returns-else-word-ne0 g t c = let r = c.run_all-else-word-ne0 in let l = c.letvars in ?
+run_if-returns-else-word-ne0 g t c =
+    let L = labelling c.args.rule (g.C.Classes.lattice c.args.lattice.now) in
+    let e = expression c.args.guard.now in
+    let l = leads_no c.args.rule L (class_of L c.args.classes.now) c.args.classes.now c.args.counter c.args.next
+    (c.args.next + c.letvars.result) c.guard_label-read.result c.join-inside.result e (sequence c.args.yes.now)
+    (sequence c.args.no.now) c.value-word.result (held c.args.state.now) c.take.new.left
+    (small (letvars (sequence c.args.yes.now)) c.args.next c.letvars.result c.letvars.ensures
+    (omega (arith, c.requires.few))) c.requires.ready c.requires.few (omega (arith, c.in_ok-take.ensures.taken))
+    (subst (λ y. Guarded c.args.rule L c.args.counter y e (Ok c.guard_label-read.result)) c.deref.ensures.value c.in_ok-guard_label.ensures)
+    c.join-inside.ensures
+    (c.value-word.ensures ∙ ap (value e) c.deref-2.ensures.value)
+    (zero_word c.value-word.result (search rules) c.if-word-ne0.false) in
+    leads_watched c.args.rule L (class_of L c.args.classes.now) _ _ _ _ _ _ _ _ _ _ c.run_all-else-word-ne0.result l
+    c.run_all-else-word-ne0.ensures
 
 pub run_letvar-returns-in_err-take : goal.run_letvar-returns-in_err-take
 run_letvar-returns-in_err-take g t c =
-    let L = g.C.Classes.lattice c.args.lattice.now in
-    limit_err L (class_of L c.args.classes.now) _ _ _ _ _ _ _ c.from_residual.ensures.1 c.in_err-take.ensures.limit
+    let L = labelling c.args.rule (g.C.Classes.lattice c.args.lattice.now) in
+    limit_err c.args.rule L (class_of L c.args.classes.now) _ _ _ _ _ _ _ c.from_residual.ensures.1 c.in_err-take.ensures.limit
 
 pub run_letvar-returns-in_err-run_all : goal.run_letvar-returns-in_err-run_all
-run_letvar-returns-in_err-run_all g t c = let r = c.in_err-run_all in ?
+run_letvar-returns-in_err-run_all g t c = ?
 
 pub run_letvar-returns : goal.run_letvar-returns
-run_letvar-returns g t c = let r = c.in_ok-run_all in ?
+run_letvar-returns g t c = ?
 
 pub run_while-returns-in_err-take : goal.run_while-returns-in_err-take
 run_while-returns-in_err-take g t c =
-    let L = g.C.Classes.lattice c.args.lattice.now in
-    limit_err L (class_of L c.args.classes.now) _ _ _ _ _ _ _ c.from_residual.ensures.1 c.in_err-take.ensures.limit
+    let L = labelling c.args.rule (g.C.Classes.lattice c.args.lattice.now) in
+    limit_err c.args.rule L (class_of L c.args.classes.now) _ _ _ _ _ _ _ c.from_residual.ensures.1 c.in_err-take.ensures.limit
 
 pub run_while-returns-then-word-eq0 : goal.run_while-returns-then-word-eq0
-run_while-returns-then-word-eq0 g t c = let l = c.loop-word in let w = c.if-word-eq0 in ?
+run_while-returns-then-word-eq0 g t c =
+    let L = labelling c.args.rule (g.C.Classes.lattice c.args.lattice.now) in
+    let e = expression c.args.guard.now in
+    loop_ends c.args.rule L (class_of L c.args.classes.now) (labels_lattice c.args.rule _ (g.met.C.Classes.laws c.args.lattice.now)) _ _ _ _ e _
+    c.value-word.result _ (held c.loop-state.state) c.take.new.left c.loop-state.invariant
+    (omega (arith, c.in_ok-take.ensures.taken)) (c.value-word.ensures ∙ ap (value e) c.deref.ensures.value) tt
+    (zero_word c.value-word.result (search rules) c.if-word-eq0.true)
 
 pub run_while-returns-in_err-run_all : goal.run_while-returns-in_err-run_all
-run_while-returns-in_err-run_all g t c = let l = c.loop-word in let r = c.in_err-run_all in ?
+run_while-returns-in_err-run_all g t c =
+    let L = labelling c.args.rule (g.C.Classes.lattice c.args.lattice.now) in
+    let e = expression c.args.guard.now in
+    watched_err c.args.rule L (class_of L c.args.classes.now) _ _ _ _ _ (held c.run_all.new.state) _ _ c.from_residual.ensures.1
+    (turn_stop c.args.rule L (class_of L c.args.classes.now) (labels_lattice c.args.rule _ (g.met.C.Classes.laws c.args.lattice.now)) _ _ _ _ e _
+    c.value-word.result _ (held c.loop-state.state) c.take.new.left c.loop-state.invariant
+    (omega (arith, c.in_ok-take.ensures.taken)) (c.value-word.ensures ∙ ap (value e) c.deref.ensures.value)
+    c.guard_label-read.result c.join.result (λ z. c.if-word-eq0.false (ap (of_z w64) z))
+    (subst (λ y. HasLabel L y e c.guard_label-read.result) c.deref-2.ensures.value c.label.ensures.label) c.join.ensures
+    (held c.run_all.new.state) _ c.in_err-run_all.ensures)
 
-pub run_while-loop-word-preserved : goal.run_while-loop-word-preserved
-run_while-loop-word-preserved g t c = let r = c.in_ok-run_all in ?
+pub run_while-loop-state-preserved : goal.run_while-loop-state-preserved
+run_while-loop-state-preserved g t c =
+    let L = labelling c.args.rule (g.C.Classes.lattice c.args.lattice.now) in
+    let e = expression c.args.guard.now in
+    leads_turn c.args.rule L (class_of L c.args.classes.now) (labels_lattice c.args.rule _ (g.met.C.Classes.laws c.args.lattice.now)) _ _ _ _ e _
+    c.value-word.result _ (held c.loop-state.state) c.take.new.left c.loop-state.invariant
+    (omega (arith, c.in_ok-take.ensures.taken)) (c.value-word.ensures ∙ ap (value e) c.deref.ensures.value)
+    c.guard_label-read.result c.join.result (λ z. c.if-word-eq0.false (ap (of_z w64) z))
+    (subst (λ y. HasLabel L y e c.guard_label-read.result) c.deref-2.ensures.value c.label.ensures.label) c.join.ensures
+    (held c.run_all.new.state) _ c.in_ok-run_all.ensures
