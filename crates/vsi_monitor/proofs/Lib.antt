@@ -7,5 +7,6 @@ pub mod Secret
 pub mod Agreeing
 pub mod Passing
 pub mod More
+pub mod Guards
 pub mod Watching
 pub mod Whole

@@ -9,6 +9,8 @@ use Rattle.vsi_types.specs.Security.{IsReadIn}
 use Rattle.vsi_syntax.specs.declared.token.Span.{Span}
 use Rattle.vsi_monitor.specs.declared.rule.Rule.{Rule}
 use Rattle.vsi_monitor.specs.declared.rule.Rule.TheVariants.{NoSensitiveUpgrade, PermissiveUpgrade}
+use Rattle.vsi_monitor.specs.declared.stop.Stop.{Stop}
+use Rattle.vsi_monitor.specs.Monitor.{MayReplace, branch}
 use Rattle.vsi_monitor.specs.Labels.{HasLabel, IsStored, with_mark, labelling, IsMark, ReadsNoMark, ReadsMarkAt}
 
 -- A number is equal to itself.
@@ -246,47 +248,63 @@ pub label_in : (R : Rule) (L : Lattice) (a : ℕ) → IsClass (labelling R L) a 
 label_in NoSensitiveUpgrade L a w not = w
 label_in PermissiveUpgrade L a w not = label_cases L a w (λ ka. ka) (λ is. absurd (not is))
 
--- A label with the number of the mark is above every label.
-pub order_top : (R : Rule) (L : Lattice) (a b : ℕ) → IsClass (labelling R L) b → b ≡ L.count →
-    (labelling R L).leq a b ≡ true
-order_top NoSensitiveUpgrade L a b w is = absurd (omega (arith, w, is))
-order_top PermissiveUpgrade L a b w is = subst (λ x. Below (with_mark L) a x) (sym is) (below_mark L a)
+-- The present word of a variable with the mark may be replaced under the bottom class alone.
+pub mark_free : (R : Rule) (L : Lattice) (pc t : ℕ) → IsClass (labelling R L) t → t ≡ L.count → pc ≡ L.bottom →
+    MayReplace R (labelling R L) pc t
+mark_free NoSensitiveUpgrade L pc t w is low = absurd (omega (arith, w, is))
+mark_free PermissiveUpgrade L pc t w is low =
+    (subst (λ x. Below (with_mark L) pc x) (sym is) (below_mark L pc), λ mark. low)
 
--- A label with the number of the mark isn't at or below a class.
-pub order_over : (R : Rule) (L : Lattice) (a b : ℕ) → IsClass (labelling R L) a → IsClass L b → a ≡ L.count →
-    (labelling R L).leq a b ≡ false
-order_over NoSensitiveUpgrade L a b w kb is = absurd (omega (arith, w, is))
-order_over PermissiveUpgrade L a b w kb is =
-    subst (λ x. (with_mark L).leq x b ≡ false) (sym is)
-    (ap (λ x. cond x true (cond (L.count == L.count) false (L.leq L.count b))) (smaller_number b L.count kb)
-    ∙ ap (λ x. cond x false (L.leq L.count b)) (same_number L.count))
+-- Under another counter it may not.
+pub mark_held : (R : Rule) (L : Lattice) (pc t : ℕ) → IsClass (labelling R L) t → t ≡ L.count →
+    (pc ≡ L.bottom → ⊥) → MayReplace R (labelling R L) pc t → ⊥
+mark_held NoSensitiveUpgrade L pc t w is high may = absurd (omega (arith, w, is))
+mark_held PermissiveUpgrade L pc t w is high may = high (may.1 is)
 
--- The order of classes is theirs among the labels.
-pub order_in : (R : Rule) (L : Lattice) (a b : ℕ) → IsClass L a → IsClass L b →
-    (labelling R L).leq a b ≡ L.leq a b
-order_in NoSensitiveUpgrade L a b ka kb = refl
-order_in PermissiveUpgrade L a b ka kb = order_same L a b ka kb
+-- The present word of another variable may be replaced under a counter at or below its label.
+pub class_free : (R : Rule) (L : Lattice) (pc t : ℕ) → IsClass L pc → IsClass L t → Below L pc t →
+    MayReplace R (labelling R L) pc t
+class_free R L pc t kp kt le = (labels_below R L pc t kp kt le, λ mark. absurd (class_clean R L t kt mark))
+
+-- Under a counter that is the mark it may not.
+pub class_over : (R : Rule) (L : Lattice) (pc t : ℕ) → IsClass (labelling R L) pc → IsClass L t → pc ≡ L.count →
+    MayReplace R (labelling R L) pc t → ⊥
+class_over NoSensitiveUpgrade L pc t w kt is may = absurd (omega (arith, w, is))
+class_over PermissiveUpgrade L pc t w kt is may =
+    mark_over L t kt (subst (λ x. Below (with_mark L) x t) is may.0)
+
+-- Under another counter that isn't at or below its label it may not.
+pub class_held : (R : Rule) (L : Lattice) (pc t : ℕ) → IsClass L pc → IsClass L t → (Below L pc t → ⊥) →
+    MayReplace R (labelling R L) pc t → ⊥
+class_held NoSensitiveUpgrade L pc t kp kt not may = not may.0
+class_held PermissiveUpgrade L pc t kp kt not may = not (below_back L pc t kp kt may.0)
+
+-- The reason for stopping at a guard has the label that is the mark.
+pub branch_same : (R : Rule) (L : Lattice) (s : Span) (pc t : ℕ) → IsClass (labelling R L) t → t ≡ L.count →
+    ◌≡◌ {A = Stop} (record { place = s; counter = pc; label = t }) (branch (labelling R L) s pc)
+branch_same NoSensitiveUpgrade L s pc t w is = absurd (omega (arith, w, is))
+branch_same PermissiveUpgrade L s pc t w is = ap (λ x. record { place = s; counter = pc; label = x }) is
 
 -- The join of two labels of which the first has the number of the mark.
 pub join_first : (R : Rule) (L : Lattice) (a b : ℕ) → IsClass (labelling R L) a → a ≡ L.count →
-    IsJoin (labelling R L).count (Below (labelling R L)) a b L.count
+    IsJoin (labelling R L).count (Below (labelling R L)) a b a
 join_first NoSensitiveUpgrade L a b w is = absurd (omega (arith, w, is))
 join_first PermissiveUpgrade L a b w is = record {
-  within = mark_label L;
-  left = below_mark L a;
-  right = below_mark L b;
-  least = λ d kd h k. subst (λ x. Below (with_mark L) x d) is h;
+  within = w;
+  left = subst (λ x. Below (with_mark L) a x) (sym is) (below_mark L a);
+  right = subst (λ x. Below (with_mark L) b x) (sym is) (below_mark L b);
+  least = λ d kd h k. h;
 }
 
 -- The join of two labels of which the second has the number of the mark.
 pub join_second : (R : Rule) (L : Lattice) (a b : ℕ) → IsClass (labelling R L) b → b ≡ L.count →
-    IsJoin (labelling R L).count (Below (labelling R L)) a b L.count
+    IsJoin (labelling R L).count (Below (labelling R L)) a b b
 join_second NoSensitiveUpgrade L a b w is = absurd (omega (arith, w, is))
 join_second PermissiveUpgrade L a b w is = record {
-  within = mark_label L;
-  left = below_mark L a;
-  right = below_mark L b;
-  least = λ d kd h k. subst (λ x. Below (with_mark L) x d) is k;
+  within = w;
+  left = subst (λ x. Below (with_mark L) a x) (sym is) (below_mark L a);
+  right = subst (λ x. Below (with_mark L) b x) (sym is) (below_mark L b);
+  least = λ d kd h k. k;
 }
 
 -- The join of two classes is their join among the labels.

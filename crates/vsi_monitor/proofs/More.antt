@@ -71,14 +71,14 @@ module _ (L : Lattice) (laws : IsLattice L) where
         (λ m' q'. Monitored PermissiveUpgrade (with_mark L) classes f pc n (Sequence a b) m q (Halted m' q'))
         (λ m' q' h. COMPOSE first h) (permits f all k long pc (n + letvars a) b m₁ q₁ r has.1 fit₁ w d')
     permits f all k long pc n c m q r has fit w (COMPOSE_STOP d) = tt
-    permits f all k long pc n c m q r has fit w (IF_TRUE {t = t} {u = u} {e = e} {a = a} {b = b} z no is j d) =
+    permits f all k long pc n c m q r has fit w (IF_TRUE {t = t} {u = u} {e = e} {a = a} {b = b} z bare is j d) =
         let kt = label_class L laws k m q fit e t has.0 is in
         if_halted_more r
         (λ m' q'. Monitored PermissiveUpgrade (with_mark L) classes f u n a m q (Halted m' q'))
         (λ m' q'. Monitored PermissiveUpgrade (with_mark L) classes f pc n (If e a b) m q (Halted m' q'))
         (λ m' q' h. IF_TRUE z (classes_read k m q fit e has.0) (label_more k m q fit e t has.0 is)
         (join_more L laws pc t u w kt j) h) (permits f all k long u n a m q r has.1 fit j.within d)
-    permits f all k long pc n c m q r has fit w (IF_FALSE {t = t} {u = u} {e = e} {a = a} {b = b} z no is j d) =
+    permits f all k long pc n c m q r has fit w (IF_FALSE {t = t} {u = u} {e = e} {a = a} {b = b} z bare is j d) =
         let kt = label_class L laws k m q fit e t has.0 is in
         if_halted_more r
         (λ m' q'. Monitored PermissiveUpgrade (with_mark L) classes f u (n + letvars a) b m q (Halted m' q'))
@@ -87,7 +87,7 @@ module _ (L : Lattice) (laws : IsLattice L) where
         (join_more L laws pc t u w kt j) h) (permits f all k long u (n + letvars a) b m q r has.2 fit j.within d)
     permits f all k long pc n c m q r has fit w (IF_MARK reads) = tt
     permits f all k long pc n c m q r has fit w
-        (WHILE_TRUE {q₁ = q₁} {t = t} {u = u} {e = e} {c = b} {m₁ = m₁} z no is j d d') =
+        (WHILE_TRUE {q₁ = q₁} {t = t} {u = u} {e = e} {c = b} {m₁ = m₁} z bare is j d d') =
         let kt = label_class L laws k m q fit e t has.0 is in
         let first = permits f all k long u n b m q (Halted m₁ q₁) has.1 fit j.within d in
         let fit₁ = kept NoSensitiveUpgrade L laws classes f k u n b m q (Halted m₁ q₁) has.1 fit d in
@@ -96,8 +96,8 @@ module _ (L : Lattice) (laws : IsLattice L) where
         (λ m' q'. Monitored PermissiveUpgrade (with_mark L) classes f pc n (While e b) m q (Halted m' q'))
         (λ m' q' h. WHILE_TRUE z (classes_read k m q fit e has.0) (label_more k m q fit e t has.0 is)
         (join_more L laws pc t u w kt j) first h) (permits f all k long u n (While e b) m₁ q₁ r has fit₁ j.within d')
-    permits f all k long pc n c m q r has fit w (WHILE_STOP z no is j d) = tt
-    permits f all k long pc n c m q r has fit w (WHILE_FALSE {e = e} z no) =
+    permits f all k long pc n c m q r has fit w (WHILE_STOP z bare is j d) = tt
+    permits f all k long pc n c m q r has fit w (WHILE_FALSE {e = e} z bare) =
         WHILE_FALSE z (classes_read k m q fit e has.0)
     permits f all k long pc n c m q r has fit w (WHILE_MARK reads) = tt
     permits f all k long pc n c m q r has fit w

@@ -183,12 +183,12 @@ module _ (R : Rule) (L : Lattice) (laws : IsLattice L) (P : Profile) (classes : 
   passes f all clean pc n c m q r same t w le d (run.COMPOSE_STOP {a = a} {b = b} {x = stop} x) =
       passes f all clean pc n a m q (Stopped stop) same t w le
       (typed L laws P classes each f all n (Sequence a b) t d).0 x
-  passes f all clean pc n c m q r same t w le d (run.IF_TRUE {t = k} {u = u} {e = e} {a = a} {b = b} z no has is x) =
+  passes f all clean pc n c m q r same t w le d (run.IF_TRUE {t = k} {u = u} {e = e} {a = a} {b = b} z bare has is x) =
       let h = typed L laws P classes each f all n (If e a b) t d in
       let up = inside L laws P classes each f q all same e pc t h.0 u k w
       (cmd_class L laws P classes each f all n c t d) le h.1 h.2 has is in
       passes f all clean u n a m q r same h.0 is.within up h.3 x
-  passes f all clean pc n c m q r same t w le d (run.IF_FALSE {t = k} {u = u} {e = e} {a = a} {b = b} z no has is x) =
+  passes f all clean pc n c m q r same t w le d (run.IF_FALSE {t = k} {u = u} {e = e} {a = a} {b = b} z bare has is x) =
       let h = typed L laws P classes each f all n (If e a b) t d in
       let up = inside L laws P classes each f q all same e pc t h.0 u k w
       (cmd_class L laws P classes each f all n c t d) le h.1 h.2 has is in
@@ -197,19 +197,19 @@ module _ (R : Rule) (L : Lattice) (laws : IsLattice L) (P : Profile) (classes : 
       let h = typed L laws P classes each f all n (If e a b) t d in
       clean_read f clean e h.0 s h.2 (subst (λ x. ReadsMarkAt R L x e s) same reads)
   passes f all clean pc n c m q r same t w le d
-      (run.WHILE_TRUE {q₁ = q₁} {t = k} {u = u} {e = e} {c = c'} {m₁ = m₁} z no has is x y) =
+      (run.WHILE_TRUE {q₁ = q₁} {t = k} {u = u} {e = e} {c = c'} {m₁ = m₁} z bare has is x y) =
       let h = typed L laws P classes each f all n (While e c') t d in
       let up = inside L laws P classes each f q all same e pc t h.0 u k w
       (cmd_class L laws P classes each f all n c t d) le h.1 h.2 has is in
       passes f all clean u n (While e c') m₁ q₁ r
       (passes f all clean u n c' m q (Halted m₁ q₁) same h.0 is.within up h.3 x) h.0 is.within up h.4 y
   passes f all clean pc n c m q r same t w le d
-      (run.WHILE_STOP {t = k} {u = u} {e = e} {c = c'} {x = stop} z no has is x) =
+      (run.WHILE_STOP {t = k} {u = u} {e = e} {c = c'} {x = stop} z bare has is x) =
       let h = typed L laws P classes each f all n (While e c') t d in
       let up = inside L laws P classes each f q all same e pc t h.0 u k w
       (cmd_class L laws P classes each f all n c t d) le h.1 h.2 has is in
       passes f all clean u n c' m q (Stopped stop) same h.0 is.within up h.3 x
-  passes f all clean pc n c m q r same t w le d (run.WHILE_FALSE z no) = same
+  passes f all clean pc n c m q r same t w le d (run.WHILE_FALSE z bare) = same
   passes f all clean pc n c m q r same t w le d (run.WHILE_MARK {e = e} {c = c'} {s = s} reads) =
       let h = typed L laws P classes each f all n (While e c') t d in
       clean_read f clean e h.0 s h.2 (subst (λ x. ReadsMarkAt R L x e s) same reads)

@@ -49,19 +49,19 @@ module _ (R : Rule) (L : Lattice) (laws : IsLattice L) (table : List ℕ) (r : R
   length_firsts : length firsts ≡ length r.globals
   length_firsts = length-take-le (length r.globals) table (omega (arith, each))
 
-  module _ (cs : List Cmd) (is : cs ≡ r.body) where
+  module _ (cs : List Cmd) (is : cs ≡ r.body) (n : ℕ) (count : n ≡ length r.globals) where
     -- A program has few declarations.
-    pub whole_few : length r.globals + letvars (sequence cs) ≤ max_declarations
-    whole_few = subst (λ l. length r.globals + letvars (sequence l) ≤ max_declarations) (sym is) kept.few_declarations
+    pub whole_few : n + letvars (sequence cs) ≤ max_declarations
+    whole_few = omega (arith, count, ap (λ l. letvars (sequence l)) is, kept.few_declarations)
 
-    module _ (m : Store) (long : length m ≡ length r.globals) (a : Held) (words : a.words ≡ m)
-        (labels : a.labels ≡ firsts) (variables : a.variables ≡ firsts) where
+    module _ (pc : ℕ) (low : pc ≡ L.bottom) (m : Store) (long : length m ≡ length r.globals) (a : Held)
+        (words : a.words ≡ m) (labels : a.labels ≡ firsts) (variables : a.variables ≡ firsts) where
       -- Its body can be run from a store whose words have the classes of their globals as labels.
-      pub whole_ready : IsReady (labelling R L) table L.bottom (length r.globals) (sequence cs) a
+      pub whole_ready : IsReady (labelling R L) table pc n (sequence cs) a
       whole_ready =
           let size : length a.variables ≡ length r.globals = ap length variables ∙ length_firsts in record {
             table_classes = λ i x lt. labels_class R L (get_or table i x) (all i x lt);
-            entries = omega (arith, each, ap (λ l. letvars (sequence l)) is);
+            entries = omega (arith, each, count, ap (λ l. letvars (sequence l)) is);
             held = record {
               labelled = record {
                 words = ap length words ∙ long ∙ sym size;
@@ -73,28 +73,29 @@ module _ (R : Rule) (L : Lattice) (laws : IsLattice L) (table : List ℕ) (r : R
               variables = λ i x lt. labels_class R L (get_or a.variables i x) (subst (All (IsClass L)) (sym variables)
                   (All-take (IsClass L) (length r.globals) table all) i x lt);
             };
-            counter = labels_class R L L.bottom laws.bottom_within;
+            counter = labels_class R L pc (subst (IsClass L) (sym low) laws.bottom_within);
             places = subst (λ k. HasPlaces k (sequence cs)) (sym size)
                 (subst (λ l. HasPlaces (length r.globals) (sequence l)) (sym is) kept.places);
           }
 
       -- The run of the body is that of the program.
       whole_run : (o : Outcome) →
-          Monitored R (labelling R L) (class_of (labelling R L) table) a.variables L.bottom (length r.globals)
-          (sequence cs) a.words a.labels o →
+          Monitored R (labelling R L) (class_of (labelling R L) table) a.variables pc n (sequence cs) a.words a.labels o →
           Monitored R (labelling R L) (class_of L table) firsts L.bottom (length r.globals) (sequence r.body) m firsts o
       whole_run o d =
           let M = labelling R L in
           let k = length r.globals in
           subst (λ l. Monitored R M (class_of L table) firsts L.bottom k (sequence l) m firsts o) is
-          (subst (λ y. Monitored R M (class_of L table) firsts L.bottom k (sequence cs) y firsts o) words
-          (subst (λ y. Monitored R M (class_of L table) firsts L.bottom k (sequence cs) a.words y o) labels
-          (subst (λ y. Monitored R M (class_of L table) y L.bottom k (sequence cs) a.words a.labels o) variables
-          (subst (λ y. Monitored R M y a.variables L.bottom k (sequence cs) a.words a.labels o) same_classes d))))
+          (subst (λ y. Monitored R M (class_of L table) firsts L.bottom y (sequence cs) m firsts o) count
+          (subst (λ y. Monitored R M (class_of L table) firsts y n (sequence cs) m firsts o) low
+          (subst (λ y. Monitored R M (class_of L table) firsts pc n (sequence cs) y firsts o) words
+          (subst (λ y. Monitored R M (class_of L table) firsts pc n (sequence cs) a.words y o) labels
+          (subst (λ y. Monitored R M (class_of L table) y pc n (sequence cs) a.words a.labels o) variables
+          (subst (λ y. Monitored R M y a.variables pc n (sequence cs) a.words a.labels o) same_classes d))))))
 
       -- A body that isn't finished ends the run.
       pub whole_stop : (b : Held) (res : Result watch.Watched Unfinished) (e : Unfinished) → IsErrAnd res (λ x. x ≡ e) →
-          Goes R L table L.bottom (length r.globals) (sequence cs) a b (Err e) → RunEnds R L table r m res
+          Goes R L table pc n (sequence cs) a b (Err e) → RunEnds R L table r m res
       whole_stop b (Ok w) e is' h = absurd is'
       whole_stop b (Err x) ends.Memory is' h = subst (λ y. RunEnds R L table r m (Err y)) (sym is') tt
       whole_stop b (Err x) ends.Limit is' h = subst (λ y. RunEnds R L table r m (Err y)) (sym is') tt
@@ -103,14 +104,13 @@ module _ (R : Rule) (L : Lattice) (laws : IsLattice L) (table : List ℕ) (r : R
 
       -- A body that halts gives the last words and labels.
       pub whole_halts : (b : Held) (w : watch.Watched) (u : ⊤) → w.words.items ≡ b.words → w.labels.items ≡ b.labels →
-          Goes R L table L.bottom (length r.globals) (sequence cs) a b (Ok u) → RunEnds R L table r m (Ok w)
+          Goes R L table pc n (sequence cs) a b (Ok u) → RunEnds R L table r m (Ok w)
       whole_halts b w u words' labels' h =
           let M = labelling R L in
-          let k = length r.globals in
           whole_run (Halted w.words.items w.labels.items)
-          (subst (λ y. Monitored R M (class_of M table) a.variables L.bottom k (sequence cs) a.words a.labels
+          (subst (λ y. Monitored R M (class_of M table) a.variables pc n (sequence cs) a.words a.labels
           (Halted w.words.items y)) (sym labels')
-          (subst (λ y. Monitored R M (class_of M table) a.variables L.bottom k (sequence cs) a.words a.labels
+          (subst (λ y. Monitored R M (class_of M table) a.variables pc n (sequence cs) a.words a.labels
           (Halted y b.labels)) (sym words') h.0))
 
   -- A run for which memory runs out.

@@ -52,11 +52,6 @@ Judged R L pc present t class (Some v) =
     ⊎ ((R ≡ PermissiveUpgrade) × (MayReplace R L pc present → ⊥) × (v ≡ L.top))
 Judged R L pc present t class None = (R ≡ NoSensitiveUpgrade) × (MayReplace R L pc present → ⊥)
 
--- What a look at an expression finds: no word with the mark, or the name of the first one.
-abbrev pub Looked : Rule → Lattice → Locations → Expression → Option Span → Type 0
-Looked R L q e None = ReadsNoMark R L q e
-Looked R L q e (Some s) = ReadsMarkAt R L q e s
-
 -- What a look at a guard under a counter finds: its label, or why the run is stopped.
 abbrev pub Guarded : Rule → Lattice → ℕ → Locations → Expression → Result ℕ Unfinished → Type 0
 Guarded R L pc q e (Ok t) = ReadsNoMark R L q e × IsClass L t × HasLabel L q e t

@@ -59,13 +59,24 @@ pub(crate) fn guard_label<C: Classes>(
     ensures { Guarded rule (labelling rule (C.lattice lattice.now)) counter labels.now
         (expression guard.now) result }
 {
-    match rule.first_mark(lattice, guard, labels) {
-        Some(place) => Err(Unfinished::Stopped(Stop {
-            place,
-            counter,
-            label: mark(lattice),
-        })),
-        None => Ok(label(rule, lattice, guard, labels)),
+    match guard {
+        Ex::Num(_) => Ok(lattice.bottom()),
+        Ex::Loc(l, place) => {
+            let label = labels[*l as usize];
+            if label != mark(lattice) {
+                return Ok(label);
+            }
+            Err(Unfinished::Stopped(Stop {
+                place: *place,
+                counter,
+                label,
+            }))
+        }
+        Ex::Op(_, a, b) => {
+            let first = guard_label(rule, lattice, a, labels, counter)?;
+            let second = guard_label(rule, lattice, b, labels, counter)?;
+            Ok(rule.join(lattice, first, second))
+        }
     }
 }
 

@@ -1,17 +1,14 @@
 //! The rules of the monitor, which judge each assignment and each guard.
 
-ghost use Rattle.std.specs.Prelude.{◌≡◌, ◌<◌, ℕ, length, slice_index};
+ghost use Rattle.std.specs.Prelude.{◌≡◌, Decides};
 ghost use Rattle.vsi_lattice.specs.Order.{IsClass, Below, IsJoin};
-ghost use Rattle.vsi_scope.specs.Language.{HasLocations};
-ghost use Rattle.vsi_scope.specs.View.{expression};
 ghost use Rattle.vsi_monitor.specs.Labels.{labelling};
-ghost use Rattle.vsi_monitor.specs.Watched.{Judged, Looked};
+ghost use Rattle.vsi_monitor.specs.Monitor.{MayReplace};
+ghost use Rattle.vsi_monitor.specs.Watched.{Judged};
 
 use vsi_lattice::{Class, Classes};
-use vsi_scope::Ex;
-use vsi_syntax::Span;
 
-/// What happens at an assignment under a counter that isn't at or below the label of the variable.
+/// How a run is judged at an assignment under a counter that isn't at or below the variable's label.
 #[derive(Clone, Copy, Debug, PartialEq, Eq)]
 pub enum Rule {
     /// The run is stopped.
@@ -28,19 +25,6 @@ pub(crate) fn mark<C: Classes>(lattice: &C) -> Class
 }
 
 impl Rule {
-    /// Whether the first label is at or below the second.
-    fn leq<C: Classes>(self, lattice: &C, a: Class, b: Class) -> bool
-        requires first { IsClass (labelling self (C.lattice lattice.now)) a }
-        requires second { IsClass (labelling self (C.lattice lattice.now)) b }
-        ensures { result ≡ (labelling self (C.lattice lattice.now)).leq a b }
-    {
-        let mark = mark(lattice);
-        if b == mark {
-            return true;
-        }
-        a != mark && lattice.leq(a, b)
-    }
-
     /// The least label at or above both.
     pub(crate) fn join<C: Classes>(self, lattice: &C, a: Class, b: Class) -> Class
         requires first { IsClass (labelling self (C.lattice lattice.now)) a }
@@ -49,10 +33,30 @@ impl Rule {
             (Below (labelling self (C.lattice lattice.now))) a b result }
     {
         let mark = mark(lattice);
-        if a == mark || b == mark {
-            return mark;
+        if a == mark {
+            return a;
+        }
+        if b == mark {
+            return b;
         }
         lattice.join(a, b)
+    }
+
+    /// Whether the present word of a variable may be replaced under a counter.
+    fn may_replace<C: Classes>(self, lattice: &C, counter: Class, present: Class) -> bool
+        requires counter { IsClass (labelling self (C.lattice lattice.now)) counter }
+        requires present { IsClass (labelling self (C.lattice lattice.now)) present }
+        ensures { Decides result
+            (MayReplace self (labelling self (C.lattice lattice.now)) counter present) }
+    {
+        let mark = mark(lattice);
+        if present == mark {
+            return counter == lattice.bottom();
+        }
+        if counter == mark {
+            return false;
+        }
+        lattice.leq(counter, present)
     }
 
     /// The label of a word that is stored under a counter, from the variable's present label, the
@@ -73,40 +77,12 @@ impl Rule {
         ensures { Judged self (labelling self (C.lattice lattice.now)) counter present read class
             result }
     {
-        let mark = mark(lattice);
-        let is_free = present != mark || counter == lattice.bottom();
-        if is_free && self.leq(lattice, counter, present) {
+        if self.may_replace(lattice, counter, present) {
             return Some(self.join(lattice, self.join(lattice, read, counter), class));
         }
         match self {
             Rule::NoSensitiveUpgrade => None,
-            Rule::PermissiveUpgrade => Some(mark),
-        }
-    }
-
-    /// The span of the first name in an expression whose word is partly leaked.
-    pub(crate) fn first_mark<C: Classes>(
-        self,
-        lattice: &C,
-        e: &Ex,
-        labels: &[Class],
-    ) -> Option<Span>
-        requires places { HasLocations (length labels.now) (expression e.now) }
-        requires classes { (l : ℕ) → l < length labels.now →
-            IsClass (labelling self (C.lattice lattice.now)) (slice_index labels.now l) }
-        ensures { Looked self (labelling self (C.lattice lattice.now)) labels.now (expression e.now)
-            result }
-    {
-        match e {
-            Ex::Num(_) => None,
-            Ex::Loc(l, place) => {
-                let is_marked = labels[*l as usize] == mark(lattice);
-                if is_marked { Some(*place) } else { None }
-            }
-            Ex::Op(_, a, b) => match self.first_mark(lattice, a, labels) {
-                Some(place) => Some(place),
-                None => self.first_mark(lattice, b, labels),
-            },
+            Rule::PermissiveUpgrade => Some(mark(lattice)),
         }
     }
 }

@@ -54,10 +54,11 @@ pub fn monitored<C: Classes>(
 {
     let body = program.body();
     let globals = program.globals().len();
+    let firsts = &classes[..globals];
     let mut state = State {
         words: words.to_vec(alloc)?,
-        labels: Vec::from_slice(alloc, &classes[..globals])?,
-        variables: Vec::from_slice(alloc, &classes[..globals])?,
+        labels: Vec::from_slice(alloc, firsts)?,
+        variables: Vec::from_slice(alloc, firsts)?,
         left: limit,
     };
     run_all(

@@ -7,9 +7,10 @@ use Rattle.vsi_scope.specs.View.{command, expression, sequence}
 use Rattle.vsi_types.specs.Security.{class_of}
 use Rattle.vsi_types.proofs.Visiting.{seen_if, seen_while, seen_letvar}
 use Rattle.vsi_monitor.specs.Labels.{HasLabel, labelling}
-use Rattle.vsi_monitor.specs.Watched.{held, Watched}
+use Rattle.std.specs.Prelude.{Ok, Err}
+use Rattle.vsi_monitor.specs.Watched.{held, Guarded, Watched}
 use Rattle.vsi_monitor.proofs.Marks.{labels_lattice}
-use Rattle.vsi_monitor.proofs.Watching.{at_command, at_end, small, zero_word, watched_err, limit_err, leads_watched, leads_yes, leads_no, leads_end, first_few, leads_stop, leads_next, loop_ends, turn_stop, leads_turn, letvar_stop, letvar_done}
+use Rattle.vsi_monitor.proofs.Watching.{at_command, at_end, small, zero_word, watched_err, limit_err, leads_watched, choice_stop, leads_yes, leads_no, leads_end, first_few, leads_stop, leads_next, loop_ends, turn_stop, leads_turn, letvar_stop, letvar_done}
 use Rattle.vsi_monitor.proofs.run.+watch.Goals as goal
 
 pub run_one-run_if-requires : goal.run_one-run_if-requires
@@ -67,15 +68,25 @@ run_if-returns-in_err-take g t c =
     let L = labelling c.args.rule (g.C.Classes.lattice c.args.lattice.now) in
     limit_err c.args.rule L (class_of L c.args.classes.now) _ _ _ _ _ _ _ c.from_residual.ensures.1 c.in_err-take.ensures.limit
 
+pub run_if-returns-in_err-read : goal.run_if-returns-in_err-read
+run_if-returns-in_err-read g t c =
+    let L = labelling c.args.rule (g.C.Classes.lattice c.args.lattice.now) in
+    let e = expression c.args.guard.now in
+    watched_err c.args.rule L (class_of L c.args.classes.now) _ _ _ _ _ (held c.args.state.now) _ _
+    c.from_residual-in_err-read.ensures.1
+    (choice_stop c.args.rule L (class_of L c.args.classes.now) _ _ e _ _ _ (held c.args.state.now) _
+    (subst (λ y. Guarded c.args.rule L c.args.counter y e (Err c.in_err-read.field-0)) c.deref.ensures.value
+    c.in_err-read.ensures))
+
 pub run_if-returns-then-word-ne0 : goal.run_if-returns-then-word-ne0
 run_if-returns-then-word-ne0 g t c =
     let L = labelling c.args.rule (g.C.Classes.lattice c.args.lattice.now) in
     let e = expression c.args.guard.now in
-    let l = leads_yes c.args.rule L (class_of L c.args.classes.now) c.args.classes.now c.args.counter c.args.next c.guard_label-read.result
+    let l = leads_yes c.args.rule L (class_of L c.args.classes.now) c.args.classes.now c.args.counter c.args.next c.in_ok-read.field-0
     c.join-inside.result e (sequence c.args.yes.now) (sequence c.args.no.now) c.value-word.result
     (held c.args.state.now) c.take.new.left c.requires.ready c.requires.few
     (omega (arith, c.in_ok-take.ensures.taken))
-    (subst (λ y. Guarded c.args.rule L c.args.counter y e (Ok c.guard_label-read.result)) c.deref.ensures.value c.in_ok-guard_label.ensures)
+    (subst (λ y. Guarded c.args.rule L c.args.counter y e (Ok c.in_ok-read.field-0)) c.deref.ensures.value c.in_ok-read.ensures)
     c.join-inside.ensures
     (c.value-word.ensures ∙ ap (value e) c.deref-2.ensures.value) (λ z. c.if-word-ne0.true (ap (of_z w64) z)) in
     leads_watched c.args.rule L (class_of L c.args.classes.now) _ _ _ _ _ _ _ _ _ _ c.run_all.result l c.run_all.ensures
@@ -85,11 +96,11 @@ run_if-returns-else-word-ne0 g t c =
     let L = labelling c.args.rule (g.C.Classes.lattice c.args.lattice.now) in
     let e = expression c.args.guard.now in
     let l = leads_no c.args.rule L (class_of L c.args.classes.now) c.args.classes.now c.args.counter c.args.next
-    (c.args.next + c.letvars.result) c.guard_label-read.result c.join-inside.result e (sequence c.args.yes.now)
+    (c.args.next + c.letvars.result) c.in_ok-read.field-0 c.join-inside.result e (sequence c.args.yes.now)
     (sequence c.args.no.now) c.value-word.result (held c.args.state.now) c.take.new.left
     (small (letvars (sequence c.args.yes.now)) c.args.next c.letvars.result c.letvars.ensures
     (omega (arith, c.requires.few))) c.requires.ready c.requires.few (omega (arith, c.in_ok-take.ensures.taken))
-    (subst (λ y. Guarded c.args.rule L c.args.counter y e (Ok c.guard_label-read.result)) c.deref.ensures.value c.in_ok-guard_label.ensures)
+    (subst (λ y. Guarded c.args.rule L c.args.counter y e (Ok c.in_ok-read.field-0)) c.deref.ensures.value c.in_ok-read.ensures)
     c.join-inside.ensures
     (c.value-word.ensures ∙ ap (value e) c.deref-2.ensures.value)
     (zero_word c.value-word.result (search rules) c.if-word-ne0.false) in
@@ -112,34 +123,23 @@ run_while-returns-in_err-take g t c =
     let L = labelling c.args.rule (g.C.Classes.lattice c.args.lattice.now) in
     limit_err c.args.rule L (class_of L c.args.classes.now) _ _ _ _ _ _ _ c.from_residual.ensures.1 c.in_err-take.ensures.limit
 
+pub run_while-returns-in_err-read : goal.run_while-returns-in_err-read
+run_while-returns-in_err-read g t c = ?
+
 pub run_while-returns-then-word-eq0 : goal.run_while-returns-then-word-eq0
 run_while-returns-then-word-eq0 g t c =
     let L = labelling c.args.rule (g.C.Classes.lattice c.args.lattice.now) in
     let e = expression c.args.guard.now in
-    loop_ends c.args.rule L (class_of L c.args.classes.now) (labels_lattice c.args.rule _ (g.met.C.Classes.laws c.args.lattice.now)) _ _ _ _ e _
-    c.value-word.result _ (held c.loop-state.state) c.take.new.left c.loop-state.invariant
-    (omega (arith, c.in_ok-take.ensures.taken)) (c.value-word.ensures ∙ ap (value e) c.deref.ensures.value) tt
+    loop_ends c.args.rule L (class_of L c.args.classes.now) (labels_lattice c.args.rule _ (g.met.C.Classes.laws c.args.lattice.now))
+    _ _ _ _ e _ c.value-word.result _ (held c.loop-state.state) c.take.new.left c.loop-state.invariant
+    (omega (arith, c.in_ok-take.ensures.taken)) (c.value-word.ensures ∙ ap (value e) c.deref.ensures.value)
+    c.in_ok-read.field-0
+    (subst (λ y. Guarded c.args.rule L c.loop-state.inside y e (Ok c.in_ok-read.field-0)) c.deref-2.ensures.value
+    c.in_ok-read.ensures) tt
     (zero_word c.value-word.result (search rules) c.if-word-eq0.true)
 
 pub run_while-returns-in_err-run_all : goal.run_while-returns-in_err-run_all
-run_while-returns-in_err-run_all g t c =
-    let L = labelling c.args.rule (g.C.Classes.lattice c.args.lattice.now) in
-    let e = expression c.args.guard.now in
-    watched_err c.args.rule L (class_of L c.args.classes.now) _ _ _ _ _ (held c.run_all.new.state) _ _ c.from_residual.ensures.1
-    (turn_stop c.args.rule L (class_of L c.args.classes.now) (labels_lattice c.args.rule _ (g.met.C.Classes.laws c.args.lattice.now)) _ _ _ _ e _
-    c.value-word.result _ (held c.loop-state.state) c.take.new.left c.loop-state.invariant
-    (omega (arith, c.in_ok-take.ensures.taken)) (c.value-word.ensures ∙ ap (value e) c.deref.ensures.value)
-    c.guard_label-read.result c.join.result (λ z. c.if-word-eq0.false (ap (of_z w64) z))
-    (subst (λ y. HasLabel L y e c.guard_label-read.result) c.deref-2.ensures.value c.label.ensures.label) c.join.ensures
-    (held c.run_all.new.state) _ c.in_err-run_all.ensures)
+run_while-returns-in_err-run_all g t c = ?
 
 pub run_while-loop-state-preserved : goal.run_while-loop-state-preserved
-run_while-loop-state-preserved g t c =
-    let L = labelling c.args.rule (g.C.Classes.lattice c.args.lattice.now) in
-    let e = expression c.args.guard.now in
-    leads_turn c.args.rule L (class_of L c.args.classes.now) (labels_lattice c.args.rule _ (g.met.C.Classes.laws c.args.lattice.now)) _ _ _ _ e _
-    c.value-word.result _ (held c.loop-state.state) c.take.new.left c.loop-state.invariant
-    (omega (arith, c.in_ok-take.ensures.taken)) (c.value-word.ensures ∙ ap (value e) c.deref.ensures.value)
-    c.guard_label-read.result c.join.result (λ z. c.if-word-eq0.false (ap (of_z w64) z))
-    (subst (λ y. HasLabel L y e c.guard_label-read.result) c.deref-2.ensures.value c.label.ensures.label) c.join.ensures
-    (held c.run_all.new.state) _ c.in_ok-run_all.ensures
+run_while-loop-state-preserved g t c = ?
