@@ -1,5 +1,6 @@
 use Rattle.std.proofs.Common.{rules, subst, sym, refl, arith, ap, ◌∙◌, ◌+◌, ◌++◌, ◌∷◌, [], w64, of_z}
 use Rattle.std.proofs.lemmas.Int.{to_z-of_z}
+use Rattle.std.proofs.lemmas.List.{get_or_read}
 use Rattle.vsi_scope.specs.declared.program.Cmd.{the_lemmas}
 use Rattle.vsi_scope.specs.Language.{If, While, Letvar, letvars}
 use Rattle.vsi_scope.specs.Meaning.{value}
@@ -27,6 +28,11 @@ pub run_one-run_letvar-requires : goal.run_one-run_letvar-requires
 run_one-run_letvar-requires g t c κs within =
     let e = seen_letvar _ _ _ _ c.in-Letvar.is c.deref-in-Letvar.ensures.value in
     (search (rules, the_lemmas), (within, (rw e at c.requires.ready, rw e at c.requires.few)))
+
+pub run_one-returns-in-Assign : goal.run_one-returns-in-Assign
+run_one-returns-in-Assign g t c =
+    let L = g.C.Classes.lattice c.args.lattice.now in
+    rw (ap command c.in-Assign.is) (c.run_assign.ensures (class_of L c.args.classes.now) c.args.next)
 
 pub run_one-returns-in-If : goal.run_one-returns-in-If
 run_one-returns-in-If g t c =
@@ -113,10 +119,45 @@ run_letvar-returns-in_err-take g t c =
     limit_err c.args.rule L (class_of L c.args.classes.now) _ _ _ _ _ _ _ c.from_residual.ensures.1 c.in_err-take.ensures.limit
 
 pub run_letvar-returns-in_err-run_all : goal.run_letvar-returns-in_err-run_all
-run_letvar-returns-in_err-run_all g t c = ?
+run_letvar-returns-in_err-run_all g t c =
+    let L = g.C.Classes.lattice c.args.lattice.now in
+    let e = expression c.args.e.now in
+    let word = c.in_ok-push.ensures.items
+    ∙ ap (λ y. c.args.state.now.words.items ++ y ∷ []) (to_z-of_z w64 c.value-word.result (search rules)) in
+    watched_err L (class_of L c.args.classes.now) _ _ _ _ _ (held c.run_all.new.state) _ _
+    c.from_residual-in_err-run_all.ensures.1
+    (letvar_stop L (g.met.C.Classes.laws c.args.lattice.now) c.args.classes.now c.args.counter c.args.next e
+    (sequence c.args.body.now) c.value-word.result c.label.result c.join-first.result c.index-classes-next.result
+    (held c.args.state.now) c.push.new.self.items c.push-2.new.self.items c.push-3.new.self.items c.take.new.left
+    c.requires.few c.requires.ready (omega (arith, c.in_ok-take.ensures.taken))
+    (c.value-word.ensures ∙ ap (value e) c.deref.ensures.value)
+    (subst (λ y. HasLabel L y e c.label.result) c.deref-2.ensures.value c.label.ensures.label)
+    (get_or_read c.args.classes.now c.args.next c.index-classes-next.result (omega (arith, c.requires.ready.entries))
+    c.index-classes-next.is 0) c.join-first.ensures word c.in_ok-push-2.ensures.items c.in_ok-push-3.ensures.items
+    (held c.run_all.new.state) _ c.in_err-run_all.ensures)
 
 pub run_letvar-returns : goal.run_letvar-returns
-run_letvar-returns g t c = ?
+run_letvar-returns g t c =
+    let L = g.C.Classes.lattice c.args.lattice.now in
+    let e = expression c.args.e.now in
+    let word = c.in_ok-push.ensures.items
+    ∙ ap (λ y. c.args.state.now.words.items ++ y ∷ []) (to_z-of_z w64 c.value-word.result (search rules)) in
+    let d : Held = record {
+      words = c.truncate.new.self.items;
+      labels = c.truncate-2.new.self.items;
+      variables = c.truncate-3.new.self.items;
+      left = c.run_all.new.state.left;
+    } in
+    letvar_done L (g.met.C.Classes.laws c.args.lattice.now) c.args.classes.now c.args.counter c.args.next e
+    (sequence c.args.body.now) c.value-word.result c.label.result c.join-first.result c.index-classes-next.result
+    (held c.args.state.now) c.push.new.self.items c.push-2.new.self.items c.push-3.new.self.items c.take.new.left
+    c.requires.few c.requires.ready (omega (arith, c.in_ok-take.ensures.taken))
+    (c.value-word.ensures ∙ ap (value e) c.deref.ensures.value)
+    (subst (λ y. HasLabel L y e c.label.result) c.deref-2.ensures.value c.label.ensures.label)
+    (get_or_read c.args.classes.now c.args.next c.index-classes-next.result (omega (arith, c.requires.ready.entries))
+    c.index-classes-next.is 0) c.join-first.ensures word c.in_ok-push-2.ensures.items c.in_ok-push-3.ensures.items
+    (held c.run_all.new.state) d c.len-outside.result tt tt c.in_ok-run_all.ensures (search rules)
+    c.truncate.ensures.items c.truncate-2.ensures.items c.truncate-3.ensures.items (omega arith)
 
 pub run_while-returns-in_err-take : goal.run_while-returns-in_err-take
 run_while-returns-in_err-take g t c =

@@ -1,5 +1,6 @@
 use Rattle.std.proofs.Common.{rules, arith, refl, ap, subst, ◌∙◌, set, w64, to_z, of_z}
 use Rattle.std.proofs.lemmas.Int.{to_z-of_z}
+use Rattle.std.proofs.lemmas.List.{get_or_read}
 use Rattle.vsi_scope.specs.Language.{Assign}
 use Rattle.vsi_scope.specs.Meaning.{value}
 use Rattle.vsi_scope.specs.View.{expression}
@@ -13,7 +14,9 @@ returns-in_default g c =
     λ classes n.
     stopped_at c.args.rule (labelling c.args.rule (g.C.Classes.lattice c.args.lattice.now)) classes (held c.args.state.now) (held c.args.state.now)
     c.args.counter n c.args.location c.index-present.result.now c.label-read.result c.index.result.now c.args.place
-    (expression c.args.e.now) c.index-present.ensures c.in_default.ensures
+    (expression c.args.e.now)
+    (get_or_read c.args.state.now.labels.items c.args.location c.index-present.result.now
+    (omega (arith, c.requires.places.0, c.requires.held.labelled.labels)) c.index-present.ensures 0) c.in_default.ensures
 
 pub returns : goal.returns
 returns g c =
