@@ -72,7 +72,7 @@ module _ (L : Lattice) (laws : IsLattice L) where
   one_label q (Operator o a b) t t' h k =
       let e = one_label q a h.0 k.0 h.2 k.2 in
       let e' = one_label q b h.1 k.1 h.3 k.3 in
-      one_join L laws h.0 h.1 t t' h.4 (subst (λ x. IsJoin L.count (Below L) h.0 x t') (sym e')
+      one_join h.0 h.1 t t' h.4 (subst (λ x. IsJoin L.count (Below L) h.0 x t') (sym e')
       (subst (λ x. IsJoin L.count (Below L) x k.1 t') (sym e) k.4))
 
 module _ (R : Rule) (L : Lattice) (laws : IsLattice L) (classes : ℕ → ℕ) where

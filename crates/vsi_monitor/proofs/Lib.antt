@@ -7,6 +7,5 @@ pub mod Secret
 pub mod Agreeing
 pub mod Passing
 pub mod More
-pub mod Guards
 pub mod Watching
 pub mod Whole

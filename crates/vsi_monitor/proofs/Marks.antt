@@ -3,15 +3,12 @@ use Rattle.std.proofs.Common.{◌≡◌, ℕ, ◌+◌, ◌<◌, ◌≤◌, refl,
 use Rattle.std.specs.Prelude.{◌⊎◌, ◌==◌, cond, true, false, slice_index}
 use Rattle.std.proofs.lemmas.Bool.{cases_lt, false≢true}
 use Rattle.vsi_lattice.specs.Order.{Lattice, IsLattice, IsClass, Below, IsJoin, IsMeet, HasJoin, HasMeet}
-use Rattle.vsi_scope.specs.Language.{Expression, Number, Location, Operator, HasLocations}
+use Rattle.vsi_scope.specs.Language.{Expression, Number, Location, Operator}
 use Rattle.vsi_types.specs.Typing.{Locations}
 use Rattle.vsi_types.specs.Security.{IsReadIn}
-use Rattle.vsi_syntax.specs.declared.token.Span.{Span}
 use Rattle.vsi_monitor.specs.declared.rule.Rule.{Rule}
 use Rattle.vsi_monitor.specs.declared.rule.Rule.TheVariants.{NoSensitiveUpgrade, PermissiveUpgrade}
-use Rattle.vsi_monitor.specs.declared.stop.Stop.{Stop}
-use Rattle.vsi_monitor.specs.Monitor.{MayReplace, branch}
-use Rattle.vsi_monitor.specs.Labels.{HasLabel, IsStored, with_mark, labelling, IsMark, ReadsNoMark, ReadsMarkAt}
+use Rattle.vsi_monitor.specs.Labels.{HasLabel, IsStored, with_mark, labelling, IsMark, ReadsNoMark}
 
 -- A number is equal to itself.
 same_number : (n : ℕ) → (n == n) ≡ true
@@ -242,86 +239,6 @@ label_clean R L laws q (Operator o a b) t has clean =
     (λ r. label_clean R L laws q a has.0 has.2 (λ m. clean (mark_up R L laws has.0 t has.4.within m has.4.left)) l r mark)
     (λ r. label_clean R L laws q b has.1 has.3 (λ m. clean (mark_up R L laws has.1 t has.4.within m has.4.right)) l r mark)
     read
-
--- A label that isn't the number of the mark is a class.
-pub label_in : (R : Rule) (L : Lattice) (a : ℕ) → IsClass (labelling R L) a → (a ≡ L.count → ⊥) → IsClass L a
-label_in NoSensitiveUpgrade L a w not = w
-label_in PermissiveUpgrade L a w not = label_cases L a w (λ ka. ka) (λ is. absurd (not is))
-
--- The present word of a variable with the mark may be replaced under the bottom class alone.
-pub mark_free : (R : Rule) (L : Lattice) (pc t : ℕ) → IsClass (labelling R L) t → t ≡ L.count → pc ≡ L.bottom →
-    MayReplace R (labelling R L) pc t
-mark_free NoSensitiveUpgrade L pc t w is low = absurd (omega (arith, w, is))
-mark_free PermissiveUpgrade L pc t w is low =
-    (subst (λ x. Below (with_mark L) pc x) (sym is) (below_mark L pc), λ mark. low)
-
--- Under another counter it may not.
-pub mark_held : (R : Rule) (L : Lattice) (pc t : ℕ) → IsClass (labelling R L) t → t ≡ L.count →
-    (pc ≡ L.bottom → ⊥) → MayReplace R (labelling R L) pc t → ⊥
-mark_held NoSensitiveUpgrade L pc t w is high may = absurd (omega (arith, w, is))
-mark_held PermissiveUpgrade L pc t w is high may = high (may.1 is)
-
--- The present word of another variable may be replaced under a counter at or below its label.
-pub class_free : (R : Rule) (L : Lattice) (pc t : ℕ) → IsClass L pc → IsClass L t → Below L pc t →
-    MayReplace R (labelling R L) pc t
-class_free R L pc t kp kt le = (labels_below R L pc t kp kt le, λ mark. absurd (class_clean R L t kt mark))
-
--- Under a counter that is the mark it may not.
-pub class_over : (R : Rule) (L : Lattice) (pc t : ℕ) → IsClass (labelling R L) pc → IsClass L t → pc ≡ L.count →
-    MayReplace R (labelling R L) pc t → ⊥
-class_over NoSensitiveUpgrade L pc t w kt is may = absurd (omega (arith, w, is))
-class_over PermissiveUpgrade L pc t w kt is may =
-    mark_over L t kt (subst (λ x. Below (with_mark L) x t) is may.0)
-
--- Under another counter that isn't at or below its label it may not.
-pub class_held : (R : Rule) (L : Lattice) (pc t : ℕ) → IsClass L pc → IsClass L t → (Below L pc t → ⊥) →
-    MayReplace R (labelling R L) pc t → ⊥
-class_held NoSensitiveUpgrade L pc t kp kt not may = not may.0
-class_held PermissiveUpgrade L pc t kp kt not may = not (below_back L pc t kp kt may.0)
-
--- The reason for stopping at a guard has the label that is the mark.
-pub branch_same : (R : Rule) (L : Lattice) (s : Span) (pc t : ℕ) → IsClass (labelling R L) t → t ≡ L.count →
-    ◌≡◌ {A = Stop} (record { place = s; counter = pc; label = t }) (branch (labelling R L) s pc)
-branch_same NoSensitiveUpgrade L s pc t w is = absurd (omega (arith, w, is))
-branch_same PermissiveUpgrade L s pc t w is = ap (λ x. record { place = s; counter = pc; label = x }) is
-
--- The join of two labels of which the first has the number of the mark.
-pub join_first : (R : Rule) (L : Lattice) (a b : ℕ) → IsClass (labelling R L) a → a ≡ L.count →
-    IsJoin (labelling R L).count (Below (labelling R L)) a b a
-join_first NoSensitiveUpgrade L a b w is = absurd (omega (arith, w, is))
-join_first PermissiveUpgrade L a b w is = record {
-  within = w;
-  left = subst (λ x. Below (with_mark L) a x) (sym is) (below_mark L a);
-  right = subst (λ x. Below (with_mark L) b x) (sym is) (below_mark L b);
-  least = λ d kd h k. h;
-}
-
--- The join of two labels of which the second has the number of the mark.
-pub join_second : (R : Rule) (L : Lattice) (a b : ℕ) → IsClass (labelling R L) b → b ≡ L.count →
-    IsJoin (labelling R L).count (Below (labelling R L)) a b b
-join_second NoSensitiveUpgrade L a b w is = absurd (omega (arith, w, is))
-join_second PermissiveUpgrade L a b w is = record {
-  within = w;
-  left = subst (λ x. Below (with_mark L) a x) (sym is) (below_mark L a);
-  right = subst (λ x. Below (with_mark L) b x) (sym is) (below_mark L b);
-  least = λ d kd h k. k;
-}
-
--- The join of two classes is their join among the labels.
-pub join_in : (R : Rule) (L : Lattice) → IsLattice L → (a b c : ℕ) → IsClass L a → IsClass L b →
-    IsJoin L.count (Below L) a b c → IsJoin (labelling R L).count (Below (labelling R L)) a b c
-join_in NoSensitiveUpgrade L laws a b c ka kb j = j
-join_in PermissiveUpgrade L laws a b c ka kb j = join_more L laws a b c ka kb j
-
--- A label that isn't the number of the mark isn't the mark.
-pub no_mark : (R : Rule) (L : Lattice) (t : ℕ) → (t ≡ L.count → ⊥) → IsMark R (labelling R L) t → ⊥
-no_mark NoSensitiveUpgrade L t not mark = mark
-no_mark PermissiveUpgrade L t not mark = not mark
-
--- A label with the number of the mark is the mark.
-pub is_mark : (R : Rule) (L : Lattice) (t : ℕ) → IsClass (labelling R L) t → t ≡ L.count → IsMark R (labelling R L) t
-is_mark NoSensitiveUpgrade L t w is = absurd (omega (arith, w, is))
-is_mark PermissiveUpgrade L t w is = is
 
 -- Two joins give the label of what is stored.
 pub joined : (L : Lattice) → IsLattice L → (t pc class u v : ℕ) → IsClass L t → IsClass L pc →

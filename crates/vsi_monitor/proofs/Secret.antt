@@ -47,7 +47,7 @@ module _ (R : Rule) (L : Lattice) (laws : IsLattice L) (classes : ℕ → ℕ) w
         let mark = top_mark R L by in
         hides_set k m q fit l has.0 (value e m) L.top (λ old. mark, λ clean side. absurd (clean mark))
     secret f k pc n c m q r has fit w not (COMPOSE {q₁ = q₁} {a = c₁} {b = c₂} {m₁ = m₁} d d') =
-        let fit₁ = kept f k pc n c₁ m q (Halted m₁ q₁) has.0 fit d in
+        let fit₁ = kept R L laws classes f k pc n c₁ m q (Halted m₁ q₁) has.0 fit d in
         let first = secret f k pc n c₁ m q (Halted m₁ q₁) has.0 fit w not d in
         if_halted_more r (λ m' q'. Hides R L a k m₁ q₁ m' q') (λ m' q'. Hides R L a k m q m' q')
         (λ m' q' h. hides_on R L a k m m₁ m' q q₁ q' first h)
@@ -60,7 +60,7 @@ module _ (R : Rule) (L : Lattice) (laws : IsLattice L) (classes : ℕ → ℕ) w
     secret f k pc n c m q r has fit w not (IF_MARK reads) = tt
     secret f k pc n c m q r has fit w not (WHILE_TRUE {q₁ = q₁} {u = u} {e = e} {c = c'} {m₁ = m₁} z clean t is d d') =
         let not' = above_hidden pc u w is.within is.left not in
-        let fit₁ = kept f k u n c' m q (Halted m₁ q₁) has.1 fit d in
+        let fit₁ = kept R L laws classes f k u n c' m q (Halted m₁ q₁) has.1 fit d in
         let first = secret f k u n c' m q (Halted m₁ q₁) has.1 fit is.within not' d in
         if_halted_more r (λ m' q'. Hides R L a k m₁ q₁ m' q') (λ m' q'. Hides R L a k m q m' q')
         (λ m' q' h. hides_on R L a k m m₁ m' q q₁ q' first h)

@@ -78,7 +78,8 @@ impl Rule {
             result }
     {
         if self.may_replace(lattice, counter, present) {
-            return Some(self.join(lattice, self.join(lattice, read, counter), class));
+            let seen = self.join(lattice, read, counter);
+            return Some(self.join(lattice, seen, class));
         }
         match self {
             Rule::NoSensitiveUpgrade => None,

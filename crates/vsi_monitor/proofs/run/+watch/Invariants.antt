@@ -19,7 +19,7 @@ abbrev pub invariant-run_while-loop-state : goal.invariant-run_while-loop-state
 invariant-run_while-loop-state g l =
     let L = labelling l.rule (g.C.Classes.lattice l.lattice) in
     let loop = While (expression l.guard) (sequence l.body) in
-    Leads l.rule L (class_of L l.classes) l.classes l.counter l.next loop
+    Leads l.rule L (class_of L l.classes) l.classes l.fn.counter l.next loop
     (held l.initial.state) l.inside l.next loop (held l.state)
 
 abbrev pub decreases-run_while-loop-state : goal.decreases-run_while-loop-state

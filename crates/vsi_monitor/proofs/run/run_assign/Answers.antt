@@ -12,7 +12,8 @@ use Rattle.vsi_monitor.proofs.run.run_assign.Goals as goal
 pub returns-in_default : goal.returns-in_default
 returns-in_default g c =
     λ classes n.
-    stopped_at c.args.rule (labelling c.args.rule (g.C.Classes.lattice c.args.lattice.now)) classes (held c.args.state.now) (held c.args.state.now)
+    stopped_at c.args.rule (labelling c.args.rule (g.C.Classes.lattice c.args.lattice.now)) classes
+    (held c.args.state.now) (held c.args.state.now)
     c.args.counter n c.args.location c.index-present.result.now c.label-read.result c.index.result.now c.args.place
     (expression c.args.e.now)
     (get_or_read c.args.state.now.labels.items c.args.location c.index-present.result.now
@@ -31,7 +32,11 @@ returns g c =
       left = c.take.new.left;
     } in
     assigned_at c.args.rule L classes a b c.args.counter n c.args.location c.index-present.result.now c.label-read.result
-    c.index.result.now c.in-Some.risen c.args.place e c.value.result tt c.index-present.ensures c.index.ensures
+    c.index.result.now c.in-Some.risen c.args.place e c.value.result tt
+    (get_or_read c.args.state.now.labels.items c.args.location c.index-present.result.now
+    (omega (arith, c.requires.places.0, c.requires.held.labelled.labels)) c.index-present.ensures 0)
+    (get_or_read c.args.state.now.variables.items c.args.location c.index.result.now c.requires.places.0
+    c.index.ensures 0)
     (subst (λ y. HasLabel L y e c.label-read.result) c.deref.ensures.value c.label-read.ensures.label)
     c.in-Some.ensures (c.value.ensures ∙ ap (value e) c.deref-2.ensures.value)
     (ap (set a.words c.args.location) (to_z-of_z w64 c.value.result (search rules))) refl refl
