@@ -20,7 +20,8 @@ use Rattle.vsi_monitor.proofs.Words.{WordHides, Hides, each_same, each_less, eac
 use Rattle.vsi_monitor.proofs.Secret.{secret}
 
 module _ (R : Rule) (L : Lattice) (laws : IsLattice L) (a : ℕ) (w : IsClass L a) (k : ℕ) where
-  -- An expression that reads no mark in either of two stores that agree, and whose label is seen, has the same label and
+  -- An expression that reads no mark in either of two stores that agree, and whose label is seen, has the same label
+  -- and
   -- value in both.
   seen : (m m' : Store) (q q' : Locations) → IsLabelled L k m q → StoresAgree R L k a m q m' q' →
       (e : Expression) (t : ℕ) → HasLocations k e → ReadsNoMark R L q e → ReadsNoMark R L q' e → HasLabel L q e t →

@@ -76,7 +76,8 @@ module _ (L : Lattice) where
     label_antisymmetric a b w w' le le' =
         label_cases a w
         (λ ka. class_below b a w' ka le' (λ kb back. laws.antisymmetric a b ka kb (below_back a b ka kb le) back))
-        (λ is. label_cases b w' (λ kb. mark_over b kb (subst (λ x. Below (with_mark L) x b) is le)) (λ is'. is ∙ sym is'))
+        (λ is. label_cases b w' (λ kb. mark_over b kb (subst (λ x. Below (with_mark L) x b) is le)) (λ is'. is ∙ sym
+        is'))
 
     -- The order of labels passes on.
     label_transitive : (a b c : ℕ) → IsClass (with_mark L) a → IsClass (with_mark L) b → IsClass (with_mark L) c →
@@ -236,8 +237,10 @@ label_clean R L laws q (Location k s) t has clean =
 label_clean R L laws q (Operator o a b) t has clean =
     λ l read mark.
     ⊎_elim
-    (λ r. label_clean R L laws q a has.0 has.2 (λ m. clean (mark_up R L laws has.0 t has.4.within m has.4.left)) l r mark)
-    (λ r. label_clean R L laws q b has.1 has.3 (λ m. clean (mark_up R L laws has.1 t has.4.within m has.4.right)) l r mark)
+    (λ r. label_clean R L laws q a has.0 has.2 (λ m. clean (mark_up R L laws has.0 t has.4.within m has.4.left)) l r
+    mark)
+    (λ r. label_clean R L laws q b has.1 has.3 (λ m. clean (mark_up R L laws has.1 t has.4.within m has.4.right)) l r
+    mark)
     read
 
 -- Two joins give the label of what is stored.

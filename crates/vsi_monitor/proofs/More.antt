@@ -56,9 +56,10 @@ module _ (L : Lattice) (laws : IsLattice L) where
     permits f all k long pc n c m q r has fit w (ASSIGN {l = l} {t = t} {v = v} {e = e} up is st) =
         let kl = fit.classes l has.0 in
         let class = at_location L laws f all l (subst (λ x. l < x) long has.0) in
-        ASSIGN
-        (below_more L pc (slice_index q l) w kl up.0,
-          λ mark. absurd (class_clean PermissiveUpgrade L (slice_index q l) kl mark))
+        ASSIGN (
+          below_more L pc (slice_index q l) w kl up.0,
+          λ mark. absurd (class_clean PermissiveUpgrade L (slice_index q l) kl mark),
+        )
         (label_more k m q fit e t has.1 is)
         (stored_more L laws t pc (slice_index f l) v (label_class L laws k m q fit e t has.1 is) w class st)
     permits f all k long pc n c m q r has fit w (UPGRADE by not) = tt

@@ -290,7 +290,8 @@ class_there L table n few = ap (λ b. cond b L.bottom (slice_index table n)) (no
 abbrev pub inside : Held → List ℤ → List ℕ → List ℕ → ℕ → Held
 inside a m q f k = record { words = m; labels = q; variables = f; left = k }
 
-module _ (R : Rule) (L : Lattice) (laws : IsLattice L) (table : List ℕ) (pc n : ℕ) (e : Expression) (c : Command) (x : ℤ)
+module _ (R : Rule) (L : Lattice) (laws : IsLattice L) (table : List ℕ) (pc n : ℕ) (e : Expression) (c : Command) (x :
+    ℤ)
     (t v class : ℕ) (a : Held) (m : List ℤ) (q f : List ℕ) (k : ℕ) (few : n + letvars (Letvar e c) ≤ max_declarations)
     (h : IsReady L table pc n (Letvar e c) a) (le : k ≤ a.left) (is : x ≡ value e a.words)
     (has : HasLabel L a.labels e t) (at : class ≡ slice_index table n) (j : IsJoin L.count (Below L) t class v)
@@ -351,7 +352,8 @@ module _ (R : Rule) (L : Lattice) (laws : IsLattice L) (table : List ℕ) (pc n 
       d'.left ≤ d.left → Watched R L (class_of L table) pc n (Letvar e c) a d' (Ok u')
   letvar_done d d' i u u' w long words' labels' variables' left' =
       let same = h.held.labelled in (
-        subst (λ y. Monitored R L (class_of L table) a.variables pc n (Letvar e c) a.words a.labels (Halted y d'.labels))
+        subst (λ y. Monitored R L (class_of L table) a.variables pc n (Letvar e c) a.words a.labels (Halted y
+            d'.labels))
             (sym (words' ∙ ap (λ y. take y d.words) long))
             (subst (λ y. Monitored R L (class_of L table) a.variables pc n (Letvar e c) a.words a.labels
             (Halted (take (length a.words) d.words) y))

@@ -80,7 +80,8 @@ module _ (R : Rule) (L : Lattice) (laws : IsLattice L) (table : List ℕ) (r : R
 
       -- The run of the body is that of the program.
       whole_run : (o : Outcome) →
-          Monitored R (labelling R L) (class_of (labelling R L) table) a.variables pc n (sequence cs) a.words a.labels o →
+          Monitored R (labelling R L) (class_of (labelling R L) table) a.variables pc n (sequence cs) a.words a.labels
+          o →
           Monitored R (labelling R L) (class_of L table) firsts L.bottom (length r.globals) (sequence r.body) m firsts o
       whole_run o d =
           let M = labelling R L in

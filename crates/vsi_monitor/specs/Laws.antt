@@ -18,8 +18,8 @@ ComputesTheSame =
     (R : Rule) (L : Lattice) (classes : ℕ → ℕ) (f q q' : Locations) (pc n : ℕ) (c : Command) (m m' : Store) →
     Monitored R L classes f pc n c m q (Halted m' q') → Evaluates c m m'
 
--- Noninterference by either rule, for any command: two runs from stores that agree at a class, and that both halt without
--- being stopped, end in stores that agree there.
+-- Noninterference by either rule, for any command: two runs from stores that agree at a class, and that both halt
+-- without being stopped, end in stores that agree there.
 abbrev pub MonitoredNoninterference : Type 0
 MonitoredNoninterference =
     (R : Rule) (L : Lattice) (classes : ℕ → ℕ) (f : Locations) (pc n : ℕ) (c : Command) → IsLattice L →
@@ -42,8 +42,8 @@ abbrev pub TypablePasses : Type 0
 TypablePasses =
     (R : Rule) (L : Lattice) (P : Profile) (p : Program) (s : Locations) → IsLattice L → IsWellFormed L p →
     IsTypable L P p s → (m : Store) (r : Outcome) →
-    Monitored R (labelling R L) (class_of L (p.globals ++ s)) p.globals L.bottom (length p.globals) p.body m p.globals r →
-    HaltsWith p.globals r
+    Monitored R (labelling R L) (class_of L (p.globals ++ s)) p.globals L.bottom (length p.globals) p.body m
+    p.globals r → HaltsWith p.globals r
 
 -- Permissive upgrade stops fewer runs: a run that halts by no-sensitive-upgrade halts by permissive upgrade, with the
 -- same store and the same labels.

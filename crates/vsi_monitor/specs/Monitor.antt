@@ -30,8 +30,9 @@ branch L s pc = record { place = s; counter = pc; label = L.top }
 abbrev pub MayReplace : Rule → Lattice → ℕ → ℕ → Type 0
 MayReplace R L pc t = Below L pc t × (IsMark R L t → pc ≡ L.bottom)
 
--- A run of a command, by a rule, under the counter pc, with n declarations before it, from the store m with the labels q
--- of the lattice L. The list f has the class of each location's variable, and `classes` the class of each declaration.
+-- A run of a command, by a rule, under the counter pc, with n declarations before it, from the store m with the
+-- labels q of the lattice L. The list f has the class of each location's variable, and `classes` the class of each
+-- declaration.
 pub data Monitored (R : Rule) (L : Lattice) (classes : ℕ → ℕ) :
     Locations → ℕ → ℕ → Command → Store → Locations → Outcome → Type 0 where
   -- Nothing is done.
@@ -80,7 +81,8 @@ pub data Monitored (R : Rule) (L : Lattice) (classes : ℕ → ℕ) :
   -- The guard of a loop reads a word with the mark.
   WHILE_MARK : {f q : Locations} {pc n : ℕ} {e : Expression} {c : Command} {m : Store} {s : Span} →
       ReadsMarkAt R L q e s → Monitored R L classes f pc n (While e c) m q (Stopped (branch L s pc))
-  -- A new location has the join of its value's label and its class as label. As in LETVAR, the counter isn't part of it.
+  -- A new location has the join of its value's label and its class as label. As in LETVAR, the counter isn't part of
+  -- it.
   LETVAR : {f q q₁ : Locations} {pc n t v : ℕ} {e : Expression} {c : Command} {m m₁ : Store} →
       HasLabel L q e t → IsJoin L.count (Below L) t (classes n) v →
       Monitored R L classes (f ++ classes n ∷ []) pc (n + 1) c (m ++ value e m ∷ []) (q ++ v ∷ []) (Halted m₁ q₁) →

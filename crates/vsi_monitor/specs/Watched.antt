@@ -75,10 +75,10 @@ Goes R L table = Watched R (labelling R L) (class_of (labelling R L) table)
 -- their globals as labels halts with these words and labels, is stopped, or isn't finished.
 abbrev pub RunEnds : Rule → Lattice → List ℕ → Resolved → Store → Result watch.Watched Unfinished → Type 0
 RunEnds R L table r m (Ok w) =
-    Monitored R (labelling R L) (class_of L table) (take (length r.globals) table) L.bottom (length r.globals) (sequence r.body) m
-    (take (length r.globals) table) (Halted w.words.items w.labels.items)
+    Monitored R (labelling R L) (class_of L table) (take (length r.globals) table) L.bottom (length r.globals)
+    (sequence r.body) m (take (length r.globals) table) (Halted w.words.items w.labels.items)
 RunEnds R L table r m (Err (ends.Stopped x)) =
-    Monitored R (labelling R L) (class_of L table) (take (length r.globals) table) L.bottom (length r.globals) (sequence r.body) m
-    (take (length r.globals) table) (Stopped x)
+    Monitored R (labelling R L) (class_of L table) (take (length r.globals) table) L.bottom (length r.globals)
+    (sequence r.body) m (take (length r.globals) table) (Stopped x)
 RunEnds R L table r m (Err ends.Limit) = Unit {0}
 RunEnds R L table r m (Err ends.Memory) = Unit {0}

@@ -44,8 +44,8 @@ pub(crate) fn label<C: Classes>(rule: Rule, lattice: &C, e: &Ex, labels: &[Class
     }
 }
 
-/// The label of a guard under a counter. The run is stopped if the guard reads a word that is partly
-/// leaked.
+/// The label of a guard under a counter. The run is stopped if the guard reads a word that is
+/// partly leaked.
 pub(crate) fn guard_label<C: Classes>(
     rule: Rule,
     lattice: &C,

@@ -8,7 +8,8 @@ ghost use Rattle.vsi_monitor.specs.Watched.{Judged};
 
 use vsi_lattice::{Class, Classes};
 
-/// How a run is judged at an assignment under a counter that isn't at or below the variable's label.
+/// How a run is judged at an assignment under a counter that isn't at or below the label of the
+/// variable.
 #[derive(Clone, Copy, Debug, PartialEq, Eq)]
 pub enum Rule {
     /// The run is stopped.

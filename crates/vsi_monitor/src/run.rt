@@ -103,7 +103,15 @@ fn run_if<C: Classes>(
     if word != 0 {
         run_all(rule, lattice, classes, state, inside, next, yes)
     } else {
-        run_all(rule, lattice, classes, state, inside, next + letvars(yes), no)
+        run_all(
+            rule,
+            lattice,
+            classes,
+            state,
+            inside,
+            next + letvars(yes),
+            no,
+        )
     }
 }
 
@@ -219,7 +227,9 @@ fn run_one<C: Classes>(
         (held state.old) (held state.new) result }
 {
     match c {
-        Cmd::Assign { loc, span, value } => run_assign(rule, lattice, state, counter, *loc, *span, value),
+        Cmd::Assign { loc, span, value } => run_assign(
+            rule, lattice, state, counter, *loc, *span, value,
+        ),
         Cmd::If { guard, yes, no } => {
             run_if(rule, lattice, classes, state, counter, next, yes, no, guard)
         }

@@ -26,13 +26,14 @@ pub struct Watched {
     pub labels: Vec<Class>,
 }
 
-/// Runs a program under the monitor by a rule, for at most `limit` steps, from a store whose words have the
-/// classes of their globals as labels. `classes` has a class for each declaration, globals first.
+/// Runs a program under the monitor by a rule, for at most `limit` steps, from a store whose words
+/// have the classes of their globals as labels. `classes` has a class for each declaration, globals
+/// first.
 ///
 /// # Errors
 ///
-/// `Stopped` at an assignment whose upgrade would leak or at a guard that reads a word that is partly
-/// leaked, `Limit`, or `Memory`.
+/// `Stopped` at an assignment whose upgrade would leak, or at a guard that reads a word that is
+/// partly leaked; `Limit`; or `Memory`.
 pub fn monitored<C: Classes>(
     alloc: Global,
     rule: Rule,

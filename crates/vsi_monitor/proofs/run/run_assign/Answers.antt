@@ -17,7 +17,8 @@ returns-in_default g c =
     c.args.counter n c.args.location c.index-present.result.now c.label-read.result c.index.result.now c.args.place
     (expression c.args.e.now)
     (get_or_read c.args.state.now.labels.items c.args.location c.index-present.result.now
-    (omega (arith, c.requires.places.0, c.requires.held.labelled.labels)) c.index-present.ensures 0) c.in_default.ensures
+    (omega (arith, c.requires.places.0, c.requires.held.labelled.labels)) c.index-present.ensures 0)
+    c.in_default.ensures
 
 pub returns : goal.returns
 returns g c =
@@ -31,7 +32,8 @@ returns g c =
       variables = a.variables;
       left = c.take.new.left;
     } in
-    assigned_at c.args.rule L classes a b c.args.counter n c.args.location c.index-present.result.now c.label-read.result
+    assigned_at c.args.rule L classes a b c.args.counter n c.args.location c.index-present.result.now
+    c.label-read.result
     c.index.result.now c.in-Some.risen c.args.place e c.value.result tt
     (get_or_read c.args.state.now.labels.items c.args.location c.index-present.result.now
     (omega (arith, c.requires.places.0, c.requires.held.labelled.labels)) c.index-present.ensures 0)

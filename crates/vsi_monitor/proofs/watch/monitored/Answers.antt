@@ -15,7 +15,8 @@ returns-in_err-run_all-clause-typable g c =
       variables = c.in_ok-from_slice-2.field-0.items;
       left = c.args.limit;
     } in
-    not_stopped c.args.rule L laws c.args.classes.now c.args.program.now kept c.requires.classes c.requires.each c.args.words.now
+    not_stopped c.args.rule L laws c.args.classes.now c.args.program.now kept c.requires.classes c.requires.each
+    c.args.words.now
     c.from_residual-in_err-run_all.result
     (whole_stop c.args.rule L laws c.args.classes.now c.args.program.now kept c.requires.classes c.requires.each
     c.body-body.result.now c.body-body.ensures.value _ (ap length c.globals-globals.ensures) _ c.bottom.ensures
