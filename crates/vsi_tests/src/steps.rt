@@ -10,8 +10,7 @@ use vsi_syntax::{lex, parse};
 const POLICY: &[u8] = b"classes = [\"L\", \"H\"]\nbelow = [[\"L\", \"H\"]]\n";
 
 /// A program with a step of each kind. The second assignment is on two lines.
-const PROGRAM: &[u8] =
-    b"var h : H;\nvar l : L;\nletvar t := l + 1 in\n  if t < 3 then h := h\n    + t\n  else h := 0;\nwhile l < 2 do l := l + 1\n";
+const PROGRAM: &[u8] = b"var h : H;\nvar l : L;\nletvar t := l + 1 in\n  if t < 3 then h := h\n    + t\n  else h := 0;\nwhile l < 2 do l := l + 1\n";
 
 /// All steps of `PROGRAM` from `h = 5` and `l = 1`, and the last store.
 const STEPS: &[u8] = b"3:1   letvar t := l + 1  t = 2 : L
@@ -52,8 +51,7 @@ H sees a difference at 3:1
 ";
 
 /// A secret guard. Low classes see no difference.
-const SECRET: &[u8] =
-    b"var h : H; var l : L; if h then { h := 2; while h do h := h - 1 } else h := 7; l := l + 1";
+const SECRET: &[u8] = b"var h : H; var l : L; if h then { h := 2; while h do h := h - 1 } else h := 7; l := l + 1";
 
 /// Its runs from `h = 1` and from `h = 0`.
 const SEEN: &[u8] = b"< 1:23  if h        is 1 : H
@@ -99,7 +97,10 @@ fn answer(
     let trace = trace_of(alloc, &program, words, limit).ok()?;
     match asked {
         Asked::Text => steps_text(alloc, &listing, &trace).ok(),
-        Asked::Json => steps_json(alloc, &listing, &trace).ok()?.to_vec(alloc).ok(),
+        Asked::Json => steps_json(alloc, &listing, &trace)
+            .ok()?
+            .to_vec(alloc)
+            .ok(),
         Asked::Together(others) => {
             let other = trace_of(alloc, &program, others, limit).ok()?;
             together_text(alloc, &listing, &trace, &other).ok()
@@ -133,28 +134,12 @@ fn a_run_is_cut_at_the_limit(rt: HostRuntime) {
 #[test]
 fn two_runs_part_and_meet(rt: HostRuntime) {
     let alloc = rt.alloc();
-    assert!(rt;
-        is(
-            &answer(alloc, PROGRAM, &[0, 2], 99, Asked::Together(&[0, 1])),
-            TOGETHER
-        )
-    );
-    assert!(rt;
-        is(
-            &answer(alloc, SECRET, &[1, 3], 99, Asked::Together(&[0, 3])),
-            SEEN
-        )
-    );
+    assert!(rt; is(&answer(alloc, PROGRAM, &[0, 2], 99, Asked::Together(&[0, 1])), TOGETHER));
+    assert!(rt; is(&answer(alloc, SECRET, &[1, 3], 99, Asked::Together(&[0, 3])), SEEN));
 }
 
 #[test]
 fn a_step_is_an_object(rt: HostRuntime) {
-    let wanted: &[u8] =
-        b"{\"halted\":false,\"steps\":[{\"class\":\"L\",\"column\":1,\"line\":3,\"name\":\"t\",\"text\":\"letvar t := l + 1\",\"value\":2}],\"store\":[{\"name\":\"h\",\"word\":5},{\"name\":\"l\",\"word\":1}]}";
-    assert!(rt;
-        is(
-            &answer(rt.alloc(), PROGRAM, &[5, 1], 1, Asked::Json),
-            wanted
-        )
-    );
+    let wanted: &[u8] = b"{\"halted\":false,\"steps\":[{\"class\":\"L\",\"column\":1,\"line\":3,\"name\":\"t\",\"text\":\"letvar t := l + 1\",\"value\":2}],\"store\":[{\"name\":\"h\",\"word\":5},{\"name\":\"l\",\"word\":1}]}";
+    assert!(rt; is(&answer(rt.alloc(), PROGRAM, &[5, 1], 1, Asked::Json), wanted));
 }
