@@ -1,4 +1,5 @@
 use Rattle.std.proofs.Common.{rules, ap, length, refl}
+use Rattle.vsi_monitor.specs.declared.watch.Watched as watch
 use Rattle.vsi_monitor.specs.Watched.{Held, held}
 use Rattle.vsi_monitor.proofs.Whole.{whole_stop, whole_halts, not_stopped}
 use Rattle.vsi_monitor.proofs.watch.monitored.Goals as goal
@@ -53,7 +54,8 @@ returns-clause-ends g c =
       variables = c.in_ok-from_slice-2.field-0.items;
       left = c.args.limit;
     } in
+    let w : watch.Watched = record { words = c.run_all.new.state.words; labels = c.run_all.new.state.labels } in
     whole_halts c.args.rule L laws c.args.classes.now c.args.program.now kept c.requires.classes c.requires.each
     c.body-body.result.now c.body-body.ensures.value _ (ap length c.globals-globals.ensures) _ c.bottom.ensures
     c.args.words.now c.requires.words a (c.in_ok-to_vec.ensures.items_if_clones_equal (λ x y h. h)) (search rules)
-    (search rules) (held c.run_all.new.state) _ tt refl refl c.in_ok-run_all.ensures
+    (search rules) (held c.run_all.new.state) w tt refl refl c.in_ok-run_all.ensures
