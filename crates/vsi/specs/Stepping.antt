@@ -15,6 +15,7 @@ use Rattle.vsi_compiler.specs.Headline.{IsImageOf}
 use Rattle.vsi_compiler.specs.Stands.{Stands}
 use Rattle.vsi_steps.specs.declared.trace.Trace.{Trace}
 use Rattle.vsi_steps.specs.Traced.{IsTraced}
+use Rattle.vsi_monitor.specs.declared.rule.Rule.TheVariants.{NoSensitiveUpgrade}
 use Rattle.vsi_monitor.specs.declared.stop.Stop.{Stop}
 use Rattle.vsi_monitor.specs.declared.stop.Unfinished.TheVariants as ends
 use Rattle.vsi_monitor.specs.declared.watch.Watched.{Watched}
@@ -88,14 +89,14 @@ pub record EndsWatched (L : classes.Lattice) (r : Resolved) (words : List ℤ) :
   pub table : List ℕ
   pub is : IsTable L (program r) table
   pub last : Watched
-  pub ends : RunEnds L table r words (Ok last)
+  pub ends : RunEnds NoSensitiveUpgrade L table r words (Ok last)
 
 -- The monitored run of a program from these words is stopped, and no choice of classes is typable.
 pub record IsStopped (L : classes.Lattice) (r : Resolved) (words : List ℤ) : Type 0 where
   pub table : List ℕ
   pub is : IsTable L (program r) table
   pub stop : Stop
-  pub ends : RunEnds L table r words (Err (ends.Stopped stop))
+  pub ends : RunEnds NoSensitiveUpgrade L table r words (Err (ends.Stopped stop))
   pub refused : (s : List ℕ) → ¬ (IsTypable L Base (program r) s)
 
 -- The monitored run of a program from these words ends, or it is stopped.

@@ -28,7 +28,7 @@ use vsi_compiler::{Source, image_of, read_source};
 use vsi_image::{Verified, encode};
 use vsi_lattice::{Class, Lattice};
 use vsi_machine::word_cell;
-use vsi_monitor::{Naming, Unfinished, monitor_text, monitored};
+use vsi_monitor::{Naming, Rule, Unfinished, monitor_text, monitored};
 use vsi_steps::{Listing, Trace, listing_of, steps_json, steps_text, together_text, trace_of};
 use vsi_store::sees;
 
@@ -192,7 +192,8 @@ fn monitor_reply<'a>(
 {
     let (lattice, program) = (source.lattice(), source.resolved());
     let classes = class_table(alloc, source)?;
-    let run = monitored(alloc, lattice, program, &classes, words, budget);
+    let rule = Rule::NoSensitiveUpgrade;
+    let run = monitored(alloc, rule, lattice, program, &classes, words, budget);
     let naming = Naming {
         lattice,
         text: source.text(),

@@ -1,5 +1,4 @@
 pub mod Labels
 pub mod Monitor
-pub mod Permissive
 pub mod Watched
 pub mod Laws

@@ -1,4 +1,4 @@
-use Rattle.vsi_monitor.proofs.PermissiveMore.{stops_fewer}
+use Rattle.vsi_monitor.proofs.More.{stops_fewer}
 use Rattle.vsi_monitor.proofs.laws.stops_fewer.Goals as goal
 
 pub returns : goal.returns

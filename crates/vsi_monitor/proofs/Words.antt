@@ -7,8 +7,7 @@ use Rattle.vsi_lattice.specs.Order.{Lattice, IsLattice, IsClass, Below}
 use Rattle.vsi_scope.specs.Meaning.{Store}
 use Rattle.vsi_types.specs.Typing.{Locations}
 use Rattle.vsi_monitor.specs.declared.rule.Rule.{Rule}
-use Rattle.vsi_monitor.specs.Labels.{IsLabelled}
-use Rattle.vsi_monitor.specs.Permissive.{IsMark, WordsAgree, StoresAgree}
+use Rattle.vsi_monitor.specs.Labels.{IsLabelled, IsMark, WordsAgree, StoresAgree}
 
 -- A relation of two labelled words.
 abbrev pub Words : Type 1
@@ -77,7 +76,8 @@ module _ (P : Words) where
       (ap (λ y. get_or (set q i v) y 0) is ∙ get_or-set_same q i v 0 (inside (length q) fit.labels))
       (ap (λ y. get_or (set m i x) y (pos 0)) is ∙ get_or-set_same m i x (pos 0) (inside (length m) fit.words))
       (ap (λ y. get_or (set q' i v') y 0) is ∙ get_or-set_same q' i v' 0 (inside (length q') fit'.labels))
-      (ap (λ y. get_or (set m' i x') y (pos 0)) is ∙ get_or-set_same m' i x' (pos 0) (inside (length m') fit'.words)) new)
+      (ap (λ y. get_or (set m' i x') y (pos 0)) is ∙ get_or-set_same m' i x' (pos 0) (inside (length m') fit'.words))
+      new)
       (λ other. related P (get_or (set q i v) l 0) (get_or q l 0) (get_or (set q' i v') l 0) (get_or q' l 0)
       (get_or (set m i x) l (pos 0)) (get_or m l (pos 0)) (get_or (set m' i x') l (pos 0)) (get_or m' l (pos 0))
       (get_or-set_other q i l v 0 other) (get_or-set_other m i l x (pos 0) other)

@@ -3,14 +3,12 @@ use Rattle.std.proofs.Common.{◌≡◌, ℕ, ◌+◌, ◌<◌, ◌≤◌, refl,
 use Rattle.std.specs.Prelude.{◌⊎◌, ◌==◌, cond, true, false, slice_index}
 use Rattle.std.proofs.lemmas.Bool.{cases_lt, false≢true}
 use Rattle.vsi_lattice.specs.Order.{Lattice, IsLattice, IsClass, Below, IsJoin, IsMeet, HasJoin, HasMeet}
-use Rattle.vsi_scope.specs.Language.{Expression, Number, Location, Operator, HasLocations}
+use Rattle.vsi_scope.specs.Language.{Expression, Number, Location, Operator}
 use Rattle.vsi_types.specs.Typing.{Locations}
 use Rattle.vsi_types.specs.Security.{IsReadIn}
-use Rattle.vsi_syntax.specs.declared.token.Span.{Span}
 use Rattle.vsi_monitor.specs.declared.rule.Rule.{Rule}
 use Rattle.vsi_monitor.specs.declared.rule.Rule.TheVariants.{NoSensitiveUpgrade, PermissiveUpgrade}
-use Rattle.vsi_monitor.specs.Labels.{HasLabel, IsStored}
-use Rattle.vsi_monitor.specs.Permissive.{with_mark, labels, IsMark, ReadsNoMark, ReadsMarkAt}
+use Rattle.vsi_monitor.specs.Labels.{HasLabel, IsStored, with_mark, labelling, IsMark, ReadsNoMark}
 
 -- A number is equal to itself.
 same_number : (n : ℕ) → (n == n) ≡ true
@@ -78,7 +76,8 @@ module _ (L : Lattice) where
     label_antisymmetric a b w w' le le' =
         label_cases a w
         (λ ka. class_below b a w' ka le' (λ kb back. laws.antisymmetric a b ka kb (below_back a b ka kb le) back))
-        (λ is. label_cases b w' (λ kb. mark_over b kb (subst (λ x. Below (with_mark L) x b) is le)) (λ is'. is ∙ sym is'))
+        (λ is. label_cases b w' (λ kb. mark_over b kb (subst (λ x. Below (with_mark L) x b) is le)) (λ is'. is ∙ sym
+        is'))
 
     -- The order of labels passes on.
     label_transitive : (a b c : ℕ) → IsClass (with_mark L) a → IsClass (with_mark L) b → IsClass (with_mark L) c →
@@ -193,28 +192,28 @@ module _ (L : Lattice) where
     }
 
 -- The labels by either rule are a lattice.
-pub labels_lattice : (R : Rule) (L : Lattice) → IsLattice L → IsLattice (labels R L)
+pub labels_lattice : (R : Rule) (L : Lattice) → IsLattice L → IsLattice (labelling R L)
 labels_lattice NoSensitiveUpgrade L laws = laws
 labels_lattice PermissiveUpgrade L laws = marked_lattice L laws
 
 -- A class is a label by either rule.
-pub labels_class : (R : Rule) (L : Lattice) (a : ℕ) → IsClass L a → IsClass (labels R L) a
+pub labels_class : (R : Rule) (L : Lattice) (a : ℕ) → IsClass L a → IsClass (labelling R L) a
 labels_class NoSensitiveUpgrade L a w = w
 labels_class PermissiveUpgrade L a w = class_label L a w
 
 -- The order of classes is kept by either rule.
 pub labels_below : (R : Rule) (L : Lattice) (a b : ℕ) → IsClass L a → IsClass L b → Below L a b →
-    Below (labels R L) a b
+    Below (labelling R L) a b
 labels_below NoSensitiveUpgrade L a b ka kb le = le
 labels_below PermissiveUpgrade L a b ka kb le = below_more L a b ka kb le
 
 -- The bottom class is the bottom label.
-pub labels_bottom : (R : Rule) (L : Lattice) → (labels R L).bottom ≡ L.bottom
+pub labels_bottom : (R : Rule) (L : Lattice) → (labelling R L).bottom ≡ L.bottom
 labels_bottom NoSensitiveUpgrade L = refl
 labels_bottom PermissiveUpgrade L = refl
 
 -- A class isn't the mark.
-pub class_clean : (R : Rule) (L : Lattice) (a : ℕ) → IsClass L a → IsMark R (labels R L) a → ⊥
+pub class_clean : (R : Rule) (L : Lattice) (a : ℕ) → IsClass L a → IsMark R (labelling R L) a → ⊥
 class_clean NoSensitiveUpgrade L a w mark = mark
 class_clean PermissiveUpgrade L a w mark = absurd (omega (arith, w, mark))
 
@@ -238,6 +237,19 @@ label_clean R L laws q (Location k s) t has clean =
 label_clean R L laws q (Operator o a b) t has clean =
     λ l read mark.
     ⊎_elim
-    (λ r. label_clean R L laws q a has.0 has.2 (λ m. clean (mark_up R L laws has.0 t has.4.within m has.4.left)) l r mark)
-    (λ r. label_clean R L laws q b has.1 has.3 (λ m. clean (mark_up R L laws has.1 t has.4.within m has.4.right)) l r mark)
+    (λ r. label_clean R L laws q a has.0 has.2 (λ m. clean (mark_up R L laws has.0 t has.4.within m has.4.left)) l r
+    mark)
+    (λ r. label_clean R L laws q b has.1 has.3 (λ m. clean (mark_up R L laws has.1 t has.4.within m has.4.right)) l r
+    mark)
     read
+
+-- Two joins give the label of what is stored.
+pub joined : (L : Lattice) → IsLattice L → (t pc class u v : ℕ) → IsClass L t → IsClass L pc →
+    IsJoin L.count (Below L) t pc u → IsJoin L.count (Below L) u class v → IsStored L t pc class v
+joined L laws t pc class u v kt kp h k = record {
+  within = k.within;
+  value = laws.transitive t u v kt h.within k.within h.left k.left;
+  counter = laws.transitive pc u v kp h.within k.within h.right k.left;
+  variable = k.right;
+  least = λ d kd a b c. k.least d kd (h.least d kd a b) c;
+}

@@ -12,14 +12,12 @@ use Rattle.vsi_types.specs.Security.{IsReadIn}
 use Rattle.vsi_types.proofs.Secure.{at_location}
 use Rattle.vsi_monitor.specs.declared.rule.Rule.{Rule}
 use Rattle.vsi_monitor.specs.declared.rule.Rule.TheVariants.{NoSensitiveUpgrade, PermissiveUpgrade}
-use Rattle.vsi_monitor.specs.Labels.{HasLabel, IsLabelled}
-use Rattle.vsi_monitor.specs.Monitor.{Outcome, Halted}
-use Rattle.vsi_monitor.specs.Permissive.{with_mark, ReadsNoMark, Permitted, NOTHING, ASSIGN, UPGRADE, MARK, COMPOSE, COMPOSE_STOP, IF_TRUE, IF_FALSE, IF_MARK, WHILE_TRUE, WHILE_STOP, WHILE_FALSE, WHILE_MARK, LETVAR, LETVAR_STOP}
+use Rattle.vsi_monitor.specs.Labels.{HasLabel, IsLabelled, with_mark, ReadsNoMark}
+use Rattle.vsi_monitor.specs.Monitor.{Outcome, Halted, Monitored, NOTHING, ASSIGN, UPGRADE, MARK, COMPOSE, COMPOSE_STOP, IF_TRUE, IF_FALSE, IF_MARK, WHILE_TRUE, WHILE_STOP, WHILE_FALSE, WHILE_MARK, LETVAR, LETVAR_STOP}
 use Rattle.vsi_monitor.specs.Laws.{StopsFewer}
 use Rattle.vsi_monitor.proofs.Computing.{IfHalted, if_halted_more}
-use Rattle.vsi_monitor.proofs.Labelled.{label_class, fit_more}
-use Rattle.vsi_monitor.proofs.PermissiveMarks.{top_mark, class_clean, below_more, join_more, stored_more}
-use Rattle.vsi_monitor.proofs.PermissiveSecret.{kept}
+use Rattle.vsi_monitor.proofs.Labelled.{label_class, fit_more, kept}
+use Rattle.vsi_monitor.proofs.Marks.{top_mark, class_clean, below_more, join_more, stored_more}
 
 -- A location that is read exists.
 read_within : (k : ℕ) (e : Expression) (l : ℕ) → HasLocations k e → IsReadIn e l → l < k
@@ -52,15 +50,16 @@ module _ (L : Lattice) (laws : IsLattice L) where
     -- A run that halts by no-sensitive-upgrade halts by permissive upgrade.
     permits : (f : Locations) → All (IsClass L) f → (k : ℕ) → k ≡ length f → (pc n : ℕ) (c : Command) (m : Store)
         (q : Locations) (r : Outcome) → HasPlaces k c → IsLabelled L k m q → IsClass L pc →
-        Permitted NoSensitiveUpgrade L classes f pc n c m q r →
-        IfHalted r (λ m' q'. Permitted PermissiveUpgrade (with_mark L) classes f pc n c m q (Halted m' q'))
+        Monitored NoSensitiveUpgrade L classes f pc n c m q r →
+        IfHalted r (λ m' q'. Monitored PermissiveUpgrade (with_mark L) classes f pc n c m q (Halted m' q'))
     permits f all k long pc n c m q r has fit w NOTHING = NOTHING
     permits f all k long pc n c m q r has fit w (ASSIGN {l = l} {t = t} {v = v} {e = e} up is st) =
         let kl = fit.classes l has.0 in
         let class = at_location L laws f all l (subst (λ x. l < x) long has.0) in
-        ASSIGN
-        (below_more L pc (slice_index q l) w kl up.0,
-          λ mark. absurd (class_clean PermissiveUpgrade L (slice_index q l) kl mark))
+        ASSIGN (
+          below_more L pc (slice_index q l) w kl up.0,
+          λ mark. absurd (class_clean PermissiveUpgrade L (slice_index q l) kl mark),
+        )
         (label_more k m q fit e t has.1 is)
         (stored_more L laws t pc (slice_index f l) v (label_class L laws k m q fit e t has.1 is) w class st)
     permits f all k long pc n c m q r has fit w (UPGRADE by not) = tt
@@ -69,22 +68,22 @@ module _ (L : Lattice) (laws : IsLattice L) where
         let first = permits f all k long pc n a m q (Halted m₁ q₁) has.0 fit w d in
         let fit₁ = kept NoSensitiveUpgrade L laws classes f k pc n a m q (Halted m₁ q₁) has.0 fit d in
         if_halted_more r
-        (λ m' q'. Permitted PermissiveUpgrade (with_mark L) classes f pc (n + letvars a) b m₁ q₁ (Halted m' q'))
-        (λ m' q'. Permitted PermissiveUpgrade (with_mark L) classes f pc n (Sequence a b) m q (Halted m' q'))
+        (λ m' q'. Monitored PermissiveUpgrade (with_mark L) classes f pc (n + letvars a) b m₁ q₁ (Halted m' q'))
+        (λ m' q'. Monitored PermissiveUpgrade (with_mark L) classes f pc n (Sequence a b) m q (Halted m' q'))
         (λ m' q' h. COMPOSE first h) (permits f all k long pc (n + letvars a) b m₁ q₁ r has.1 fit₁ w d')
     permits f all k long pc n c m q r has fit w (COMPOSE_STOP d) = tt
     permits f all k long pc n c m q r has fit w (IF_TRUE {t = t} {u = u} {e = e} {a = a} {b = b} z bare is j d) =
         let kt = label_class L laws k m q fit e t has.0 is in
         if_halted_more r
-        (λ m' q'. Permitted PermissiveUpgrade (with_mark L) classes f u n a m q (Halted m' q'))
-        (λ m' q'. Permitted PermissiveUpgrade (with_mark L) classes f pc n (If e a b) m q (Halted m' q'))
+        (λ m' q'. Monitored PermissiveUpgrade (with_mark L) classes f u n a m q (Halted m' q'))
+        (λ m' q'. Monitored PermissiveUpgrade (with_mark L) classes f pc n (If e a b) m q (Halted m' q'))
         (λ m' q' h. IF_TRUE z (classes_read k m q fit e has.0) (label_more k m q fit e t has.0 is)
         (join_more L laws pc t u w kt j) h) (permits f all k long u n a m q r has.1 fit j.within d)
     permits f all k long pc n c m q r has fit w (IF_FALSE {t = t} {u = u} {e = e} {a = a} {b = b} z bare is j d) =
         let kt = label_class L laws k m q fit e t has.0 is in
         if_halted_more r
-        (λ m' q'. Permitted PermissiveUpgrade (with_mark L) classes f u (n + letvars a) b m q (Halted m' q'))
-        (λ m' q'. Permitted PermissiveUpgrade (with_mark L) classes f pc n (If e a b) m q (Halted m' q'))
+        (λ m' q'. Monitored PermissiveUpgrade (with_mark L) classes f u (n + letvars a) b m q (Halted m' q'))
+        (λ m' q'. Monitored PermissiveUpgrade (with_mark L) classes f pc n (If e a b) m q (Halted m' q'))
         (λ m' q' h. IF_FALSE z (classes_read k m q fit e has.0) (label_more k m q fit e t has.0 is)
         (join_more L laws pc t u w kt j) h) (permits f all k long u (n + letvars a) b m q r has.2 fit j.within d)
     permits f all k long pc n c m q r has fit w (IF_MARK reads) = tt
@@ -94,8 +93,8 @@ module _ (L : Lattice) (laws : IsLattice L) where
         let first = permits f all k long u n b m q (Halted m₁ q₁) has.1 fit j.within d in
         let fit₁ = kept NoSensitiveUpgrade L laws classes f k u n b m q (Halted m₁ q₁) has.1 fit d in
         if_halted_more r
-        (λ m' q'. Permitted PermissiveUpgrade (with_mark L) classes f u n (While e b) m₁ q₁ (Halted m' q'))
-        (λ m' q'. Permitted PermissiveUpgrade (with_mark L) classes f pc n (While e b) m q (Halted m' q'))
+        (λ m' q'. Monitored PermissiveUpgrade (with_mark L) classes f u n (While e b) m₁ q₁ (Halted m' q'))
+        (λ m' q'. Monitored PermissiveUpgrade (with_mark L) classes f pc n (While e b) m q (Halted m' q'))
         (λ m' q' h. WHILE_TRUE z (classes_read k m q fit e has.0) (label_more k m q fit e t has.0 is)
         (join_more L laws pc t u w kt j) first h) (permits f all k long u n (While e b) m₁ q₁ r has fit₁ j.within d')
     permits f all k long pc n c m q r has fit w (WHILE_STOP z bare is j d) = tt
