@@ -28,6 +28,7 @@ use Rattle.vsi_compiler.specs.Headline.{HasGlobals, declared_global}
 use Rattle.vsi_compiler.specs.SourceView.{IsSource, Source}
 use Rattle.vsi_compiler.proofs.Compiled.{lawful}
 use Rattle.vsi_compiler.proofs.Held.{ready}
+use Rattle.vsi_monitor.specs.declared.rule.Rule.{Rule}
 use Rattle.vsi_monitor.specs.declared.stop.Stop.{Stop}
 use Rattle.vsi_monitor.specs.declared.stop.Unfinished.{Unfinished}
 use Rattle.vsi_monitor.specs.declared.stop.Unfinished.TheVariants as ends
@@ -157,10 +158,11 @@ module _ (holds : Holding) (s : Stepping) (l : Lattice) (text file : List ℕ) (
   }
 
   -- The monitored run of the program is that of the files.
-  pub watched : (words ws : List ℤ) (ended : Bool) → IsStarted s source.lattice source.text told source.resolved words →
-      ws ≡ words → EndsMonitored ended (order source.lattice) source.resolved ws →
-      OfStepFiles holds s (IsMonitored s ended)
-  watched words ws ended starts are ends = record {
+  pub watched : (R Q : Rule) (words ws : List ℤ) (ended : Bool) →
+      IsStarted s source.lattice source.text told source.resolved words → R ≡ Q →
+      ws ≡ words → EndsMonitored R ended (order source.lattice) source.resolved ws →
+      OfStepFiles holds s (IsMonitored Q s ended)
+  watched R Q words ws ended starts by are ends = record {
     lattice = l;
     text = text;
     file = file;
@@ -169,8 +171,9 @@ module _ (holds : Holding) (s : Stepping) (l : Lattice) (text file : List ℕ) (
       program = source.resolved;
       words = words;
       started = started words starts;
-      ends = subst (λ m. EndsMonitored ended (order m) source.resolved words) under
-          (subst (λ w. EndsMonitored ended (order source.lattice) source.resolved w) are ends);
+      ends = subst (λ m. EndsMonitored Q ended (order m) source.resolved words) under
+          (subst (λ w. EndsMonitored Q ended (order source.lattice) source.resolved w) are
+          (subst (λ r. EndsMonitored r ended (order source.lattice) source.resolved ws) by ends));
     };
   }
 

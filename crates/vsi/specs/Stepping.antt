@@ -15,12 +15,16 @@ use Rattle.vsi_compiler.specs.Headline.{IsImageOf}
 use Rattle.vsi_compiler.specs.Stands.{Stands}
 use Rattle.vsi_steps.specs.declared.trace.Trace.{Trace}
 use Rattle.vsi_steps.specs.Traced.{IsTraced}
+use Rattle.vsi_monitor.specs.declared.rule.Rule.{Rule}
+use Rattle.vsi_monitor.specs.declared.rule.Rule.TheVariants.{NoSensitiveUpgrade, PermissiveUpgrade}
 use Rattle.vsi_monitor.specs.declared.stop.Stop.{Stop}
 use Rattle.vsi_monitor.specs.declared.stop.Unfinished.TheVariants as ends
 use Rattle.vsi_monitor.specs.declared.watch.Watched.{Watched}
 use Rattle.vsi_monitor.specs.Watched.{RunEnds}
 use Rattle.vsi_store.specs.Compare.{agree_in}
 use Rattle.vsi_drive.specs.Starts.{Begins}
+use Rattle.vsi_arguments.specs.declared.request.MonitorRule.{MonitorRule}
+use Rattle.vsi_arguments.specs.declared.request.MonitorRule.TheVariants as asked
 use Rattle.vsi_arguments.specs.declared.request.StepComparison.{StepComparison}
 use Rattle.vsi_arguments.specs.declared.request.Stepping.{Stepping}
 use Rattle.vsi.specs.Files.{IsStoredAt, LooksAt}
@@ -83,32 +87,37 @@ pub record IsTable (L : classes.Lattice) (p : Program) (table : List ℕ) : Type
   pub is : table ≡ p.globals ++ choice
   pub chosen : IsChosen L p choice
 
--- The monitored run of a program from these words ends with these words and labels.
-pub record EndsWatched (L : classes.Lattice) (r : Resolved) (words : List ℤ) : Type 0 where
+-- The rule of a monitor, as it is requested.
+abbrev pub rule_of : MonitorRule → Rule
+rule_of asked.NoSensitiveUpgrade = NoSensitiveUpgrade
+rule_of asked.PermissiveUpgrade = PermissiveUpgrade
+
+-- The run of a program from these words, monitored by a rule, ends with these words and labels.
+pub record EndsWatched (R : Rule) (L : classes.Lattice) (r : Resolved) (words : List ℤ) : Type 0 where
   pub table : List ℕ
   pub is : IsTable L (program r) table
   pub last : Watched
-  pub ends : RunEnds L table r words (Ok last)
+  pub ends : RunEnds R L table r words (Ok last)
 
--- The monitored run of a program from these words is stopped, and no choice of classes is typable.
-pub record IsStopped (L : classes.Lattice) (r : Resolved) (words : List ℤ) : Type 0 where
+-- The run of a program from these words, monitored by a rule, is stopped, and no choice of classes is typable.
+pub record IsStopped (R : Rule) (L : classes.Lattice) (r : Resolved) (words : List ℤ) : Type 0 where
   pub table : List ℕ
   pub is : IsTable L (program r) table
   pub stop : Stop
-  pub ends : RunEnds L table r words (Err (ends.Stopped stop))
+  pub ends : RunEnds R L table r words (Err (ends.Stopped stop))
   pub refused : (s : List ℕ) → ¬ (IsTypable L Base (program r) s)
 
 -- The monitored run of a program from these words ends, or it is stopped.
-abbrev pub EndsMonitored : Bool → classes.Lattice → Resolved → List ℤ → Type 0
-EndsMonitored true L r words = EndsWatched L r words
-EndsMonitored false L r words = IsStopped L r words
+abbrev pub EndsMonitored : Rule → Bool → classes.Lattice → Resolved → List ℤ → Type 0
+EndsMonitored R true L r words = EndsWatched R L r words
+EndsMonitored R false L r words = IsStopped R L r words
 
--- `monitor`: the monitored run of the program of a text ends, or it is stopped.
-pub record IsMonitored (s : Stepping) (ended : Bool) (l : Lattice) (text file : List ℕ) : Type 0 where
+-- `monitor`: the run of the program of a text, monitored by a rule, ends, or it is stopped.
+pub record IsMonitored (R : Rule) (s : Stepping) (ended : Bool) (l : Lattice) (text file : List ℕ) : Type 0 where
   pub program : Resolved
   pub words : List ℤ
   pub started : IsStarted s l text file program words
-  pub ends : EndsMonitored ended (order l) program words
+  pub ends : EndsMonitored R ended (order l) program words
 
 -- ---- two runs.
 

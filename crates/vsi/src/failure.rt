@@ -304,7 +304,9 @@ pub(crate) fn answers_json(request: &Request<'_>) -> bool
         Request::Document(asked) => document_answers_json(asked),
         Request::Conform(asked) => is_json(asked.form),
         Request::Mend(asked) => asked.is_json,
-        Request::Steps { is_json, .. } => *is_json,
+        Request::Steps { is_json, .. }
+        | Request::Monitor { is_json, .. }
+        | Request::CompareSteps { is_json, .. } => *is_json,
         _ => false,
     }
 }

@@ -327,7 +327,10 @@ pub(crate) fn paths_of<'a>(request: &Request<'a>) -> [Option<&'a str>; MOST_READ
             Some(asked.stores.0),
             Some(asked.stores.1),
         ],
-        Request::CompareSteps(asked) => [
+        Request::CompareSteps {
+            comparison: asked,
+            ..
+        } => [
             Some(asked.lattice),
             Some(asked.source),
             Some(asked.stores.0),
@@ -337,7 +340,10 @@ pub(crate) fn paths_of<'a>(request: &Request<'a>) -> [Option<&'a str>; MOST_READ
             stepping: asked,
             ..
         }
-        | Request::Monitor(asked) => [Some(asked.lattice), Some(asked.source), asked.store, None],
+        | Request::Monitor {
+            stepping: asked,
+            ..
+        } => [Some(asked.lattice), Some(asked.source), asked.store, None],
         Request::Leak(asked) | Request::Document(Document::Leak(asked)) => {
             two(asked.lattice, asked.source)
         }

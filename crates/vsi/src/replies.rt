@@ -163,9 +163,16 @@ impl<F: Files> Subject<'_, F> {
             } => good(self.view(lattice, class, execution, &initial_store)),
             Request::ViewWithin(asked) => good(self.view_within(&asked, note)),
             Request::Compare(comparison) => self.compare(comparison, false, note),
-            Request::CompareSteps(comparison) => self.compare_steps(comparison),
+            Request::CompareSteps {
+                comparison,
+                is_json,
+            } => self.compare_steps(comparison, is_json),
             Request::Steps { stepping, is_json } => self.steps(&stepping, is_json),
-            Request::Monitor(stepping) => self.monitor(&stepping),
+            Request::Monitor {
+                stepping,
+                rule,
+                is_json,
+            } => self.monitor(&stepping, rule, is_json),
             Request::Leak(search) => good(self.leak(search)),
             Request::Report(compilation) => good(self.report(compilation)),
             Request::Draw(drawing) => good(self.draw(drawing)),

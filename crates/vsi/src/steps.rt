@@ -11,6 +11,7 @@ ghost use Rattle.vsi_lattice.specs.Order.{IsClass};
 ghost use Rattle.vsi_store.specs.Compare as views;
 ghost use Rattle.vsi.specs.Refusals.{FailsBy, LacksClassAt, NoOther, RefusesLattice};
 ghost use Rattle.vsi.specs.Stepping.{AreStepFiles, AreWritten, Compared, ComparesSteps, EndsMonitored, EndsTraced, IsMonitored, IsStarted, IsStepped, OfStepFiles};
+ghost use Rattle.vsi.specs.Stepping as spec;
 ghost use Rattle.vsi.specs.Unstepped.{RefusesWords, Spends, WhyCompareSteps, WhyMonitor, WhySteps};
 ghost use Rattle.vsi.specs.declared.failure.Failure.TheVariants as fails;
 
@@ -21,15 +22,18 @@ use crate::inputs::{InputCache, InputKind};
 use crate::replies::Reply;
 use crate::runs::keep_settings;
 use crate::subject::{Subject, class_in, refused};
+use serde_json::Value;
 use std::alloc::{AllocError, Global};
 use vsi_answers::start_words;
-use vsi_arguments::{StepComparison, Stepping};
+use vsi_arguments::{MonitorRule, StepComparison, Stepping};
 use vsi_compiler::{Source, image_of, read_source};
 use vsi_image::{Verified, encode};
 use vsi_lattice::{Class, Lattice};
 use vsi_machine::word_cell;
-use vsi_monitor::{Naming, Unfinished, monitor_text, monitored};
-use vsi_steps::{Listing, Trace, listing_of, steps_json, steps_text, together_text, trace_of};
+use vsi_monitor::{Naming, Rule, Unfinished, Watched, monitor_json, monitor_text, monitored};
+use vsi_steps::{
+    Listing, Trace, listing_of, steps_json, steps_text, together_json, together_text, trace_of,
+};
 use vsi_store::sees;
 
 /// The files of a run in steps: the lattice, the source text, and the bytes of the store.
@@ -72,21 +76,39 @@ impl<F: Files> Subject<'_, F> {
         Ok(reply)
     }
 
-    /// The lines of a monitored run of a source text, and whether the run has ended or was stopped.
-    pub(crate) fn monitor<'a>(&self, asked: &Stepping<'a>) -> Fallible<'a, Reply>
+    /// The monitored run of a source text by a rule, as lines or as a line of JSON, and whether the
+    /// run has ended or was stopped.
+    pub(crate) fn monitor<'a>(
+        &self,
+        asked: &Stepping<'a>,
+        rule: MonitorRule,
+        is_json: bool,
+    ) -> Fallible<'a, Reply>
         ensures told { IfOk result (λ reply. OfStepFiles (F.holds self.now.files.now) asked.now
-            (IsMonitored asked.now reply.is_good)) }
+            (IsMonitored (spec.rule_of rule) asked.now reply.is_good)) }
         ensures failed { IfErr result (FailsBy (WhyMonitor (F.holds self.now.files.now) asked.now)
             NoOther) }
     {
         let read = self.step_files(asked)?;
         let source = source_in(self.alloc, &read.lattice, &read.text)?;
         let words = first_words(self.cache, asked, &source, &read.file)?;
-        monitor_reply(self.alloc, &source, &words, asked.budget)
+        monitor_reply(
+            self.alloc,
+            rule_of(rule),
+            &source,
+            &words,
+            asked.budget,
+            is_json,
+        )
     }
 
-    /// The comparison that a class makes of two runs of a source text in step, from two store files.
-    pub(crate) fn compare_steps<'a>(&self, asked: StepComparison<'a>) -> Fallible<'a, Reply>
+    /// The comparison that a class makes of two runs of a source text in step, from two store files,
+    /// as lines or as a line of JSON.
+    pub(crate) fn compare_steps<'a>(
+        &self,
+        asked: StepComparison<'a>,
+        is_json: bool,
+    ) -> Fallible<'a, Reply>
         ensures told { IfOk result (λ reply.
             ComparesSteps (F.holds self.now.files.now) asked.entry reply.is_good) }
         ensures failed { IfErr result (FailsBy (WhyCompareSteps (F.holds self.now.files.now)
@@ -108,6 +130,7 @@ impl<F: Files> Subject<'_, F> {
             &first,
             &second,
             asked.budget,
+            is_json,
         )
     }
 }
@@ -171,6 +194,13 @@ fn first_words<'a>(
     Ok(start_words(cache.alloc, &verified, file, settings, asked.is_full)?)
 }
 
+/// A value of JSON as a line.
+fn json_line(alloc: Global, value: &Value) -> Result<Vec<u8>, AllocError> {
+    let mut line = value.to_vec(alloc)?;
+    line.extend_from_slice(b"\n")?;
+    Ok(line)
+}
+
 /// The steps as lines, or as a line of JSON.
 fn steps_bytes(
     alloc: Global,
@@ -181,9 +211,8 @@ fn steps_bytes(
     if !is_json {
         return steps_text(alloc, listing, trace);
     }
-    let mut line = steps_json(alloc, listing, trace)?.to_vec(alloc)?;
-    line.extend_from_slice(b"\n")?;
-    Ok(line)
+    let value = steps_json(alloc, listing, trace)?;
+    json_line(alloc, &value)
 }
 
 /// The steps of a program from these words, and whether the run has ended.
@@ -209,27 +238,53 @@ fn steps_reply(
     })
 }
 
-/// The lines of a monitored run of a program from these words, and whether the run has ended.
+/// The rule of a monitor, as it is requested.
+fn rule_of(asked: MonitorRule) -> Rule
+    ensures { result ≡ spec.rule_of asked }
+{
+    match asked {
+        MonitorRule::NoSensitiveUpgrade => Rule::NoSensitiveUpgrade,
+        MonitorRule::PermissiveUpgrade => Rule::PermissiveUpgrade,
+    }
+}
+
+/// A monitored run as lines, or as a line of JSON.
+fn monitor_bytes(
+    alloc: Global,
+    naming: &Naming<'_>,
+    run: &Result<Watched, Unfinished>,
+    is_json: bool,
+) -> Result<Vec<u8>, AllocError> {
+    if !is_json {
+        return monitor_text(alloc, naming, run);
+    }
+    let value = monitor_json(alloc, naming, run)?;
+    json_line(alloc, &value)
+}
+
+/// The monitored run of a program by a rule from these words, and whether it has ended.
 fn monitor_reply<'a>(
     alloc: Global,
+    rule: Rule,
     source: &Source<'_>,
     words: &[i64],
     budget: u64,
+    is_json: bool,
 ) -> Fallible<'a, Reply>
     requires { length words.now ≡ length source.now.resolved.globals }
-    ensures told { IfOk result (λ reply. EndsMonitored reply.is_good
+    ensures told { IfOk result (λ reply. EndsMonitored rule reply.is_good
         (order source.now.lattice) source.now.resolved words.now) }
     ensures failed { IfErr result (FailsBy (λ reason. reason ≡ unanswered.OutOfBudget) NoOther) }
 {
     let (lattice, program) = (source.lattice(), source.resolved());
     let classes = class_table(alloc, source)?;
-    let run = monitored(alloc, lattice, program, &classes, words, budget);
+    let run = monitored(alloc, rule, lattice, program, &classes, words, budget);
     let naming = Naming {
         lattice,
         text: source.text(),
         globals: program.globals(),
     };
-    let text = monitor_text(alloc, &naming, &run)?;
+    let text = monitor_bytes(alloc, &naming, &run, is_json)?;
     match run {
         Ok(_) => Ok(Reply {
             text,
@@ -312,7 +367,32 @@ fn put_seen(
     Ok(())
 }
 
-/// Two runs of a program in step, from these stores, as a class compares them.
+/// The lines of two runs in step, and of what a class sees after them.
+fn together_lines(
+    alloc: Global,
+    listing: &Listing<'_>,
+    class: Class,
+    variables: &[(Vec<u8>, Vec<u8>)],
+    one: &Trace,
+    other: &Trace,
+) -> Result<Vec<u8>, AllocError>
+    requires { IsClass (order listing.now.lattice.now) class }
+{
+    let mut text = together_text(alloc, listing, one, other)?;
+    put_seen(
+        &mut text,
+        alloc,
+        listing.lattice,
+        class,
+        variables,
+        &one.words,
+        &other.words,
+    )?;
+    Ok(text)
+}
+
+/// Two runs of a program in step, from these stores, as a class compares them, as lines or as a line
+/// of JSON.
 fn together<'a>(
     alloc: Global,
     source: &Source<'_>,
@@ -321,6 +401,7 @@ fn together<'a>(
     first: &[i64],
     second: &[i64],
     budget: u64,
+    is_json: bool,
 ) -> Fallible<'a, Reply>
     requires class { IsClass (order source.now.lattice) class }
     requires first { length first.now ≡ length source.now.resolved.globals }
@@ -341,19 +422,14 @@ fn together<'a>(
     }
     let classes = class_table(alloc, source)?;
     let listing = listing_of(alloc, lattice, text, program, &classes)?;
-    let mut text = together_text(alloc, &listing, &one, &other)?;
     let variables = verified.image().globals.as_slice();
-    put_seen(
-        &mut text,
-        alloc,
-        lattice,
-        class,
-        variables,
-        &one.words,
-        &other.words,
-    )?;
-    Ok(Reply {
-        text,
-        is_good: agree(lattice, class, variables, &one.words, &other.words),
-    })
+    let is_good = agree(lattice, class, variables, &one.words, &other.words);
+    let runs = (&one, &other);
+    let text = if is_json {
+        let value = together_json(alloc, &listing, class, is_good, runs.0, runs.1)?;
+        json_line(alloc, &value)?
+    } else {
+        together_lines(alloc, &listing, class, variables, runs.0, runs.1)?
+    };
+    Ok(Reply { text, is_good })
 }

@@ -16,29 +16,34 @@ pub struct Naming<'a> {
     pub globals: &'a [Global<'a>],
 }
 
-/// The name of a class.
+/// The name of a label.
 fn class_name(lattice: &Lattice, class: Class) -> &[u8] {
     if class.index() < lattice.count() {
         lattice.name(class)
     } else {
-        b"?"
+        b"partly leaked"
     }
 }
 
-/// The name of the variable of an assignment.
+/// The name of the variable of an assignment or in a guard.
 fn variable_name<'a>(naming: &Naming<'a>, stop: &Stop) -> &'a [u8] {
     let name = naming.text.get(stop.place.start..stop.place.stop);
     name.unwrap_or(b"?")
 }
 
-/// The line of a run that is stopped: `3:5 l : L may not be assigned under H`.
+/// The line of a run that is stopped: `3:5 l : L may not be assigned under H`, or
+/// `3:5 l : partly leaked may not be tested under H`.
 fn put_stop(text: &mut Vec<u8>, naming: &Naming<'_>, stop: &Stop) -> Result<(), AllocError> {
     put_place(text, naming.text, stop.place.start)?;
     text.extend_from_slice(b" ")?;
     text.extend_from_slice(variable_name(naming, stop))?;
     text.extend_from_slice(b" : ")?;
     text.extend_from_slice(class_name(naming.lattice, stop.label))?;
-    text.extend_from_slice(b" may not be assigned under ")?;
+    let is_class = stop.label.index() < naming.lattice.count();
+    let verb: &[u8] = if is_class { b"assigned" } else { b"tested" };
+    text.extend_from_slice(b" may not be ")?;
+    text.extend_from_slice(verb)?;
+    text.extend_from_slice(b" under ")?;
     text.extend_from_slice(class_name(naming.lattice, stop.counter))?;
     text.extend_from_slice(b"\n")
 }

@@ -5,12 +5,12 @@ ghost use Rattle.vsi_lattice.specs.Order.{IsClass};
 ghost use Rattle.vsi_scope.specs.Language.{Assign, If, While, Letvar, letvars, HasPlaces};
 ghost use Rattle.vsi_scope.specs.Limits.{max_declarations};
 ghost use Rattle.vsi_scope.specs.View.{command, sequence, expression};
-ghost use Rattle.vsi_types.specs.Security.{class_of};
 ghost use Rattle.vsi_monitor.specs.declared.stop.Unfinished.TheVariants as ends;
-ghost use Rattle.vsi_monitor.specs.Watched.{held, IsHeld, IsReady, Watched};
+ghost use Rattle.vsi_monitor.specs.Labels.{labelling};
+ghost use Rattle.vsi_monitor.specs.Watched.{held, IsHeld, IsReady, Goes, Watched};
 
-use crate::measure::{label, letvars, letvars_in, value};
-use crate::rule::judge;
+use crate::measure::{guard_label, label, letvars, letvars_in, value};
+use crate::rule::Rule;
 use crate::stop::{Stop, Unfinished};
 use vsi_lattice::{Class, Classes};
 use vsi_scope::{Cmd, Ex};
@@ -43,6 +43,7 @@ fn take(left: &mut u64) -> Result<(), Unfinished>
 
 /// Runs an assignment.
 fn run_assign<C: Classes>(
+    rule: Rule,
     lattice: &C,
     state: &mut State,
     counter: Class,
@@ -50,18 +51,19 @@ fn run_assign<C: Classes>(
     place: Span,
     e: &Ex,
 ) -> Result<(), Unfinished>
-    requires held { IsHeld (C.lattice lattice.now) (held state.old) }
-    requires counter { IsClass (C.lattice lattice.now) counter }
+    requires held { IsHeld (labelling rule (C.lattice lattice.now)) (held state.old) }
+    requires counter { IsClass (labelling rule (C.lattice lattice.now)) counter }
     requires places { HasPlaces (length state.old.variables.items)
         (Assign location place (expression e.now)) }
-    ensures { (classes : ℕ → ℕ) (n : ℕ) → Watched (C.lattice lattice.now) classes counter n
-        (Assign location place (expression e.now)) (held state.old) (held state.new) result }
+    ensures { (classes : ℕ → ℕ) (n : ℕ) → Watched rule (labelling rule (C.lattice lattice.now))
+        classes counter n (Assign location place (expression e.now)) (held state.old)
+        (held state.new) result }
 {
     take(&mut state.left)?;
     let at = location as usize;
     let present = state.labels[at];
-    let read = label(lattice, e, &state.labels);
-    let Some(risen) = judge(lattice, counter, present, read, state.variables[at]) else {
+    let read = label(rule, lattice, e, &state.labels);
+    let Some(risen) = rule.judge(lattice, counter, present, read, state.variables[at]) else {
         return Err(Unfinished::Stopped(Stop {
             place,
             counter,
@@ -76,6 +78,7 @@ fn run_assign<C: Classes>(
 /// Runs a choice. Its branch runs under the join of the counter and the label of the guard.
 #[cycle(watch)]
 fn run_if<C: Classes>(
+    rule: Rule,
     lattice: &C,
     classes: &[Class],
     state: &mut State,
@@ -85,21 +88,30 @@ fn run_if<C: Classes>(
     no: &[Cmd],
     guard: &Ex,
 ) -> Result<(), Unfinished>
-    requires ready { IsReady (C.lattice lattice.now) classes.now counter next
+    requires ready { IsReady (labelling rule (C.lattice lattice.now)) classes.now counter next
         (If (expression guard.now) (sequence yes.now) (sequence no.now)) (held state.old) }
     requires few { next + letvars (If (expression guard.now) (sequence yes.now) (sequence no.now))
         ≤ max_declarations }
-    ensures { Watched (C.lattice lattice.now) (class_of (C.lattice lattice.now) classes.now)
-        counter next (If (expression guard.now) (sequence yes.now) (sequence no.now))
+    ensures { Goes rule (C.lattice lattice.now) classes.now counter next
+        (If (expression guard.now) (sequence yes.now) (sequence no.now))
         (held state.old) (held state.new) result }
 {
     take(&mut state.left)?;
-    let inside = lattice.join(counter, label(lattice, guard, &state.labels));
+    let read = guard_label(rule, lattice, guard, &state.labels, counter)?;
+    let inside = rule.join(lattice, counter, read);
     let word = value(guard, &state.words);
     if word != 0 {
-        run_all(lattice, classes, state, inside, next, yes)
+        run_all(rule, lattice, classes, state, inside, next, yes)
     } else {
-        run_all(lattice, classes, state, inside, next + letvars(yes), no)
+        run_all(
+            rule,
+            lattice,
+            classes,
+            state,
+            inside,
+            next + letvars(yes),
+            no,
+        )
     }
 }
 
@@ -107,6 +119,7 @@ fn run_if<C: Classes>(
 /// label of the guard.
 #[cycle(watch)]
 fn run_while<C: Classes>(
+    rule: Rule,
     lattice: &C,
     classes: &[Class],
     state: &mut State,
@@ -115,29 +128,31 @@ fn run_while<C: Classes>(
     body: &[Cmd],
     guard: &Ex,
 ) -> Result<(), Unfinished>
-    requires ready { IsReady (C.lattice lattice.now) classes.now counter next
+    requires ready { IsReady (labelling rule (C.lattice lattice.now)) classes.now counter next
         (While (expression guard.now) (sequence body.now)) (held state.old) }
     requires few { next + letvars (While (expression guard.now) (sequence body.now))
         ≤ max_declarations }
-    ensures { Watched (C.lattice lattice.now) (class_of (C.lattice lattice.now) classes.now)
-        counter next (While (expression guard.now) (sequence body.now))
+    ensures { Goes rule (C.lattice lattice.now) classes.now counter next
+        (While (expression guard.now) (sequence body.now))
         (held state.old) (held state.new) result }
 {
     let mut inside = counter;
     loop {
         let word = value(guard, &state.words);
         take(&mut state.left)?;
+        let read = guard_label(rule, lattice, guard, &state.labels, inside)?;
         if word == 0 {
             return Ok(());
         }
-        inside = lattice.join(inside, label(lattice, guard, &state.labels));
-        run_all(lattice, classes, state, inside, next, body)?;
+        inside = rule.join(lattice, inside, read);
+        run_all(rule, lattice, classes, state, inside, next, body)?;
     }
 }
 
 /// Runs a letvar.
 #[cycle(watch)]
 fn run_letvar<C: Classes>(
+    rule: Rule,
     lattice: &C,
     classes: &[Class],
     state: &mut State,
@@ -146,23 +161,23 @@ fn run_letvar<C: Classes>(
     body: &[Cmd],
     e: &Ex,
 ) -> Result<(), Unfinished>
-    requires ready { IsReady (C.lattice lattice.now) classes.now counter next
+    requires ready { IsReady (labelling rule (C.lattice lattice.now)) classes.now counter next
         (Letvar (expression e.now) (sequence body.now)) (held state.old) }
     requires few { next + letvars (Letvar (expression e.now) (sequence body.now))
         ≤ max_declarations }
-    ensures { Watched (C.lattice lattice.now) (class_of (C.lattice lattice.now) classes.now)
-        counter next (Letvar (expression e.now) (sequence body.now))
+    ensures { Goes rule (C.lattice lattice.now) classes.now counter next
+        (Letvar (expression e.now) (sequence body.now))
         (held state.old) (held state.new) result }
 {
     take(&mut state.left)?;
     let class = classes[next as usize];
     let word = value(e, &state.words);
-    let first = lattice.join(label(lattice, e, &state.labels), class);
+    let first = rule.join(lattice, label(rule, lattice, e, &state.labels), class);
     let outside = state.words.len();
     state.words.push(word)?;
     state.labels.push(first)?;
     state.variables.push(class)?;
-    run_all(lattice, classes, state, counter, next + 1, body)?;
+    run_all(rule, lattice, classes, state, counter, next + 1, body)?;
     state.words.truncate(outside);
     state.labels.truncate(outside);
     state.variables.truncate(outside);
@@ -172,6 +187,7 @@ fn run_letvar<C: Classes>(
 /// Runs commands, one after another.
 #[cycle(watch)]
 pub(crate) fn run_all<C: Classes>(
+    rule: Rule,
     lattice: &C,
     classes: &[Class],
     state: &mut State,
@@ -179,15 +195,15 @@ pub(crate) fn run_all<C: Classes>(
     first: u16,
     body: &[Cmd],
 ) -> Result<(), Unfinished>
-    requires ready { IsReady (C.lattice lattice.now) classes.now counter first
+    requires ready { IsReady (labelling rule (C.lattice lattice.now)) classes.now counter first
         (sequence body.now) (held state.old) }
     requires few { first + letvars (sequence body.now) ≤ max_declarations }
-    ensures { Watched (C.lattice lattice.now) (class_of (C.lattice lattice.now) classes.now)
-        counter first (sequence body.now) (held state.old) (held state.new) result }
+    ensures { Goes rule (C.lattice lattice.now) classes.now counter first
+        (sequence body.now) (held state.old) (held state.new) result }
 {
     let mut next = first;
     for c in body {
-        run_one(lattice, classes, state, counter, next, c)?;
+        run_one(rule, lattice, classes, state, counter, next, c)?;
         next += letvars_in(c);
     }
     Ok(())
@@ -196,6 +212,7 @@ pub(crate) fn run_all<C: Classes>(
 /// Runs one command.
 #[cycle(watch)]
 fn run_one<C: Classes>(
+    rule: Rule,
     lattice: &C,
     classes: &[Class],
     state: &mut State,
@@ -203,22 +220,24 @@ fn run_one<C: Classes>(
     next: u16,
     c: &Cmd,
 ) -> Result<(), Unfinished>
-    requires ready { IsReady (C.lattice lattice.now) classes.now counter next
+    requires ready { IsReady (labelling rule (C.lattice lattice.now)) classes.now counter next
         (command c.now) (held state.old) }
     requires few { next + letvars (command c.now) ≤ max_declarations }
-    ensures { Watched (C.lattice lattice.now) (class_of (C.lattice lattice.now) classes.now)
-        counter next (command c.now) (held state.old) (held state.new) result }
+    ensures { Goes rule (C.lattice lattice.now) classes.now counter next (command c.now)
+        (held state.old) (held state.new) result }
 {
     match c {
-        Cmd::Assign { loc, span, value } => run_assign(lattice, state, counter, *loc, *span, value),
+        Cmd::Assign { loc, span, value } => run_assign(
+            rule, lattice, state, counter, *loc, *span, value,
+        ),
         Cmd::If { guard, yes, no } => {
-            run_if(lattice, classes, state, counter, next, yes, no, guard)
+            run_if(rule, lattice, classes, state, counter, next, yes, no, guard)
         }
         Cmd::While { guard, body } => {
-            run_while(lattice, classes, state, counter, next, body, guard)
+            run_while(rule, lattice, classes, state, counter, next, body, guard)
         }
         Cmd::Letvar { value, body } => {
-            run_letvar(lattice, classes, state, counter, next, body, value)
+            run_letvar(rule, lattice, classes, state, counter, next, body, value)
         }
     }
 }

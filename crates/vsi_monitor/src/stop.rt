@@ -8,7 +8,8 @@ use thiserror::Error;
 use vsi_lattice::Class;
 use vsi_syntax::Span;
 
-/// An assignment under a counter that isn't at or below the label of the variable.
+/// An assignment under a counter that isn't at or below the label of the variable, or a guard that
+/// reads a word that is partly leaked. That is its label then.
 #[derive(Clone, Copy, Debug, PartialEq, Eq)]
 pub struct Stop {
     /// The span of the variable's name.
@@ -28,7 +29,7 @@ pub enum Unfinished {
     /// It has taken as many steps as the limit.
     #[error("the limit of steps is reached")]
     Limit,
-    /// It was stopped at an assignment, whose upgrade would leak.
+    /// It was stopped at an assignment whose upgrade would leak, or at such a guard.
     #[error("the run was stopped at byte {start}", start = .0.place.start)]
     Stopped(Stop),
 }

@@ -12,6 +12,7 @@ ghost use Rattle.vsi_monitor.specs.declared.stop.Stop.{Stop};
 ghost use Rattle.vsi_monitor.specs.declared.stop.Unfinished.TheVariants as ends;
 ghost use Rattle.vsi_monitor.specs.Watched.{RunEnds};
 
+use crate::rule::Rule;
 use crate::run::{State, run_all};
 use crate::stop::Unfinished;
 use std::alloc::Global;
@@ -25,14 +26,17 @@ pub struct Watched {
     pub labels: Vec<Class>,
 }
 
-/// Runs a program under the monitor, for at most `limit` steps, from a store whose words have the
-/// classes of their globals as labels. `classes` has a class for each declaration, globals first.
+/// Runs a program under the monitor by a rule, for at most `limit` steps, from a store whose words
+/// have the classes of their globals as labels. `classes` has a class for each declaration, globals
+/// first.
 ///
 /// # Errors
 ///
-/// `Stopped` at an assignment whose upgrade would leak, `Limit`, or `Memory`.
+/// `Stopped` at an assignment whose upgrade would leak, or at a guard that reads a word that is
+/// partly leaked; `Limit`; or `Memory`.
 pub fn monitored<C: Classes>(
     alloc: Global,
+    rule: Rule,
     lattice: &C,
     program: &Resolved<'_>,
     classes: &[Class],
@@ -43,7 +47,7 @@ pub fn monitored<C: Classes>(
     requires classes { All (IsClass (C.lattice lattice.now)) classes.now }
     requires each { length classes.now
         ≡ length program.now.globals + letvars (sequence program.now.body) }
-    ensures ends { RunEnds (C.lattice lattice.now) classes.now program.now words.now result }
+    ensures ends { RunEnds rule (C.lattice lattice.now) classes.now program.now words.now result }
     ensures typable { (P : Profile) (s : Locations) →
         classes.now ≡ (program_of program.now).globals ++ s →
         IsTypable (C.lattice lattice.now) P (program_of program.now) s →
@@ -59,6 +63,7 @@ pub fn monitored<C: Classes>(
         left: limit,
     };
     run_all(
+        rule,
         lattice,
         classes,
         &mut state,

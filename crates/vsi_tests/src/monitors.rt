@@ -2,7 +2,7 @@
 
 use std::alloc::Global;
 use vsi_lattice::{Class, read_lattice};
-use vsi_monitor::{Naming, monitor_text, monitored};
+use vsi_monitor::{Naming, Rule, monitor_text, monitored};
 use vsi_scope::resolve;
 use vsi_syntax::{lex, parse};
 
@@ -16,16 +16,9 @@ fn is(alloc: Global, program: &[u8], words: &[i64; 2], limit: u64, wanted: &[u8]
     let tree = parse(alloc, &tokens).ok()?;
     let resolved = resolve(alloc, &tree, &lattice).ok()?;
     let classes = [Class::at(1), Class::at(0), Class::at(1)];
-    let count = resolved
-        .globals()
-        .len()
-        .saturating_add(resolved.letvars().len());
-    let run = monitored(alloc, &lattice, &resolved, &classes[..count], words, limit);
-    let naming = Naming {
-        lattice: &lattice,
-        text: program,
-        globals: resolved.globals(),
-    };
+    let count = resolved.globals().len().saturating_add(resolved.letvars().len());
+    let run = monitored(alloc, Rule::NoSensitiveUpgrade, &lattice, &resolved, &classes[..count], words, limit);
+    let naming = Naming { lattice: &lattice, text: program, globals: resolved.globals() };
     let text = monitor_text(alloc, &naming, &run).ok()?;
     Some(text.as_slice() == wanted)
 }

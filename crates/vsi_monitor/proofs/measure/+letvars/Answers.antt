@@ -16,5 +16,6 @@ letvars_in-returns-in-While t c =
 
 pub letvars_in-returns-in-Letvar : goal.letvars_in-returns-in-Letvar
 letvars_in-returns-in-Letvar t c =
-    let e = ap (λ x. letvars (command x)) c.in-Letvar.is ∙ ap letvars (command_Letvar c.in-Letvar.value c.in-Letvar.body) in
+    let e = ap (λ x. letvars (command x)) c.in-Letvar.is ∙ ap letvars (command_Letvar c.in-Letvar.value
+    c.in-Letvar.body) in
     search rules

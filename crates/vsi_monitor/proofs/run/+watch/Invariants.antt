@@ -1,24 +1,25 @@
-use Rattle.std.proofs.Common.{max, drop, ◌+◌, ◌*◌}
+use Rattle.std.proofs.Common.{max, drop, length, ◌+◌, ◌*◌}
 use denote.Param.Weighed.{most}
 use Rattle.vsi_scope.proofs.program.Cmd.TheLaws.{the_size}
 use Rattle.vsi_scope.specs.Language.{While}
 use Rattle.vsi_scope.specs.View.{expression, sequence}
 use Rattle.vsi_types.specs.Security.{class_of}
+use Rattle.vsi_monitor.specs.Labels.{labelling}
 use Rattle.vsi_monitor.specs.Watched.{held}
 use Rattle.vsi_monitor.proofs.Watching.{Leads}
 use Rattle.vsi_monitor.proofs.run.+watch.Given as goal
 
 abbrev pub invariant-run_all-loop-c : goal.invariant-run_all-loop-c
 invariant-run_all-loop-c g l =
-    let L = g.C.Classes.lattice l.lattice in
-    Leads L (class_of L l.classes) l.classes l.counter l.first (sequence l.body)
+    let L = labelling l.rule (g.C.Classes.lattice l.lattice) in
+    Leads l.rule L (class_of L l.classes) l.classes l.counter l.first (sequence l.body)
     (held l.initial.state) l.counter l.next (sequence (drop l.c-index l.body)) (held l.state)
 
 abbrev pub invariant-run_while-loop-state : goal.invariant-run_while-loop-state
 invariant-run_while-loop-state g l =
-    let L = g.C.Classes.lattice l.lattice in
+    let L = labelling l.rule (g.C.Classes.lattice l.lattice) in
     let loop = While (expression l.guard) (sequence l.body) in
-    Leads L (class_of L l.classes) l.classes l.fn.counter l.next loop
+    Leads l.rule L (class_of L l.classes) l.classes l.fn.counter l.next loop
     (held l.initial.state) l.inside l.next loop (held l.state)
 
 abbrev pub decreases-run_while-loop-state : goal.decreases-run_while-loop-state

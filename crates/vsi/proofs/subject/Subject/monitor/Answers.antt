@@ -3,7 +3,7 @@ use Rattle.std.proofs.lemmas.Result.{IfErr-weaker, IfOk-weaker}
 use Rattle.vsi_lattice.specs.LatticeView.{order}
 use Rattle.vsi_answers.specs.declared.unanswered.Unanswered.TheVariants as unanswered
 use Rattle.vsi.specs.Refusals.{FailsBy, NoOther, RefusesLattice}
-use Rattle.vsi.specs.Stepping.{EndsMonitored, IsMonitored, OfStepFiles}
+use Rattle.vsi.specs.Stepping.{EndsMonitored, IsMonitored, OfStepFiles, rule_of}
 use Rattle.vsi.specs.Unstepped.{WhyMonitor}
 use Rattle.vsi.proofs.Reasons.{failed_by, fails_by, handed}
 use Rattle.vsi.proofs.Stepped.{lacks_program, refuses_words, watched}
@@ -15,12 +15,13 @@ returns-clause-told g c =
     let read = c.in_ok-read.read in
     let source = c.in_ok-source.source in
     IfOk-weaker c.monitor_reply.result
-    (λ reply. EndsMonitored reply.is_good (order source.lattice) source.resolved c.deref-3.result.now)
-    (λ reply. OfStepFiles holds c.args.asked.now (IsMonitored c.args.asked.now reply.is_good))
+    (λ reply. EndsMonitored c.rule_of.result reply.is_good (order source.lattice) source.resolved c.deref-3.result.now)
+    (λ reply. OfStepFiles holds c.args.asked.now (IsMonitored (rule_of c.args.rule) c.args.asked.now reply.is_good))
     (λ reply ends. watched holds c.args.asked.now read.lattice read.text.items read.file.items
     c.in_ok-read.ensures.read source c.deref.result.now c.deref-2.result.now c.in_ok-source.ensures.lattice
-    c.in_ok-source.ensures.text c.deref.ensures.value c.deref-2.ensures.value c.in_ok-words.words.items
-    c.deref-3.result.now reply.is_good c.in_ok-words.ensures.started c.deref-3.ensures.value ends)
+    c.in_ok-source.ensures.text c.deref.ensures.value c.deref-2.ensures.value c.rule_of.result (rule_of c.args.rule)
+    c.in_ok-words.words.items c.deref-3.result.now reply.is_good c.in_ok-words.ensures.started c.rule_of.ensures
+    c.deref-3.ensures.value ends)
     c.monitor_reply.ensures.told
 
 pub returns-clause-failed : goal.returns-clause-failed
