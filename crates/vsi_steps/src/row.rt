@@ -1,5 +1,7 @@
 //! Two runs in step, as rows.
 
+ghost use Rattle.std.specs.Prelude.{◌≤◌, IfOk, length};
+
 use crate::listing::Listing;
 use crate::site::Site;
 use crate::step::Step;
@@ -36,20 +38,20 @@ fn put_side<'s>(
     inside: Option<u32>,
     side: Side,
     steps: &'s [Step],
-) -> Result<&'s [Step], AllocError> {
-    let mut rest = steps;
-    while let [step, others @ ..] = rest {
+) -> Result<&'s [Step], AllocError>
+    ensures { IfOk result (λ rest. length rest.now ≤ length steps.now) }
+{
+    for (i, step) in steps.iter().enumerate() {
         if let Some(number) = inside {
             let number = number as usize;
             match listing.sites.get(number) {
                 Some(site) if is_inside(site, number, step) => {}
-                _ => return Ok(rest),
+                _ => return Ok(&steps[i..]),
             }
         }
         rows.push((side, *step))?;
-        rest = others;
     }
-    Ok(rest)
+    Ok(&steps[steps.len()..])
 }
 
 /// Whether two runs go apart at the step at which both are: a guard that is true in one of them.

@@ -14,7 +14,7 @@ const WIDEST: usize = 40;
 
 /// Fills a line up with spaces to a width, and adds two.
 fn pad(line: &mut Vec<u8>, width: usize) -> Result<(), AllocError> {
-    while line.len() < width {
+    for _space in line.len()..width {
         line.push(b' ')?;
     }
     line.extend_from_slice(b"  ")

@@ -5,7 +5,10 @@ use Rattle.vsi_steps.proofs.trace.trace_of.Goals as goal
 
 pub run_all-requires-clause-few : goal.run_all-requires-clause-few
 run_all-requires-clause-few c =
-    few_sites c.args.program.now c.body-body.result.now c.body-body.ensures.value c.body-body.ensures.resolved
+    omega (
+      arith,
+      few_sites c.args.program.now c.body-body.result.now c.body-body.ensures.value c.body-body.ensures.resolved,
+    )
 
 pub run_all-requires-clause-ready : goal.run_all-requires-clause-ready
 run_all-requires-clause-ready c =
@@ -27,7 +30,7 @@ returns c =
     } in
     let words = c.in_ok-to_vec.ensures.items_if_clones_equal (λ x y h. h) in record {
       all = traced_all c.body-body.result.now c.args.program.now.body c.body-body.ensures.value c.args.words.now a
-          (past c.run_all.new.run) words c.new.ensures.items c.in_ok-halted.field-0 c.in_ok-halted.ensures;
+          (past c.run_all.new.run) words c.new.ensures.items c.in_ok-halted.halted c.in_ok-halted.ensures;
       first = traced_first c.body-body.result.now c.args.program.now.body c.body-body.ensures.value c.args.words.now a
-          (past c.run_all.new.run) words c.new.ensures.items c.in_ok-halted.field-0 c.in_ok-halted.ensures;
+          (past c.run_all.new.run) words c.new.ensures.items c.in_ok-halted.halted c.in_ok-halted.ensures;
     }
