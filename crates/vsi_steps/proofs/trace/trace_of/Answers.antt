@@ -1,25 +1,19 @@
 use Rattle.std.proofs.Common.{[], ap, ◌∙◌, length, arith}
 use Rattle.vsi_steps.specs.Ran.{Past, past}
-use Rattle.vsi_steps.proofs.Tracing.{few_sites, whole_ready, traced_all, traced_first}
+use Rattle.vsi_steps.proofs.Tracing.{whole_ready, traced_all, traced_first}
 use Rattle.vsi_steps.proofs.trace.trace_of.Goals as goal
 
-pub run_all-requires-clause-few : goal.run_all-requires-clause-few
-run_all-requires-clause-few c =
-    omega (
-      arith,
-      few_sites c.args.program.now c.body-body.result.now c.body-body.ensures.value c.body-body.ensures.resolved,
-    )
-
-pub run_all-requires-clause-ready : goal.run_all-requires-clause-ready
-run_all-requires-clause-ready c =
+pub run_all-requires : goal.run_all-requires
+run_all-requires c =
     let a : Past = record {
       words = c.in_ok-to_vec.field-0.items;
       steps = c.new.result.items;
       limit = c.args.limit;
+      extents = ?;
     } in
     whole_ready c.args.program.now c.body-body.result.now c.body-body.ensures.value c.body-body.ensures.resolved a
     (ap length (c.in_ok-to_vec.ensures.items_if_clones_equal (λ x y h. h)) ∙ c.requires)
-    (omega (arith, ap length c.new.ensures.items))
+    (omega (arith, ap length c.new.ensures.items)) ?
 
 pub returns : goal.returns
 returns c =
@@ -27,6 +21,7 @@ returns c =
       words = c.in_ok-to_vec.field-0.items;
       steps = c.new.result.items;
       limit = c.args.limit;
+      extents = ?;
     } in
     let words = c.in_ok-to_vec.ensures.items_if_clones_equal (λ x y h. h) in record {
       all = traced_all c.body-body.result.now c.args.program.now.body c.body-body.ensures.value c.args.words.now a
