@@ -99,7 +99,7 @@ fn sites_of<'a>(
     Ok(sites)
 }
 
-/// What the lines of the runs of a program name.
+/// The classes, globals and sites of a program, which the lines of its runs name.
 #[derive(Drop)]
 pub struct Listing<'a> {
     pub lattice: &'a Lattice,
@@ -184,8 +184,8 @@ fn mark(body: &[Cmd], walk: &mut Walk<'_, '_>) -> Result<(), AllocError> {
     Ok(())
 }
 
-/// What the lines of a program's runs name. The text is that of the program, and `classes` has a
-/// class for each of its declarations, globals first.
+/// The listing of a program. The text is that of the program, and `classes` has a class for each of
+/// its declarations, globals first.
 pub fn listing_of<'a>(
     alloc: Heap,
     lattice: &'a Lattice,
