@@ -28,7 +28,7 @@ module _ (r : Resolved) (cs : List Cmd) (is : cs ≡ r.body) (kept : IsResolved 
   whole_ready a long le filled = record {
     places = subst (λ k. HasPlaces k (sequence cs)) (sym long)
         (subst (λ l. HasPlaces (length r.globals) (sequence l)) (sym is) kept.places);
-    few = few_sites;
+    few = omega (arith, few_sites);
     table = in_table (sequence cs) 0 a.extents [] [] refl (filled ∙ sym (append-nil (extents 0 (sequence cs))));
     within = le;
   }

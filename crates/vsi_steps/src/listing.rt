@@ -1,8 +1,8 @@
 //! What the lines of a run name: the classes, the globals, and the sites with their classes.
 
-use std::alloc::{AllocError, Global as Heap};
+use std::alloc::{AllocError, Global};
 use vsi_lattice::{Class, Classes, Lattice};
-use vsi_scope::{Cmd, Ex, Global, Resolved};
+use vsi_scope::{Cmd, Ex, Global as Declared, Resolved};
 use vsi_syntax::{Kind, Token, lex, line_column};
 
 /// A site of a text.
@@ -41,7 +41,7 @@ fn site_at<'a>(before: Option<Kind>, tokens: &[Token<'a>]) -> Option<(Kind, &'a 
 }
 
 /// The text of the tokens up to the end of an expression.
-fn text_of(alloc: Heap, tokens: &[Token<'_>]) -> Result<Vec<u8>, AllocError> {
+fn text_of(alloc: Global, tokens: &[Token<'_>]) -> Result<Vec<u8>, AllocError> {
     let mut text = Vec::new(alloc);
     let mut stop = usize::MAX;
     for token in tokens {
@@ -62,7 +62,7 @@ fn text_of(alloc: Heap, tokens: &[Token<'_>]) -> Result<Vec<u8>, AllocError> {
 
 /// The sites of a text, in order, with the bottom class.
 fn sites_of<'a>(
-    alloc: Heap,
+    alloc: Global,
     lattice: &Lattice,
     source: &'a [u8],
 ) -> Result<Vec<Site<'a>>, AllocError> {
@@ -104,7 +104,7 @@ fn sites_of<'a>(
 pub struct Listing<'a> {
     pub lattice: &'a Lattice,
     /// The globals, in order.
-    pub globals: &'a [Global<'a>],
+    pub globals: &'a [Declared<'a>],
     /// The sites, by their numbers.
     pub sites: Vec<Site<'a>>,
 }
@@ -187,7 +187,7 @@ fn mark(body: &[Cmd], walk: &mut Walk<'_, '_>) -> Result<(), AllocError> {
 /// The listing of a program. The text is that of the program, and `classes` has a class for each of
 /// its declarations, globals first.
 pub fn listing_of<'a>(
-    alloc: Heap,
+    alloc: Global,
     lattice: &'a Lattice,
     text: &'a [u8],
     program: &'a Resolved<'a>,

@@ -1,4 +1,5 @@
 use Rattle.std.proofs.Common.{rules, subst, sym, refl, arith, ap, ◌∙◌, ◌+◌, ◌++◌, ◌∷◌, [], w64, of_z}
+use Rattle.std.proofs.lemmas.Grind.{common_steps}
 use Rattle.std.proofs.lemmas.Int.{to_z-of_z}
 use Rattle.std.proofs.lemmas.Result.{IfOk-weaker}
 use Rattle.vsi_scope.specs.declared.program.Cmd.{the_lemmas}
@@ -50,19 +51,23 @@ run_all-loop-c-preserved t c =
     let h = subst (Ran c.loop-c.next (command c.c-item.result) (past c.loop-c.run) (past c.run_one.new.run))
     c.if-not-branch.false c.in_ok-run_one.ensures in
     leads_next _ _ _ _ _ _ _ _ e c.loop-c.invariant (past c.run_one.new.run) _ h
-    (next_site _ _ _ _ r h c.index-next.result.now c.index-next.ensures)
+    (next_site _ _ _ _ r h c.index.result.now c.index.ensures)
 
 pub run_all-index-requires : goal.run_all-index-requires
 run_all-index-requires t c =
     let e = at_command c.args.body.now c.loop-c.c-index c.c-item.result c.loop-c-test.true c.c-item.is in
     let r = first_ready _ _ _ _ _ _ _ _ e c.loop-c.invariant in
-    next_inside _ _ _ _ r (subst (Ran c.loop-c.next (command c.c-item.result) (past c.loop-c.run)
-    (past c.run_one.new.run)) c.if-not-branch.false c.in_ok-run_one.ensures)
+    let inside = next_inside _ _ _ _ r (subst (Ran c.loop-c.next (command c.c-item.result) (past c.loop-c.run)
+    (past c.run_one.new.run)) c.if-not-branch.false c.in_ok-run_one.ensures) in
+    omega (arith, inside, c.run_one.new.run.extents.ok.0)
 
 pub run_all-run_one-requires : goal.run_all-run_one-requires
 run_all-run_one-requires t c =
     let e = at_command c.args.body.now c.loop-c.c-index c.c-item.result c.loop-c-test.true c.c-item.is in
-    (?, first_ready _ _ _ _ _ _ _ _ e c.loop-c.invariant)
+    (
+      first_of (search (rules, the_lemmas), grind (arith, the_lemmas, common_steps), omega (arith, c.decreases)),
+      first_ready _ _ _ _ _ _ _ _ e c.loop-c.invariant,
+    )
 
 pub run_all-returns : goal.run_all-returns
 run_all-returns t c =
@@ -89,7 +94,7 @@ run_if-returns-else-word-ne0 t c =
     let m = subst (Met c.args.site e (past c.args.run.now) (past c.meet.new.run)) c.in-Some.is c.in_ok-word.ensures in
     let l = leads_no c.args.site _ e (sequence c.args.yes.now) (sequence c.args.no.now) c.in-Some.word
     (past c.args.run.now) (past c.meet.new.run)
-    (second_site _ _ _ _ _ _ _ c.requires m c.index-second.result.now c.index-second.ensures) c.requires m
+    (second_site _ _ _ _ _ _ _ c.requires m c.index.result.now c.index.ensures) c.requires m
     (zero_word c.in-Some.word (search rules) c.if-word-ne0.false) in
     IfOk-weaker c.run_all-else-word-ne0.result _ _ (λ g h. leads_ran g _ _ _ _ _ _ _ l h)
     c.run_all-else-word-ne0.ensures

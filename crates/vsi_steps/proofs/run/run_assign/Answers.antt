@@ -24,4 +24,4 @@ returns c =
     } in
     assigned c.args.site c.args.location c.args.place e c.in-Some.word (past c.args.run.now) (past b) d
     (subst (Met c.args.site e (past c.args.run.now) (past b)) c.in-Some.is c.in_ok-word.ensures)
-    (ap (set b.words.items c.args.location) (to_z-of_z w64 c.in-Some.word (search rules))) refl refl
+    (ap (set b.words.items c.args.location) (to_z-of_z w64 c.in-Some.word (search rules))) refl refl refl
