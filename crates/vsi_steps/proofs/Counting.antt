@@ -6,7 +6,6 @@ use Rattle.vsi_scope.specs.declared.program.Ex.{Ex}
 use Rattle.vsi_scope.specs.declared.program.Cmd.{Cmd}
 use Rattle.vsi_scope.specs.declared.program.Cmd.TheViews as view
 use Rattle.vsi_scope.specs.Language.{Command, Skip, Assign, Sequence, If, While, Letvar, size}
-use Rattle.vsi_scope.specs.Limits.{max_size}
 use Rattle.vsi_scope.specs.View.{expression, command, sequence}
 use Rattle.vsi_scope.proofs.Views.{command_If, command_While, command_Letvar}
 use Rattle.vsi_steps.specs.Sites.{sites}
@@ -20,10 +19,6 @@ at_command cs i c lt is =
 -- Past the end of a list nothing is left.
 pub at_end : (cs : List Cmd) (i : ℕ) → length cs ≤ i → sequence (drop i cs) ≡ Skip
 at_end cs i le = ap sequence (drop_all i cs le)
-
--- A number below the limit isn't cut.
-pub small : (k n x : ℕ) → x ≡ min k 4294967295 → n + k ≤ max_size → n + x ≡ n + k
-small k n x is few = first_of (omega (arith, is, few), grind (arith, is, few), search (rules, is, few))
 
 -- A word with no bit set is 0.
 pub zero_word : (x : ℤ) → SFits w64 x → of_z w64 x ≡ 0 → x ≡ pos 0

@@ -1,15 +1,20 @@
 -- Combining the runs of the parts of a command into its run.
-use Rattle.std.proofs.Common.{◌≡◌, ◌≢◌, ℕ, ◌+◌, ◌≤◌, List, [], ◌∷◌, ◌++◌, length, take, set, ℤ, pos, refl, sym, ap, ◌∙◌, subst, arith, append_assoc, length-set}
+use Rattle.std.proofs.Common.{◌≡◌, ◌≢◌, ℕ, ◌+◌, ◌<◌, ◌≤◌, List, [], ◌∷◌, ◌++◌, length, get_or, take, set, ℤ, pos, refl, sym, ap, ◌∙◌, subst, arith, append_assoc, length-set}
 use Rattle.std.specs.Prelude.{Bool, true, false, Some, None}
 use Rattle.std.proofs.lemmas.List.{length-append, length-take-le, append-nil}
 use Rattle.vsi_syntax.specs.declared.token.Span.{Span}
+use Rattle.vsi_scope.specs.declared.program.Cmd.{Cmd}
 use Rattle.vsi_scope.specs.Language.{Expression, Command, Skip, Assign, Sequence, If, While, Letvar, HasPlaces}
 use Rattle.vsi_scope.specs.Limits.{max_size}
 use Rattle.vsi_scope.specs.Meaning.{Store, value}
-use Rattle.vsi_steps.specs.declared.step.Step.{Step}
+use Rattle.vsi_scope.specs.View.{command}
+use Rattle.vsi_steps.specs.declared.extent.Extent.{Extent}
+use Rattle.vsi_steps.specs.declared.trace.Step.{Step}
+use Rattle.vsi_steps.specs.Extents.{HasExtents}
 use Rattle.vsi_steps.specs.Sites.{sites}
 use Rattle.vsi_steps.specs.Steps.{step, IsStep, Spells, NOTHING, ASSIGN, COMPOSE, IF_TRUE, IF_FALSE, WHILE_TRUE, WHILE_FALSE, LETVAR, Begins, BEFORE, IN_FIRST, IN_SECOND, IN_TRUE, IN_FALSE, IN_TURN, IN_TURNS, IN_LETVAR}
 use Rattle.vsi_steps.specs.Ran.{Past, IsWithin, IsReady, Added, Met, Ran}
+use Rattle.vsi_steps.proofs.Tables.{site_inside, site_after}
 
 -- A run keeps the number of words.
 spells_length : (n : ℕ) (c : Command) (m : Store) (es : List Step) (m' : Store) → Spells n c m es m' →
@@ -29,13 +34,14 @@ spells_length n c m es m' (LETVAR {e = e} {c = c'} {m₁ = m₁} {es = es'} d) =
 
 -- No steps are added to a run itself.
 added_none : (a : Past) → Added a [] a
-added_none a = record { steps = sym (append-nil a.steps); limit = refl }
+added_none a = record { steps = sym (append-nil a.steps); limit = refl; extents = refl }
 
 -- Steps are added one list after another.
 added_both : (a b d : Past) (es fs : List Step) → Added a es b → Added b fs d → Added a (es ++ fs) d
 added_both a b d es fs h k = record {
   steps = k.steps ∙ ap (λ l. l ++ fs) h.steps ∙ append_assoc a.steps es fs;
   limit = k.limit ∙ h.limit;
+  extents = k.extents ∙ h.extents;
 }
 
 -- A step that isn't taken leaves a command before its first step.
@@ -44,36 +50,45 @@ cut n e c a b is m = ([], BEFORE is, m.0, m.1)
 
 -- An assignment.
 pub assigned : (n l : ℕ) (s : Span) (e : Expression) (x : ℤ) (a b d : Past) → Met n e a b (Some x) →
-    d.words ≡ set b.words l x → d.steps ≡ b.steps → d.limit ≡ b.limit → Ran n (Assign l s e) a d true
-assigned n l s e x a b d m is steps limit = (
+    d.words ≡ set b.words l x → d.steps ≡ b.steps → d.limit ≡ b.limit → d.extents ≡ b.extents →
+    Ran n (Assign l s e) a d true
+assigned n l s e x a b d m is steps limit extents = (
   step n e a.words ∷ [],
   subst (Spells n (Assign l s e) a.words (step n e a.words ∷ []))
       (sym (is ∙ ap (λ y. set y l x) m.1 ∙ ap (set a.words l) m.0)) ASSIGN,
-  record { steps = steps ∙ m.2.steps; limit = limit ∙ m.2.limit },
+  record { steps = steps ∙ m.2.steps; limit = limit ∙ m.2.limit; extents = extents ∙ m.2.extents },
   omega (arith, ap length steps, limit, m.3),
 )
 
 -- The end of the body of a letvar is that of the letvar, whose word is dropped again.
 pub letvar_ran : (g : Bool) (n : ℕ) (e : Expression) (c : Command) (x : ℤ) (a b b' d d' : Past) (k : ℕ) →
     Met n e a b (Some x) → b'.words ≡ b.words ++ x ∷ [] → b'.steps ≡ b.steps → b'.limit ≡ b.limit →
-    Ran (n + 1) c b' d g → k ≡ length b.words → d'.words ≡ take k d.words → d'.steps ≡ d.steps →
-    d'.limit ≡ d.limit → Ran n (Letvar e c) a d' g
-letvar_ran true n e c x a b b' d d' k m is steps limit h long cut' steps' limit' = (
+    b'.extents ≡ b.extents → Ran (n + 1) c b' d g → k ≡ length b.words → d'.words ≡ take k d.words →
+    d'.steps ≡ d.steps → d'.limit ≡ d.limit → d'.extents ≡ d.extents → Ran n (Letvar e c) a d' g
+letvar_ran true n e c x a b b' d d' k m is steps limit table h long cut' steps' limit' table' = (
   step n e a.words ∷ h.0,
   subst (Spells n (Letvar e c) a.words (step n e a.words ∷ h.0))
       (sym (cut' ∙ ap (λ i. take i d.words) (long ∙ ap length m.1)))
       (LETVAR (subst (λ y. Spells (n + 1) c y h.0 d.words)
       (is ∙ ap (λ y. y ++ x ∷ []) m.1 ∙ ap (λ y. a.words ++ y ∷ []) m.0) h.1)),
   added_both a b d' (step n e a.words ∷ []) h.0 m.2
-      (record { steps = steps' ∙ h.2.steps ∙ ap (λ y. y ++ h.0) steps; limit = limit' ∙ h.2.limit ∙ limit }),
+      (record {
+        steps = steps' ∙ h.2.steps ∙ ap (λ y. y ++ h.0) steps;
+        limit = limit' ∙ h.2.limit ∙ limit;
+        extents = table' ∙ h.2.extents ∙ table;
+      }),
   omega (arith, ap length steps', limit', h.3),
 )
-letvar_ran false n e c x a b b' d d' k m is steps limit h long cut' steps' limit' = (
+letvar_ran false n e c x a b b' d d' k m is steps limit table h long cut' steps' limit' table' = (
   step n e a.words ∷ h.0,
   IN_LETVAR (subst (λ y. Begins (n + 1) c y h.0)
       (is ∙ ap (λ y. y ++ x ∷ []) m.1 ∙ ap (λ y. a.words ++ y ∷ []) m.0) h.1),
   added_both a b d' (step n e a.words ∷ []) h.0 m.2
-      (record { steps = steps' ∙ h.2.steps ∙ ap (λ y. y ++ h.0) steps; limit = limit' ∙ h.2.limit ∙ limit }),
+      (record {
+        steps = steps' ∙ h.2.steps ∙ ap (λ y. y ++ h.0) steps;
+        limit = limit' ∙ h.2.limit ∙ limit;
+        extents = table' ∙ h.2.extents ∙ table;
+      }),
   omega (arith, ap length steps', limit', h.3),
 )
 
@@ -81,18 +96,16 @@ letvar_ran false n e c x a b b' d d' k m is steps limit h long cut' steps' limit
 pub record Leads (n : ℕ) (c : Command) (a : Past) (n' : ℕ) (c' : Command) (b : Past) : Type 0 where
   pub done : List Step
   pub added : Added a done b
-  pub ready : IsReady c' b
-  pub few : n' + sites c' ≤ max_size
+  pub ready : IsReady n' c' b
   pub spelled : (es : List Step) (m' : Store) → Spells n' c' b.words es m' → Spells n c a.words (done ++ es) m'
   pub begun : (es : List Step) → Begins n' c' b.words es → Begins n c a.words (done ++ es)
 
 -- Each run leads to itself.
-pub leads_self : (n : ℕ) (c : Command) (a : Past) → IsReady c a → n + sites c ≤ max_size → Leads n c a n c a
-leads_self n c a r few' = record {
+pub leads_self : (n : ℕ) (c : Command) (a : Past) → IsReady n c a → Leads n c a n c a
+leads_self n c a r = record {
   done = [];
   added = added_none a;
   ready = r;
-  few = few';
   spelled = λ es m' d. d;
   begun = λ es d. d;
 }
@@ -105,36 +118,63 @@ leads_ran true n c a n' c' b d l h =
 leads_ran false n c a n' c' b d l h =
     (l.done ++ h.0, l.begun h.0 h.1, added_both a b d l.done h.0 l.added h.2, h.3)
 
+-- After the step of an expression a command of the same locations can be run.
+pub ready_after : (n k : ℕ) (e : Expression) (c : Command) (x : ℤ) (a b : Past) → Met n e a b (Some x) →
+    HasPlaces (length a.words) c → k + sites c ≤ max_size → HasExtents a.extents k c → IsReady k c b
+ready_after n k e c x a b m places few table = record {
+  places = subst (λ y. HasPlaces (length y) c) (sym m.1) places;
+  few = few;
+  table = subst (λ y. HasExtents y k c) (sym m.2.extents) table;
+  within = m.3;
+}
+
+-- The body of a letvar can be run with its word.
+pub letvar_ready : (n : ℕ) (e : Expression) (c : Command) (x : ℤ) (a b b' : Past) → IsReady n (Letvar e c) a →
+    Met n e a b (Some x) → length b'.words ≡ length b.words + 1 → b'.steps ≡ b.steps → b'.limit ≡ b.limit →
+    b'.extents ≡ b.extents → IsReady (n + 1) c b'
+letvar_ready n e c x a b b' r m long steps limit table = record {
+  places = subst (λ y. HasPlaces y c) (sym (long ∙ ap (λ y. length y + 1) m.1)) r.places.1;
+  few = omega (arith, r.few);
+  table = subst (λ y. HasExtents y (n + 1) c) (sym (table ∙ m.2.extents)) r.table.1;
+  within = omega (arith, ap length steps, limit, m.3);
+}
+
 -- A choice whose guard is true leads to its first branch.
-pub leads_yes : (n : ℕ) (e : Expression) (p q : Command) (x : ℤ) (a b : Past) → IsReady (If e p q) a →
-    n + sites (If e p q) ≤ max_size → Met n e a b (Some x) → x ≢ pos 0 → Leads n (If e p q) a (n + 1) p b
-leads_yes n e p q x a b r few' m z = record {
+pub leads_yes : (n : ℕ) (e : Expression) (p q : Command) (x : ℤ) (a b : Past) → IsReady n (If e p q) a →
+    Met n e a b (Some x) → x ≢ pos 0 → Leads n (If e p q) a (n + 1) p b
+leads_yes n e p q x a b r m z = record {
   done = step n e a.words ∷ [];
   added = m.2;
-  ready = record { places = subst (λ y. HasPlaces (length y) p) (sym m.1) r.places.1; within = m.3 };
-  few = omega (arith, few');
+  ready = ready_after n (n + 1) e p x a b m r.places.1 (omega (arith, r.few)) r.table.1;
   spelled = λ es m' d. IF_TRUE (λ y. z (m.0 ∙ y)) (subst (λ w. Spells (n + 1) p w es m') m.1 d);
   begun = λ es d. IN_TRUE (λ y. z (m.0 ∙ y)) (subst (λ w. Begins (n + 1) p w es) m.1 d);
 }
 
 -- A choice whose guard is false leads to its second branch.
 pub leads_no : (n k : ℕ) (e : Expression) (p q : Command) (x : ℤ) (a b : Past) → k ≡ n + 1 + sites p →
-    IsReady (If e p q) a → n + sites (If e p q) ≤ max_size → Met n e a b (Some x) → x ≡ pos 0 →
-    Leads n (If e p q) a k q b
-leads_no n k e p q x a b is r few' m z = subst (λ i. Leads n (If e p q) a i q b) (sym is) (record {
+    IsReady n (If e p q) a → Met n e a b (Some x) → x ≡ pos 0 → Leads n (If e p q) a k q b
+leads_no n k e p q x a b is r m z = subst (λ i. Leads n (If e p q) a i q b) (sym is) (record {
   done = step n e a.words ∷ [];
   added = m.2;
-  ready = record { places = subst (λ y. HasPlaces (length y) q) (sym m.1) r.places.2; within = m.3 };
-  few = omega (arith, few');
+  ready = ready_after n (n + 1 + sites p) e q x a b m r.places.2 (omega (arith, r.few)) r.table.2;
   spelled = λ es m' d. IF_FALSE (sym m.0 ∙ z) (subst (λ w. Spells (n + 1 + sites p) q w es m') m.1 d);
   begun = λ es d. IN_FALSE (sym m.0 ∙ z) (subst (λ w. Begins (n + 1 + sites p) q w es) m.1 d);
 })
 
 module _ (n : ℕ) (c : Command) (a : Past) (n' : ℕ) (p q r : Command) (b : Past) (is : r ≡ Sequence p q)
     (l : Leads n c a n' r b) where
-  -- The first command of a sequence has few sites.
-  pub first_few : n' + sites p ≤ max_size
-  first_few = omega (arith, l.few, ap sites is)
+  -- The rest is a sequence that can be run.
+  ready : IsReady n' (Sequence p q) b
+  ready = subst (λ y. IsReady n' y b) is l.ready
+
+  -- The first command of a sequence can be run.
+  pub first_ready : IsReady n' p b
+  first_ready = record {
+    places = ready.places.0;
+    few = omega (arith, ready.few);
+    table = ready.table.0;
+    within = ready.within;
+  }
 
   -- After the first command of a sequence comes the rest.
   pub leads_next : (d : Past) (k : ℕ) → Ran n' p b d true → k ≡ n' + sites p → Leads n c a k q d
@@ -142,11 +182,11 @@ module _ (n : ℕ) (c : Command) (a : Past) (n' : ℕ) (p q r : Command) (b : Pa
     done = l.done ++ h.0;
     added = added_both a b d l.done h.0 l.added h.2;
     ready = record {
-      places = subst (λ i. HasPlaces i q) (sym (spells_length n' p b.words h.0 d.words h.1))
-          (subst (HasPlaces (length b.words)) is l.ready.places).1;
+      places = subst (λ i. HasPlaces i q) (sym (spells_length n' p b.words h.0 d.words h.1)) ready.places.1;
+      few = omega (arith, ready.few);
+      table = subst (λ y. HasExtents y (n' + sites p) q) (sym h.2.extents) ready.table.1;
       within = h.3;
     };
-    few = omega (arith, l.few, ap sites is);
     spelled = λ es m' k'. subst (λ y. Spells n c a.words y m') (sym (append_assoc l.done h.0 es))
         (l.spelled (h.0 ++ es) m' (subst (λ y. Spells n' y b.words (h.0 ++ es) m') (sym is) (COMPOSE h.1 k')));
     begun = λ es k'. subst (λ y. Begins n c a.words y) (sym (append_assoc l.done h.0 es))
@@ -158,6 +198,25 @@ module _ (n : ℕ) (c : Command) (a : Past) (n' : ℕ) (p q r : Command) (b : Pa
   leads_stop d h = leads_ran false n c a n' r b d l
       (h.0, subst (λ y. Begins n' y b.words h.0) (sym is) (IN_FIRST h.1), h.2, h.3)
 
+module _ (c : Cmd) (n : ℕ) (b d : Past) (r : IsReady n (command c) b) (h : Ran n (command c) b d true) where
+  -- The site of a command that was run is in the table.
+  pub next_inside : n < length d.extents
+  next_inside = subst (λ t. n < length t) (sym h.2.extents) (site_inside b.extents n c r.table)
+
+  -- The extent at the site of a command that was run ends where the next command begins.
+  pub next_site : (x : Extent) → x ≡ get_or d.extents n x → x.after ≡ n + sites (command c)
+  next_site x is = site_after b.extents n c r.table x (is ∙ ap (λ t. get_or t n x) h.2.extents)
+
+module _ (n : ℕ) (e : Expression) (p q : Command) (x : ℤ) (a b : Past) (r : IsReady n (If e p q) a)
+    (m : Met n e a b (Some x)) where
+  -- The site of a choice is in the table.
+  pub choice_inside : n < length b.extents
+  choice_inside = subst (λ t. n < length t) (sym m.2.extents) r.table.0.inside
+
+  -- The extent at the site of a choice has the first site of its second branch.
+  pub second_site : (y : Extent) → y ≡ get_or b.extents n y → y.second ≡ n + 1 + sites p
+  second_site y is = ap (λ (z : Extent). z.second) (is ∙ ap (λ t. get_or t n y) m.2.extents ∙ r.table.0.extent_is y)
+
 -- Nothing is left to run.
 pub leads_end : (n : ℕ) (c : Command) (a : Past) (n' : ℕ) (r : Command) (b : Past) → r ≡ Skip →
     Leads n c a n' r b → Ran n c a b true
@@ -166,6 +225,10 @@ leads_end n c a n' r b is l = leads_ran true n c a n' r b b l
 
 module _ (n : ℕ) (e : Expression) (c : Command) (x : ℤ) (a b b' : Past) (l : Leads n (While e c) a n (While e c) b)
     (m : Met n e b b' (Some x)) where
+  -- The body of a loop can be run.
+  pub turn_ready : IsReady (n + 1) c b'
+  turn_ready = ready_after n (n + 1) e c x b b' m l.ready.places.1 (omega (arith, l.ready.few)) l.ready.table.1
+
   -- A loop ends with its guard.
   pub loop_ends : x ≡ pos 0 → Ran n (While e c) a b' true
   loop_ends z = leads_ran true n (While e c) a n (While e c) b b' l (
@@ -195,9 +258,10 @@ module _ (n : ℕ) (e : Expression) (c : Command) (x : ℤ) (a b b' : Past) (l :
         ready = record {
           places = subst (λ i. HasPlaces i (While e c))
               (sym (spells_length (n + 1) c b'.words h.0 d.words h.1 ∙ ap length m.1)) l.ready.places;
+          few = l.ready.few;
+          table = subst (λ y. HasExtents y n (While e c)) (sym (h.2.extents ∙ m.2.extents)) l.ready.table;
           within = h.3;
         };
-        few = l.few;
         spelled = λ es m' k. subst (λ y. Spells n (While e c) a.words y m') (sym (append_assoc l.done first es))
             (l.spelled (first ++ es) m' (WHILE_TRUE (λ y. z (m.0 ∙ y)) turn k));
         begun = λ es k. subst (λ y. Begins n (While e c) a.words y) (sym (append_assoc l.done first es))

@@ -1,30 +1,35 @@
 -- The steps of a whole program.
-use Rattle.std.proofs.Common.{◌≡◌, ℕ, ◌+◌, ◌≤◌, List, [], ◌++◌, length, sym, ap, ◌∙◌, subst, arith}
+use Rattle.std.proofs.Common.{◌≡◌, ℕ, ◌+◌, ◌≤◌, List, [], ◌++◌, length, refl, sym, ap, ◌∙◌, subst, arith}
 use Rattle.std.specs.Prelude.{Bool, true, false}
 use Rattle.std.proofs.lemmas.Bool.{false≢true}
+use Rattle.std.proofs.lemmas.List.{append-nil}
 use Rattle.vsi_scope.specs.declared.program.Cmd.{Cmd}
 use Rattle.vsi_scope.specs.Language.{HasPlaces}
 use Rattle.vsi_scope.specs.Limits.{max_size}
 use Rattle.vsi_scope.specs.Meaning.{Store}
 use Rattle.vsi_scope.specs.Program.{Resolved, IsResolved}
 use Rattle.vsi_scope.specs.View.{sequence}
-use Rattle.vsi_steps.specs.declared.step.Step.{Step}
+use Rattle.vsi_steps.specs.declared.trace.Step.{Step}
+use Rattle.vsi_steps.specs.Extents.{extents, IsFilled}
 use Rattle.vsi_steps.specs.Sites.{sites}
 use Rattle.vsi_steps.specs.Steps.{Spells, Begins}
 use Rattle.vsi_steps.specs.Ran.{Past, IsReady, Ran}
 use Rattle.vsi_steps.proofs.Counting.{sites_size}
+use Rattle.vsi_steps.proofs.Tables.{in_table}
 
 module _ (r : Resolved) (cs : List Cmd) (is : cs ≡ r.body) (kept : IsResolved r) where
   -- A resolved program has few sites.
-  pub few_sites : sites (sequence cs) ≤ max_size
+  few_sites : sites (sequence cs) ≤ max_size
   few_sites = omega (arith, ap (λ l. sites (sequence l)) is, sites_size (sequence r.body), kept.small)
 
   -- The body of a resolved program can be run from a store of its globals.
   pub whole_ready : (a : Past) → length a.words ≡ length r.globals → length a.steps ≤ a.limit →
-      IsReady (sequence cs) a
-  whole_ready a long le = record {
+      IsFilled (sequence cs) [] a.extents → IsReady 0 (sequence cs) a
+  whole_ready a long le filled = record {
     places = subst (λ k. HasPlaces k (sequence cs)) (sym long)
         (subst (λ l. HasPlaces (length r.globals) (sequence l)) (sym is) kept.places);
+    few = omega (arith, few_sites);
+    table = in_table (sequence cs) 0 a.extents [] [] refl (filled ∙ sym (append-nil (extents 0 (sequence cs))));
     within = le;
   }
 

@@ -1,4 +1,5 @@
 pub mod Sites
+pub mod Extents
 pub mod Steps
 pub mod Ran
 pub mod Laws

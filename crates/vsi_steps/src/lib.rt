@@ -5,24 +5,21 @@
 //! the first of them. The laws of steps are in [`laws`]: every evaluation has exactly one list of
 //! steps, and a run that is cut gives the first of its steps.
 //!
-//! To be believed: all files of `specs/` but `specs/Ran`, a stepping stone of proofs.
+//! To be believed: all files of `specs/` but `specs/Extents` and `specs/Ran`, stepping stones
+//! of proofs.
 #![tactic(auto)]
 
+mod extent;
 mod json;
 pub mod laws;
 mod listing;
-mod measure;
 mod row;
 mod run;
-mod site;
-mod step;
 mod text;
 mod trace;
 
-pub use json::steps_json;
-pub use listing::{Listing, listing_of};
+pub use json::{steps_json, together_json};
+pub use listing::{Listing, Site, listing_of};
 pub use row::{Row, Side, first_seen, rows_of};
-pub use site::Site;
-pub use step::Step;
 pub use text::{steps_text, together_text};
-pub use trace::{Trace, trace_of};
+pub use trace::{Step, Trace, trace_of};

@@ -1,8 +1,9 @@
 //! Two runs in step, as rows.
 
-use crate::listing::Listing;
-use crate::site::Site;
-use crate::step::Step;
+ghost use Rattle.std.specs.Prelude.{◌≤◌, IfOk, length};
+
+use crate::listing::{Listing, Site};
+use crate::trace::Step;
 use std::alloc::{AllocError, Global};
 use vsi_lattice::{Class, Classes, Lattice};
 use vsi_syntax::Kind;
@@ -15,50 +16,51 @@ pub enum Side {
     Second,
 }
 
+impl Side {
+    /// The mark before the lines of these runs, and their name.
+    pub(crate) fn texts(self) -> (&'static [u8], &'static [u8]) {
+        match self {
+            Side::Both => (b"  ", b"both"),
+            Side::First => (b"< ", b"first"),
+            Side::Second => (b"> ", b"second"),
+        }
+    }
+}
+
 /// A step of one run, or of both.
 pub type Row = (Side, Step);
 
-/// Whether a step lies inside the site with this number. The guard of a loop is inside it.
-fn is_inside(site: &Site<'_>, number: usize, step: &Step) -> bool {
-    let at = step.site as usize;
-    let is_after = match site.kind {
-        Kind::While => at >= number,
-        _ => at > number,
-    };
-    is_after && at < site.end
-}
-
-/// Adds the rows of the first of these steps of one run: those inside a site, or all without one.
-/// Returns the rest.
+/// Adds the rows of the first of these steps of one run, whose sites are from a number up to
+/// another, and returns the rest.
 fn put_side<'s>(
     rows: &mut Vec<Row>,
-    listing: &Listing<'_>,
-    inside: Option<u32>,
+    sites: (usize, usize),
     side: Side,
     steps: &'s [Step],
-) -> Result<&'s [Step], AllocError> {
-    let mut rest = steps;
-    while let [step, others @ ..] = rest {
-        if let Some(number) = inside {
-            let number = number as usize;
-            match listing.sites.get(number) {
-                Some(site) if is_inside(site, number, step) => {}
-                _ => return Ok(rest),
-            }
+) -> Result<&'s [Step], AllocError>
+    ensures { IfOk result (λ rest. length rest.now ≤ length steps.now) }
+{
+    for (i, step) in steps.iter().enumerate() {
+        let at = step.site as usize;
+        if at < sites.0 || at >= sites.1 {
+            return Ok(&steps[i..]);
         }
         rows.push((side, *step))?;
-        rest = others;
     }
-    Ok(rest)
+    Ok(&steps[steps.len()..])
 }
 
-/// Whether two runs go apart at the step at which both are: a guard that is true in one of them.
-fn goes_apart(listing: &Listing<'_>, one: &Step, other: &Step) -> bool {
-    match listing.sites.get(one.site as usize) {
-        Some(site) => {
-            matches!(site.kind, Kind::If | Kind::While) && (one.value != 0) != (other.value != 0)
-        }
-        None => true,
+/// The sites in which two runs differ after a step of both: those within a guard that is true in
+/// one of them. The guard of a loop is within it.
+fn apart(listing: &Listing<'_>, one: &Step, other: &Step) -> (usize, usize) {
+    let at = one.site as usize;
+    match listing.sites.get(at) {
+        Some(site) if (one.value != 0) != (other.value != 0) => match site.kind {
+            Kind::If => (at + 1, site.end),
+            Kind::While => (at, site.end),
+            _ => (0, 0),
+        },
+        _ => (0, 0),
     }
 }
 
@@ -80,15 +82,12 @@ pub fn rows_of(
             rows.push((Side::First, *one))?;
             rows.push((Side::Second, *other))?;
         }
-        (left, right) = (rest, others);
-        if goes_apart(listing, one, other) {
-            let inside = Some(one.site);
-            left = put_side(&mut rows, listing, inside, Side::First, left)?;
-            right = put_side(&mut rows, listing, inside, Side::Second, right)?;
-        }
+        let sites = apart(listing, one, other);
+        left = put_side(&mut rows, sites, Side::First, rest)?;
+        right = put_side(&mut rows, sites, Side::Second, others)?;
     }
-    put_side(&mut rows, listing, None, Side::First, left)?;
-    put_side(&mut rows, listing, None, Side::Second, right)?;
+    put_side(&mut rows, (0, usize::MAX), Side::First, left)?;
+    put_side(&mut rows, (0, usize::MAX), Side::Second, right)?;
     Ok(rows)
 }
 
@@ -99,13 +98,16 @@ fn sees(lattice: &Lattice, class: Class, site: &Site<'_>) -> bool {
         && lattice.leq(site.class, class)
 }
 
-/// The number of the site of the first row that a class sees in one of the runs alone, if there is
-/// one.
-pub fn first_seen(listing: &Listing<'_>, rows: &[Row], class: Class) -> Option<u32> {
+/// The site of the first row that a class sees in one of the runs alone, if there is one.
+pub fn first_seen<'l, 'a>(
+    listing: &'l Listing<'a>,
+    rows: &[Row],
+    class: Class,
+) -> Option<&'l Site<'a>> {
     for (side, step) in rows {
         if let Some(site) = listing.sites.get(step.site as usize) {
             if *side != Side::Both && sees(listing.lattice, class, site) {
-                return Some(step.site);
+                return Some(site);
             }
         }
     }

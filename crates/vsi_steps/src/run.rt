@@ -1,14 +1,14 @@
 //! A run that keeps its steps.
 
-ghost use Rattle.std.specs.Prelude.{◌≡◌, ◌≤◌, ◌+◌, IfOk, length};
+ghost use Rattle.std.specs.Prelude.{◌≡◌, ◌≤◌, IfOk, length};
 ghost use Rattle.vsi_scope.specs.Language.{Assign, If, While, Letvar, HasLocations, HasPlaces};
 ghost use Rattle.vsi_scope.specs.Limits.{max_size};
+ghost use Rattle.vsi_scope.specs.Meaning.{value};
 ghost use Rattle.vsi_scope.specs.View.{command, sequence, expression};
 ghost use Rattle.vsi_steps.specs.Ran.{past, IsWithin, IsReady, Met, Ran};
-ghost use Rattle.vsi_steps.specs.Sites.{sites};
 
-use crate::measure::{sites, sites_in, value};
-use crate::step::Step;
+use crate::extent::Extent;
+use crate::trace::Step;
 use std::alloc::AllocError;
 use vsi_scope::{Cmd, Ex};
 use vsi_syntax::Span;
@@ -22,10 +22,25 @@ pub(crate) struct Run {
     pub(crate) steps: Vec<Step>,
     /// The most steps.
     pub(crate) limit: usize,
+    /// The extents of the program's sites.
+    pub(crate) extents: Vec<Extent>,
+}
+
+/// The value of an expression in a store.
+fn value(e: &Ex, words: &[i64]) -> i64
+    requires { HasLocations (length words.now) (expression e.now) }
+    ensures { result ≡ value (expression e.now) words.now }
+{
+    match e {
+        Ex::Num(n) => *n,
+        Ex::Loc(l, _) => words[*l as usize],
+        Ex::Op(op, a, b) => op.apply(value(a, words), value(b, words)),
+    }
 }
 
 /// Takes the step of an expression at a site and returns its value, unless the limit is reached.
-fn meet(run: &mut Run, site: u32, e: &Ex) -> Result<Option<i64>, AllocError>
+fn meet(run: &mut Run, site: usize, e: &Ex) -> Result<Option<i64>, AllocError>
+    requires few { site ≤ max_size }
     requires within { IsWithin (past run.old) }
     requires places { HasLocations (length run.old.words.items) (expression e.now) }
     ensures { IfOk result (Met site (expression e.now) (past run.old) (past run.new)) }
@@ -34,6 +49,7 @@ fn meet(run: &mut Run, site: u32, e: &Ex) -> Result<Option<i64>, AllocError>
         return Ok(None);
     }
     let value = value(e, &run.words);
+    let site = site as u32;
     run.steps.push(Step { site, value })?;
     Ok(Some(value))
 }
@@ -41,12 +57,12 @@ fn meet(run: &mut Run, site: u32, e: &Ex) -> Result<Option<i64>, AllocError>
 /// Runs an assignment.
 fn run_assign(
     run: &mut Run,
-    site: u32,
+    site: usize,
     location: u16,
     place: Span,
     e: &Ex,
 ) -> Result<bool, AllocError>
-    requires { IsReady (Assign location place (expression e.now)) (past run.old) }
+    requires { IsReady site (Assign location place (expression e.now)) (past run.old) }
     ensures { IfOk result
         (Ran site (Assign location place (expression e.now)) (past run.old) (past run.new)) }
 {
@@ -59,35 +75,33 @@ fn run_assign(
 
 /// Runs a choice.
 #[cycle(run)]
-fn run_if(run: &mut Run, site: u32, yes: &[Cmd], no: &[Cmd], guard: &Ex) -> Result<bool, AllocError>
-    requires ready { IsReady (If (expression guard.now) (sequence yes.now) (sequence no.now))
+fn run_if(run: &mut Run, site: usize, yes: &[Cmd], no: &[Cmd], e: &Ex) -> Result<bool, AllocError>
+    requires { IsReady site (If (expression e.now) (sequence yes.now) (sequence no.now))
         (past run.old) }
-    requires few { site
-        + sites (If (expression guard.now) (sequence yes.now) (sequence no.now)) ≤ max_size }
     ensures { IfOk result
-        (Ran site (If (expression guard.now) (sequence yes.now) (sequence no.now))
+        (Ran site (If (expression e.now) (sequence yes.now) (sequence no.now))
         (past run.old) (past run.new)) }
 {
-    let Some(word) = meet(run, site, guard)? else {
+    let Some(word) = meet(run, site, e)? else {
         return Ok(false);
     };
     if word != 0 {
         run_all(run, site + 1, yes)
     } else {
-        run_all(run, site + 1 + sites(yes), no)
+        let second = run.extents[site].second;
+        run_all(run, second, no)
     }
 }
 
 /// Runs a loop, turn by turn.
 #[cycle(run)]
-fn run_while(run: &mut Run, site: u32, body: &[Cmd], guard: &Ex) -> Result<bool, AllocError>
-    requires ready { IsReady (While (expression guard.now) (sequence body.now)) (past run.old) }
-    requires few { site + sites (While (expression guard.now) (sequence body.now)) ≤ max_size }
-    ensures { IfOk result (Ran site (While (expression guard.now) (sequence body.now))
+fn run_while(run: &mut Run, site: usize, body: &[Cmd], e: &Ex) -> Result<bool, AllocError>
+    requires { IsReady site (While (expression e.now) (sequence body.now)) (past run.old) }
+    ensures { IfOk result (Ran site (While (expression e.now) (sequence body.now))
         (past run.old) (past run.new)) }
 {
     loop {
-        let Some(word) = meet(run, site, guard)? else {
+        let Some(word) = meet(run, site, e)? else {
             return Ok(false);
         };
         if word == 0 {
@@ -101,9 +115,8 @@ fn run_while(run: &mut Run, site: u32, body: &[Cmd], guard: &Ex) -> Result<bool,
 
 /// Runs a letvar.
 #[cycle(run)]
-fn run_letvar(run: &mut Run, site: u32, body: &[Cmd], e: &Ex) -> Result<bool, AllocError>
-    requires ready { IsReady (Letvar (expression e.now) (sequence body.now)) (past run.old) }
-    requires few { site + sites (Letvar (expression e.now) (sequence body.now)) ≤ max_size }
+fn run_letvar(run: &mut Run, site: usize, body: &[Cmd], e: &Ex) -> Result<bool, AllocError>
+    requires { IsReady site (Letvar (expression e.now) (sequence body.now)) (past run.old) }
     ensures { IfOk result (Ran site (Letvar (expression e.now) (sequence body.now))
         (past run.old) (past run.new)) }
 {
@@ -119,9 +132,8 @@ fn run_letvar(run: &mut Run, site: u32, body: &[Cmd], e: &Ex) -> Result<bool, Al
 
 /// Runs commands, one after another.
 #[cycle(run)]
-pub(crate) fn run_all(run: &mut Run, site: u32, body: &[Cmd]) -> Result<bool, AllocError>
-    requires ready { IsReady (sequence body.now) (past run.old) }
-    requires few { site + sites (sequence body.now) ≤ max_size }
+pub(crate) fn run_all(run: &mut Run, site: usize, body: &[Cmd]) -> Result<bool, AllocError>
+    requires { IsReady site (sequence body.now) (past run.old) }
     ensures { IfOk result (Ran site (sequence body.now) (past run.old) (past run.new)) }
 {
     let mut next = site;
@@ -129,16 +141,15 @@ pub(crate) fn run_all(run: &mut Run, site: u32, body: &[Cmd]) -> Result<bool, Al
         if !run_one(run, next, c)? {
             return Ok(false);
         }
-        next += sites_in(c);
+        next = run.extents[next].after;
     }
     Ok(true)
 }
 
 /// Runs one command.
 #[cycle(run)]
-fn run_one(run: &mut Run, site: u32, c: &Cmd) -> Result<bool, AllocError>
-    requires ready { IsReady (command c.now) (past run.old) }
-    requires few { site + sites (command c.now) ≤ max_size }
+fn run_one(run: &mut Run, site: usize, c: &Cmd) -> Result<bool, AllocError>
+    requires { IsReady site (command c.now) (past run.old) }
     ensures { IfOk result (Ran site (command c.now) (past run.old) (past run.new)) }
 {
     match c {

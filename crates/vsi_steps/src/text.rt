@@ -1,10 +1,8 @@
 //! The lines of runs.
 
-use crate::listing::Listing;
+use crate::listing::{Listing, Site};
 use crate::row::{Row, Side, first_seen, rows_of};
-use crate::site::Site;
-use crate::step::Step;
-use crate::trace::Trace;
+use crate::trace::{Step, Trace};
 use std::alloc::{AllocError, Global};
 use vsi_lattice::{Class, Classes, Lattice};
 use vsi_syntax::{put_line_column, put_number, put_word};
@@ -14,10 +12,8 @@ const WIDEST: usize = 40;
 
 /// Fills a line up with spaces to a width, and adds two.
 fn pad(line: &mut Vec<u8>, width: usize) -> Result<(), AllocError> {
-    while line.len() < width {
-        line.push(b' ')?;
-    }
-    line.extend_from_slice(b"  ")
+    let end = line.len().max(width).saturating_add(2);
+    line.resize(end, b' ')
 }
 
 /// The name of a class.
@@ -32,8 +28,7 @@ pub(crate) fn class_name(lattice: &Lattice, class: Class) -> &[u8] {
 /// The place and the text of each site, aligned.
 fn heads(alloc: Global, sites: &[Site<'_>]) -> Result<Vec<Vec<u8>>, AllocError> {
     let mut heads: Vec<Vec<u8>> = Vec::new(alloc);
-    let mut width = 0;
-    let mut longest = 0;
+    let (mut width, mut longest): (usize, usize) = (0, 0);
     for site in sites {
         let mut head = Vec::new(alloc);
         put_line_column(&mut head, site.line, site.column)?;
@@ -112,15 +107,6 @@ pub fn steps_text(
     Ok(text)
 }
 
-/// The mark before a line of these runs.
-fn mark_of(side: Side) -> &'static [u8] {
-    match side {
-        Side::Both => b"  ",
-        Side::First => b"< ",
-        Side::Second => b"> ",
-    }
-}
-
 /// Adds a line for each class: whether it sees a difference of two runs, and where the first one
 /// is.
 fn put_seen(text: &mut Vec<u8>, listing: &Listing<'_>, rows: &[Row]) -> Result<(), AllocError> {
@@ -128,11 +114,9 @@ fn put_seen(text: &mut Vec<u8>, listing: &Listing<'_>, rows: &[Row]) -> Result<(
         let class = Class::at(number as u8);
         text.extend_from_slice(class_name(listing.lattice, class))?;
         match first_seen(listing, rows, class) {
-            Some(number) => {
+            Some(site) => {
                 text.extend_from_slice(b" sees a difference at ")?;
-                if let Some(site) = listing.sites.get(number as usize) {
-                    put_line_column(text, site.line, site.column)?;
-                }
+                put_line_column(text, site.line, site.column)?;
                 text.extend_from_slice(b"\n")?;
             }
             None => text.extend_from_slice(b" sees no difference\n")?,
@@ -153,10 +137,10 @@ pub fn together_text(
     let rows = rows_of(alloc, listing, &first.steps, &second.steps)?;
     let mut text = Vec::new(alloc);
     for (side, step) in &rows {
-        put_step(&mut text, listing, &heads, mark_of(*side), *step)?;
+        put_step(&mut text, listing, &heads, side.texts().0, *step)?;
     }
-    put_ending(&mut text, listing, mark_of(Side::First), first)?;
-    put_ending(&mut text, listing, mark_of(Side::Second), second)?;
+    put_ending(&mut text, listing, Side::First.texts().0, first)?;
+    put_ending(&mut text, listing, Side::Second.texts().0, second)?;
     put_seen(&mut text, listing, &rows)?;
     Ok(text)
 }

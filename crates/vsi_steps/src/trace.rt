@@ -3,10 +3,20 @@
 ghost use Rattle.std.specs.Prelude.{◌≡◌, length, IfOk};
 ghost use Rattle.vsi_steps.specs.Traced.{IsTraced};
 
+use crate::extent::put_all;
 use crate::run::{Run, run_all};
-use crate::step::Step;
 use std::alloc::{AllocError, Global};
 use vsi_scope::Resolved;
+
+/// A step of a run: a guard that is tested, or a word that is stored.
+#[derive(Clone, Copy, Debug, PartialEq, Eq)]
+pub struct Step {
+    /// The number of its site: of the assignment, `if`, `while` or `letvar`, in the order of the
+    /// text and counted from 0.
+    pub site: u32,
+    /// The value of the guard, or the word.
+    pub value: i64,
+}
 
 /// The steps of a run, and its last store.
 #[derive(Drop)]
@@ -34,12 +44,13 @@ pub fn trace_of(
         words: words.to_vec(alloc)?,
         steps: Vec::new(alloc),
         limit,
+        extents: Vec::new(alloc),
     };
+    put_all(&mut run.extents, body)?;
     let halted = run_all(&mut run, 0, body)?;
-    let Run { words, steps, .. } = run;
     Ok(Trace {
-        steps,
+        steps: run.steps,
         halted,
-        words,
+        words: run.words,
     })
 }

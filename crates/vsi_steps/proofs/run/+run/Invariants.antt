@@ -13,8 +13,8 @@ invariant-run_all-loop-c l =
 
 abbrev pub invariant-run_while-loop-word : goal.invariant-run_while-loop-word
 invariant-run_while-loop-word l =
-    Leads l.site (While (expression l.guard) (sequence l.body)) (past l.initial.run)
-    l.site (While (expression l.guard) (sequence l.body)) (past l.run)
+    Leads l.site (While (expression l.e) (sequence l.body)) (past l.initial.run)
+    l.site (While (expression l.e) (sequence l.body)) (past l.run)
 
 abbrev pub decreases-run_while-loop-word : goal.decreases-run_while-loop-word
 decreases-run_while-loop-word l = l.run.limit - length l.run.steps.items

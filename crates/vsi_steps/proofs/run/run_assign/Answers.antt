@@ -20,7 +20,8 @@ returns c =
       words = set b.words.items c.args.location (to_z w64 (of_z w64 c.in-Some.word));
       steps = b.steps.items;
       limit = b.limit;
+      extents = b.extents.items;
     } in
     assigned c.args.site c.args.location c.args.place e c.in-Some.word (past c.args.run.now) (past b) d
     (subst (Met c.args.site e (past c.args.run.now) (past b)) c.in-Some.is c.in_ok-word.ensures)
-    (ap (set b.words.items c.args.location) (to_z-of_z w64 c.in-Some.word (search rules))) refl refl
+    (ap (set b.words.items c.args.location) (to_z-of_z w64 c.in-Some.word (search rules))) refl refl refl
