@@ -184,6 +184,22 @@ fn build<'a>(words: &'a [String]) -> Option<Request<'a>>
     Some(Request::Build(compilation, image))
 }
 
+/// The request of `list`.
+fn list<'a>(words: &'a [String]) -> Option<Request<'a>>
+    ensures { IfSome result (spec.AsksFor words.now) }
+{
+    let rest = rest_of! { words "list" [] [] };
+    Some(Request::List(one(rest)?))
+}
+
+/// The request of `source`.
+fn source<'a>(words: &'a [String]) -> Option<Request<'a>>
+    ensures { IfSome result (spec.AsksFor words.now) }
+{
+    let rest = rest_of! { words "source" [] [] };
+    Some(Request::Source(one(rest)?))
+}
+
 /// The request of `emit-c`.
 fn emit_c<'a>(words: &'a [String]) -> Option<Request<'a>>
     ensures { IfSome result (spec.AsksFor words.now) }
@@ -212,6 +228,14 @@ fn bound<'a>(words: &'a [String]) -> Option<Request<'a>>
         return Some(Request::Document(Document::Bound(bounding)));
     }
     Some(Request::Bound(bounding))
+}
+
+/// The request of `report`.
+fn report<'a>(words: &'a [String]) -> Option<Request<'a>>
+    ensures { IfSome result (spec.AsksFor words.now) }
+{
+    let rest = rest_of! { words "report" ["--strict"] [] };
+    Some(Request::Report(compilation(rest)?))
 }
 
 /// The request of `draw`.
@@ -315,30 +339,20 @@ fn explain<'a>(words: &'a [String]) -> Option<Request<'a>>
     Some(Request::Explain(named_page(argument)?))
 }
 
-/// The request of a subcommand that takes no settings.
+/// The request of a subcommand that takes no list of arguments.
 fn plain<'a>(name: &str, words: &'a [String]) -> Option<Request<'a>>
     ensures { IfSome result (spec.AsksFor words.now) }
 {
     match name {
-        "list" => {
-            let rest = rest_of! { words "list" [] [] };
-            Some(Request::List(one(rest)?))
-        }
-        "source" => {
-            let rest = rest_of! { words "source" [] [] };
-            Some(Request::Source(one(rest)?))
-        }
-        "report" => {
-            let rest = rest_of! { words "report" ["--strict"] [] };
-            Some(Request::Report(compilation(rest)?))
-        }
         "check" => check(words),
         "conform" => conform(words),
         "classes" => classes(words),
         "flows" => flows(words),
         "mend" => mend(words),
         "build" => build(words),
+        "list" => list(words),
         "audit" => audit(words),
+        "source" => source(words),
         "emit-c" => emit_c(words),
         "bound" => bound(words),
         "drive" => drive(words),
@@ -347,6 +361,7 @@ fn plain<'a>(name: &str, words: &'a [String]) -> Option<Request<'a>>
             None => compare_steps(words),
         },
         "leak" => leak(words),
+        "report" => report(words),
         "draw" => draw(words),
         "policy" => policy(words),
         "fmt" => layout(words),
