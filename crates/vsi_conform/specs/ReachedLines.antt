@@ -11,11 +11,11 @@ spaced names = flat_map (λ name. codes " " ++ name) names
 
 -- The names of the globals that reach an output.
 abbrev pub sources_text : List (List ℕ) → List ℕ
-sources_text names = (if is_none names then codes " (nothing)" else []) ++ spaced names
+sources_text names = if is_none names then codes " (nothing)" else spaced names
 
 -- The names of those that aren't allowed, if there are any.
 abbrev pub beyond_text : List (List ℕ) → List ℕ
-beyond_text names = (if is_none names then [] else codes ", unexpected") ++ spaced names
+beyond_text names = if is_none names then [] else codes ", unexpected" ++ spaced names
 
 -- `CLASS releases NAME from NAME ..`, and then `, unexpected NAME ..` if some aren't allowed.
 abbrev pub released_line : Released → List ℕ

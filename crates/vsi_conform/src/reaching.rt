@@ -299,6 +299,30 @@ fn put_spaced(text: &mut Vec<u8>, names: &[Vec<u8>]) -> Result<(), AllocError>
     Ok(())
 }
 
+/// Adds the names of the globals that reach an output.
+fn put_sources(text: &mut Vec<u8>, names: &[Vec<u8>]) -> Result<(), AllocError>
+    ensures { OnOk result
+        (text.new.items ≡ text.old.items ++ lines_spec.sources_text (bytes_of names.now)) }
+{
+    if names.is_empty() {
+        text.extend_from_slice(b" (nothing)")
+    } else {
+        put_spaced(text, names)
+    }
+}
+
+/// Adds the names of the globals that aren't allowed, if there are any.
+fn put_beyond(text: &mut Vec<u8>, names: &[Vec<u8>]) -> Result<(), AllocError>
+    ensures { OnOk result
+        (text.new.items ≡ text.old.items ++ lines_spec.beyond_text (bytes_of names.now)) }
+{
+    if names.is_empty() {
+        return Ok(());
+    }
+    text.extend_from_slice(b", unexpected")?;
+    put_spaced(text, names)
+}
+
 /// Adds the line of a released output.
 fn put_line(text: &mut Vec<u8>, reach: &Reach) -> Result<(), AllocError>
     ensures { OnOk result
@@ -308,14 +332,8 @@ fn put_line(text: &mut Vec<u8>, reach: &Reach) -> Result<(), AllocError>
         text,
         &[&reach.class, b" releases ", &reach.output, b" from"],
     )?;
-    if reach.sources.is_empty() {
-        text.extend_from_slice(b" (nothing)")?;
-    }
-    put_spaced(text, &reach.sources)?;
-    if !reach.beyond.is_empty() {
-        text.extend_from_slice(b", unexpected")?;
-    }
-    put_spaced(text, &reach.beyond)?;
+    put_sources(text, &reach.sources)?;
+    put_beyond(text, &reach.beyond)?;
     text.extend_from_slice(b"\n")
 }
 

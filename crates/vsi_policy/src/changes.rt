@@ -93,7 +93,7 @@ fn who_drives(side: &Side, old: &Side) -> &'static [u8]
 }
 
 /// The differences of one side from an older one.
-fn changed(alloc: Global, side: &Side, old: &Side) -> Result<Vec<u8>, AllocError>
+fn changed<'a>(alloc: Global, side: &'a Side<'a>, old: &'a Side<'a>) -> Result<Vec<u8>, AllocError>
     ensures { IfOk result (λ text. text.items ≡ spec.changes (view side.now) (view old.now)) }
 {
     let mut lines = Vec::new(alloc);
