@@ -74,7 +74,7 @@ L sees no difference
 H sees a difference at 1:23
 ";
 
-/// What is asked of the runs of a program.
+/// The form in which the runs of a program are requested.
 #[derive(Clone, Copy)]
 enum Asked<'a> {
     Text,
