@@ -39,16 +39,24 @@ abbrev pub quoted : ℕ → List (List ℕ) → List ℕ
 quoted n [] = []
 quoted n (name ∷ rest) = (comma n ++ codes "\"" ++ name ++ codes "\"") ++ quoted (n + 1) rest
 
+-- The first two members of the object of a released output.
+abbrev pub first_members : Released → List ℕ
+first_members r =
+    codes "{\"beyond\":[" ++ quoted 0 r.beyond ++ codes "],\"class\":\"" ++ r.class ++ codes "\""
+
+-- The other two.
+abbrev pub last_members : Released → List ℕ
+last_members r =
+    codes ",\"from\":[" ++ quoted 0 r.sources ++ codes "],\"output\":\"" ++ r.output ++ codes "\"}"
+
 -- The object of a released output, with its keys in byte order.
 abbrev pub released_object : Released → List ℕ
-released_object r =
-    codes "{\"beyond\":[" ++ quoted 0 r.beyond ++ codes "],\"class\":\"" ++ r.class ++ codes "\",\"from\":["
-    ++ quoted 0 r.sources ++ codes "],\"output\":\"" ++ r.output ++ codes "\"}"
+released_object r = first_members r ++ last_members r
 
 -- The items of an array from number n on, each the object of a released output.
 abbrev pub objects : ℕ → List Released → List ℕ
 objects n [] = []
-objects n (r ∷ rest) = (comma n ++ released_object r) ++ objects (n + 1) rest
+objects n (r ∷ rest) = comma n ++ released_object r ++ objects (n + 1) rest
 
 -- The member that follows the points, with the end of the line.
 abbrev pub released_member : List Released → List ℕ

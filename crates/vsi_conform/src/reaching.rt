@@ -356,14 +356,22 @@ fn put_quoted(text: &mut Vec<u8>, names: &[Vec<u8>]) -> Result<(), AllocError>
     Ok(())
 }
 
-/// Adds the object of a released output.
-fn put_object(text: &mut Vec<u8>, reach: &Reach) -> Result<(), AllocError>
+/// Adds the first two members of the object of a released output.
+fn put_first_members(text: &mut Vec<u8>, reach: &Reach) -> Result<(), AllocError>
     ensures { OnOk result
-        (text.new.items ≡ text.old.items ++ lines_spec.released_object (spec.released reach.now)) }
+        (text.new.items ≡ text.old.items ++ lines_spec.first_members (spec.released reach.now)) }
 {
     text.extend_from_slice(b"{\"beyond\":[")?;
     put_quoted(text, &reach.beyond)?;
-    put_parts(text, &[b"],\"class\":\"", &reach.class, b"\",\"from\":["])?;
+    put_parts(text, &[b"],\"class\":\"", &reach.class, b"\""])
+}
+
+/// Adds the other two.
+fn put_last_members(text: &mut Vec<u8>, reach: &Reach) -> Result<(), AllocError>
+    ensures { OnOk result
+        (text.new.items ≡ text.old.items ++ lines_spec.last_members (spec.released reach.now)) }
+{
+    text.extend_from_slice(b",\"from\":[")?;
     put_quoted(text, &reach.sources)?;
     put_parts(text, &[b"],\"output\":\"", &reach.output, b"\"}"])
 }
@@ -375,7 +383,8 @@ fn put_objects(text: &mut Vec<u8>, reaches: &[Reach]) -> Result<(), AllocError>
 {
     for (i, reach) in reaches.iter().enumerate() {
         text.extend_from_slice(comma(i))?;
-        put_object(text, reach)?;
+        put_first_members(text, reach)?;
+        put_last_members(text, reach)?;
     }
     Ok(())
 }

@@ -355,6 +355,16 @@ fn row_objects(alloc: Global, rows: &[Row]) -> Result<Objects, AllocError>
     Ok(found)
 }
 
+/// Whether there are no rows.
+fn are_none(rows: &[Row]) -> bool
+    ensures { result ≡ json_spec.is_none (map row rows.now) }
+{
+    match rows {
+        [] => true,
+        [_, ..] => false,
+    }
+}
+
 /// The line of JSON of an answer with these rows: an object with `conforms`, whether there are none,
 /// and `points`, an array with an object for each.
 pub(crate) fn rows_json(alloc: Global, rows: &[Row]) -> Result<Vec<u8>, AllocError>
@@ -362,7 +372,7 @@ pub(crate) fn rows_json(alloc: Global, rows: &[Row]) -> Result<Vec<u8>, AllocErr
 {
     let objects = row_objects(alloc, rows)?;
     Object::new(alloc)
-        .flag("conforms", rows.is_empty())?
+        .flag("conforms", are_none(rows))?
         .array("points", objects)?
         .line()
 }
