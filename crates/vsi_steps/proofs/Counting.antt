@@ -1,5 +1,5 @@
 -- The commands of a list, one by one.
-use Rattle.std.proofs.Common.{◌≡◌, ℕ, ◌+◌, ◌<◌, ◌≤◌, ℤ, pos, w64, SFits, to_z, of_z, List, ◌∷◌, Vec, Global, length, drop, get_or, min, sym, ap, ◌∙◌, arith, rules}
+use Rattle.std.proofs.Common.{◌≡◌, ℕ, ◌+◌, ◌<◌, ◌≤◌, ℤ, pos, w64, SFits, to_z, of_z, List, Vec, Global, length, drop, get_or, sym, ap, ◌∙◌, arith}
 use Rattle.std.proofs.lemmas.Int.{to_z-of_z}
 use Rattle.std.proofs.lemmas.List.{drop_more, drop_all}
 use Rattle.vsi_scope.specs.declared.program.Ex.{Ex}

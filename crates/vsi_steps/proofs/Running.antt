@@ -13,7 +13,7 @@ use Rattle.vsi_steps.specs.declared.trace.Step.{Step}
 use Rattle.vsi_steps.specs.Extents.{HasExtents}
 use Rattle.vsi_steps.specs.Sites.{sites}
 use Rattle.vsi_steps.specs.Steps.{step, IsStep, Spells, NOTHING, ASSIGN, COMPOSE, IF_TRUE, IF_FALSE, WHILE_TRUE, WHILE_FALSE, LETVAR, Begins, BEFORE, IN_FIRST, IN_SECOND, IN_TRUE, IN_FALSE, IN_TURN, IN_TURNS, IN_LETVAR}
-use Rattle.vsi_steps.specs.Ran.{Past, IsWithin, IsReady, Added, Met, Ran}
+use Rattle.vsi_steps.specs.Ran.{Past, IsReady, Added, Met, Ran}
 use Rattle.vsi_steps.proofs.Tables.{site_inside, site_after}
 
 -- A run keeps the number of words.

@@ -1,15 +1,18 @@
 -- The table of the extents of sites.
-use Rattle.std.proofs.Common.{◌≡◌, ℕ, ◌+◌, ◌<◌, List, [], ◌∷◌, ◌++◌, length, get_or, set, refl, sym, ap, ◌∙◌, subst, arith, append_assoc}
+use Rattle.std.proofs.Common.{◌≡◌, ℕ, ◌+◌, ◌<◌, List, [], ◌∷◌, ◌++◌, Vec, Global, length, get_or, set, ◌⊎◌, inl, inr, refl, sym, ap, ◌∙◌, subst, arith, append_assoc}
 use Rattle.std.proofs.lemmas.List.{length-append, append-nil}
 use Rattle.std.proofs.Math.Seq.{set-append_seam, get_or-append_seam}
+use Rattle.vsi_scope.specs.declared.program.Ex.{Ex}
 use Rattle.vsi_scope.specs.declared.program.Cmd.{Cmd}
+use Rattle.vsi_scope.specs.declared.program.Cmd.TheViews as view
 use Rattle.vsi_scope.specs.declared.program.Cmd as cmd
 use Rattle.vsi_scope.specs.Language.{Expression, Command, Skip, Assign, Sequence, If, While, Letvar}
-use Rattle.vsi_scope.specs.View.{command}
+use Rattle.vsi_scope.specs.View.{command, sequence}
 use Rattle.vsi_steps.specs.declared.extent.Extent.{Extent}
 use Rattle.vsi_steps.specs.Extents.{extent, extents, IsFilled, AreParts, HasExtent, HasExtents}
 use Rattle.vsi_steps.specs.Sites.{sites}
 use Rattle.vsi_steps.specs.Steps.{IsStep}
+use Rattle.vsi_steps.proofs.Counting.{seen_while, seen_letvar}
 
 -- A command has an extent for each site.
 pub length_extents : (n : ℕ) (c : Command) → length (extents n c) ≡ sites c
@@ -55,9 +58,13 @@ pub parts_if : (e : Expression) (a b : Command) (t u v : List Extent) (k : ℕ) 
 parts_if e a b t u v k at h h' = (at ∙ filled_length a t u h, filled_both a b t u v h h')
 
 -- The parts of a loop or a letvar are its body.
-pub parts_body : (c : Command) (t u : List Extent) (k : ℕ) → k ≡ length u → IsFilled c t u →
-    (k ≡ length t + sites c) × IsFilled c t u
-parts_body c t u k at h = (at ∙ filled_length c t u h, h)
+pub parts_body : (c : Cmd) (v : Vec Cmd Global) (ks : List Cmd) (t u : List Extent) (k : ℕ) →
+    (((e : Ex) × (c ≡ view.While e v)) ⊎ ((e : Ex) × (c ≡ view.Letvar e v))) → ks ≡ v.items → k ≡ length u →
+    IsFilled (sequence ks) t u → AreParts (command c) t k u
+parts_body c v ks t u k (inl h) same at f =
+    subst (λ y. AreParts y t k u) (sym (seen_while c h.0 v ks h.1 same)) (at ∙ filled_length (sequence ks) t u f, f)
+parts_body c v ks t u k (inr h) same at f =
+    subst (λ y. AreParts y t k u) (sym (seen_letvar c h.0 v ks h.1 same)) (at ∙ filled_length (sequence ks) t u f, f)
 
 -- An extent is written in front of the extents of the parts.
 patched : (t ps t₁ t₂ : List Extent) (x : Extent) (k m : ℕ) → t₁ ≡ t ++ x ∷ [] → t₂ ≡ t₁ ++ ps →

@@ -38,8 +38,6 @@ put_parts-returns-in_ok-put_all-in-If-2 t c =
 
 pub put_parts-returns-in_ok-put_all-in-While : goal.put_parts-returns-in_ok-put_all-in-While
 put_parts-returns-in_ok-put_all-in-While t c =
-    let h = c.in-While.is in
-    let k = parts_body (sequence c.deref-in-While.result.now) c.args.extents.now.items
-    c.put_all-in-While.new.extents.items c.len-in-While.result
-    (omega (arith, c.len-in-While.ensures, c.put_all-in-While.new.extents.ok.0)) c.in_ok-put_all-in-While.ensures in
-    ?
+    parts_body c.args.c.now c.in-While.body c.deref-in-While.result.now c.args.extents.now.items
+    c.put_all-in-While.new.extents.items c.len-in-While.result c.in-While.is c.deref-in-While.ensures.value
+    (omega (arith, c.len-in-While.ensures, c.put_all-in-While.new.extents.ok.0)) c.in_ok-put_all-in-While.ensures

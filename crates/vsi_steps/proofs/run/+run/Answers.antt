@@ -1,14 +1,13 @@
-use Rattle.std.proofs.Common.{rules, subst, sym, refl, arith, ap, ◌∙◌, ◌+◌, ◌++◌, ◌∷◌, [], w64, of_z}
+use Rattle.std.proofs.Common.{rules, subst, refl, arith, ap, ◌∙◌, ◌++◌, ◌∷◌, [], w64, of_z}
 use Rattle.std.proofs.lemmas.Grind.{common_steps}
 use Rattle.std.proofs.lemmas.Int.{to_z-of_z}
 use Rattle.std.proofs.lemmas.Result.{IfOk-weaker}
 use Rattle.vsi_scope.specs.declared.program.Cmd.{the_lemmas}
-use Rattle.vsi_scope.specs.Language.{If, While, Letvar}
+use Rattle.vsi_scope.specs.Language.{If, Letvar}
 use Rattle.vsi_scope.specs.View.{command, expression, sequence}
-use Rattle.vsi_steps.specs.Sites.{sites}
 use Rattle.vsi_steps.specs.Ran.{past, Met, Ran}
 use Rattle.vsi_steps.proofs.Counting.{at_command, at_end, zero_word, seen_if, seen_while, seen_letvar}
-use Rattle.vsi_steps.proofs.Running.{cut, leads_ran, leads_self, leads_yes, leads_no, letvar_ran, letvar_ready, first_ready, next_inside, next_site, choice_inside, second_site, leads_next, leads_stop, leads_end, loop_cut, loop_ends, turn_ready, turn_cut, leads_turn}
+use Rattle.vsi_steps.proofs.Running.{cut, leads_ran, leads_yes, leads_no, letvar_ran, first_ready, next_inside, next_site, second_site, leads_next, leads_stop, leads_end, loop_cut, loop_ends, turn_cut, leads_turn}
 use Rattle.vsi_steps.proofs.run.+run.Goals as goal
 
 pub run_one-run_if-requires : goal.run_one-run_if-requires
