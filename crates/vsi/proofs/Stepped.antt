@@ -216,7 +216,7 @@ module _ (holds : Holding) (c : StepComparison) (l : Lattice) (class : ℕ) (tex
     (im : Image) (looks : LooksAt holds c.lattice.now c.class.now l class) (read : IsReadAt holds c.source.now text)
     (same : given ≡ text) (under : source.lattice ≡ l) (of : source.text ≡ given)
     (written : AreWritten source.lattice source.text source.resolved im) where
-  -- What is compared is what the files hold.
+  -- The comparison takes the program and the class that the files hold.
   pub are_compared : AreStepsCompared holds c l class source.resolved im
   are_compared = record {
     looks = looks;

@@ -1,4 +1,4 @@
-//! What is said of a failure, made from the files that were read, and why a file can't be used.
+//! Explanations of failures, made from the files that were read, and why a file can't be used.
 
 ghost use Rattle.std.specs.Prelude.{◌≡◌, ◌⊎◌, ◌++◌, Contains, IfOk, IfSome, OnOk};
 ghost use Rattle.vsi.specs.Objections as spec;

@@ -1,4 +1,4 @@
-//! What classes see under lattices and interfaces, and lattice files.
+//! Views of classes under lattices and interfaces, and lattice files.
 
 ghost use Rattle.std.specs.Prelude.{◌≡◌, Some, IfErr, IfOk, IsSomeAnd};
 ghost use Rattle.vsi.specs.Refusals.{NoOther, RefusesLattice, FailsBy};

@@ -27,7 +27,7 @@ use Rattle.vsi_monitor.specs.Watched.{Held, IsHeld, IsReady, Goes, RunEnds}
 use Rattle.vsi_monitor.proofs.Marks.{labels_class, labels_bottom}
 use Rattle.vsi_monitor.proofs.Passing.{typable_passes}
 
--- A run that isn't finished for want of memory isn't stopped.
+-- A run that isn't finished because memory is refused isn't stopped.
 memory_not_stopped : (x : Stop) → ◌≡◌ {A = Unfinished} ends.Memory (ends.Stopped x) → ⊥
 memory_not_stopped x e = cc
 
