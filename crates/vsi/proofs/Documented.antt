@@ -5,7 +5,7 @@ use Rattle.vsi_conform.specs.declared.interface.Judgement.{Judgement}
 use Rattle.vsi_types.specs.declared.rules.Profile.{Profile}
 use Rattle.vsi_documents.specs.Classes.{TellsClasses}
 use Rattle.vsi_documents.specs.Flows.{TellsFlows}
-use Rattle.vsi_sarif.specs.Checking.{TellsDocument}
+use Rattle.vsi_documents.specs.Checking.{TellsDocument}
 
 -- A document about a text by one judgement is that of the same text by the same judgement.
 pub sarif_so : (l : Lattice) (j k : Judgement) (path text source : List ℕ) (b : Bool) (out : List ℕ) → j ≡ k →

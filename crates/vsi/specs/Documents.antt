@@ -6,8 +6,8 @@ use Rattle.vsi_types.specs.declared.rules.Profile.{Profile}
 use Rattle.vsi_types.specs.declared.rules.Profile.TheVariants.{Base, Strict}
 use Rattle.vsi_image.specs.declared.instr.Image.{Image}
 use Rattle.vsi_conform.specs.declared.interface.Judgement.{Judgement}
-use Rattle.vsi_sarif.specs.Auditing as sarif
-use Rattle.vsi_sarif.specs.Checking.{TellsDocument}
+use Rattle.vsi_documents.specs.Auditing as sarif
+use Rattle.vsi_documents.specs.Checking.{TellsDocument}
 use Rattle.vsi_documents.specs.Audits.{TellsAudit, TellsSteadiness}
 use Rattle.vsi_documents.specs.Classes.{TellsClasses}
 use Rattle.vsi_documents.specs.Flows.{TellsFlows}

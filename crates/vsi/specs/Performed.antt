@@ -41,7 +41,7 @@ use Rattle.vsi_report.specs.Verdict.{HasVerdict}
 use Rattle.vsi_conform.specs.Conforms.{Conforms, IsUnbounded, Tells as TellsPoints}
 use Rattle.vsi_conform.specs.Json.{IsConformJson}
 use Rattle.vsi_conform.specs.Lines.{IsConformText}
-use Rattle.vsi_sarif.specs.Findings.{IsConformSarif}
+use Rattle.vsi_documents.specs.Findings.{IsConformSarif}
 use Rattle.vsi_conform.specs.Points.{is_conforming}
 use Rattle.vsi_conform.specs.Totals.{total_of}
 use Rattle.vsi_conform.specs.declared.interface.Answer.{Answer}

@@ -9,7 +9,7 @@ use Rattle.vsi_conform.specs.declared.interface.Interface.{Interface}
 use Rattle.vsi_conform_image.specs.Conforms.{Conforms, Tells, is_conforming}
 use Rattle.vsi_conform_image.specs.Lines.{IsConformJson, IsConformText}
 use Rattle.vsi_conform_image.specs.declared.conforming.Answer.{Answer}
-use Rattle.vsi_sarif.specs.Findings.{IsImageSarif}
+use Rattle.vsi_documents.specs.Findings.{IsImageSarif}
 
 -- The bytes begin as those of an image: with its three first bytes and a version below 9, which no source text has.
 abbrev pub begins_image : List ℕ → Bool

@@ -33,9 +33,9 @@ use vsi_conform::{
     is_within, path_beside, points_json, points_text, read_interface, unknown_class, unknown_cycle,
 };
 use vsi_conform_image::conform_image;
+use vsi_documents::{image_sarif, points_sarif};
 use vsi_image::Image;
 use vsi_lattice::Lattice;
-use vsi_sarif::{image_sarif, points_sarif};
 use vsi_types::Profile;
 
 /// The warning about a text that conforms, and whose image doesn't.

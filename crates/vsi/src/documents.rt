@@ -19,10 +19,12 @@ use crate::running::{compare, image_and_words};
 use crate::subcommands::{judgement, policy_and_text, profile};
 use std::alloc::{AllocError, Global};
 use vsi_arguments::{Audit, Compilation, Document, Execution, InitialStore, Judging};
-use vsi_documents::{Documented, audit_json, classes_json, flows_json, run_json, steady_json};
+use vsi_documents::{
+    Documented, audit_json, audit_sarif, check_sarif, classes_json, flows_json, run_json,
+    steady_json, steady_sarif,
+};
 use vsi_image::Verified;
 use vsi_lattice::Lattice;
-use vsi_sarif::{audit_sarif, check_sarif, steady_sarif};
 
 /// Whether the source text is accepted, and the document of SARIF that says so.
 fn checked_sarif<'a, F: Files>(
@@ -48,7 +50,7 @@ fn checked_sarif<'a, F: Files>(
     )?;
     Ok(Reply {
         text: told.line,
-        is_good: told.is_accepted,
+        is_good: told.is_good,
     })
 }
 
@@ -116,10 +118,10 @@ fn judged_sarif(
     asked: Audit<'_>,
     classes: &Lattice,
     verified: &Verified,
-) -> Result<vsi_sarif::Documented, AllocError>
+) -> Result<Documented, AllocError>
     ensures { IfOk result (λ told. ToldAuditSarif asked.entry.is_steady
         (profile_of asked.entry.is_strict) asked.entry.image.now classes.now verified.now
-        told.is_accepted told.line) }
+        told.is_good told.line) }
 {
     if asked.is_steady {
         return steady_sarif(alloc, classes, asked.image, verified);
@@ -168,7 +170,7 @@ fn judged_document(
         let document = judged_sarif(alloc, asked, classes, verified)?;
         return Ok(Reply {
             text: document.line,
-            is_good: document.is_accepted,
+            is_good: document.is_good,
         });
     }
     let told = judged_line(alloc, asked, classes, verified)?;

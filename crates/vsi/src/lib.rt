@@ -137,7 +137,6 @@ pub use vsi_lattice::Lattice;
 pub use vsi_lattice::LatticeError;
 pub use vsi_lattice::read_lattice;
 pub use vsi_leak::Effort;
-pub use vsi_leak::Ending;
 pub use vsi_leak::Finding;
 pub use vsi_leak::Leak;
 pub use vsi_leak::Run;

@@ -219,7 +219,7 @@ fn mended_line<'a>(
     let mended = mend_json(alloc, profile(is_strict), classes, text)?;
     Ok(Reply {
         text: mended.line,
-        is_good: mended.is_served,
+        is_good: mended.is_good,
     })
 }
 

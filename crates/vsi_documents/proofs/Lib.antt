@@ -1,3 +1,4 @@
 pub mod Made
 pub mod Worded
 pub mod Lines
+pub mod Kept

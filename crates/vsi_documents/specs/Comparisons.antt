@@ -1,5 +1,5 @@
 -- Two runs of an image, as a class sees them, as a line of JSON, with keys in byte order.
-use Rattle.std.specs.Prelude.{◌≡◌, ℕ, ℤ, Bool, true, false, List, Some, Result, codes}
+use Rattle.std.specs.Prelude.{◌≡◌, ℕ, ℤ, Bool, List, Some, Result, codes}
 use Rattle.serde_json.specs.Data.{boolean, Members, no_members, put}
 use Rattle.vsi_lattice.specs.Known.{Known}
 use Rattle.vsi_lattice.specs.LatticeView.{class_named, order}
@@ -9,26 +9,12 @@ use Rattle.vsi_image.specs.declared.instr.Image.{Image}
 use Rattle.vsi_image.specs.Fields.{Global, globals}
 use Rattle.vsi_store.specs.Compare.{Compares}
 use Rattle.vsi_store.specs.declared.comparing.Comparison.{Comparison}
-use Rattle.vsi_store.specs.declared.comparing.RunEnding.{RunEnding}
-use Rattle.vsi_store.specs.declared.comparing.RunEnding.TheVariants.{Halted, OutOfBudget}
 use Rattle.vsi_answers.specs.Answers.{Judges}
 use Rattle.vsi_answers.specs.Judged.{IsViewFault, TellsFault}
 use Rattle.vsi_answers.specs.declared.unanswered.Unanswered.{Unanswered}
 use Rattle.vsi_diagnostics.specs.Members.{with_text, object_line}
-use Rattle.vsi_documents.specs.Words.{with_end, with_pairs}
+use Rattle.vsi_documents.specs.Words.{with_after, with_ending, with_pairs}
 use Rattle.vsi_documents.specs.declared.answer.Documented.{Documented}
-
--- The members with the objects of the globals that the class sees at the ends of both runs, if both halt.
-abbrev pub with_after : Known → Lattice → ℕ → List Global → RunEnding → RunEnding → Members → Members
-with_after known L a gs (Halted n ws) (Halted n' vs) ms =
-    with_pairs (codes "after") known L (Some a) gs ws.items vs.items ms
-with_after known L a gs (Halted n ws) OutOfBudget ms = ms
-with_after known L a gs OutOfBudget e ms = ms
-
--- The members with the object of the end of a run within a budget, at this key.
-abbrev pub with_ending : List ℕ → ℕ → RunEnding → Members → Members
-with_ending key budget (Halted n words) ms = with_end key true n ms
-with_ending key budget OutOfBudget ms = with_end key false budget ms
 
 -- The members with the verdict of a class of this name.
 abbrev pub verdict_members : List ℕ → Bool → Members

@@ -10,25 +10,11 @@ use Rattle.vsi_image.specs.Fields.{Global, globals}
 use Rattle.vsi_compiler.specs.Headline.{IsImageOf}
 use Rattle.vsi_compiler.specs.Readable.{HasProgram}
 use Rattle.vsi_leak.specs.Leaks.{IsLeak, IsWanted, most_pairs}
-use Rattle.vsi_leak.specs.declared.found.Ending.{Ending}
-use Rattle.vsi_leak.specs.declared.found.Ending.TheVariants.{Halted, OutOfBudget}
 use Rattle.vsi_leak.specs.declared.found.Finding.TheVariants as finding
 use Rattle.vsi_leak.specs.declared.found.Leak.{Leak}
 use Rattle.vsi_leak.specs.declared.whole.Wanted.{Wanted}
 use Rattle.vsi_diagnostics.specs.Members.{with_text, with_natural, object_line}
-use Rattle.vsi_documents.specs.Words.{with_end, with_pairs}
-
--- The members with the objects of the globals that the class sees at the ends of both runs, if both halt.
-abbrev pub with_after : Known → Lattice → ℕ → List Global → Ending → Ending → Members → Members
-with_after known L a gs (Halted n ws) (Halted n' vs) ms =
-    with_pairs (codes "after") known L (Some a) gs ws.items vs.items ms
-with_after known L a gs (Halted n ws) OutOfBudget ms = ms
-with_after known L a gs OutOfBudget e ms = ms
-
--- The members with the object of the end of a run within a budget, at this key.
-abbrev pub with_ending : List ℕ → ℕ → Ending → Members → Members
-with_ending key budget (Halted n words) ms = with_end key true n ms
-with_ending key budget OutOfBudget ms = with_end key false budget ms
+use Rattle.vsi_documents.specs.Words.{with_after, with_ending, with_pairs}
 
 -- The members with the class of a leak, which has this name.
 abbrev pub found_members : List ℕ → Members

@@ -9,3 +9,11 @@ pub mod Leaks
 pub mod Refused
 pub mod Json
 pub mod Answers
+pub mod Objects
+pub mod Location
+pub mod Steps
+pub mod Document
+pub mod Refusals
+pub mod Checking
+pub mod Findings
+pub mod Auditing

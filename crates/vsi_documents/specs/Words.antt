@@ -1,10 +1,12 @@
 -- Words of globals and ends of runs as JSON, with keys in byte order.
-use Rattle.std.specs.Prelude.{ℕ, ℤ, Bool, List, [], ◌∷◌, ◌++◌, Option, if◌then◌else◌, codes}
+use Rattle.std.specs.Prelude.{ℕ, ℤ, Bool, true, false, List, [], ◌∷◌, ◌++◌, Option, Some, if◌then◌else◌, codes}
 use Rattle.serde_json.specs.Data.{Data, boolean, array, object, Members, no_members, put}
 use Rattle.serde_json.specs.View.{items_of}
 use Rattle.vsi_image.specs.Fields.{Global}
 use Rattle.vsi_lattice.specs.Known.{Known}
 use Rattle.vsi_lattice.specs.Order.{Lattice}
+use Rattle.vsi_store.specs.declared.comparing.RunEnding.{RunEnding}
+use Rattle.vsi_store.specs.declared.comparing.RunEnding.TheVariants.{Halted, OutOfBudget}
 use Rattle.vsi_leak.specs.Texts.{is_shown}
 use Rattle.vsi_diagnostics.specs.Members.{with_text, with_natural, with_word}
 
@@ -39,10 +41,22 @@ pair_objects known L to (g ∷ gs) (w ∷ ws) (v ∷ vs) =
 abbrev pub with_pairs : List ℕ → Known → Lattice → Option ℕ → List Global → List ℤ → List ℤ → Members → Members
 with_pairs key known L to gs ws vs ms = put key (array (items_of (pair_objects known L to gs ws vs))) ms
 
+-- The members with the objects of the globals that the class sees at the ends of both runs, if both halt.
+abbrev pub with_after : Known → Lattice → ℕ → List Global → RunEnding → RunEnding → Members → Members
+with_after known L a gs (Halted n ws) (Halted n' vs) ms =
+    with_pairs (codes "after") known L (Some a) gs ws.items vs.items ms
+with_after known L a gs (Halted n ws) OutOfBudget ms = ms
+with_after known L a gs OutOfBudget e ms = ms
+
 -- The members of the object of a run: whether it halts within its budget, and how many instructions it executes.
 abbrev pub end_members : Bool → ℕ → Members
 end_members halted n = with_natural (codes "instructions") n (put (codes "halted") (boolean halted) no_members)
 
+-- The object of the end of a run within a budget.
+abbrev pub ending_object : ℕ → RunEnding → Data
+ending_object budget (Halted n words) = object (end_members true n)
+ending_object budget OutOfBudget = object (end_members false budget)
+
 -- The members with that object added, at this key.
-abbrev pub with_end : List ℕ → Bool → ℕ → Members → Members
-with_end key halted n ms = put key (object (end_members halted n)) ms
+abbrev pub with_ending : List ℕ → ℕ → RunEnding → Members → Members
+with_ending key budget e ms = put key (ending_object budget e) ms

@@ -1,4 +1,4 @@
-//! Answers and refused files as lines of JSON, and what they are made of.
+//! Answers and refused files as lines of JSON, and their parts.
 
 ghost use Rattle.std.specs.Prelude.{◌≡◌, false, IfOk, OnOk, ◌++◌, length, map, IfSome};
 ghost use Rattle.serde_json.specs.View.{members_view, view};
@@ -14,13 +14,15 @@ use vsi_conform::{Checked, InterfaceError, fault_name};
 use vsi_diagnostics::{Diagnostic, Object, Objects, refusal_object, without_end};
 use vsi_lattice::{Class, Lattice};
 use vsi_leak::is_shown;
+use vsi_store::RunEnding;
 
-/// An answer: whether it is good, and the line of JSON that says so.
+/// An answer: whether it is good, and the line of JSON or the document of SARIF that says so. The
+/// answer about raises is good if the text is accepted as it is or with them.
 #[derive(Debug, Drop)]
 pub struct Documented {
     /// Whether the status of the subcommand is 0.
     pub is_good: bool,
-    /// The line of JSON.
+    /// The line.
     pub line: Vec<u8>,
 }
 
@@ -167,6 +169,48 @@ pub(crate) fn with_pairs(
     let mut found = Objects::new(alloc);
     put_pair_objects(alloc, &mut found, lattice, to, variables, words)?;
     made.array(key, found)
+}
+
+/// The object with the globals that the class sees at the ends of both runs, if both halt.
+pub(crate) fn with_after(
+    alloc: Global,
+    made: Object,
+    lattice: &Lattice,
+    class: Class,
+    variables: &[(Vec<u8>, Vec<u8>)],
+    first: &RunEnding,
+    second: &RunEnding,
+) -> Result<Object, AllocError>
+    requires { IsClass (order lattice.now) class }
+    ensures { IfOk result (λ all. members_view all ≡ words_spec.with_after (class_named lattice.now)
+        (order lattice.now) class (globals variables.now) first.now second.now (members_view made)) }
+{
+    match (first, second) {
+        (RunEnding::Halted { words, .. }, RunEnding::Halted { words: others, .. }) => {
+            let (to, ends) = (Some(class), (words.as_slice(), others.as_slice()));
+            with_pairs(alloc, made, "after", lattice, &to, variables, ends)
+        }
+        (RunEnding::Halted { .. }, RunEnding::OutOfBudget) => Ok(made),
+        (RunEnding::OutOfBudget, _) => Ok(made),
+    }
+}
+
+/// The object with the end of a run within a budget at a key.
+pub(crate) fn with_ending(
+    alloc: Global,
+    made: Object,
+    key: &str,
+    budget: u64,
+    ending: &RunEnding,
+) -> Result<Object, AllocError>
+    ensures { IfOk result (λ all. members_view all
+        ≡ words_spec.with_ending key.now budget ending.now (members_view made)) }
+{
+    let end = match ending {
+        RunEnding::Halted { instructions, .. } => end_object(alloc, true, *instructions)?,
+        RunEnding::OutOfBudget => end_object(alloc, false, budget)?,
+    };
+    made.object(key, end)
 }
 
 /// The object of a run that executes so many instructions.

@@ -1,7 +1,6 @@
 //! A search for a leak as a line of JSON.
 
 ghost use Rattle.std.specs.Prelude.{◌≡◌, ℕ, List, slice_get, IfErr, IfOk, IfSome, Some};
-ghost use Rattle.serde_json.specs.View.{members_view};
 ghost use Rattle.vsi_image.specs.Fields.{globals};
 ghost use Rattle.vsi_lattice.specs.LatticeView.{class_named, names, order};
 ghost use Rattle.vsi_lattice.specs.Order.{IsClass};
@@ -11,59 +10,13 @@ ghost use Rattle.vsi_compiler.specs.declared.error.CompileError.TheVariants.{Mem
 ghost use Rattle.vsi_documents.specs.Leaks as spec;
 ghost use Rattle.vsi_diagnostics.specs.Members as lines;
 
-use crate::answer::{Documented, end_object, with_pairs};
+use crate::answer::{Documented, with_after, with_ending, with_pairs};
 use std::alloc::{AllocError, Global};
 use vsi_compiler::CompileError;
 use vsi_diagnostics::Object;
 use vsi_image::Image;
 use vsi_lattice::Lattice;
-use vsi_leak::{Ending, Finding, Leak, Wanted, leak_of_text};
-
-/// The object with the globals that the class sees at the ends of both runs, if both halt.
-fn with_after(
-    alloc: Global,
-    made: Object,
-    lattice: &Lattice,
-    variables: &[(Vec<u8>, Vec<u8>)],
-    leak: &Leak,
-) -> Result<Object, AllocError>
-    requires { IsClass (order lattice.now) leak.now.class }
-    ensures { IfOk result (λ all. members_view all ≡ spec.with_after
-        (class_named lattice.now) (order lattice.now) leak.now.class (globals variables.now)
-        leak.now.first.ending leak.now.second.ending (members_view made)) }
-{
-    match (&leak.first.ending, &leak.second.ending) {
-        (Ending::Halted { words, .. }, Ending::Halted { words: others, .. }) => with_pairs(
-            alloc,
-            made,
-            "after",
-            lattice,
-            &Some(leak.class),
-            variables,
-            (words.as_slice(), others.as_slice()),
-        ),
-        (Ending::Halted { .. }, Ending::OutOfBudget) => Ok(made),
-        (Ending::OutOfBudget, _) => Ok(made),
-    }
-}
-
-/// The object with the end of a run within a budget at a key.
-fn with_ending(
-    alloc: Global,
-    made: Object,
-    key: &str,
-    budget: u64,
-    ending: &Ending,
-) -> Result<Object, AllocError>
-    ensures { IfOk result (λ all. members_view all
-        ≡ spec.with_ending key.now budget ending.now (members_view made)) }
-{
-    let end = match ending {
-        Ending::Halted { instructions, .. } => end_object(alloc, true, *instructions)?,
-        Ending::OutOfBudget => end_object(alloc, false, budget)?,
-    };
-    made.object(key, end)
-}
+use vsi_leak::{Finding, Leak, Wanted, leak_of_text};
 
 /// The line of a leak.
 fn leak_line(
@@ -85,9 +38,10 @@ fn leak_line(
         .flag("found", true)?
         .text("class", lattice.name(leak.class))?;
     let made = with_pairs(alloc, made, "before", lattice, &None, variables, stores)?;
-    let made = with_after(alloc, made, lattice, variables, leak)?;
-    let made = with_ending(alloc, made, "first", budget, &leak.first.ending)?;
-    let made = with_ending(alloc, made, "second", budget, &leak.second.ending)?;
+    let (first, second) = (&leak.first.ending, &leak.second.ending);
+    let made = with_after(alloc, made, lattice, leak.class, variables, first, second)?;
+    let made = with_ending(alloc, made, "first", budget, first)?;
+    let made = with_ending(alloc, made, "second", budget, second)?;
     made.line()
 }
 

@@ -1,4 +1,4 @@
-//! The answers of subcommands as lines of JSON, for programs.
+//! The answers of subcommands for programs: as lines of JSON, and as documents of SARIF 2.1.0.
 //!
 //! `classes_json` and `flows_json` read a source text under a lattice; `audit_json`, `steady_json`
 //! and `bound_json` read a verified image. `run_json` and `compare_json` run one, and `leak_json`
@@ -9,21 +9,38 @@
 //! object for each of the least raises under which the text is accepted. Words and other numbers
 //! are integers of JSON with up to 64 bits.
 //!
+//! Services that check changes show a document of SARIF on the lines of a text. `check_sarif` judges a
+//! source text as `vsi check` does. The document of an accepted text has no result. The document of
+//! a refused text has one: its rule is the number and the name of the refusal, its message the lines
+//! that `check` prints, its place that of the refusal, and for a refused flow it has a location for
+//! each step of the walk. `audit_sarif` and `steady_sarif` judge an image as `vsi audit` does, and
+//! their documents have the same form; a refusal of an image has no position. `points_sarif` and
+//! `image_sarif` write the answer about a text or an image beside an interface: a result for each
+//! point, whose rule is the kind of the point. `specs/Checking`, `specs/Auditing` and
+//! `specs/Findings` say which answers are written, `specs/Refusals` and `specs/Document` define
+//! their text.
+//!
 //! To be believed: all files of `specs/`.
 #![tactic(auto)]
 
 mod answer;
 mod audits;
 mod classes;
+mod findings;
 mod flows;
 mod leaks;
+mod location;
 mod mending;
+mod refusal;
 mod runs;
+mod sarif;
 
 pub use answer::{Documented, refused_interface_json, refused_json};
 pub use audits::{audit_json, bound_json, bound_json_in, steady_json};
 pub use classes::classes_json;
+pub use findings::{image_sarif, points_sarif};
 pub use flows::flows_json;
 pub use leaks::leak_json;
-pub use mending::{Mended, mend_json};
+pub use mending::mend_json;
 pub use runs::{compare_json, run_json};
+pub use sarif::{audit_sarif, check_sarif, steady_sarif};

@@ -15,9 +15,10 @@ ghost use Rattle.vsi_infer.specs.Inference.{AreClasses};
 ghost use Rattle.vsi_documents.specs.Answers as spec;
 ghost use Rattle.vsi_documents.specs.Json as json_spec;
 
+use crate::answer::{Documented, refused};
 use std::alloc::{AllocError, Global};
 use vsi_compiler::{CompileError, Source, read_source};
-use vsi_conform::{Checked, check_json_of, judgement_by, unread_json};
+use vsi_conform::{check_json_of, judgement_by, unread_json};
 use vsi_diagnostics::{Object, Objects};
 use vsi_flows::{Raise, Raising, name_start, raises_of};
 use vsi_infer::{class_name, declared_class, variable_name};
@@ -25,15 +26,6 @@ use vsi_lattice::Lattice;
 use vsi_scope::Resolved;
 use vsi_syntax::{Declaration, line_column};
 use vsi_types::Profile;
-
-/// The answer about the raises of a text: whether raises serve, and the line of JSON.
-#[derive(Debug, Drop)]
-pub struct Mended {
-    /// Whether the text is accepted as it is or with the raises.
-    pub is_served: bool,
-    /// The line of JSON.
-    pub line: Vec<u8>,
-}
 
 /// The line of raises of a source text.
 fn line_of(
@@ -91,32 +83,22 @@ fn raised_line(
     }
 }
 
-/// The answer for a text that no raise serves. Only a refused text is one.
-fn unserved(checked: Checked) -> Result<Mended, AllocError>
-    ensures { IfOk result (λ mended. (mended.is_served ≡ false) × (checked.is_accepted ≡ false)
-        × (mended.line ≡ checked.line)) }
-{
-    if checked.is_accepted {
-        return Err(AllocError);
-    }
-    Ok(Mended {
-        is_served: false,
-        line: checked.line,
-    })
-}
-
 /// The answer for a source text that was read.
-fn source_mended(alloc: Global, profile: Profile, source: &Source<'_>) -> Result<Mended, AllocError>
+fn source_mended(
+    alloc: Global,
+    profile: Profile,
+    source: &Source<'_>,
+) -> Result<Documented, AllocError>
     ensures { IfOk result (λ mended. spec.TellsMended source.now.lattice profile source.now.text
-        mended.is_served mended.line.items) }
+        mended.is_good mended.line.items) }
 {
     let checked = check_json_of(alloc, judgement_by(profile), source)?;
     match raised_line(alloc, profile, source, checked.is_accepted)? {
-        Some(line) => Ok(Mended {
-            is_served: true,
+        Some(line) => Ok(Documented {
+            is_good: true,
             line,
         }),
-        None => unserved(checked),
+        None => refused(checked),
     }
 }
 
@@ -129,17 +111,17 @@ pub fn mend_json(
     profile: Profile,
     lattice: &Lattice,
     text: &[u8],
-) -> Result<Mended, AllocError>
+) -> Result<Documented, AllocError>
     ensures answer { IfOk result (λ mended.
-        spec.TellsMended lattice.now profile text.now mended.is_served mended.line.items) }
+        spec.TellsMended lattice.now profile text.now mended.is_good mended.line.items) }
 {
     match read_source(alloc, lattice, text) {
         Ok(source) => source_mended(alloc, profile, &source),
         Err(CompileError::Memory) => Err(AllocError),
         Err(error) => {
             let line = unread_json(alloc, judgement_by(profile), lattice, text, error)?;
-            Ok(Mended {
-                is_served: false,
+            Ok(Documented {
+                is_good: false,
                 line,
             })
         }

@@ -10,14 +10,14 @@ ghost use Rattle.vsi_documents.specs.Runs as spec;
 ghost use Rattle.vsi_documents.specs.Words as words_spec;
 ghost use Rattle.vsi_documents.specs.Comparisons as comparisons_spec;
 
-use crate::answer::{Documented, end_object, with_pairs, word_objects};
+use crate::answer::{Documented, end_object, with_after, with_ending, with_pairs, word_objects};
 use std::alloc::{AllocError, Global};
 use vsi_answers::Unanswered;
 use vsi_diagnostics::Object;
 use vsi_image::{Image, Verified};
 use vsi_lattice::{Class, Lattice};
 use vsi_machine::{Outcome, counted};
-use vsi_store::{Comparison, RunEnding};
+use vsi_store::Comparison;
 
 /// The line of a run that halts after so many instructions, with these words in the globals.
 fn halted_line(
@@ -73,53 +73,6 @@ pub fn run_json(
     }
 }
 
-/// The object with the globals that the class sees at the ends of both runs, if both halt.
-fn with_after(
-    alloc: Global,
-    made: Object,
-    lattice: &Lattice,
-    class: Class,
-    variables: &[(Vec<u8>, Vec<u8>)],
-    found: &Comparison,
-) -> Result<Object, AllocError>
-    requires { IsClass (order lattice.now) class }
-    ensures { IfOk result (λ all. members_view all ≡ comparisons_spec.with_after
-        (class_named lattice.now) (order lattice.now) class (globals variables.now)
-        found.now.first found.now.second (members_view made)) }
-{
-    match (&found.first, &found.second) {
-        (RunEnding::Halted { words, .. }, RunEnding::Halted { words: others, .. }) => with_pairs(
-            alloc,
-            made,
-            "after",
-            lattice,
-            &Some(class),
-            variables,
-            (words.as_slice(), others.as_slice()),
-        ),
-        (RunEnding::Halted { .. }, RunEnding::OutOfBudget) => Ok(made),
-        (RunEnding::OutOfBudget, _) => Ok(made),
-    }
-}
-
-/// The object with the end of a run within a budget at a key.
-fn with_ending(
-    alloc: Global,
-    made: Object,
-    key: &str,
-    budget: u64,
-    ending: &RunEnding,
-) -> Result<Object, AllocError>
-    ensures { IfOk result (λ all. members_view all
-        ≡ comparisons_spec.with_ending key.now budget ending.now (members_view made)) }
-{
-    let end = match ending {
-        RunEnding::Halted { instructions, .. } => end_object(alloc, true, *instructions)?,
-        RunEnding::OutOfBudget => end_object(alloc, false, budget)?,
-    };
-    made.object(key, end)
-}
-
 /// The line of a comparison of runs from two stores.
 fn comparison_line(
     alloc: Global,
@@ -143,7 +96,15 @@ fn comparison_line(
         .flag("same", found.is_same)?
         .text("class", lattice.name(class))?;
     let made = with_pairs(alloc, made, "before", lattice, &to, variables, stores)?;
-    let made = with_after(alloc, made, lattice, class, variables, found)?;
+    let made = with_after(
+        alloc,
+        made,
+        lattice,
+        class,
+        variables,
+        &found.first,
+        &found.second,
+    )?;
     let made = with_ending(alloc, made, "first", budget, &found.first)?;
     let made = with_ending(alloc, made, "second", budget, &found.second)?;
     made.line()

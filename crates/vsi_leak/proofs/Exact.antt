@@ -5,22 +5,22 @@ use Rattle.vsi_lattice.specs.Order.{Lattice}
 use Rattle.vsi_scope.specs.Meaning.{Store}
 use Rattle.vsi_lattice.specs.Known.{Known}
 use Rattle.vsi_compiler.specs.Observation.{AgreeAt}
-use Rattle.vsi_leak.specs.declared.found.Ending.{Ending}
-use Rattle.vsi_leak.specs.declared.found.Ending.TheVariants.{Halted, OutOfBudget}
+use Rattle.vsi_store.specs.declared.comparing.RunEnding.{RunEnding}
+use Rattle.vsi_store.specs.declared.comparing.RunEnding.TheVariants.{Halted, OutOfBudget}
 use Rattle.vsi_leak.specs.declared.found.Sign.{Sign}
 use Rattle.vsi_leak.specs.declared.found.Sign.TheVariants.{Words, Endings, Steps}
 use Rattle.vsi_leak.specs.Leaks.{EndsSo, ShowNone, TellsApart}
 use Rattle.vsi_leak.proofs.Counts.{lasts, one_count, one_end}
 
 -- Two endings are alike: both are out of budget, or both halt after equally many instructions with the same words.
-abbrev pub Alike : Ending → Ending → Type 0
+abbrev pub Alike : RunEnding → RunEnding → Type 0
 Alike (Halted n words) (Halted n' words') = (n ≡ n') × (words.items ≡ words'.items)
 Alike (Halted n words) OutOfBudget = ⊥
 Alike OutOfBudget (Halted n words) = ⊥
 Alike OutOfBudget OutOfBudget = Unit {0}
 
 -- A run within a budget has one ending.
-one_ending : (image : Image) (m : Store) (budget : ℕ) (e e' : Ending) → EndsSo image m budget e →
+one_ending : (image : Image) (m : Store) (budget : ℕ) (e e' : RunEnding) → EndsSo image m budget e →
     EndsSo image m budget e' → Alike e e'
 one_ending image m budget (Halted n words) (Halted n' words') h h' = (
   one_count image m words.items words'.items n n' h.1 h'.1,
@@ -34,7 +34,7 @@ one_ending image m budget OutOfBudget OutOfBudget h h' = tt
 
 module _ (known : Known) (L : Lattice) (image : Image) (a : ℕ) where
   -- Endings that are alike are distinguished by the same signs.
-  apart_alike : (s : Sign) (e₁ e₂ e₁' e₂' : Ending) → Alike e₁ e₁' → Alike e₂ e₂' →
+  apart_alike : (s : Sign) (e₁ e₂ e₁' e₂' : RunEnding) → Alike e₁ e₁' → Alike e₂ e₂' →
       TellsApart known L image a s e₁ e₂ → TellsApart known L image a s e₁' e₂'
   apart_alike Words (Halted n w) (Halted k v) (Halted n' w') (Halted k' v') h h' t =
       subst (λ x. ¬ (AgreeAt known L image a x v'.items)) h.1
@@ -73,7 +73,7 @@ module _ (known : Known) (L : Lattice) (image : Image) (budget : ℕ) (s : Sign)
       (subst (λ c. AgreeAt known L image c leak.first.store.items leak.second.store.items) of.class is.agree)))
 
   -- Stores whose runs can't be told apart show nothing.
-  pub not_apart : (e e' : Ending) → EndsSo image m budget e → EndsSo image m' budget e' →
+  pub not_apart : (e e' : RunEnding) → EndsSo image m budget e → EndsSo image m' budget e' →
       ¬ (TellsApart known L image a s e e') → ShowNone known L image budget s a m m'
   not_apart e e' ends ends' same leak of is =
       let first = one_ending image m budget leak.first.ending e

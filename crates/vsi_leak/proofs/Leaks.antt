@@ -5,8 +5,8 @@ use Rattle.vsi_lattice.specs.Order.{Lattice, IsClass}
 use Rattle.vsi_scope.specs.Meaning.{Store}
 use Rattle.vsi_lattice.specs.Known.{Known}
 use Rattle.vsi_compiler.specs.Observation.{IsNoninterfering, AgreeAt, IsStoreOf}
-use Rattle.vsi_leak.specs.declared.found.Ending.{Ending}
-use Rattle.vsi_leak.specs.declared.found.Ending.TheVariants.{Halted, OutOfBudget}
+use Rattle.vsi_store.specs.declared.comparing.RunEnding.{RunEnding}
+use Rattle.vsi_store.specs.declared.comparing.RunEnding.TheVariants.{Halted, OutOfBudget}
 use Rattle.vsi_leak.specs.declared.found.Finding.{Finding}
 use Rattle.vsi_leak.specs.declared.found.Finding.TheVariants as finding
 use Rattle.vsi_leak.specs.declared.found.Sign.{Sign}
@@ -18,7 +18,7 @@ module _ (known : Known) (L : Lattice) (image : Image) (budget a : ℕ) (within 
     (fits : IsStoreOf image m) (fits' : IsStoreOf image m') (agree : AgreeAt known L image a m m')
     (secure : IsNoninterfering known L image) where
   -- Two halted runs from stores that agree end in agreement, so no final words tell them apart.
-  untold : (e e' : Ending) → EndsSo image m budget e → EndsSo image m' budget e' →
+  untold : (e e' : RunEnding) → EndsSo image m budget e → EndsSo image m' budget e' →
       ¬ (TellsApart known L image a Words e e')
   untold (Halted n words) (Halted n' words') h h' apart =
       apart (secure a within m m' words.items words'.items n n' fits fits' agree h.1.ends h'.1.ends)

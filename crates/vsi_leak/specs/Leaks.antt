@@ -8,8 +8,8 @@ use Rattle.vsi_machine.specs.Runs.{run_of}
 use Rattle.vsi_scope.specs.Meaning.{Store}
 use Rattle.vsi_lattice.specs.Known.{Known}
 use Rattle.vsi_compiler.specs.Observation.{AgreeAt, IsStoreOf, Ends}
-use Rattle.vsi_leak.specs.declared.found.Ending.{Ending}
-use Rattle.vsi_leak.specs.declared.found.Ending.TheVariants.{Halted, OutOfBudget}
+use Rattle.vsi_store.specs.declared.comparing.RunEnding.{RunEnding}
+use Rattle.vsi_store.specs.declared.comparing.RunEnding.TheVariants.{Halted, OutOfBudget}
 use Rattle.vsi_leak.specs.declared.found.Finding.{Finding}
 use Rattle.vsi_leak.specs.declared.found.Finding.TheVariants as finding
 use Rattle.vsi_leak.specs.declared.found.Leak.{Leak}
@@ -38,12 +38,12 @@ abbrev pub TakesSome : Image → Store → ℕ → Type 0
 TakesSome image m n = (m' : Store) × Takes image m n m'
 
 -- The reported ending of a run from a store, within a budget, is true.
-abbrev pub EndsSo : Image → Store → ℕ → Ending → Type 0
+abbrev pub EndsSo : Image → Store → ℕ → RunEnding → Type 0
 EndsSo image m budget (Halted n words) = (n ≤ budget) × Takes image m n words.items
 EndsSo image m budget OutOfBudget = GoesOn image m budget
 
 -- An observer at a class can tell the ends of two runs apart by this sign.
-abbrev pub TellsApart : Known → Lattice → Image → ℕ → Sign → Ending → Ending → Type 0
+abbrev pub TellsApart : Known → Lattice → Image → ℕ → Sign → RunEnding → RunEnding → Type 0
 TellsApart known L image a Words (Halted n words) (Halted n' words') =
     ¬ (AgreeAt known L image a words.items words'.items)
 TellsApart known L image a Words (Halted n words) OutOfBudget = ⊥

@@ -8,8 +8,8 @@ use Rattle.vsi_scope.specs.Meaning.{Store}
 use Rattle.vsi_lattice.specs.Known.{Known}
 use Rattle.vsi_machine.specs.Cells.{word_cell, halted_cell}
 use Rattle.vsi_store.specs.View.{is_seen}
-use Rattle.vsi_leak.specs.declared.found.Ending.{Ending}
-use Rattle.vsi_leak.specs.declared.found.Ending.TheVariants.{Halted, OutOfBudget}
+use Rattle.vsi_store.specs.declared.comparing.RunEnding.{RunEnding}
+use Rattle.vsi_store.specs.declared.comparing.RunEnding.TheVariants.{Halted, OutOfBudget}
 use Rattle.vsi_leak.specs.declared.found.Leak.{Leak}
 
 -- A cell filled up with spaces to the width.
@@ -59,18 +59,18 @@ longest [] = 0
 longest (cell ∷ cells) = max (length cell) (longest cells)
 
 -- The number of instructions after which a run halts, or that it is out of budget.
-abbrev pub end_cell : Ending → List ℕ
+abbrev pub end_cell : RunEnding → List ℕ
 end_cell (Halted n words) = halted_cell n
 end_cell OutOfBudget = codes "out of budget"
 
 -- The rows that the class sees at the ends of both runs, if both halt.
-abbrev pub seen_rows : Known → Lattice → ℕ → ℕ → List Global → Ending → Ending → List ℕ
+abbrev pub seen_rows : Known → Lattice → ℕ → ℕ → List Global → RunEnding → RunEnding → List ℕ
 seen_rows known L a width gs (Halted n ws) (Halted n' vs) = word_rows known L (Some a) width gs ws.items vs.items
 seen_rows known L a width gs (Halted n ws) OutOfBudget = []
 seen_rows known L a width gs OutOfBudget e = []
 
 -- The left cells that the class sees, if both runs halt.
-abbrev pub seen_cells : Known → Lattice → ℕ → List Global → Ending → Ending → List (List ℕ)
+abbrev pub seen_cells : Known → Lattice → ℕ → List Global → RunEnding → RunEnding → List (List ℕ)
 seen_cells known L a gs (Halted n ws) (Halted n' vs) = left_cells known L (Some a) gs ws.items vs.items
 seen_cells known L a gs (Halted n ws) OutOfBudget = []
 seen_cells known L a gs OutOfBudget e = []

@@ -10,13 +10,13 @@ ghost use Rattle.vsi_store.specs.View.{is_seen};
 ghost use Rattle.vsi_leak.specs.Agreement.{AgreeIn};
 ghost use Rattle.vsi_image.specs.Meaning.{start};
 
-use crate::found::{Ending, Leak, Run, Sign};
+use crate::found::{Leak, Run, Sign};
 use crate::propose::word_at;
 use std::alloc::{AllocError, Global};
 use vsi_image::{Image, Verified};
 use vsi_lattice::{Class, Lattice};
 use vsi_machine::{Machine, Outcome};
-use vsi_store::sees;
+use vsi_store::{RunEnding, sees};
 
 /// Whether the sign tells two ends apart at the class.
 fn tells_apart(
@@ -24,8 +24,8 @@ fn tells_apart(
     class: Class,
     image: &Image,
     sign: Sign,
-    first: &Ending,
-    second: &Ending,
+    first: &RunEnding,
+    second: &RunEnding,
 ) -> bool
     requires { IsClass (order lattice.now) class }
     ensures { IsTrue result ↔ TellsApart (class_named lattice.now) (order lattice.now) image.now
@@ -33,11 +33,11 @@ fn tells_apart(
 {
     match (first, second) {
         (
-            Ending::Halted {
+            RunEnding::Halted {
                 instructions: n,
                 words,
             },
-            Ending::Halted {
+            RunEnding::Halted {
                 instructions: m,
                 words: others,
             },
@@ -46,12 +46,12 @@ fn tells_apart(
             Sign::Endings => false,
             Sign::Steps => n != m,
         },
-        (Ending::Halted { .. }, Ending::OutOfBudget) => match sign {
+        (RunEnding::Halted { .. }, RunEnding::OutOfBudget) => match sign {
             Sign::Words => false,
             Sign::Endings => true,
             Sign::Steps => false,
         },
-        (Ending::OutOfBudget, _) => false,
+        (RunEnding::OutOfBudget, _) => false,
     }
 }
 
@@ -237,7 +237,7 @@ pub(crate) fn ending(
     verified: &Verified,
     store: &[i64],
     budget: u64,
-) -> Result<Ending, AllocError>
+) -> Result<RunEnding, AllocError>
     ensures { IfOk result (EndsSo verified.now store.now budget) }
 {
     let mut machine = started(alloc, verified, store)?;
@@ -245,11 +245,11 @@ pub(crate) fn ending(
         Outcome::Halted => {
             let instructions = instructions_of(alloc, verified, store, budget)?;
             let words = machine.store().to_vec(alloc)?;
-            Ok(Ending::Halted {
+            Ok(RunEnding::Halted {
                 instructions,
                 words,
             })
         }
-        Outcome::OutOfBudget => Ok(Ending::OutOfBudget),
+        Outcome::OutOfBudget => Ok(RunEnding::OutOfBudget),
     }
 }

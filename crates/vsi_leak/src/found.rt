@@ -1,6 +1,7 @@
 //! The subject of a search, and its findings.
 
 use vsi_lattice::Class;
+use vsi_store::RunEnding;
 
 /// The sign by which an observer tells two runs apart.
 #[derive(Clone, Copy, PartialEq, Eq)]
@@ -13,20 +14,11 @@ pub enum Sign {
     Steps,
 }
 
-/// The ending of a run within a budget.
-#[derive(Drop)]
-pub enum Ending {
-    /// It halts after this many instructions, including HALT, with these words in the globals.
-    Halted { instructions: u64, words: Vec<i64> },
-    /// The budget is spent before a HALT.
-    OutOfBudget,
-}
-
 /// A run: the words of the globals at its start, and its ending.
 #[derive(Drop)]
 pub struct Run {
     pub store: Vec<i64>,
-    pub ending: Ending,
+    pub ending: RunEnding,
 }
 
 /// Two runs from stores that agree at and below a class, and that an observer at the class can

@@ -19,7 +19,7 @@ mod text;
 mod whole;
 
 pub use check::check_leak;
-pub use found::{Effort, Ending, Finding, Leak, Run, Sign};
+pub use found::{Effort, Finding, Leak, Run, Sign};
 pub use search::find_leak;
 pub use text::{is_shown, leak_text};
 pub use whole::{Wanted, classes_upwards, leak_of, leak_of_text};

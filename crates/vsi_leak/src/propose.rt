@@ -5,14 +5,14 @@ ghost use Rattle.vsi_lattice.specs.Order.{IsClass};
 ghost use Rattle.std.specs.Prelude.{◌≡◌, pos, slice_index_or};
 
 use crate::check::{ending, started};
-use crate::found::{Ending, Sign};
+use crate::found::Sign;
 use rand_core::Rng;
 use rand_xoshiro::SplitMix64;
 use std::alloc::{AllocError, Global};
 use vsi_image::{Image, Instr, Verified};
 use vsi_lattice::{Class, Lattice};
 use vsi_machine::Outcome;
-use vsi_store::sees;
+use vsi_store::{RunEnding, sees};
 
 /// The conditions of a search for a pair of runs: an image, the globals that the class sees, a sign
 /// and a budget.
@@ -118,8 +118,8 @@ impl<'a> Probe<'a> {
     /// The number of instructions that a halting run takes, or 0 for any other run.
     fn instructions(&self, store: &[i64]) -> Result<u64, AllocError> {
         match ending(self.alloc, self.verified, store, self.budget)? {
-            Ending::Halted { instructions, .. } => Ok(instructions),
-            Ending::OutOfBudget => Ok(0),
+            RunEnding::Halted { instructions, .. } => Ok(instructions),
+            RunEnding::OutOfBudget => Ok(0),
         }
     }
 }

@@ -6,12 +6,12 @@ ghost use Rattle.vsi_lattice.specs.LatticeView.{class_named, order};
 ghost use Rattle.vsi_lattice.specs.Order.{IsClass};
 ghost use Rattle.vsi_leak.specs.Texts as spec;
 
-use crate::found::{Ending, Leak};
+use crate::found::Leak;
 use std::alloc::{AllocError, Global};
 use vsi_image::Image;
 use vsi_lattice::{Class, Lattice};
 use vsi_machine::{halted_cell, word_cell};
-use vsi_store::sees;
+use vsi_store::{RunEnding, sees};
 
 /// A cell filled up with spaces to the width.
 fn padded(alloc: Global, width: usize, cell: &[u8]) -> Result<Vec<u8>, AllocError>
@@ -50,12 +50,12 @@ fn put_row(
 }
 
 /// The number of instructions after which a run halts, or that it is out of budget.
-fn end_cell(alloc: Global, ending: &Ending) -> Result<Vec<u8>, AllocError>
+fn end_cell(alloc: Global, ending: &RunEnding) -> Result<Vec<u8>, AllocError>
     ensures { IfOk result (λ cell. cell.items ≡ spec.end_cell ending.now) }
 {
     match ending {
-        Ending::Halted { instructions, .. } => halted_cell(alloc, *instructions),
-        Ending::OutOfBudget => Vec::from_slice(alloc, b"out of budget"),
+        RunEnding::Halted { instructions, .. } => halted_cell(alloc, *instructions),
+        RunEnding::OutOfBudget => Vec::from_slice(alloc, b"out of budget"),
     }
 }
 
@@ -137,7 +137,7 @@ fn put_seen(
         leak.now.first.ending leak.now.second.ending) }
 {
     match (&leak.first.ending, &leak.second.ending) {
-        (Ending::Halted { words, .. }, Ending::Halted { words: others, .. }) => put_rows(
+        (RunEnding::Halted { words, .. }, RunEnding::Halted { words: others, .. }) => put_rows(
             alloc,
             text,
             lattice,
@@ -146,8 +146,8 @@ fn put_seen(
             variables,
             (words.as_slice(), others.as_slice()),
         ),
-        (Ending::Halted { .. }, Ending::OutOfBudget) => Ok(()),
-        (Ending::OutOfBudget, _) => Ok(()),
+        (RunEnding::Halted { .. }, RunEnding::OutOfBudget) => Ok(()),
+        (RunEnding::OutOfBudget, _) => Ok(()),
     }
 }
 
@@ -211,12 +211,12 @@ fn left_width(
     let stores = (leak.first.store.as_slice(), leak.second.store.as_slice());
     let width = widened(alloc, lattice, &None, width, variables, stores)?;
     match (&leak.first.ending, &leak.second.ending) {
-        (Ending::Halted { words, .. }, Ending::Halted { words: others, .. }) => {
+        (RunEnding::Halted { words, .. }, RunEnding::Halted { words: others, .. }) => {
             let ends = (words.as_slice(), others.as_slice());
             widened(alloc, lattice, &Some(leak.class), width, variables, ends)
         }
-        (Ending::Halted { .. }, Ending::OutOfBudget) => Ok(width),
-        (Ending::OutOfBudget, _) => Ok(width),
+        (RunEnding::Halted { .. }, RunEnding::OutOfBudget) => Ok(width),
+        (RunEnding::OutOfBudget, _) => Ok(width),
     }
 }
 

@@ -13,9 +13,8 @@ use std::alloc::Global;
 use vsi_compiler::{Source, image_of};
 use vsi_image::{Image, Verified};
 use vsi_lattice::{Class, Classes, Lattice};
-use vsi_leak::{
-    Effort, Ending, Finding, Leak, Sign, check_leak, classes_upwards, find_leak, leak_text,
-};
+use vsi_leak::{Effort, Finding, Leak, Sign, check_leak, classes_upwards, find_leak, leak_text};
+use vsi_store::RunEnding;
 use vsi_types::Profile;
 
 /// A search: the lattice, the image, the first variable of the refused flow, and the signs.
@@ -224,15 +223,15 @@ const TAKES: &[u8] = b"<p>The first run takes %0 instructions, the second %1.</p
 /// Adds the table of the final stores and the numbers of instructions, if both runs halt.
 fn put_endings<'a>(page: &mut Page, before: Stores<'a>, leak: &'a Leak) -> Added {
     let (one, other) = (&leak.first.ending, &leak.second.ending);
-    if let (Ending::OutOfBudget, Ending::OutOfBudget) = (one, other) {
+    if let (RunEnding::OutOfBudget, RunEnding::OutOfBudget) = (one, other) {
         return page.put(b"<p>Both runs are out of budget.</p>\n");
     }
-    if let Ending::Halted {
+    if let RunEnding::Halted {
         instructions: count,
         words: first,
     } = one
     {
-        if let Ending::Halted {
+        if let RunEnding::Halted {
             instructions: more,
             words: second,
         } = other

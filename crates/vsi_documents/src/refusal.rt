@@ -1,0 +1,167 @@
+//! The document of a refusal.
+
+ghost use Rattle.std.specs.Prelude.{◌≡◌, decimal, map, option_map, IfOk};
+ghost use Rattle.serde_json.specs.View.{members_view, view};
+ghost use Rattle.vsi_lattice.specs.declared.lattice.Lattice.{Lattice as Named};
+ghost use Rattle.vsi_diagnostics.specs.View.{diagnostic_of};
+ghost use Rattle.vsi_documents.specs.Refusals as spec;
+ghost use Rattle.vsi_documents.specs.Steps.{LocatesFlow};
+
+use crate::location::{flow_objects, location};
+use crate::sarif::document;
+use std::alloc::{AllocError, Global};
+use vsi_compiler::Source;
+use vsi_diagnostics::{Diagnostic, Field, Object, Objects, without_end};
+use vsi_syntax::{line_column, put_number};
+use vsi_types::Step;
+
+/// The position at which the last of these steps writes, if there is one.
+fn last_place(source: &[u8], steps: &[Step]) -> Option<(usize, usize)>
+    ensures { result ≡ spec.last_place source.now steps.now }
+{
+    match steps.last() {
+        Some(step) => {
+            let (line, column) = line_column(source, step.written.start);
+            Some((line, column))
+        }
+        None => None,
+    }
+}
+
+/// The position at which the last step of a flow writes, if there is one.
+fn written_place(source: &[u8], steps: Option<&[Step]>) -> Option<(usize, usize)>
+    ensures { result ≡ spec.written_place source.now (option_map (λ s. s.now) steps.entry) }
+{
+    match steps {
+        Some(steps) => last_place(source, steps),
+        None => None,
+    }
+}
+
+/// The position of a refusal: its own, or for a flow that at which the last step writes.
+fn place_of(source: &[u8], diagnostic: &Diagnostic) -> Option<(usize, usize)>
+    ensures { result ≡ spec.place_of source.now (diagnostic_of diagnostic.now) }
+{
+    match diagnostic.field {
+        Field::Place(line, column) => Some((line, column)),
+        Field::Nothing | Field::Number(_) | Field::Pair(_, _) => {
+            written_place(source, diagnostic.steps)
+        }
+        Field::Word(_) | Field::Numbered(_, _) => written_place(source, diagnostic.steps),
+    }
+}
+
+/// The identifier of a rule: the number of the refusal.
+fn rule_id(alloc: Global, diagnostic: &Diagnostic) -> Result<Vec<u8>, AllocError>
+    ensures { IfOk result (λ id. id.items ≡ decimal (diagnostic_of diagnostic.now).code) }
+{
+    let mut id = Vec::new(alloc);
+    put_number(&mut id, diagnostic.code)?;
+    Ok(id)
+}
+
+/// The object of the flow whose locations are these.
+fn flow(alloc: Global, locations: Objects) -> Result<Object, AllocError>
+    ensures { IfOk result (λ made. members_view made ≡ spec.flow_members (map view locations)) }
+{
+    let thread = Object::new(alloc).array("locations", locations)?;
+    Object::new(alloc).array("threadFlows", Objects::of(alloc, thread)?)
+}
+
+/// The object with the flow of the steps, if there is one.
+fn with_flow(alloc: Global, made: Object, steps: Option<Objects>) -> Result<Object, AllocError>
+    ensures { IfOk result (λ all. members_view all
+        ≡ spec.with_flow (option_map (map view) steps) (members_view made)) }
+{
+    match steps {
+        Some(steps) => {
+            let flows = Objects::of(alloc, flow(alloc, steps)?)?;
+            made.array("codeFlows", flows)
+        }
+        None => Ok(made),
+    }
+}
+
+/// The object of a result of the rule with an identifier and an index.
+pub(crate) fn result_object(
+    alloc: Global,
+    id: &[u8],
+    index: usize,
+    location: Object,
+    steps: Option<Objects>,
+    lines: &[u8],
+) -> Result<Object, AllocError>
+    ensures { IfOk result (λ made. members_view made ≡ spec.result_members id.now index
+        (members_view location) (option_map (map view) steps) lines.now) }
+{
+    let message = Object::new(alloc).text("text", without_end(lines))?;
+    with_flow(alloc, Object::new(alloc), steps)?
+        .text("level", b"error")?
+        .array("locations", Objects::of(alloc, location)?)?
+        .object("message", message)?
+        .text("ruleId", id)?
+        .natural("ruleIndex", index)
+}
+
+/// The document of a refusal whose rule has this identifier and whose flow has these objects.
+fn identified(
+    alloc: Global,
+    uri: &[u8],
+    text: &[u8],
+    diagnostic: &Diagnostic,
+    steps: Option<Objects>,
+    lines: &[u8],
+    id: &[u8],
+) -> Result<Vec<u8>, AllocError>
+    ensures { IfOk result (λ out. (l : Named) → id.now ≡ decimal (diagnostic_of diagnostic.now).code
+        → LocatesFlow l uri.now text.now (diagnostic_of diagnostic.now).steps
+        (option_map (map view) steps)
+        → spec.IsRefusalDocument l uri.now text.now
+        (diagnostic_of diagnostic.now) lines.now out.items) }
+{
+    let rule = Object::new(alloc)
+        .text("id", id)?
+        .text("name", diagnostic.name)?;
+    let place = location(alloc, uri, place_of(text, diagnostic))?;
+    let found = result_object(alloc, id, 0, place, steps, lines)?;
+    document(alloc, Objects::of(alloc, rule)?, Objects::of(alloc, found)?)
+}
+
+/// The document of a refusal other than that of a flow, of the text or the image in the file with
+/// this URI, with the lines that are printed for it.
+pub(crate) fn refusal_document(
+    alloc: Global,
+    uri: &[u8],
+    text: &[u8],
+    diagnostic: &Diagnostic,
+    lines: &[u8],
+) -> Result<Vec<u8>, AllocError>
+    ensures { IfOk result (λ out. (l : Named) → spec.IsRefusalDocument l uri.now text.now
+        (diagnostic_of diagnostic.now) lines.now out.items) }
+{
+    // Only a text that has a program is refused for a flow.
+    let None = diagnostic.steps else {
+        return Err(AllocError);
+    };
+    let id = rule_id(alloc, diagnostic)?;
+    let written = identified(alloc, uri, text, diagnostic, None, lines, &id)?;
+    Ok(written)
+}
+
+/// The document of a refusal of a source text that was read.
+pub(crate) fn source_document(
+    alloc: Global,
+    uri: &[u8],
+    source: &Source<'_>,
+    diagnostic: &Diagnostic,
+    lines: &[u8],
+) -> Result<Vec<u8>, AllocError>
+    ensures { IfOk result (λ out. spec.IsRefusalDocument source.now.lattice uri.now source.now.text
+        (diagnostic_of diagnostic.now) lines.now out.items) }
+{
+    let id = rule_id(alloc, diagnostic)?;
+    let steps = flow_objects(alloc, uri, source, diagnostic.steps)?;
+    let text = source.text();
+    let written = identified(alloc, uri, text, diagnostic, steps, lines, &id)?;
+    Ok(written)
+}

@@ -1,0 +1,232 @@
+//! Documents of SARIF, and the answers of checks as such documents.
+
+ghost use Rattle.std.specs.Prelude.{◌≡◌, false, map, IfOk, []};
+ghost use Rattle.serde_json.specs.View.{members_view, view};
+ghost use Rattle.vsi_conform.specs.Lines.{is_steady as is_steady_of};
+ghost use Rattle.vsi_documents.specs.Document.{document_text};
+ghost use Rattle.vsi_documents.specs.Document as spec;
+ghost use Rattle.vsi_documents.specs.Auditing as auditing_spec;
+ghost use Rattle.vsi_documents.specs.Checking as checking_spec;
+
+use crate::answer::Documented;
+use crate::location::uri_of;
+use crate::refusal::{refusal_document, source_document};
+use std::alloc::{AllocError, Global};
+use vsi_compiler::{CompileError, Source, read_source};
+use vsi_conform::{
+    Judgement, judged_of, judgement_by, refusal_lines, refusal_lines_of, unsteady_diagnostic,
+};
+use vsi_conform_image::refused_image;
+use vsi_diagnostics::{Object, Objects};
+use vsi_image::Verified;
+use vsi_lattice::Lattice;
+use vsi_steady::UnsteadyError;
+use vsi_types::Profile;
+
+/// The URI of the schema of SARIF 2.1.0.
+fn schema() -> &'static [u8]
+    ensures { result.now ≡ spec.schema }
+{
+    b"https://json.schemastore.org/sarif-2.1.0.json"
+}
+
+/// The object of a run of the tool, with its rules.
+fn run(alloc: Global, rules: Objects, results: Objects) -> Result<Object, AllocError>
+    ensures { IfOk result
+        (λ made. members_view made ≡ spec.run_members (map view rules) (map view results)) }
+{
+    let driver = Object::new(alloc)
+        .text("name", b"vsi")?
+        .array("rules", rules)?
+        .text("version", b"0.1.0")?;
+    let tool = Object::new(alloc).object("driver", driver)?;
+    Object::new(alloc)
+        .text("columnKind", b"unicodeCodePoints")?
+        .array("results", results)?
+        .object("tool", tool)
+}
+
+/// The text of the document of these rules and results, a line.
+pub(crate) fn document(
+    alloc: Global,
+    rules: Objects,
+    results: Objects,
+) -> Result<Vec<u8>, AllocError>
+    ensures { IfOk result (λ line.
+        line.items ≡ spec.document_text (map view rules) (map view results)) }
+{
+    let runs = Objects::of(alloc, run(alloc, rules, results)?)?;
+    Object::new(alloc)
+        .array("runs", runs)?
+        .text("$schema", schema())?
+        .text("version", b"2.1.0")?
+        .line()
+}
+
+/// The answer about the image of the file at a path and a profile.
+fn judged_sarif(
+    alloc: Global,
+    judgement: Judgement,
+    lattice: &Lattice,
+    path: &str,
+    image: &Verified,
+) -> Result<Documented, AllocError>
+    ensures { IfOk result (λ told. auditing_spec.TellsJudged lattice.now judgement path.now
+        image.now told.is_good told.line.items) }
+{
+    match refused_image(alloc, judgement, lattice, image)? {
+        None => {
+            let line = accepted(alloc)?;
+            Ok(Documented {
+                is_good: true,
+                line,
+            })
+        }
+        Some((diagnostic, lines)) => {
+            let uri = uri_of(alloc, path)?;
+            let line = refusal_document(alloc, uri.as_bytes(), &[], &diagnostic, &lines)?;
+            Ok(Documented {
+                is_good: false,
+                line,
+            })
+        }
+    }
+}
+
+/// The answer of `vsi audit` to the image of the file at a path as a document of SARIF 2.1.0. An error
+/// means that memory ran out.
+pub fn audit_sarif(
+    alloc: Global,
+    profile: Profile,
+    lattice: &Lattice,
+    path: &str,
+    image: &Verified,
+) -> Result<Documented, AllocError>
+    ensures answer { IfOk result (λ told. auditing_spec.TellsAudit lattice.now profile path.now image.now
+        told.is_good told.line.items) }
+{
+    judged_sarif(alloc, judgement_by(profile), lattice, path, image)
+}
+
+/// The answer of `vsi audit --steady` to the image of the file at a path as such a document.
+pub fn steady_sarif(
+    alloc: Global,
+    lattice: &Lattice,
+    path: &str,
+    image: &Verified,
+) -> Result<Documented, AllocError>
+    ensures answer { IfOk result (λ told. auditing_spec.TellsSteadiness lattice.now path.now image.now
+        told.is_good told.line.items) }
+{
+    judged_sarif(alloc, Judgement::Steady, lattice, path, image)
+}
+
+/// Whether a judgement demands a steady image.
+pub(crate) fn is_steady(judgement: Judgement) -> bool
+    ensures { result ≡ is_steady_of judgement }
+{
+    match judgement {
+        Judgement::Base | Judgement::Strict => false,
+        Judgement::Steady => true,
+    }
+}
+
+/// The document of an accepted text or image, which has no result.
+pub(crate) fn accepted(alloc: Global) -> Result<Vec<u8>, AllocError>
+    ensures { IfOk result (λ out. out.items ≡ document_text [] []) }
+{
+    document(alloc, Objects::new(alloc), Objects::new(alloc))
+}
+
+/// The document of a refused text, which has no program.
+fn refused(
+    alloc: Global,
+    judgement: Judgement,
+    lattice: &Lattice,
+    path: &str,
+    text: &[u8],
+    error: &UnsteadyError,
+) -> Result<Vec<u8>, AllocError>
+    ensures { IfOk result (λ out.
+        checking_spec.WritesRefusal lattice.now judgement path.now text.now error.now out.items) }
+{
+    let Some(diagnostic) = unsteady_diagnostic(text, error) else {
+        return Err(AllocError);
+    };
+    let lines = refusal_lines(alloc, lattice, text, error, is_steady(judgement))?;
+    let uri = uri_of(alloc, path)?;
+    refusal_document(alloc, uri.as_bytes(), text, &diagnostic, &lines)
+}
+
+/// The document of a source text that was read and is refused.
+fn source_refused(
+    alloc: Global,
+    judgement: Judgement,
+    path: &str,
+    source: &Source<'_>,
+    error: &UnsteadyError,
+) -> Result<Vec<u8>, AllocError>
+    ensures { IfOk result (λ out. checking_spec.WritesRefusal source.now.lattice judgement path.now
+        source.now.text error.now out.items) }
+{
+    let Some(diagnostic) = unsteady_diagnostic(source.text(), error) else {
+        return Err(AllocError);
+    };
+    let lines = refusal_lines_of(alloc, source, error, is_steady(judgement))?;
+    let name = uri_of(alloc, path)?;
+    source_document(alloc, name.as_bytes(), source, &diagnostic, &lines)
+}
+
+/// The answer for a source text that was read.
+fn source_sarif(
+    alloc: Global,
+    judgement: Judgement,
+    path: &str,
+    source: &Source<'_>,
+) -> Result<Documented, AllocError>
+    ensures { IfOk result (λ told. checking_spec.TellsDocument source.now.lattice judgement path.now
+        source.now.text told.is_good told.line.items) }
+{
+    match judged_of(alloc, judgement, source)? {
+        Ok(_verified) => {
+            let line = accepted(alloc)?;
+            Ok(Documented {
+                is_good: true,
+                line,
+            })
+        }
+        Err(error) => {
+            let line = source_refused(alloc, judgement, path, source, &error)?;
+            Ok(Documented {
+                is_good: false,
+                line,
+            })
+        }
+    }
+}
+
+/// The answer of `vsi check` to the text of the file at a path as a document of SARIF 2.1.0. The
+/// text is read once. An error means that memory ran out.
+pub fn check_sarif(
+    alloc: Global,
+    judgement: Judgement,
+    lattice: &Lattice,
+    path: &str,
+    text: &[u8],
+) -> Result<Documented, AllocError>
+    ensures answer { IfOk result (λ told. checking_spec.TellsDocument lattice.now judgement path.now
+        text.now told.is_good told.line.items) }
+{
+    match read_source(alloc, lattice, text) {
+        Ok(source) => source_sarif(alloc, judgement, path, &source),
+        Err(CompileError::Memory) => Err(AllocError),
+        Err(error) => {
+            let error = UnsteadyError::Compile(error);
+            let line = refused(alloc, judgement, lattice, path, text, &error)?;
+            Ok(Documented {
+                is_good: false,
+                line,
+            })
+        }
+    }
+}
