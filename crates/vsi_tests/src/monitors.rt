@@ -11,15 +11,37 @@ const POLICY: &[u8] = b"classes = [\"L\", \"H\"]\nbelow = [[\"L\", \"H\"]]\n";
 
 /// Whether the monitored run of a program by a rule, from these words of its globals, writes this
 /// text.
-fn is(alloc: Global, rule: Rule, program: &[u8], words: &[i64; 2], limit: u64, wanted: &[u8]) -> Option<bool> {
+fn is(
+    alloc: Global,
+    rule: Rule,
+    program: &[u8],
+    words: &[i64; 2],
+    limit: u64,
+    wanted: &[u8],
+) -> Option<bool> {
     let lattice = read_lattice(alloc, POLICY).ok()?;
     let tokens = lex(alloc, program).ok()?;
     let tree = parse(alloc, &tokens).ok()?;
     let resolved = resolve(alloc, &tree, &lattice).ok()?;
     let classes = [Class::at(1), Class::at(0), Class::at(1)];
-    let count = resolved.globals().len().saturating_add(resolved.letvars().len());
-    let run = monitored(alloc, rule, &lattice, &resolved, &classes[..count], words, limit);
-    let naming = Naming { lattice: &lattice, text: program, globals: resolved.globals() };
+    let count = resolved
+        .globals()
+        .len()
+        .saturating_add(resolved.letvars().len());
+    let run = monitored(
+        alloc,
+        rule,
+        &lattice,
+        &resolved,
+        &classes[..count],
+        words,
+        limit,
+    );
+    let naming = Naming {
+        lattice: &lattice,
+        text: program,
+        globals: resolved.globals(),
+    };
     let text = monitor_text(alloc, &naming, &run).ok()?;
     Some(text.as_slice() == wanted)
 }

@@ -1,4 +1,4 @@
-use Rattle.std.proofs.Common.{max, drop, length, ◌+◌, ◌*◌}
+use Rattle.std.proofs.Common.{max, drop, ◌+◌, ◌*◌}
 use denote.Param.Weighed.{most}
 use Rattle.vsi_scope.proofs.program.Cmd.TheLaws.{the_size}
 use Rattle.vsi_scope.specs.Language.{While}

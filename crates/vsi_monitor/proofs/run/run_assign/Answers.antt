@@ -1,12 +1,11 @@
 use Rattle.std.proofs.Common.{rules, arith, refl, ap, subst, ◌∙◌, set, w64, to_z, of_z}
 use Rattle.std.proofs.lemmas.Int.{to_z-of_z}
 use Rattle.std.proofs.lemmas.List.{get_or_read}
-use Rattle.vsi_scope.specs.Language.{Assign}
 use Rattle.vsi_scope.specs.Meaning.{value}
 use Rattle.vsi_scope.specs.View.{expression}
 use Rattle.vsi_monitor.specs.Labels.{HasLabel, labelling}
 use Rattle.vsi_monitor.specs.Watched.{Held, held}
-use Rattle.vsi_monitor.proofs.Watching.{limit_err, stopped_at, assigned_at}
+use Rattle.vsi_monitor.proofs.Watching.{stopped_at, assigned_at}
 use Rattle.vsi_monitor.proofs.run.run_assign.Goals as goal
 
 pub returns-in_default : goal.returns-in_default
