@@ -9,7 +9,7 @@ use Rattle.vsi_syntax.specs.Operators.{apply}
 use Rattle.vsi_types.specs.Typing.{Locations}
 use Rattle.vsi_types.proofs.Secure.{below_cases}
 use Rattle.vsi_monitor.specs.declared.rule.Rule.{Rule}
-use Rattle.vsi_monitor.specs.Labels.{HasLabel, IsStored, IsLabelled, IsMark, ReadsNoMark, WordsAgree, StoresAgree, labelling}
+use Rattle.vsi_monitor.specs.Labels.{HasLabel, IsStored, IsLabelled, ReadsNoMark, WordsAgree, StoresAgree, labelling}
 use Rattle.vsi_monitor.specs.Monitor.{Outcome, Halted, Monitored, NOTHING, ASSIGN, UPGRADE, MARK, COMPOSE, COMPOSE_STOP, IF_TRUE, IF_FALSE, IF_MARK, WHILE_TRUE, WHILE_STOP, WHILE_FALSE, WHILE_MARK, LETVAR, LETVAR_STOP}
 use Rattle.vsi_monitor.specs.Laws.{MonitoredNoninterference}
 use Rattle.vsi_monitor.proofs.Computing.{IfHalted, if_halted_more}

@@ -1,11 +1,10 @@
 -- The lattice with a mark above all classes, and the words that have it.
-use Rattle.std.proofs.Common.{◌≡◌, ℕ, ◌+◌, ◌<◌, ◌≤◌, refl, sym, ap, ◌∙◌, subst, ⊎_elim, inl, inr, arith}
+use Rattle.std.proofs.Common.{◌≡◌, ℕ, ◌<◌, refl, sym, ap, ◌∙◌, subst, ⊎_elim, arith}
 use Rattle.std.specs.Prelude.{◌⊎◌, ◌==◌, cond, true, false, slice_index}
 use Rattle.std.proofs.lemmas.Bool.{cases_lt, false≢true}
-use Rattle.vsi_lattice.specs.Order.{Lattice, IsLattice, IsClass, Below, IsJoin, IsMeet, HasJoin, HasMeet}
+use Rattle.vsi_lattice.specs.Order.{Lattice, IsLattice, IsClass, Below, IsJoin, HasJoin, HasMeet}
 use Rattle.vsi_scope.specs.Language.{Expression, Number, Location, Operator}
 use Rattle.vsi_types.specs.Typing.{Locations}
-use Rattle.vsi_types.specs.Security.{IsReadIn}
 use Rattle.vsi_monitor.specs.declared.rule.Rule.{Rule}
 use Rattle.vsi_monitor.specs.declared.rule.Rule.TheVariants.{NoSensitiveUpgrade, PermissiveUpgrade}
 use Rattle.vsi_monitor.specs.Labels.{HasLabel, IsStored, with_mark, labelling, IsMark, ReadsNoMark}

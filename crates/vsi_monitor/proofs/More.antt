@@ -4,13 +4,12 @@ use Rattle.std.specs.Prelude.{slice_index}
 use Rattle.std.specs.List.{All}
 use Rattle.std.proofs.lemmas.List.{length_push}
 use Rattle.std.proofs.lemmas.List.Elements.{All-push}
-use Rattle.vsi_lattice.specs.Order.{Lattice, IsLattice, IsClass, Below, IsJoin}
-use Rattle.vsi_scope.specs.Language.{Expression, Number, Location, Operator, Command, Sequence, If, While, Letvar, letvars, HasLocations, HasPlaces}
+use Rattle.vsi_lattice.specs.Order.{Lattice, IsLattice, IsClass}
+use Rattle.vsi_scope.specs.Language.{Expression, Number, Location, Operator, Command, Sequence, If, While, letvars, HasLocations, HasPlaces}
 use Rattle.vsi_scope.specs.Meaning.{Store, value}
 use Rattle.vsi_types.specs.Typing.{Locations}
 use Rattle.vsi_types.specs.Security.{IsReadIn}
 use Rattle.vsi_types.proofs.Secure.{at_location}
-use Rattle.vsi_monitor.specs.declared.rule.Rule.{Rule}
 use Rattle.vsi_monitor.specs.declared.rule.Rule.TheVariants.{NoSensitiveUpgrade, PermissiveUpgrade}
 use Rattle.vsi_monitor.specs.Labels.{HasLabel, IsLabelled, with_mark, ReadsNoMark}
 use Rattle.vsi_monitor.specs.Monitor.{Outcome, Halted, Monitored, NOTHING, ASSIGN, UPGRADE, MARK, COMPOSE, COMPOSE_STOP, IF_TRUE, IF_FALSE, IF_MARK, WHILE_TRUE, WHILE_STOP, WHILE_FALSE, WHILE_MARK, LETVAR, LETVAR_STOP}

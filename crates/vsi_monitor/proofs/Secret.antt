@@ -1,5 +1,5 @@
 -- Under a counter that isn't at or below a class, a run by either rule changes nothing that the class sees.
-use Rattle.std.proofs.Common.{◌≡◌, ℕ, ◌+◌, ◌<◌, [], ◌∷◌, ◌++◌, length, take, set, get_or, ℤ, pos, refl, sym, ap, ◌∙◌, subst, ⊎_elim, inl, inr}
+use Rattle.std.proofs.Common.{ℕ, ◌+◌, ◌<◌, [], ◌∷◌, ◌++◌, length, take, set, get_or, ℤ, pos, refl, sym, subst, ⊎_elim}
 use Rattle.std.specs.Prelude.{◌⊎◌, slice_index}
 use Rattle.std.proofs.lemmas.List.{set-get_or, take_at}
 use Rattle.vsi_lattice.specs.Order.{Lattice, IsLattice, IsClass, Below}
@@ -7,12 +7,12 @@ use Rattle.vsi_scope.specs.Language.{Command, While, letvars, HasPlaces}
 use Rattle.vsi_scope.specs.Meaning.{Store, value}
 use Rattle.vsi_types.specs.Typing.{Locations}
 use Rattle.vsi_monitor.specs.declared.rule.Rule.{Rule}
-use Rattle.vsi_monitor.specs.Labels.{IsLabelled, IsMark}
+use Rattle.vsi_monitor.specs.Labels.{IsLabelled}
 use Rattle.vsi_monitor.specs.Monitor.{Outcome, Halted, Monitored, NOTHING, ASSIGN, UPGRADE, MARK, COMPOSE, COMPOSE_STOP, IF_TRUE, IF_FALSE, IF_MARK, WHILE_TRUE, WHILE_STOP, WHILE_FALSE, WHILE_MARK, LETVAR, LETVAR_STOP}
 use Rattle.vsi_monitor.proofs.Computing.{IfHalted, if_halted_more}
 use Rattle.vsi_monitor.proofs.Labelled.{fit_more, kept}
 use Rattle.vsi_monitor.proofs.Marks.{top_mark}
-use Rattle.vsi_monitor.proofs.Words.{Words, Each, WordHides, Hides, each_same, each_less, each_set, hides_self, hides_on}
+use Rattle.vsi_monitor.proofs.Words.{WordHides, Hides, each_same, each_less, each_set, hides_self, hides_on}
 
 module _ (R : Rule) (L : Lattice) (laws : IsLattice L) (classes : ℕ → ℕ) where
   module _ (a : ℕ) (seen : IsClass L a) where

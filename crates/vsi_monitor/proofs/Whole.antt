@@ -1,5 +1,5 @@
 -- The monitored run of a program.
-use Rattle.std.proofs.Common.{◌≡◌, ℕ, ◌+◌, ◌<◌, ◌≤◌, List, ◌++◌, length, take, get_or, refl, sym, ap, ◌∙◌, subst, arith}
+use Rattle.std.proofs.Common.{◌≡◌, ℕ, ◌+◌, ◌<◌, ◌≤◌, List, ◌++◌, length, take, get_or, sym, ap, ◌∙◌, subst, arith}
 use Rattle.std.specs.Prelude.{◌≢◌, ◌==◌, cond, slice_index, ⊤, Result, Ok, Err, IfErr, IsErrAnd}
 use Rattle.std.specs.List.{All}
 use Rattle.std.proofs.lemmas.List.{length-map, length-take-le, take_at}
@@ -23,7 +23,7 @@ use Rattle.vsi_monitor.specs.declared.stop.Unfinished.TheVariants as ends
 use Rattle.vsi_monitor.specs.declared.watch.Watched as watch
 use Rattle.vsi_monitor.specs.Monitor.{Outcome, Halted, Stopped, Monitored}
 use Rattle.vsi_monitor.specs.Labels.{labelling}
-use Rattle.vsi_monitor.specs.Watched.{Held, IsHeld, IsReady, Goes, RunEnds}
+use Rattle.vsi_monitor.specs.Watched.{Held, IsReady, Goes, RunEnds}
 use Rattle.vsi_monitor.proofs.Marks.{labels_class, labels_bottom}
 use Rattle.vsi_monitor.proofs.Passing.{typable_passes}
 

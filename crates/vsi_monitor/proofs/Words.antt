@@ -3,11 +3,11 @@ use Rattle.std.proofs.Common.{◌≡◌, ℕ, ◌+◌, ◌<◌, [], ◌∷◌, �
 use Rattle.std.specs.Prelude.{◌⊎◌}
 use Rattle.std.proofs.lemmas.List.{get_or_append_left, get_or-set_same, get_or-set_other, get_or-take, get_or_push}
 use Rattle.std.proofs.lemmas.Bool.{cases_eq, cases_lt}
-use Rattle.vsi_lattice.specs.Order.{Lattice, IsLattice, IsClass, Below}
+use Rattle.vsi_lattice.specs.Order.{Lattice, Below}
 use Rattle.vsi_scope.specs.Meaning.{Store}
 use Rattle.vsi_types.specs.Typing.{Locations}
 use Rattle.vsi_monitor.specs.declared.rule.Rule.{Rule}
-use Rattle.vsi_monitor.specs.Labels.{IsLabelled, IsMark, WordsAgree, StoresAgree}
+use Rattle.vsi_monitor.specs.Labels.{IsLabelled, IsMark, StoresAgree}
 
 -- A relation of two labelled words.
 abbrev pub Words : Type 1

@@ -21,7 +21,7 @@ fn class_name(lattice: &Lattice, class: Class) -> &[u8] {
     if class.index() < lattice.count() {
         lattice.name(class)
     } else {
-        b"partly leaked"
+        b"leaked"
     }
 }
 
@@ -32,18 +32,20 @@ fn variable_name<'a>(naming: &Naming<'a>, stop: &Stop) -> &'a [u8] {
 }
 
 /// The line of a run that is stopped: `3:5 l : L may not be assigned under H`, or
-/// `3:5 l : partly leaked may not be tested under H`.
+/// `3:5 a guard reads l, which is leaked`.
 fn put_stop(text: &mut Vec<u8>, naming: &Naming<'_>, stop: &Stop) -> Result<(), AllocError> {
     put_place(text, naming.text, stop.place.start)?;
+    let name = variable_name(naming, stop);
+    if stop.label.index() >= naming.lattice.count() {
+        text.extend_from_slice(b" a guard reads ")?;
+        text.extend_from_slice(name)?;
+        return text.extend_from_slice(b", which is leaked\n");
+    }
     text.extend_from_slice(b" ")?;
-    text.extend_from_slice(variable_name(naming, stop))?;
+    text.extend_from_slice(name)?;
     text.extend_from_slice(b" : ")?;
     text.extend_from_slice(class_name(naming.lattice, stop.label))?;
-    let is_class = stop.label.index() < naming.lattice.count();
-    let verb: &[u8] = if is_class { b"assigned" } else { b"tested" };
-    text.extend_from_slice(b" may not be ")?;
-    text.extend_from_slice(verb)?;
-    text.extend_from_slice(b" under ")?;
+    text.extend_from_slice(b" may not be assigned under ")?;
     text.extend_from_slice(class_name(naming.lattice, stop.counter))?;
     text.extend_from_slice(b"\n")
 }

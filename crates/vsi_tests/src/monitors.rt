@@ -9,16 +9,39 @@ use vsi_syntax::{lex, parse};
 /// Two classes, `L` below `H`.
 const POLICY: &[u8] = b"classes = [\"L\", \"H\"]\nbelow = [[\"L\", \"H\"]]\n";
 
-/// Whether the monitored run of a program, from these words of its globals, writes this text.
-fn is(alloc: Global, program: &[u8], words: &[i64; 2], limit: u64, wanted: &[u8]) -> Option<bool> {
+/// Whether the monitored run of a program by a rule, from these words of its globals, writes this
+/// text.
+fn is(
+    alloc: Global,
+    rule: Rule,
+    program: &[u8],
+    words: &[i64; 2],
+    limit: u64,
+    wanted: &[u8],
+) -> Option<bool> {
     let lattice = read_lattice(alloc, POLICY).ok()?;
     let tokens = lex(alloc, program).ok()?;
     let tree = parse(alloc, &tokens).ok()?;
     let resolved = resolve(alloc, &tree, &lattice).ok()?;
     let classes = [Class::at(1), Class::at(0), Class::at(1)];
-    let count = resolved.globals().len().saturating_add(resolved.letvars().len());
-    let run = monitored(alloc, Rule::NoSensitiveUpgrade, &lattice, &resolved, &classes[..count], words, limit);
-    let naming = Naming { lattice: &lattice, text: program, globals: resolved.globals() };
+    let count = resolved
+        .globals()
+        .len()
+        .saturating_add(resolved.letvars().len());
+    let run = monitored(
+        alloc,
+        rule,
+        &lattice,
+        &resolved,
+        &classes[..count],
+        words,
+        limit,
+    );
+    let naming = Naming {
+        lattice: &lattice,
+        text: program,
+        globals: resolved.globals(),
+    };
     let text = monitor_text(alloc, &naming, &run).ok()?;
     Some(text.as_slice() == wanted)
 }
@@ -88,12 +111,61 @@ const RUNS: [(&[u8], [i64; 2], &[u8]); 10] = [
 #[test]
 fn a_monitored_run_halts_or_is_stopped(rt: HostRuntime) {
     for (program, words, wanted) in &RUNS {
-        assert!(rt; is(rt.alloc(), program, words, 100, wanted) == Some(true));
+        let rule = Rule::NoSensitiveUpgrade;
+        assert!(rt; is(rt.alloc(), rule, program, words, 100, wanted) == Some(true));
+    }
+}
+
+/// Programs, words and texts as in `RUNS`, by permissive upgrade.
+const PERMITTED: [(&[u8], [i64; 2], &[u8]); 6] = [
+    // No-sensitive-upgrade stops this run. Here the word of `l` is marked.
+    (
+        b"var h : H; var l : L; if h then l := 1 else h := 0",
+        [5, 2],
+        b"h = 5 : H\nl = 1 : leaked\n",
+    ),
+    // The branch that would mark it isn't taken.
+    (
+        b"var h : H; var l : L; if h then l := 1 else h := 0",
+        [0, 2],
+        b"h = 0 : H\nl = 2 : L\n",
+    ),
+    // A guard may not read a marked word.
+    (
+        b"var h : H; var l : L; if h then l := 1 else l := l; if l then h := 1 else h := 2",
+        [5, 2],
+        b"1:56 a guard reads l, which is leaked\n",
+    ),
+    (
+        b"var h : H; var l : L; if h then l := 0 else l := l; while 1 + l do l := 0",
+        [5, 2],
+        b"1:63 a guard reads l, which is leaked\n",
+    ),
+    // It may be copied.
+    (
+        b"var h : H; var l : L; if h then l := 1 else l := l; h := l + 1",
+        [5, 2],
+        b"h = 2 : leaked\nl = 1 : leaked\n",
+    ),
+    // And replaced under the bottom class.
+    (
+        b"var h : H; var l : L; if h then l := 1 else l := l; l := 3",
+        [5, 2],
+        b"h = 5 : H\nl = 3 : L\n",
+    ),
+];
+
+#[test]
+fn permissive_upgrade_marks_words(rt: HostRuntime) {
+    for (program, words, wanted) in &PERMITTED {
+        let rule = Rule::PermissiveUpgrade;
+        assert!(rt; is(rt.alloc(), rule, program, words, 100, wanted) == Some(true));
     }
 }
 
 #[test]
 fn a_monitored_run_is_cut_at_the_limit(rt: HostRuntime) {
     let program = b"var h : H; var l : L; while 1 do l := l + 1";
-    assert!(rt; is(rt.alloc(), program, &[0, 0], 9, b"limit of steps\n") == Some(true));
+    let rule = Rule::NoSensitiveUpgrade;
+    assert!(rt; is(rt.alloc(), rule, program, &[0, 0], 9, b"limit of steps\n") == Some(true));
 }

@@ -9,7 +9,7 @@ use Rattle.vsi_scope.specs.View.{command, expression, sequence}
 use Rattle.vsi_types.specs.Security.{class_of}
 use Rattle.vsi_types.proofs.Visiting.{seen_if, seen_while, seen_letvar}
 use Rattle.vsi_monitor.specs.Labels.{HasLabel, labelling}
-use Rattle.vsi_monitor.specs.Watched.{Held, held, Guarded, Watched}
+use Rattle.vsi_monitor.specs.Watched.{Held, held, Guarded}
 use Rattle.vsi_monitor.proofs.Marks.{labels_lattice}
 use Rattle.vsi_monitor.proofs.Watching.{choice_stop, loop_stop, at_command, at_end, small, zero_word, watched_err, limit_err, leads_watched, leads_yes, leads_no, leads_end, first_few, leads_stop, leads_next, loop_ends, turn_stop, leads_turn, letvar_stop, letvar_done}
 use Rattle.vsi_monitor.proofs.run.+watch.Goals as goal
