@@ -283,7 +283,7 @@ With `permissive-upgrade` the run goes on, and is stopped before a
 guard that reads the variable." }
     { Flag "json" "Writes the answer as JSON" "\
 Writes the answer as a line of JSON: an object with the `outcome`,
-`halted`, `stopped` or `limit`, and with `store`, an array with an
-object for each global, or with the assignment before which the run
+`halted` or `stopped`, and with `store`, an array with an object for
+each global, or with the assignment or guard before which the run
 was stopped." } },
 ];

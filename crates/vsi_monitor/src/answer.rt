@@ -93,7 +93,7 @@ fn halted(alloc: Heap, naming: &Naming<'_>, end: &Watched) -> Result<Value, Allo
     for (global, (word, label)) in naming.globals.iter().zip(ends) {
         let name = string(alloc, global.name)?;
         let label = string(alloc, class_name(naming.lattice, *label))?;
-        store.push(json!(in alloc; {"name": name, "value": (*word), "label": label})?)?;
+        store.push(json!(in alloc; {"name": name, "word": (*word), "label": label})?)?;
     }
     json!(in alloc; {"outcome": "halted", "store": (Value::Array(store))})
 }
