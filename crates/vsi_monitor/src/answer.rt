@@ -21,7 +21,7 @@ fn class_name(lattice: &Lattice, class: Class) -> &[u8] {
     if class.index() < lattice.count() {
         lattice.name(class)
     } else {
-        b"leaked"
+        b"partly leaked"
     }
 }
 
@@ -32,14 +32,14 @@ fn variable_name<'a>(naming: &Naming<'a>, stop: &Stop) -> &'a [u8] {
 }
 
 /// The line of a run that is stopped: `3:5 l : L may not be assigned under H`, or
-/// `3:5 a guard reads l, which is leaked`.
+/// `3:5 a guard reads l, which is partly leaked`.
 fn put_stop(text: &mut Vec<u8>, naming: &Naming<'_>, stop: &Stop) -> Result<(), AllocError> {
     put_place(text, naming.text, stop.place.start)?;
     let name = variable_name(naming, stop);
     if stop.label.index() >= naming.lattice.count() {
         text.extend_from_slice(b" a guard reads ")?;
         text.extend_from_slice(name)?;
-        return text.extend_from_slice(b", which is leaked\n");
+        return text.extend_from_slice(b", which is partly leaked\n");
     }
     text.extend_from_slice(b" ")?;
     text.extend_from_slice(name)?;

@@ -122,7 +122,7 @@ const PERMITTED: [(&[u8], [i64; 2], &[u8]); 6] = [
     (
         b"var h : H; var l : L; if h then l := 1 else h := 0",
         [5, 2],
-        b"h = 5 : H\nl = 1 : leaked\n",
+        b"h = 5 : H\nl = 1 : partly leaked\n",
     ),
     // The branch that would mark it isn't taken.
     (
@@ -134,18 +134,18 @@ const PERMITTED: [(&[u8], [i64; 2], &[u8]); 6] = [
     (
         b"var h : H; var l : L; if h then l := 1 else l := l; if l then h := 1 else h := 2",
         [5, 2],
-        b"1:56 a guard reads l, which is leaked\n",
+        b"1:56 a guard reads l, which is partly leaked\n",
     ),
     (
         b"var h : H; var l : L; if h then l := 0 else l := l; while 1 + l do l := 0",
         [5, 2],
-        b"1:63 a guard reads l, which is leaked\n",
+        b"1:63 a guard reads l, which is partly leaked\n",
     ),
     // It may be copied.
     (
         b"var h : H; var l : L; if h then l := 1 else l := l; h := l + 1",
         [5, 2],
-        b"h = 2 : leaked\nl = 1 : leaked\n",
+        b"h = 2 : partly leaked\nl = 1 : partly leaked\n",
     ),
     // And replaced under the bottom class.
     (
