@@ -149,6 +149,14 @@ pub fn completion(
     }
 }
 
+/// The lowest classes of those above two others, by rows.
+fn lowest_above(alloc: Global, above: &[u64], a: u8, b: u8) -> Result<Vec<u8>, AllocError> {
+    let (Some(one), Some(other)) = (above.get(usize::from(a)), above.get(usize::from(b))) else {
+        return Ok(Vec::new(alloc));
+    };
+    ends(alloc, &turned(alloc, above)?, *one & *other)
+}
+
 /// The lowest classes of those above two others.
 pub fn nearest(
     alloc: Global,
@@ -160,11 +168,8 @@ pub fn nearest(
     ensures { IfOk result (λ found. All (IsAboveBoth pairs.now a b) found.items) }
 {
     let above = rows_of(alloc, count.min(MOST_CLASSES), pairs)?;
-    let (Some(one), Some(other)) = (above.get(usize::from(a)), above.get(usize::from(b))) else {
-        return Ok(Vec::new(alloc));
-    };
     let mut found = Vec::new(alloc);
-    for class in &ends(alloc, &turned(alloc, &above)?, *one & *other)? {
+    for class in &lowest_above(alloc, &above, a, b)? {
         if reaches(&above, a, *class) && reaches(&above, b, *class) {
             found.push(*class)?;
         }
