@@ -266,18 +266,31 @@ impl Explaining {
         explanation(inputs.alloc, self.mode, &refused)
     }
 
-    /// The explanation of a refused interface, with its lattice if that was read.
+    /// The explanation of a refused interface.
     fn of_interface(self, inputs: &Inputs, error: &InterfaceError) -> Result<Vec<u8>, AllocError> {
         let Some(kept) = inputs.last(InputKind::Interface) else {
             return Ok(Vec::new(inputs.alloc));
         };
-        let lattice = read_policy(inputs)?;
+        match read_policy(inputs)? {
+            Some(lattice) => self.interface_advice(inputs.alloc, kept, Some(&lattice), error),
+            None => self.interface_advice(inputs.alloc, kept, None, error),
+        }
+    }
+
+    /// The explanation of this refused interface, with its lattice if that was read.
+    fn interface_advice<'d>(
+        self,
+        alloc: Global,
+        kept: &'d Kept,
+        lattice: Option<&'d Lattice>,
+        error: &'d InterfaceError,
+    ) -> Result<Vec<u8>, AllocError> {
         let refused = vsi_advice::RefusedInput::Interface {
             bytes: &kept.bytes,
-            lattice: lattice.as_ref(),
+            lattice,
             error,
         };
-        advice(inputs.alloc, self.mode, &kept.path, refused)
+        advice(alloc, self.mode, &kept.path, refused)
     }
 
     /// The explanation of a run that doesn't begin.
