@@ -134,13 +134,19 @@ impl Search<'_, '_> {
         self.attempt(choice)
     }
 
-    /// Tries repairs of one token. A token that begins a construct is left out only if reading goes
-    /// on over two landmarks.
+    /// Tries to put a text in place of tokens. A token that begins a construct is left out only if
+    /// reading goes on over two landmarks.
+    fn try_one(&mut self, here: Start, out: usize, put: &'static [u8]) -> Result<(), AllocError> {
+        if self.landmarks <= 1 && has_opening(self.rest.get(..out).unwrap_or(&[])) {
+            return Ok(());
+        }
+        self.attempt(replacing(here, out, put))
+    }
+
+    /// Tries repairs of one token.
     fn try_small(&mut self, here: Start) -> Result<(), AllocError> {
         for (out, put) in SMALL.as_slice() {
-            if 1 < self.landmarks || !has_opening(self.rest.get(..*out).unwrap_or(&[])) {
-                self.attempt(replacing(here, *out, *put))?;
-            }
+            self.try_one(here, *out, *put)?;
         }
         Ok(())
     }
