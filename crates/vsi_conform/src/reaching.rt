@@ -389,6 +389,16 @@ fn put_objects(text: &mut Vec<u8>, reaches: &[Reach]) -> Result<(), AllocError>
     Ok(())
 }
 
+/// Adds the member of released outputs, and the end of the line.
+fn put_member(text: &mut Vec<u8>, reaches: &[Reach]) -> Result<(), AllocError>
+    ensures { OnOk result (text.new.items
+        ≡ text.old.items ++ lines_spec.released_member (map spec.released reaches.now)) }
+{
+    text.extend_from_slice(b",\"reached\":[")?;
+    put_objects(text, reaches)?;
+    put_parts(text, &[b"]}\n"])
+}
+
 /// Whether the points don't differ, and a released output does.
 fn is_overturned(fits: bool, reaches: &[Reach]) -> bool
     ensures { result ≡ lines_spec.is_overturned fits (map spec.released reaches.now) }
@@ -437,8 +447,6 @@ pub fn with_reached_json(
         points
     };
     let mut text = Vec::from_slice(alloc, &line[..line.len().saturating_sub(2)])?;
-    text.extend_from_slice(b",\"reached\":[")?;
-    put_objects(&mut text, reaches)?;
-    text.extend_from_slice(b"]}\n")?;
+    put_member(&mut text, reaches)?;
     Ok(text)
 }
