@@ -158,11 +158,10 @@ module _ (holds : Holding) (s : Stepping) (l : Lattice) (text file : List ℕ) (
   }
 
   -- The monitored run of the program is that of the files.
-  pub watched : (R Q : Rule) (words ws : List ℤ) (ended : Bool) →
-      IsStarted s source.lattice source.text told source.resolved words → R ≡ Q →
+  pub watched : (R : Rule) (words ws : List ℤ) (ended : Bool) → IsStarted s source.lattice source.text told source.resolved words →
       ws ≡ words → EndsMonitored R ended (order source.lattice) source.resolved ws →
-      OfStepFiles holds s (IsMonitored Q s ended)
-  watched R Q words ws ended starts by are ends = record {
+      OfStepFiles holds s (IsMonitored s R ended)
+  watched R words ws ended starts are ends = record {
     lattice = l;
     text = text;
     file = file;
@@ -171,9 +170,8 @@ module _ (holds : Holding) (s : Stepping) (l : Lattice) (text file : List ℕ) (
       program = source.resolved;
       words = words;
       started = started words starts;
-      ends = subst (λ m. EndsMonitored Q ended (order m) source.resolved words) under
-          (subst (λ w. EndsMonitored Q ended (order source.lattice) source.resolved w) are
-          (subst (λ r. EndsMonitored r ended (order source.lattice) source.resolved ws) by ends));
+      ends = subst (λ m. EndsMonitored R ended (order m) source.resolved words) under
+          (subst (λ w. EndsMonitored R ended (order source.lattice) source.resolved w) are ends);
     };
   }
 
@@ -216,7 +214,7 @@ module _ (holds : Holding) (c : StepComparison) (l : Lattice) (class : ℕ) (tex
     (im : Image) (looks : LooksAt holds c.lattice.now c.class.now l class) (read : IsReadAt holds c.source.now text)
     (same : given ≡ text) (under : source.lattice ≡ l) (of : source.text ≡ given)
     (written : AreWritten source.lattice source.text source.resolved im) where
-  -- The comparison takes the program and the class that the files hold.
+  -- The files hold the program and the image that are compared.
   pub are_compared : AreStepsCompared holds c l class source.resolved im
   are_compared = record {
     looks = looks;

@@ -525,8 +525,7 @@ Tells holds (request.ViewWithin asked) = Well (ViewsWithin holds asked)
 Tells holds (request.Compare comparison) = TellsComparison false holds comparison
 Tells holds (request.CompareSteps comparison is_json) = λ same text. ComparesSteps holds comparison same
 Tells holds (request.Steps stepping is_json) = λ ended text. OfStepFiles holds stepping (IsStepped stepping ended)
-Tells holds (request.Monitor stepping rule is_json) =
-    λ ended text. OfStepFiles holds stepping (IsMonitored (rule_of rule) stepping ended)
+Tells holds (request.Monitor stepping rule is_json) = λ ended text. OfStepFiles holds stepping (IsMonitored stepping (rule_of rule) ended)
 Tells holds (request.Leak search) = Well (SearchesFiles holds search)
 Tells holds (request.Report c) = Well (OfFiles holds c (ToldPage c.is_strict))
 Tells holds (request.Draw drawing) = Well (DrawsFiles holds drawing)

@@ -17,14 +17,14 @@ use Rattle.vsi_steps.specs.declared.trace.Trace.{Trace}
 use Rattle.vsi_steps.specs.Traced.{IsTraced}
 use Rattle.vsi_monitor.specs.declared.rule.Rule.{Rule}
 use Rattle.vsi_monitor.specs.declared.rule.Rule.TheVariants.{NoSensitiveUpgrade, PermissiveUpgrade}
+use Rattle.vsi_arguments.specs.declared.request.MonitorRule.{MonitorRule}
+use Rattle.vsi_arguments.specs.declared.request.MonitorRule.TheVariants as asked
 use Rattle.vsi_monitor.specs.declared.stop.Stop.{Stop}
 use Rattle.vsi_monitor.specs.declared.stop.Unfinished.TheVariants as ends
 use Rattle.vsi_monitor.specs.declared.watch.Watched.{Watched}
 use Rattle.vsi_monitor.specs.Watched.{RunEnds}
 use Rattle.vsi_store.specs.Compare.{agree_in}
 use Rattle.vsi_drive.specs.Starts.{Begins}
-use Rattle.vsi_arguments.specs.declared.request.MonitorRule.{MonitorRule}
-use Rattle.vsi_arguments.specs.declared.request.MonitorRule.TheVariants as asked
 use Rattle.vsi_arguments.specs.declared.request.StepComparison.{StepComparison}
 use Rattle.vsi_arguments.specs.declared.request.Stepping.{Stepping}
 use Rattle.vsi.specs.Files.{IsStoredAt, LooksAt}
@@ -87,19 +87,14 @@ pub record IsTable (L : classes.Lattice) (p : Program) (table : List ℕ) : Type
   pub is : table ≡ p.globals ++ choice
   pub chosen : IsChosen L p choice
 
--- The rule of a monitor, as it is requested.
-abbrev pub rule_of : MonitorRule → Rule
-rule_of asked.NoSensitiveUpgrade = NoSensitiveUpgrade
-rule_of asked.PermissiveUpgrade = PermissiveUpgrade
-
--- The run of a program from these words, monitored by a rule, ends with these words and labels.
+-- The monitored run of a program from these words ends with these words and labels.
 pub record EndsWatched (R : Rule) (L : classes.Lattice) (r : Resolved) (words : List ℤ) : Type 0 where
   pub table : List ℕ
   pub is : IsTable L (program r) table
   pub last : Watched
   pub ends : RunEnds R L table r words (Ok last)
 
--- The run of a program from these words, monitored by a rule, is stopped, and no choice of classes is typable.
+-- The monitored run of a program from these words is stopped, and no choice of classes is typable.
 pub record IsStopped (R : Rule) (L : classes.Lattice) (r : Resolved) (words : List ℤ) : Type 0 where
   pub table : List ℕ
   pub is : IsTable L (program r) table
@@ -112,8 +107,13 @@ abbrev pub EndsMonitored : Rule → Bool → classes.Lattice → Resolved → Li
 EndsMonitored R true L r words = EndsWatched R L r words
 EndsMonitored R false L r words = IsStopped R L r words
 
--- `monitor`: the run of the program of a text, monitored by a rule, ends, or it is stopped.
-pub record IsMonitored (R : Rule) (s : Stepping) (ended : Bool) (l : Lattice) (text file : List ℕ) : Type 0 where
+-- The rule of a monitor.
+abbrev pub rule_of : MonitorRule → Rule
+rule_of asked.NoSensitiveUpgrade = NoSensitiveUpgrade
+rule_of asked.PermissiveUpgrade = PermissiveUpgrade
+
+-- `monitor`: the monitored run of the program of a text ends, or it is stopped.
+pub record IsMonitored (s : Stepping) (R : Rule) (ended : Bool) (l : Lattice) (text file : List ℕ) : Type 0 where
   pub program : Resolved
   pub words : List ℤ
   pub started : IsStarted s l text file program words

@@ -56,7 +56,7 @@ pub(crate) enum Failure<'a> {
     Memory,
 }
 
-/// A value, or why a command line ends early.
+/// The result of a call, or why a command line ends early.
 pub(crate) type Fallible<'a, T> = Result<T, Failure<'a>>;
 
 impl From<AllocError> for Failure<'_> {

@@ -1,4 +1,4 @@
-//! Views of classes under lattices and interfaces, and lattice files.
+//! The classes that each class sees under lattices and interfaces, and lattice files.
 
 ghost use Rattle.std.specs.Prelude.{◌≡◌, Some, IfErr, IfOk, IsSomeAnd};
 ghost use Rattle.vsi.specs.Refusals.{NoOther, RefusesLattice, FailsBy};

@@ -76,8 +76,8 @@ impl<F: Files> Subject<'_, F> {
         Ok(reply)
     }
 
-    /// The monitored run of a source text by a rule, as lines or as a line of JSON, and whether the
-    /// run has ended or was stopped.
+    /// A monitored run of a source text, as lines or as a line of JSON, and whether the run has ended
+    /// or was stopped.
     pub(crate) fn monitor<'a>(
         &self,
         asked: &Stepping<'a>,
@@ -85,7 +85,7 @@ impl<F: Files> Subject<'_, F> {
         is_json: bool,
     ) -> Fallible<'a, Reply>
         ensures told { IfOk result (λ reply. OfStepFiles (F.holds self.now.files.now) asked.now
-            (IsMonitored (spec.rule_of rule) asked.now reply.is_good)) }
+            (IsMonitored asked.now (spec.rule_of rule) reply.is_good)) }
         ensures failed { IfErr result (FailsBy (WhyMonitor (F.holds self.now.files.now) asked.now)
             NoOther) }
     {
@@ -94,9 +94,9 @@ impl<F: Files> Subject<'_, F> {
         let words = first_words(self.cache, asked, &source, &read.file)?;
         monitor_reply(
             self.alloc,
-            rule_of(rule),
             &source,
             &words,
+            rule_of(rule),
             asked.budget,
             is_json,
         )
@@ -194,8 +194,8 @@ fn first_words<'a>(
     Ok(start_words(cache.alloc, &verified, file, settings, asked.is_full)?)
 }
 
-/// A value of JSON as a line.
-fn json_line(alloc: Global, value: &Value) -> Result<Vec<u8>, AllocError> {
+/// A value as a line of JSON.
+fn line_of(alloc: Global, value: &Value) -> Result<Vec<u8>, AllocError> {
     let mut line = value.to_vec(alloc)?;
     line.extend_from_slice(b"\n")?;
     Ok(line)
@@ -208,11 +208,10 @@ fn steps_bytes(
     trace: &Trace,
     is_json: bool,
 ) -> Result<Vec<u8>, AllocError> {
-    if !is_json {
-        return steps_text(alloc, listing, trace);
+    if is_json {
+        return line_of(alloc, &steps_json(alloc, listing, trace)?);
     }
-    let value = steps_json(alloc, listing, trace)?;
-    json_line(alloc, &value)
+    steps_text(alloc, listing, trace)
 }
 
 /// The steps of a program from these words, and whether the run has ended.
@@ -238,16 +237,6 @@ fn steps_reply(
     })
 }
 
-/// The rule of a monitor, as it is requested.
-fn rule_of(asked: MonitorRule) -> Rule
-    ensures { result ≡ spec.rule_of asked }
-{
-    match asked {
-        MonitorRule::NoSensitiveUpgrade => Rule::NoSensitiveUpgrade,
-        MonitorRule::PermissiveUpgrade => Rule::PermissiveUpgrade,
-    }
-}
-
 /// A monitored run as lines, or as a line of JSON.
 fn monitor_bytes(
     alloc: Global,
@@ -255,19 +244,28 @@ fn monitor_bytes(
     run: &Result<Watched, Unfinished>,
     is_json: bool,
 ) -> Result<Vec<u8>, AllocError> {
-    if !is_json {
-        return monitor_text(alloc, naming, run);
+    if is_json {
+        return line_of(alloc, &monitor_json(alloc, naming, run)?);
     }
-    let value = monitor_json(alloc, naming, run)?;
-    json_line(alloc, &value)
+    monitor_text(alloc, naming, run)
 }
 
-/// The monitored run of a program by a rule from these words, and whether it has ended.
+/// The rule of a monitor.
+fn rule_of(rule: MonitorRule) -> Rule
+    ensures { result ≡ spec.rule_of rule }
+{
+    match rule {
+        MonitorRule::NoSensitiveUpgrade => Rule::NoSensitiveUpgrade,
+        MonitorRule::PermissiveUpgrade => Rule::PermissiveUpgrade,
+    }
+}
+
+/// A monitored run of a program from these words, and whether the run has ended.
 fn monitor_reply<'a>(
     alloc: Global,
-    rule: Rule,
     source: &Source<'_>,
     words: &[i64],
+    rule: Rule,
     budget: u64,
     is_json: bool,
 ) -> Fallible<'a, Reply>
@@ -322,39 +320,44 @@ fn agree(
     first: &[i64],
     second: &[i64],
 ) -> bool
-    requires { IsClass (order lattice.now) class }
+    requires class { IsClass (order lattice.now) class }
+    requires first { length first.now ≡ length variables.now }
+    requires second { length second.now ≡ length variables.now }
     ensures { result ≡ views.agree_in (class_named lattice.now) (order lattice.now) class
         (globals variables.now) first.now second.now }
 {
-    let (mut rest, mut left, mut right) = (variables, first, second);
-    while let ([variable, later @ ..], [one, ones @ ..], [other, others @ ..]) = (
-        rest, left, right,
-    ) {
-        if !are_alike(lattice, class, variable, *one, *other) {
+    for (i, variable) in variables.iter().enumerate() {
+        if !are_alike(lattice, class, variable, first[i], second[i]) {
             return false;
         }
-        (rest, left, right) = (later, ones, others);
     }
     true
+}
+
+/// How a class compares the last stores of two runs: whether it sees the same in these globals.
+#[derive(Drop)]
+struct Seen<'s> {
+    lattice: &'s Lattice,
+    class: Class,
+    variables: &'s [(Vec<u8>, Vec<u8>)],
+    is_same: bool,
 }
 
 /// Adds a row for each global that a class sees, with its words in both last stores.
 fn put_seen(
     text: &mut Vec<u8>,
     alloc: Global,
-    lattice: &Lattice,
-    class: Class,
-    variables: &[(Vec<u8>, Vec<u8>)],
+    seen: &Seen<'_>,
     first: &[i64],
     second: &[i64],
 ) -> Result<(), AllocError>
-    requires { IsClass (order lattice.now) class }
+    requires { IsClass (order seen.now.lattice.now) seen.now.class }
 {
-    text.extend_from_slice(lattice.name(class))?;
+    text.extend_from_slice(seen.lattice.name(seen.class))?;
     text.extend_from_slice(b" sees after\n")?;
     let words = first.iter().zip(second.iter());
-    for ((name, class_name), (one, other)) in variables.iter().zip(words) {
-        if sees(lattice, class, class_name) {
+    for ((name, class_name), (one, other)) in seen.variables.iter().zip(words) {
+        if sees(seen.lattice, seen.class, class_name) {
             text.extend_from_slice(if one == other { b"  " } else { b"* " })?;
             text.extend_from_slice(&word_cell(alloc, name, *one)?)?;
             if one != other {
@@ -367,32 +370,27 @@ fn put_seen(
     Ok(())
 }
 
-/// The lines of two runs in step, and of what a class sees after them.
-fn together_lines(
+/// Two runs in step as a class compares them, as lines or as a line of JSON.
+fn together_bytes(
     alloc: Global,
     listing: &Listing<'_>,
-    class: Class,
-    variables: &[(Vec<u8>, Vec<u8>)],
-    one: &Trace,
-    other: &Trace,
+    seen: &Seen<'_>,
+    first: &Trace,
+    second: &Trace,
+    is_json: bool,
 ) -> Result<Vec<u8>, AllocError>
-    requires { IsClass (order listing.now.lattice.now) class }
+    requires { IsClass (order seen.now.lattice.now) seen.now.class }
 {
-    let mut text = together_text(alloc, listing, one, other)?;
-    put_seen(
-        &mut text,
-        alloc,
-        listing.lattice,
-        class,
-        variables,
-        &one.words,
-        &other.words,
-    )?;
+    if is_json {
+        let value = together_json(alloc, listing, seen.class, seen.is_same, first, second)?;
+        return line_of(alloc, &value);
+    }
+    let mut text = together_text(alloc, listing, first, second)?;
+    put_seen(&mut text, alloc, seen, &first.words, &second.words)?;
     Ok(text)
 }
 
-/// Two runs of a program in step, from these stores, as a class compares them, as lines or as a line
-/// of JSON.
+/// Two runs of a program in step, from these stores, as a class compares them.
 fn together<'a>(
     alloc: Global,
     source: &Source<'_>,
@@ -423,13 +421,23 @@ fn together<'a>(
     let classes = class_table(alloc, source)?;
     let listing = listing_of(alloc, lattice, text, program, &classes)?;
     let variables = verified.image().globals.as_slice();
-    let is_good = agree(lattice, class, variables, &one.words, &other.words);
-    let runs = (&one, &other);
-    let text = if is_json {
-        let value = together_json(alloc, &listing, class, is_good, runs.0, runs.1)?;
-        json_line(alloc, &value)?
-    } else {
-        together_lines(alloc, &listing, class, variables, runs.0, runs.1)?
+    // Each run ends with a word for each global.
+    if one.words.len() != variables.len() {
+        return Err(Failure::Memory);
+    }
+    if other.words.len() != variables.len() {
+        return Err(Failure::Memory);
+    }
+    let is_same = agree(lattice, class, variables, &one.words, &other.words);
+    let seen = Seen {
+        lattice,
+        class,
+        variables,
+        is_same,
     };
-    Ok(Reply { text, is_good })
+    let text = together_bytes(alloc, &listing, &seen, &one, &other, is_json)?;
+    Ok(Reply {
+        text,
+        is_good: is_same,
+    })
 }

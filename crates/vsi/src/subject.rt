@@ -1,4 +1,4 @@
-//! The files and texts that a request reads, each file once.
+//! The files that a request reads, each once.
 
 ghost use Rattle.std.specs.Prelude.{◌≡◌, ◌<◌, ◌⊎◌, false, Some, IfOk, IfErr, IfSome, Ok, Err, MatchResult};
 ghost use Rattle.vsi.specs.Holding.{IsImageAt, IsLatticeAt, IsReadAt, IsStoreAt};

@@ -1,14 +1,13 @@
-use Rattle.std.proofs.Common.{◌≡◌, length}
+use Rattle.std.proofs.Common.{◌≡◌, drop}
 use Rattle.vsi_image.specs.Fields.{globals}
 use Rattle.vsi_lattice.specs.LatticeView.{class_named, order}
 use Rattle.vsi_store.specs.Compare.{agree_in}
 use Rattle.vsi.proofs.steps.agree.Given as goal
 
--- The stores agree exactly if they do in the globals that are left.
-abbrev pub invariant-loop-rest : goal.invariant-loop-rest
-invariant-loop-rest l =
-    agree_in (class_named l.lattice) (order l.lattice) l.class (globals l.rest) l.left l.right
-    ≡ agree_in (class_named l.lattice) (order l.lattice) l.class (globals l.variables) l.first l.second
-
-abbrev pub decreases-loop-rest : goal.decreases-loop-rest
-decreases-loop-rest l = length l.rest
+-- If all globals before are alike, the remaining ones decide.
+abbrev pub invariant-loop-i : goal.invariant-loop-i
+invariant-loop-i l =
+    let known = class_named l.lattice in
+    let L = order l.lattice in
+    agree_in known L l.class (globals (drop l.i l.variables)) (drop l.i l.first) (drop l.i l.second)
+    ≡ agree_in known L l.class (globals l.variables) l.first l.second

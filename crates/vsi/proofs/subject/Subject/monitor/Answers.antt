@@ -1,4 +1,4 @@
-use Rattle.std.proofs.Common.{◌≡◌, inl, inr}
+use Rattle.std.proofs.Common.{◌≡◌, inl, inr, subst}
 use Rattle.std.proofs.lemmas.Result.{IfErr-weaker, IfOk-weaker}
 use Rattle.vsi_lattice.specs.LatticeView.{order}
 use Rattle.vsi_answers.specs.declared.unanswered.Unanswered.TheVariants as unanswered
@@ -16,12 +16,13 @@ returns-clause-told g c =
     let source = c.in_ok-source.source in
     IfOk-weaker c.monitor_reply.result
     (λ reply. EndsMonitored c.rule_of.result reply.is_good (order source.lattice) source.resolved c.deref-3.result.now)
-    (λ reply. OfStepFiles holds c.args.asked.now (IsMonitored (rule_of c.args.rule) c.args.asked.now reply.is_good))
+    (λ reply. OfStepFiles holds c.args.asked.now (IsMonitored c.args.asked.now (rule_of c.args.rule) reply.is_good))
     (λ reply ends. watched holds c.args.asked.now read.lattice read.text.items read.file.items
     c.in_ok-read.ensures.read source c.deref.result.now c.deref-2.result.now c.in_ok-source.ensures.lattice
-    c.in_ok-source.ensures.text c.deref.ensures.value c.deref-2.ensures.value c.rule_of.result (rule_of c.args.rule)
-    c.in_ok-words.words.items c.deref-3.result.now reply.is_good c.in_ok-words.ensures.started c.rule_of.ensures
-    c.deref-3.ensures.value ends)
+    c.in_ok-source.ensures.text c.deref.ensures.value c.deref-2.ensures.value (rule_of c.args.rule) c.in_ok-words.words.items
+    c.deref-3.result.now reply.is_good c.in_ok-words.ensures.started c.deref-3.ensures.value
+    (subst (λ R. EndsMonitored R reply.is_good (order source.lattice) source.resolved c.deref-3.result.now)
+    c.rule_of.ensures ends))
     c.monitor_reply.ensures.told
 
 pub returns-clause-failed : goal.returns-clause-failed
