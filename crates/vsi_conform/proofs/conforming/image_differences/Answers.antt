@@ -7,6 +7,6 @@ returns-then-not-demands_bound c =
     record {
       points = c.in_ok-points.ensures.points;
       bound =
-        nothing_reported c.args.interface.now.bounded c.args.verified.now
-        (sym c.demands_bound.ensures.demands ∙ c.if-not-demands_bound.true);
+          nothing_reported c.args.interface.now.bounded c.args.verified.now
+          (sym c.demands_bound.ensures.demands ∙ c.if-not-demands_bound.true);
     }
