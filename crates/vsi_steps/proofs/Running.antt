@@ -100,16 +100,6 @@ pub record Leads (n : ℕ) (c : Command) (a : Past) (n' : ℕ) (c' : Command) (b
   pub spelled : (es : List Step) (m' : Store) → Spells n' c' b.words es m' → Spells n c a.words (done ++ es) m'
   pub begun : (es : List Step) → Begins n' c' b.words es → Begins n c a.words (done ++ es)
 
--- Each run leads to itself.
-pub leads_self : (n : ℕ) (c : Command) (a : Past) → IsReady n c a → Leads n c a n c a
-leads_self n c a r = record {
-  done = [];
-  added = added_none a;
-  ready = r;
-  spelled = λ es m' d. d;
-  begun = λ es d. d;
-}
-
 -- The end of the second run is the end of the first.
 pub leads_ran : (g : Bool) (n : ℕ) (c : Command) (a : Past) (n' : ℕ) (c' : Command) (b d : Past) →
     Leads n c a n' c' b → Ran n' c' b d g → Ran n c a d g
@@ -126,17 +116,6 @@ ready_after n k e c x a b m places few table = record {
   few = few;
   table = subst (λ y. HasExtents y k c) (sym m.2.extents) table;
   within = m.3;
-}
-
--- The body of a letvar can be run with its word.
-pub letvar_ready : (n : ℕ) (e : Expression) (c : Command) (x : ℤ) (a b b' : Past) → IsReady n (Letvar e c) a →
-    Met n e a b (Some x) → length b'.words ≡ length b.words + 1 → b'.steps ≡ b.steps → b'.limit ≡ b.limit →
-    b'.extents ≡ b.extents → IsReady (n + 1) c b'
-letvar_ready n e c x a b b' r m long steps limit table = record {
-  places = subst (λ y. HasPlaces y c) (sym (long ∙ ap (λ y. length y + 1) m.1)) r.places.1;
-  few = omega (arith, r.few);
-  table = subst (λ y. HasExtents y (n + 1) c) (sym (table ∙ m.2.extents)) r.table.1;
-  within = omega (arith, ap length steps, limit, m.3);
 }
 
 -- A choice whose guard is true leads to its first branch.
@@ -209,10 +188,6 @@ module _ (c : Cmd) (n : ℕ) (b d : Past) (r : IsReady n (command c) b) (h : Ran
 
 module _ (n : ℕ) (e : Expression) (p q : Command) (x : ℤ) (a b : Past) (r : IsReady n (If e p q) a)
     (m : Met n e a b (Some x)) where
-  -- The site of a choice is in the table.
-  pub choice_inside : n < length b.extents
-  choice_inside = subst (λ t. n < length t) (sym m.2.extents) r.table.0.inside
-
   -- The extent at the site of a choice has the first site of its second branch.
   pub second_site : (y : Extent) → y ≡ get_or b.extents n y → y.second ≡ n + 1 + sites p
   second_site y is = ap (λ (z : Extent). z.second) (is ∙ ap (λ t. get_or t n y) m.2.extents ∙ r.table.0.extent_is y)
@@ -225,10 +200,6 @@ leads_end n c a n' r b is l = leads_ran true n c a n' r b b l
 
 module _ (n : ℕ) (e : Expression) (c : Command) (x : ℤ) (a b b' : Past) (l : Leads n (While e c) a n (While e c) b)
     (m : Met n e b b' (Some x)) where
-  -- The body of a loop can be run.
-  pub turn_ready : IsReady (n + 1) c b'
-  turn_ready = ready_after n (n + 1) e c x b b' m l.ready.places.1 (omega (arith, l.ready.few)) l.ready.table.1
-
   -- A loop ends with its guard.
   pub loop_ends : x ≡ pos 0 → Ran n (While e c) a b' true
   loop_ends z = leads_ran true n (While e c) a n (While e c) b b' l (

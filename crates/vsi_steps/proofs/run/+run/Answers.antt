@@ -62,8 +62,7 @@ run_all-index-requires t c =
 
 pub run_all-run_one-requires : goal.run_all-run_one-requires
 run_all-run_one-requires t c =
-    let e = at_command c.args.body.now c.loop-c.c-index c.c-item.result c.loop-c-test.true c.c-item.is in
-    (
+    let e = at_command c.args.body.now c.loop-c.c-index c.c-item.result c.loop-c-test.true c.c-item.is in (
       first_of (search (rules, the_lemmas), grind (arith, the_lemmas, common_steps), omega (arith, c.decreases)),
       first_ready _ _ _ _ _ _ _ _ e c.loop-c.invariant,
     )
