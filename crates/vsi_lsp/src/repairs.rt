@@ -142,6 +142,16 @@ impl<'a> Repairs<'a> {
         Ok(())
     }
 
+    /// Adds the repair that puts in a branch at a byte.
+    fn put_added(&mut self, at: usize, new: &[u8]) -> Made<()> {
+        let branch = new.trim_ascii_start();
+        let span = Span {
+            start: at,
+            stop: at,
+        };
+        self.put(&[b"Add `", branch, b"`, which changes nothing"], span, new)
+    }
+
     /// Adds the repair of an `if` whose `else` is missing at a byte, if `else` may come there and
     /// the text is read on with the repair. The branch assigns to a variable of the other branch its
     /// own value, so nothing flows by it that doesn't flow without it.
@@ -156,20 +166,18 @@ impl<'a> Repairs<'a> {
             && let Some(name) = assigned(alloc, ahead)?
         {
             let stop = last.span.stop;
-            let new = joined(alloc, &[b" else ", name, b" := ", name])?;
+            let new = branch(alloc, name)?;
             if is_read(alloc, text, stop, &new, rest)? {
-                let title: [&[u8]; 5] = [
-                    b"Add `else ",
-                    name,
-                    b" := ",
-                    name,
-                    b"`, which changes nothing",
-                ];
-                self.put(&title, Span { start: stop, stop }, &new)?;
+                self.put_added(stop, &new)?;
             }
         }
         Ok(())
     }
+}
+
+/// A branch that assigns to a variable its own value.
+fn branch(alloc: Global, name: &[u8]) -> Made<Vec<u8>> {
+    joined(alloc, &[b" else ", name, b" := ", name])
 }
 
 /// The text with the least raises, which is accepted: nothing if no raise makes the text accepted.
