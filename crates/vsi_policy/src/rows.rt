@@ -136,6 +136,21 @@ fn is_used(variables: &[(Vec<u8>, Vec<u8>)], class: &[u8]) -> bool
     false
 }
 
+/// Adds the warning about a class, if no global has it.
+fn put_unused(
+    text: &mut Vec<u8>,
+    variables: &[(Vec<u8>, Vec<u8>)],
+    class: &[u8],
+) -> Result<(), AllocError>
+    ensures { OnOk result (text.new.items
+        ≡ text.old.items ++ spec.unused_line (globals variables.now) class.now) }
+{
+    if is_used(variables, class) {
+        return Ok(());
+    }
+    put_parts(text, &[b"warning: no global has the class ", class, b"\n"])
+}
+
 /// The warnings about the classes of an interface's lattice that no global of it has. Such a class
 /// is often a mistake. An error means that memory ran out.
 pub fn unused_warnings(
@@ -148,11 +163,11 @@ pub fn unused_warnings(
 {
     let mut text = Vec::new(alloc);
     for class in 0..lattice.count() {
-        let name = name_of(lattice, class);
-        if !is_used(&interface.globals, name) {
-            text.extend_from_slice(b"warning: no global has the class ")?;
-            put_parts(&mut text, &[name, b"\n"])?;
-        }
+        put_unused(
+            &mut text,
+            interface.globals.as_slice(),
+            name_of(lattice, class),
+        )?;
     }
     Ok(text)
 }
