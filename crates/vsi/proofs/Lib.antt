@@ -34,4 +34,3 @@ pub mod Fed
 pub mod Faulted
 pub mod Hushed
 pub mod Ended
-pub mod Stepped

@@ -16,31 +16,33 @@
 //! stepping stones of proofs.
 #![tactic(auto)]
 
+mod answering;
+mod auditing;
 mod boundaries;
-mod c_code;
-mod choices;
+mod carrying_out;
 mod command_line;
 mod conformance;
-mod conformity;
 mod documents;
-mod drives;
-mod explanations;
+mod drawing;
+mod driving;
+mod emitting;
+mod explaining;
 mod failure;
 mod files;
-mod images;
-mod inputs;
+mod filing;
+mod interface_policies;
 pub mod laws;
-mod layouts;
+mod laying;
 mod loaded;
+mod objections;
 mod policies;
+mod reading;
+mod references;
 mod replies;
-mod requests;
-mod runs;
+mod running;
 mod steering;
-mod steps;
-mod subject;
-mod texts;
-mod trials;
+mod subcommands;
+mod trying;
 
 pub use command_line::command;
 pub use files::Files;

@@ -1,4 +1,3 @@
 mod Applying
-mod Keeping
 mod Lining
 mod Placing

@@ -1,3 +1,1 @@
 pub mod Framing
-pub mod TitleLemmas
-pub mod Verdicts

@@ -1,4 +1,1 @@
 pub mod Frames
-pub mod Severity
-pub mod Titles
-pub mod Verdict

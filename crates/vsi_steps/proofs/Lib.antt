@@ -1,6 +1,2 @@
-pub mod Counting
 pub mod Spelling
 pub mod Beginning
-pub mod Tables
-pub mod Running
-pub mod Tracing

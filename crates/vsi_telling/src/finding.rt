@@ -1,59 +1,59 @@
-//! The places of names in the bytes of a file.
+//! The places of words in the bytes of a file.
 
 use vsi_syntax::Span;
 
-/// The largest number of bytes of a name that are compared.
+/// How many bytes of a word are compared at most.
 const LONGEST: usize = 64;
 
-/// The beginning of a name.
-fn beginning(name: &[u8]) -> &[u8] {
-    &name[..name.len().min(LONGEST)]
+/// The beginning of a word.
+fn beginning(word: &[u8]) -> &[u8] {
+    &word[..word.len().min(LONGEST)]
 }
 
-/// The part that a name takes from a place on.
-fn span_of(start: usize, name: &[u8]) -> Span {
+/// The part from a place on that is a word.
+fn span_of(start: usize, word: &[u8]) -> Span {
     Span {
         start,
-        stop: start.saturating_add(name.len()),
+        stop: start.saturating_add(word.len()),
     }
 }
 
-/// Whether the bytes begin with a name and a quote after it.
-fn is_quoted(bytes: &[u8], name: &[u8]) -> bool {
-    let Some(rest) = bytes.strip_prefix(beginning(name)) else {
+/// Whether the bytes are a word and a quote after it.
+fn is_quoted(bytes: &[u8], word: &[u8]) -> bool {
+    let Some(rest) = bytes.strip_prefix(beginning(word)) else {
         return false;
     };
     match rest.first() {
         Some(b'"' | b'\'') => true,
-        _ => name.len() > LONGEST,
+        _ => word.len() > LONGEST,
     }
 }
 
-/// The place of a name between quotes, after this many occurrences of it.
-pub fn quoted_place(bytes: &[u8], name: &[u8], others: usize) -> Option<Span> {
+/// The place of a word between quotes, after so many other times.
+pub fn quoted_place(bytes: &[u8], word: &[u8], others: usize) -> Option<Span> {
     let mut left = others;
     for at in 0..bytes.len() {
         let byte = bytes[at];
         if byte != b'"' && byte != b'\'' {
             continue;
         }
-        if !is_quoted(&bytes[at + 1..], name) {
+        if !is_quoted(&bytes[at + 1..], word) {
             continue;
         }
         if left == 0 {
-            return Some(span_of(at + 1, name));
+            return Some(span_of(at + 1, word));
         }
         left -= 1;
     }
     None
 }
 
-/// The place of a name at the beginning of a line, after blanks and a quote.
-pub fn key_place(bytes: &[u8], name: &[u8]) -> Option<Span> {
+/// The place of a word at the beginning of a line, after blanks and a quote.
+pub fn key_place(bytes: &[u8], word: &[u8]) -> Option<Span> {
     let mut is_at_beginning = true;
     for at in 0..bytes.len() {
-        if is_at_beginning && bytes[at..].starts_with(beginning(name)) {
-            return Some(span_of(at, name));
+        if is_at_beginning && bytes[at..].starts_with(beginning(word)) {
+            return Some(span_of(at, word));
         }
         is_at_beginning = match bytes[at] {
             b'\n' => true,
@@ -64,7 +64,7 @@ pub fn key_place(bytes: &[u8], name: &[u8]) -> Option<Span> {
     None
 }
 
-/// The place of a name without quotes after a bracket or a comma.
+/// The place of a word without quotes after a bracket or a comma.
 pub(crate) fn bare_place(bytes: &[u8]) -> Option<Span> {
     let mut is_quoted = false;
     let mut is_behind = false;

@@ -1,5 +1,4 @@
-//! The changes that make a refused flow go away, and the raise of classes with which the whole text
-//! is accepted.
+//! The changes that make a refused flow go away, and the raise with which the whole text is accepted.
 
 use crate::flows::RefusedFlow;
 use crate::subject::Subject;
@@ -12,7 +11,7 @@ use vsi_types::Profile;
 /// The largest number of raises that are listed.
 const LISTED: usize = 20;
 
-/// Adds the changes that make the flow with this number go away.
+/// Adds what would make a flow go away, of the flows the one with this number.
 pub(crate) fn put_fixes(
     told: &mut Explanation,
     subject: &Subject<'_, '_>,
@@ -50,7 +49,7 @@ pub(crate) fn put_fixes(
     Ok(())
 }
 
-/// Adds the class that the target of a flow would need, and the effect of declaring it.
+/// Adds which class the target of a flow would need, and what that means.
 fn put_raise(
     told: &mut Explanation,
     subject: &Subject<'_, '_>,
@@ -113,8 +112,7 @@ pub(crate) fn put_least_raise(
     )
 }
 
-/// Adds the remarks about the whole text, and the numbers of refused and of shown flows if these
-/// differ.
+/// Adds what is said once for the whole text, of whose refused flows so many are shown.
 pub(crate) fn put_whole(
     told: &mut Explanation,
     shown: usize,

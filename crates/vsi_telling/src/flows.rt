@@ -49,8 +49,7 @@ impl<'w> RefusedFlow<'w> {
         }
     }
 
-    /// The steps that are reported: those near the beginning of a long walk, and those near its
-    /// end.
+    /// The steps that are reported: those near the beginning of a long walk, and those near its end.
     fn ends(&self) -> (&'w [Step], &'w [Step]) {
         let steps = self.steps;
         if steps.len() <= WHOLE {
@@ -71,8 +70,8 @@ impl<'w> RefusedFlow<'w> {
         false
     }
 
-    /// The reported step that most of these flows take, the last one among equals, and the number
-    /// of flows that take it.
+    /// The step, among those that are reported, that most of these flows take, and how many do; among
+    /// equals the last one.
     pub(crate) fn busiest(&self, flows: &[RefusedFlow<'_>]) -> Option<(Step, usize)> {
         let mut best: Option<(Step, usize)> = None;
         let (start, end) = self.ends();
@@ -100,8 +99,7 @@ fn passing(flows: &[RefusedFlow<'_>], step: &Step) -> usize {
     count
 }
 
-/// The sentences about a step under a rule, whose parts are its source, its target, and these again
-/// in the other order.
+/// The sentences about a step by its rule: about its source, its target, its target and its source.
 fn sentences(rule: Rule) -> &'static str {
     match rule {
         Rule::Assign => "Here % is read, and a value computed from it is assigned to %.\n",
@@ -208,8 +206,8 @@ fn put_flows(
     Ok(())
 }
 
-/// The flows that are listed, at most 20: first the one with these steps, then the others in their
-/// order.
+/// The flows that are listed, at most 20: first the one of the fixed lines, with the steps of its
+/// walk, then the others in their order.
 fn listed<'w>(
     alloc: Global,
     named: &'w [Step],

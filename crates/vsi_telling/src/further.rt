@@ -78,8 +78,7 @@ impl Telling<'_> {
     }
 
     /// Adds the faults of a refused text after its first one, but none on a line for which a hint
-    /// is listed, no names that are listed, and no unexpected tokens on the line of the first
-    /// fault.
+    /// is listed, no names that are listed, and no unexpected tokens on the line of the first fault.
     pub(crate) fn put_faults(
         &mut self,
         lattice: &Lattice,

@@ -3,9 +3,9 @@
 use crate::token_place::TokenPlace;
 use vsi_syntax::Kind;
 
-/// Whether a text begins with a key, and then, after blanks, with a symbol.
-fn begins_with(text: &[u8], key: &[u8], symbol: u8) -> bool {
-    let Some(rest) = text.trim_ascii_start().strip_prefix(key) else {
+/// Whether a text begins with a word, and then, after blanks, with a symbol.
+fn begins_with(text: &[u8], word: &[u8], symbol: u8) -> bool {
+    let Some(rest) = text.trim_ascii_start().strip_prefix(word) else {
         return false;
     };
     rest.trim_ascii_start().first() == Some(&symbol)
@@ -64,7 +64,7 @@ fn separator_hint(place: &TokenPlace) -> Option<&'static str> {
     Some(hint)
 }
 
-/// The hint if a guard or an initial value has ended without the keyword after it.
+/// The hint if a guard or an initial value has ended without the word after it.
 fn guard_hint(place: &TokenPlace) -> Option<&'static str> {
     match place.last_word() {
         Some(Kind::If) => Some("Hint: `then` comes after the guard of an `if`.\n"),

@@ -64,7 +64,7 @@ fn other_key(table: &Table) -> Option<&[u8]> {
     None
 }
 
-/// The number of the class with this name, or 255 if there is none.
+/// The number of the class with this name, or that of none.
 fn number_in(names: &[&[u8]], value: Option<&Value>) -> u8 {
     let name = match value {
         Some(value) => value.as_str().unwrap_or(""),
@@ -166,7 +166,7 @@ fn name_saying(error: LatticeError) -> (&'static str, usize) {
 }
 
 impl Telling<'_> {
-    /// Adds the explanation if the file isn't TOML, and returns a place where it may be wrong.
+    /// Adds the explanation if the file is no TOML, and answers a place where it may be wrong.
     fn put_not_toml(&mut self) -> Told {
         self.add("The file isn't a TOML document.\n")?;
         if let Some(hint) = file_hint(self.bytes) {
@@ -180,7 +180,7 @@ impl Telling<'_> {
         self.tell(hint, &[], Tail::Text(SHAPE), place)
     }
 
-    /// Adds which keys or values of a table are wrong, and returns the place of the fault.
+    /// Adds which keys or values of a table are wrong, and answers where.
     fn put_bad_keys(&mut self, table: &Table) -> Told {
         let Some(key) = other_key(table) else {
             return self.tell(key_words(table), &[], Tail::Text(SHAPE), None);
@@ -203,7 +203,7 @@ impl Telling<'_> {
         self.tell(sentence, &[Part::Quoted(name)], Tail::Nothing, place)
     }
 
-    /// Adds the explanation of a fault in a file that is a table, and returns its place.
+    /// Adds the explanation of a fault in the table that a file is, and answers where it is.
     fn put_table_fault(&mut self, table: &Table, error: LatticeError) -> Told {
         let below = key_place(self.bytes, b"below");
         match error {
@@ -227,7 +227,7 @@ impl Telling<'_> {
         }
     }
 
-    /// Adds the explanation of a refused lattice file, and returns the place of the fault.
+    /// Adds the explanation of a refused lattice file, and answers where it is wrong.
     pub(crate) fn put_lattice(&mut self, error: LatticeError) -> Told {
         let classes = key_place(self.bytes, b"classes");
         match error {

@@ -1,4 +1,4 @@
-//! The explanation of a text that can't be cut into tokens.
+//! The explanation of bytes and words that are none of the language.
 
 use crate::hints::file_hint;
 use crate::names::part_of;
@@ -32,7 +32,7 @@ fn byte_hint(byte: u8, next: Option<u8>) -> &'static str {
 }
 
 impl Telling<'_> {
-    /// Adds the explanation of a byte that no token has.
+    /// Adds the explanation of a byte.
     fn put_byte(&mut self, at: usize) -> Result<(), AllocError> {
         let source = self.bytes;
         let Some(byte) = source.get(at).copied() else {
@@ -49,7 +49,7 @@ impl Telling<'_> {
         self.add(byte_hint(byte, next))
     }
 
-    /// Adds the explanation of letters and digits that aren't a token.
+    /// Adds the explanation of a word that isn't valid.
     fn put_word(&mut self, span: Span) -> Result<(), AllocError> {
         let word = part_of(self.bytes, span);
         self.say(
@@ -73,7 +73,7 @@ impl Telling<'_> {
         }
     }
 
-    /// Adds the explanation of a text that can't be cut into tokens.
+    /// Adds the explanation of a text without tokens.
     pub(crate) fn put_lexical(&mut self, error: LexError) -> Result<(), AllocError> {
         match error {
             LexError::Memory => Err(AllocError),

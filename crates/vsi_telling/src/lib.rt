@@ -114,8 +114,8 @@ fn shown_at(
     Ok(text)
 }
 
-/// A place of a file and sentences as text, in lines of at most 80 columns. Without a place only
-/// the path is shown.
+/// A place of a file and words as text: a line is at most 80 columns long. Without a place only the
+/// path is shown.
 pub fn shown(
     alloc: Global,
     mode: ColourMode,
@@ -203,8 +203,8 @@ impl Telling<'_> {
         Ok(())
     }
 
-    /// Adds the explanation of a refused lattice file, image or other file, and returns the place
-    /// of the fault.
+    /// Adds the explanation of a refused lattice file, image or other file, and answers where it is
+    /// wrong.
     fn put_file(&mut self, fault: &Fault) -> Result<Option<Span>, AllocError> {
         match fault {
             Fault::Lattice(error) => return self.put_lattice(*error),
@@ -272,7 +272,7 @@ pub fn explanation<'a>(
     }
 }
 
-/// The classes of a lattice in a sentence, for a user who named one that it lacks.
+/// The classes of a lattice in a sentence, for who named one that it lacks.
 pub fn class_list(alloc: Global, lattice: &Lattice) -> Result<Vec<u8>, AllocError>
     ensures plain { IfOk result (λ text. all_plain text.items ≡ true) }
 {

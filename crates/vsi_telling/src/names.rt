@@ -11,12 +11,12 @@ pub fn part_of(text: &[u8], span: Span) -> &[u8] {
     &text[start..stop]
 }
 
-/// The tokens of a text that can be cut into tokens.
+/// The tokens of a text that has some.
 pub(crate) fn tokens_in<'a>(alloc: Global, source: &'a [u8]) -> Result<Vec<Token<'a>>, AllocError> {
     lex(alloc, source).or(Err(AllocError))
 }
 
-/// A token that declares a name: the one after a keyword of this kind.
+/// A token that declares a name: the one after a word of the kind.
 fn declared_by<'a>(tokens: &[Token<'a>], at: usize, kind: Kind) -> Option<Token<'a>> {
     if tokens.get(at)?.kind != kind {
         return None;

@@ -1,11 +1,11 @@
-//! The name that may have been meant.
+//! The word that may have been meant.
 
 use std::alloc::{AllocError, Global};
 use std::str::from_utf8;
 use strsim::osa_distance;
 use vsi_caret::{Part, say};
 
-/// The longest name that is compared.
+/// The longest word that is compared.
 const LONGEST: usize = 40;
 
 /// The keywords.
@@ -13,7 +13,7 @@ pub(crate) const KEYWORDS: [&[u8]; 8] = [
     b"var", b"letvar", b"in", b"if", b"then", b"else", b"while", b"do",
 ];
 
-/// The largest number of letters that differ between two names of this length that are near.
+/// How many letters at most differ where two words of this length are near.
 fn limit(length: usize) -> usize {
     match length {
         0..=1 => 0,
@@ -22,8 +22,8 @@ fn limit(length: usize) -> usize {
     }
 }
 
-/// The number of letters by which a name differs from another one that is near: 0 if only capital
-/// and small letters differ.
+/// How far a word is from another one, where it is near it: 0 where only capital and small letters
+/// differ.
 fn distance(alloc: Global, written: &[u8], meant: &[u8]) -> Result<Option<usize>, AllocError> {
     if written == meant || written.len() > LONGEST || meant.len() > LONGEST {
         return Ok(None);
@@ -38,27 +38,27 @@ fn distance(alloc: Global, written: &[u8], meant: &[u8]) -> Result<Option<usize>
     Ok((far <= limit(written.len().min(meant.len()))).then_some(far))
 }
 
-/// The nearest of the names, and of equally near ones the first.
+/// The nearest of the words, of those as near the first.
 fn nearest<'w>(
     alloc: Global,
     written: &[u8],
-    names: &[&'w [u8]],
+    words: &[&'w [u8]],
 ) -> Result<Option<&'w [u8]>, AllocError> {
     let mut best = None;
     let mut least: usize = LONGEST;
-    for name in names {
-        let Some(far) = distance(alloc, written, name)? else {
+    for word in words {
+        let Some(far) = distance(alloc, written, word)? else {
             continue;
         };
         if far < least {
             least = far;
-            best = Some(*name);
+            best = Some(*word);
         }
     }
     Ok(best)
 }
 
-/// Adds which of the names was perhaps meant, and returns whether one was.
+/// Adds which of the words was perhaps meant, and returns whether one was.
 pub(crate) fn put_nearest(
     alloc: Global,
     words: &mut Vec<u8>,

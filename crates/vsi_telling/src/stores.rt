@@ -55,8 +55,8 @@ impl Telling<'_> {
         Ok(place)
     }
 
-    /// Adds the explanation of a refused store file for an image with these globals, and returns
-    /// the place of the fault.
+    /// Adds the explanation of a refused store file for an image with these globals, and answers
+    /// where it is wrong.
     pub(crate) fn put_store(&mut self, globals: &[(Vec<u8>, Vec<u8>)], error: &StoreError) -> Told {
         match error {
             StoreError::Memory => Err(AllocError),

@@ -19,7 +19,7 @@ pub fn table_in(alloc: Global, bytes: &[u8]) -> Result<Option<Table>, AllocError
     }
 }
 
-/// Adds why a file isn't a TOML document, and returns the place of the fault.
+/// Adds why a file is no TOML document, and answers where.
 pub fn put_syntax(
     alloc: Global,
     words: &mut Vec<u8>,

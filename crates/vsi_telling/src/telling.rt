@@ -1,4 +1,4 @@
-//! The sentences about a refused file, as they are gathered.
+//! The words about a refused file, as they are gathered.
 
 use crate::nearest::put_nearest;
 use std::alloc::{AllocError, Global};
@@ -6,7 +6,7 @@ use vsi_caret::{Part, say};
 use vsi_hints::{hint_at, put_hint};
 use vsi_syntax::Span;
 
-/// The part of a file that is wrong, if it is known, once the sentences about it have been added.
+/// The part of a file that is wrong, if it is known, once the words about it have been added.
 pub type Told = Result<Option<Span>, AllocError>;
 
 /// An addition to a sentence.
@@ -19,7 +19,7 @@ pub enum Tail<'a> {
     Nearest(&'a [u8], &'a [&'a [u8]], &'static str),
 }
 
-/// A refused file, and the sentences about it so far.
+/// A refused file, and the words about it so far.
 #[derive(Drop)]
 pub struct Telling<'s> {
     pub alloc: Global,
@@ -29,7 +29,7 @@ pub struct Telling<'s> {
 }
 
 impl<'s> Telling<'s> {
-    /// A refused file without sentences about it.
+    /// A file that nothing is said about yet.
     pub fn new(alloc: Global, path: &'s [u8], bytes: &'s [u8]) -> Self {
         let words = Vec::new(alloc);
         Telling {
@@ -84,7 +84,7 @@ impl<'s> Telling<'s> {
         put_hint(&mut self.words, &hint)
     }
 
-    /// Adds which of the names was perhaps meant, and returns whether one was.
+    /// Adds which of the words was perhaps meant, and returns whether one was.
     pub(crate) fn nearest(
         &mut self,
         written: &[u8],
@@ -93,7 +93,7 @@ impl<'s> Telling<'s> {
         put_nearest(self.alloc, &mut self.words, written, choices)
     }
 
-    /// Adds which of the names was perhaps meant, or else another hint.
+    /// Adds which of the words was perhaps meant, or else another hint.
     pub(crate) fn nearest_or(
         &mut self,
         written: &[u8],

@@ -41,7 +41,7 @@ impl<'a, 't> TokenPlace<'a, 't> {
         &self.tokens[..self.at.min(self.tokens.len())]
     }
 
-    /// The token at this distance in front of the place.
+    /// The token so many in front of it.
     pub(crate) fn before(&self, count: usize) -> Option<Token<'a>> {
         let at = self.at.checked_sub(count)?;
         self.tokens.get(at).copied()
@@ -52,7 +52,7 @@ impl<'a, 't> TokenPlace<'a, 't> {
         Some(self.here()?.kind)
     }
 
-    /// The kind of the token at this distance in front of the place.
+    /// The kind of the token so many in front of it.
     pub(crate) fn kind_before(&self, count: usize) -> Option<Kind> {
         Some(self.before(count)?.kind)
     }
@@ -84,8 +84,7 @@ impl<'a, 't> TokenPlace<'a, 't> {
         }
     }
 
-    /// The kind of the last token in front that begins or ends a guard, an initial value or a
-    /// command.
+    /// The last of the words that begin or end a guard, an initial value or a command.
     pub(crate) fn last_word(&self) -> Option<Kind> {
         let mut found = None;
         for token in self.tokens.iter().take(self.at) {

@@ -1,11 +1,11 @@
-//! Sentences in lines of at most 80 columns.
+//! Words in lines.
 
 use std::alloc::{AllocError, Global};
 
-/// The largest number of columns of a line.
+/// How many columns a line has.
 const COLUMNS: usize = 80;
 
-/// The number of columns that a byte takes as shown.
+/// How many columns a byte takes where it is shown.
 fn columns_of(byte: u8) -> usize {
     match byte {
         b'\t' => 2,
@@ -14,7 +14,7 @@ fn columns_of(byte: u8) -> usize {
     }
 }
 
-/// The number of columns up to the first blank or the end of the line.
+/// How many columns the word at the beginning takes.
 fn word_columns(words: &[u8]) -> usize {
     let mut columns: usize = 0;
     for byte in words {
@@ -26,7 +26,7 @@ fn word_columns(words: &[u8]) -> usize {
     columns
 }
 
-/// The sentences with a line feed in place of a blank where a line would get too long.
+/// The words with a line feed for a blank where a line would get too long.
 pub(crate) fn wrapped(alloc: Global, words: &[u8]) -> Result<Vec<u8>, AllocError> {
     let mut lines = Vec::new(alloc);
     let mut column: usize = 0;
