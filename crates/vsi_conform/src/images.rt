@@ -1,5 +1,5 @@
-//! Images from a vendor beside an interface: whether they conform, and the answer as rows, lines and
-//! JSON, also with the line of a reference.
+//! Images from a vendor beside an interface: whether they conform, and the answer as rows, lines
+//! and JSON, also with the line of a reference.
 
 ghost use Rattle.std.specs.Prelude.{◌≡◌, IfOk, None, true, map, option_map};
 ghost use Rattle.vsi_lattice.specs.LatticeView.{class_named, order};
@@ -215,8 +215,8 @@ fn flows_of(
 }
 
 /// The released outputs of boundaries, in their order, each with the globals of an image that reach
-/// it. If the audit reads no program back from the image, each global counts as reaching every other
-/// one. An error means that memory ran out.
+/// it. If the audit reads no program back from the image, each global counts as reaching every
+/// other one. An error means that memory ran out.
 pub fn image_reaches(
     alloc: Global,
     lattice: &Lattice,
@@ -385,7 +385,7 @@ fn put_contrast(
     }
 }
 
-/// Adds words, and then a number.
+/// Adds a text and then a number.
 fn put_counted(text: &mut Vec<u8>, words: &[u8], number: usize) -> Result<(), AllocError> {
     text.extend_from_slice(words)?;
     put_number(text, number)

@@ -160,8 +160,7 @@ impl Section<'_> {
         Ok(())
     }
 
-    /// The names and the words of a table of numbers, if each name is one of the globals; nothing
-    /// if the value is no table of numbers.
+    /// The entries of a table of numbers, whose names must be globals; nothing for another value.
     fn entries(&self, value: &Value) -> Result<Option<Vec<(Vec<u8>, i64)>>, InterfaceError>
         ensures entries { IfOk result (λ found. option_map (λ es. entries es.items) found
             ≡ spec.entries_of (view value.now)) }
@@ -192,7 +191,7 @@ impl Section<'_> {
             .ok_or(InterfaceError::BadStore(self.number))
     }
 
-    /// The words that a run expects; there are none if it only has to halt.
+    /// The required final values of a run; none if it only has to halt.
     fn expect(&self, table: &Table) -> Result<Vec<(Vec<u8>, i64)>, InterfaceError>
         ensures expect { IfOk result (λ expect. spec.expect_from
             (get_member (codes "expect") (table_view table.now))

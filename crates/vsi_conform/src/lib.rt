@@ -6,16 +6,17 @@
 //! the judgement, the globals with their classes, the required runs, and the boundaries of
 //! controllers. `interface_text` writes why it is refused (`specs/Faulty`).
 //!
-//! `conform` reports each point in which a text differs from an interface; if there is none, the text
-//! conforms to it (`specs/Conforms`). `conform_image` does the same for a verified image, whoever made
-//! it (`specs/ImageConforms`), and `refused_image` says why an image isn't as a profile requires.
-//! `text_rows` and `image_rows` make the points into rows (`specs/Rows`), and `points_text` and
-//! `points_json` write them (`specs/Lines`, `specs/Json`, `specs/ImageLines`). `is_within` compares the
-//! budgets of all runs with one budget (`specs/Totals`). `text_reaches` and `image_reaches` list the
-//! globals that reach each released output, and `are_within` says whether the interface allows them
-//! (`specs/Reaching`, `specs/ReachedLines`, `specs/ImageReaching`). `compare_reference` runs an image
-//! beside that of a reference from random stores, and `reference_line` reports what it finds. This is a
-//! test: nothing is proved of the differences that it misses (`specs/Reference`).
+//! `conform` reports each point in which a text differs from an interface; if there is none, the
+//! text conforms to it (`specs/Conforms`). `conform_image` does the same for a verified image,
+//! whoever made it (`specs/ImageConforms`), and `refused_image` says why an image isn't as a
+//! profile requires. `text_rows` and `image_rows` make the points into rows (`specs/Rows`), and
+//! `points_text` and `points_json` write them (`specs/Lines`, `specs/Json`, `specs/ImageLines`).
+//! `is_within` compares the budgets of all runs with one budget (`specs/Totals`). `text_reaches`
+//! and `image_reaches` list the globals that reach each released output, and `are_within` says
+//! whether the interface allows them (`specs/Reaching`, `specs/ReachedLines`,
+//! `specs/ImageReaching`). `compare_reference` runs an image beside that of a reference from random
+//! stores, and `reference_line` reports what it finds. This is a test: nothing is proved of the
+//! differences that it misses (`specs/Reference`).
 //!
 //! To be believed: all files of `specs/`.
 #![tactic(auto)]

@@ -181,8 +181,8 @@ fn put_reaches(
     Ok(())
 }
 
-/// The released outputs of boundaries, in their order, each with the globals of a program that reach
-/// it.
+/// The released outputs of boundaries, in their order, each with the globals of a program that
+/// reach it.
 pub(crate) fn reaches_of(
     alloc: Heap,
     flows: &GlobalFlows,
@@ -263,8 +263,8 @@ fn flows_of(alloc: Heap, profile: Profile, source: &Source<'_>) -> Result<Global
     })
 }
 
-/// The released outputs of boundaries, in their order, each with the globals of a text that reach it.
-/// A text that has no program has none. An error means that memory ran out.
+/// The released outputs of boundaries, in their order, each with the globals of a text that reach
+/// it. A text that has no program has none. An error means that memory ran out.
 pub fn text_reaches(
     alloc: Heap,
     lattice: &Lattice,
@@ -406,8 +406,8 @@ fn is_overturned(fits: bool, reaches: &[Reach]) -> bool
     fits && !are_within(reaches)
 }
 
-/// The lines of an answer: those of its points and then one for each released output. If nothing but
-/// a released output differs, the line `conforms` isn't among them.
+/// The lines of an answer: those of its points and then one for each released output. If nothing
+/// but a released output differs, the line `conforms` isn't among them.
 pub fn with_reached_lines(
     alloc: Heap,
     fits: bool,
@@ -427,8 +427,8 @@ pub fn with_reached_lines(
     Ok(text)
 }
 
-/// The line of JSON of an answer: that of its points, with a member for the released outputs if there
-/// are any.
+/// The line of JSON of an answer: that of its points, with a member for the released outputs if
+/// there are any.
 pub fn with_reached_json(
     alloc: Heap,
     fits: bool,

@@ -100,8 +100,8 @@ fn first_lines(
     }
 }
 
-/// The rows of an answer about a text. Names, lines and columns come from the given lattice, text and
-/// interface, which must be those of the answer.
+/// The rows of an answer about a text. Names, lines and columns come from the given lattice, text
+/// and interface, which must be those of the answer.
 pub fn text_rows(
     alloc: Global,
     lattice: &Lattice,
@@ -266,8 +266,8 @@ pub(crate) fn rows_text(alloc: Global, rows: &[Row]) -> Result<Vec<u8>, AllocErr
     Ok(lines)
 }
 
-/// The lines of an answer: `conforms`, or those of the refusal, one for each point and one about the
-/// bound.
+/// The lines of an answer: `conforms`, or those of the refusal, one for each point and one about
+/// the bound.
 pub fn points_text(
     alloc: Global,
     lattice: &Lattice,
@@ -365,8 +365,8 @@ fn are_none(rows: &[Row]) -> bool
     }
 }
 
-/// The line of JSON of an answer with these rows: an object with `conforms`, whether there are none,
-/// and `points`, an array with an object for each.
+/// The line of JSON of an answer with these rows: an object with `conforms`, whether there are
+/// none, and `points`, an array with an object for each.
 pub(crate) fn rows_json(alloc: Global, rows: &[Row]) -> Result<Vec<u8>, AllocError>
     ensures json { IfOk result (λ out. out.items ≡ json_spec.rows_json (map row rows.now)) }
 {

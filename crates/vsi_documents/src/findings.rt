@@ -93,9 +93,9 @@ fn rows_sarif(alloc: Global, path: &str, rows: &[Row]) -> Result<Vec<u8>, AllocE
     document(alloc, rules(alloc, &KINDS)?, made)
 }
 
-/// The answer about the text of the file at a path beside an interface as a document of SARIF 2.1.0,
-/// which has a result for each line, or block of lines, of `points_text`. An error means that memory
-/// ran out.
+/// The answer about the text of the file at a path beside an interface as a document of SARIF
+/// 2.1.0, which has a result for each line, or block of lines, of `points_text`. An error means
+/// that memory ran out.
 pub fn points_sarif(
     alloc: Global,
     lattice: &Lattice,

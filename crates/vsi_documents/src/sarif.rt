@@ -93,8 +93,8 @@ fn judged_sarif(
     }
 }
 
-/// The answer of `vsi audit` to the image of the file at a path as a document of SARIF 2.1.0. An error
-/// means that memory ran out.
+/// The answer of `vsi audit` to the image of the file at a path as a document of SARIF 2.1.0. An
+/// error means that memory ran out.
 pub fn audit_sarif(
     alloc: Global,
     profile: Profile,
