@@ -111,6 +111,18 @@ def drive(room: Room, body: Body) -> Body:
                     "--store", "store.toml", given="lines").answer()
 
 
+def monitor(room: Room, body: Body) -> Body:
+    """A monitored run of the text."""
+    return room.run("monitor", "lattice.toml", "text.vsi", f"--budget={body['budget']}", "--store",
+                    "store.toml").answer()
+
+
+def together(room: Room, body: Body) -> Body:
+    """Two runs of the text in step."""
+    return room.run("compare", "--steps", "lattice.toml", "text.vsi", f"--class={body['class']}",
+                    f"--budget={body['budget']}", "--store", "store.toml", "--store", "other.toml").answer()
+
+
 def audit(room: Room, body: Body) -> Body:
     """Whether the image is accepted by itself."""
     made = make_image(room)
@@ -169,6 +181,8 @@ REQUESTS: "dict[str, tuple[tuple[str, ...], tuple[str, ...], Callable[[Room, Bod
     "compare": (("text", "lattice", "store", "other", "budget", "class"), (),
                 on_image("compare", "lattice.toml", "image", "--class={class}", "--budget={budget}", "--unbounded",
                          "--store", "store.toml", "--store", "other.toml")),
+    "together": (("text", "lattice", "store", "other", "budget", "class"), (), together),
+    "monitor": (("text", "lattice", "store", "budget"), (), monitor),
     "drive": (("text", "lattice", "store", "lines", "budget", "class"), (), drive),
     "conform": (("exercise",), ("text", "lattice", "store", "other", "budget"), conform),
 }

@@ -40,6 +40,18 @@ export function button(label, press, attributes = {}) {
   return element;
 }
 
+/** Buttons after a slider that move it; `show` follows each move. `ids` has the ids of buttons by their labels. */
+export function slide(range, show, ids = {}) {
+  const most = Number.MAX_SAFE_INTEGER;
+  range.addEventListener("input", show);
+  for (const [label, change] of [["First", -most], ["Back", -1], ["Next", 1], ["Last", most]]) {
+    range.parentElement.append(button(label, () => {
+      range.value = String(Math.min(Math.max(0, Number(range.value) + change), Number(range.max)));
+      show();
+    }, ids[label] ? { id: ids[label] } : {}));
+  }
+}
+
 /** A class as a small label in its colour. */
 export const chip = (name, number) => h("span", { class: `chip k${number % 8}` }, name);
 

@@ -16,6 +16,7 @@ export class Editor {
     this.inferred = new Map();
     this.numbers = new Map();
     this.lit = new Set();
+    this.marked = [];
     this.pointed = () => {};
     this.area = h("textarea", { id, "aria-label": label, spellcheck: "false", autocomplete: "off",
       autocapitalize: "off", wrap: "soft", rows: "1" });
@@ -87,6 +88,17 @@ export class Editor {
   hide() {
     this.bubble.hidden = true;
     this.area.removeAttribute("aria-describedby");
+  }
+
+  /** Marks the line of each of two runs; 0 is none. */
+  runs(numbers) {
+    this.marked = numbers;
+    [...this.copy.children].forEach((line, index) => line.setAttribute("data-runs", this.runsAt(index + 1)));
+  }
+
+  /** Which runs are at a line: 1, 2, both or none. */
+  runsAt(number) {
+    return this.marked.map((line, index) => (line === number ? index + 1 : 0)).filter(Boolean).join("+");
   }
 
   /** Lights some lines, by their numbers. */
@@ -174,8 +186,9 @@ export class Editor {
     const classes = this.classes(list);
     const lines = this.isProgram ? this.programLines(list, classes) : this.plainLines();
     const faulty = new Set([...this.marks].filter(([, { kind }]) => kind !== "warned").map(([at]) => parseInt(at, 10)));
-    this.copy.replaceChildren(...lines.map((parts, index) => h("span", { class: "line"
-      + (faulty.has(index + 1) ? " faulty" : "") + (this.lit.has(index + 1) ? " lit" : "") }, parts, "\n")));
+    const kinds = (number) => (faulty.has(number) ? " faulty" : "") + (this.lit.has(number) ? " lit" : "");
+    this.copy.replaceChildren(...lines.map((parts, index) => h("span", { class: `line${kinds(index + 1)}`,
+      "data-runs": this.runsAt(index + 1) }, parts, "\n")));
   }
 
   plainLines() {

@@ -1,4 +1,4 @@
-// Follows the typing without a button: the leak beside the verdict, and the open pane's results.
+// Follows the typing without a button: the leak and the monitor beside the verdict, and the open pane's results.
 import { at } from "./dom.js";
 
 // Milliseconds after a change of a store, the budget or the observer.
@@ -35,6 +35,8 @@ export class Live {
     this.show();
     if (!this.follows) return;
     await app.panes.leakBeside(signal);
+    if (signal.aborted) return;
+    await app.judges.monitor(signal);
     if (signal.aborted) return;
     const follow = { run: () => app.panes.run(signal), flows: () => app.panes.flows(signal),
       leak: () => app.panes.leak(signal), machine: () => app.machine.trace(signal) }[app.pane];

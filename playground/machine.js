@@ -2,7 +2,7 @@
 // A line of the program and its instructions light each other.
 import { ask, trouble } from "./api.js";
 import { lines } from "./coding.js";
-import { at, button, fill, h, table } from "./dom.js";
+import { at, button, fill, h, slide, table } from "./dom.js";
 import { complaint } from "./panes.js";
 import { listing, trace, words } from "./reading.js";
 
@@ -28,13 +28,7 @@ export class Machine {
     this.isOfImage = false;
     at("machine-form").append(button("Trace the run", () => this.trace(), { class: "main", id: "machine-button" }),
       button("Audit the image", () => this.image("audit")), button("Program of the image", () => this.image("source")));
-    at("step").addEventListener("input", () => this.show());
-    const move = (change) => () => {
-      at("step").value = String(Math.min(Math.max(0, Number(at("step").value) + change), this.steps.length - 1));
-      this.show();
-    };
-    at("step-row").append(button("First", move(-MOST_STEPS)), button("Back", move(-1)),
-      button("Next", move(1), { id: "next-step" }), button("Last", move(MOST_STEPS)));
+    slide(at("step"), () => this.show(), { Next: "next-step" });
     app.program.pointed = (line) => this.light(line, true);
     at("listing").addEventListener("pointerover", (event) => this.light(this.lineOf(event.target)));
     at("listing").addEventListener("pointerleave", () => this.light(0));

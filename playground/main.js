@@ -2,6 +2,7 @@
 import { ask, load } from "./api.js";
 import { at, fill, h } from "./dom.js";
 import { Editor } from "./editor.js";
+import { Judges } from "./judges.js";
 import { keepHere, keptHere, packed, unpacked } from "./keeping.js";
 import { Policy, READY } from "./lattice.js";
 import { Lesson, uncommented } from "./lesson.js";
@@ -10,6 +11,7 @@ import { Machine } from "./machine.js";
 import { Panes } from "./panes.js";
 import { globals, isLattice } from "./reading.js";
 import { Tasks } from "./tasks.js";
+import { Together } from "./together.js";
 import { Verdict } from "./verdict.js";
 
 const FIRST = "# Which variable leaks into which? Change the text until it is accepted.\n"
@@ -33,6 +35,8 @@ class App {
       change: () => this.typed() });
     this.panes = new Panes(this);
     this.machine = new Machine(this);
+    this.judges = new Judges(this);
+    this.together = new Together(this);
     this.examples = examples;
     this.tasks = new Tasks(this, exercises, levels);
     this.lesson = new Lesson(this, isLesson);
@@ -125,6 +129,7 @@ class App {
     at("store-part").hidden = !["run", "machine", "cycles"].includes(pane);
     at("budget-row").hidden = pane === "flows" || pane === "report";
     this.machine.light(0);
+    this.together.look(pane === "leak");
     if (name === "pair") at("pair").scrollIntoView({ block: "nearest" });
     if (pressed) at(pressed).click();
     this.live.now();
@@ -133,6 +138,7 @@ class App {
   typed() {
     this.verdict.forget();
     this.machine.forget();
+    this.together.forget();
     this.panes.refresh();
     this.showTabs();
     this.live.show();
@@ -208,6 +214,7 @@ class App {
     this.panes.clear();
     (stores ?? []).forEach((store, index) => this.panes.pair.take(index, store));
     this.machine.forget();
+    this.together.forget();
     at("steps").hidden = true;
     this.panes.offer(files, base);
     this.policy.look(observer);

@@ -266,9 +266,9 @@ export class Panes {
   /** Looks for a leak of a refused program, and says beside the verdict what an observer sees of it. */
   async leakBeside(signal) {
     const { app } = this;
-    const isWanted = app.verdict.accepted === false && !app.isSearchClosed && app.tasks.takesStores;
-    if (!isWanted || this.budget === null) {
+    if (app.isSearchClosed || !app.tasks.takesStores || this.budget === null) {
       this.forgetBeside();
+      app.judges.say("search", "", this.budget === null ? "needs a budget" : "is yours here");
       return;
     }
     const asked = { ...this.body, budget: this.budget, tries: PAIRS, endings: false, steps: false };
@@ -276,9 +276,11 @@ export class Panes {
     if (!answer) return;
     this.beside = { key: JSON.stringify(["leak", asked]), answer };
     const none = answer.status === 0 && !trouble(answer) ? /^no (leak in .*)$/m.exec(answer.output) : null;
+    const leak = /^leak at /.test(answer.errors ?? "") ? twoRuns(answer.errors) : null;
+    app.judges.search(leak, none?.[1]);
     at("verdict-leak").className = none ? "hint" : "";
-    fill(at("verdict-leak"), /^leak at /.test(answer.errors ?? "") ? leakSentence(twoRuns(answer.errors))
-      : none ? `No ${none[1]}. Finding none says nothing about other pairs.` : "");
+    fill(at("verdict-leak"), leak ? leakSentence(leak) : none && app.verdict.accepted === false
+      ? `No ${none[1]}. Finding none says nothing about other pairs.` : "");
   }
 
   /** Takes away what is said of a leak. */
@@ -287,6 +289,7 @@ export class Panes {
     this.turns.beside = null;
     at("verdict-leak").className = "";
     fill(at("verdict-leak"));
+    this.app.judges.clear("search");
   }
 
   /** Puts the stores of a leak into the fields of two runs. */
@@ -303,8 +306,9 @@ export class Panes {
   async compare() {
     const observer = await this.observer("pair-result");
     if (!observer || !this.isReady(this.pair)) return null;
-    const answer = await ask("compare", { ...this.body, store: this.pair.text(0), other: this.pair.text(1),
-      class: observer, budget: this.budget });
+    const asked = { ...this.body, store: this.pair.text(0), other: this.pair.text(1), class: observer,
+      budget: this.budget };
+    const answer = await ask("compare", asked);
     if (!/ sees before$/m.test(answer.output ?? "")) {
       fill(at("pair-result"), complaint(answer));
       return null;
@@ -314,6 +318,7 @@ export class Panes {
     fill(at("pair-result"), h("p", { class: answer.status === 0 ? "yes" : "no" },
       `${observer} ${sees} the same after both runs.`), runsTable(runs));
     this.app.tasks.judge(runs);
+    await this.app.together.ask(asked);
     return runs;
   }
 

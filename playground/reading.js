@@ -117,6 +117,50 @@ export function twoRuns(text) {
   return result;
 }
 
+/** A line of `compare --steps`: of which run it is (both, the first or the second), its place, text, word and class. */
+function stepOf(line) {
+  const found = /^([ <>]) (\d+):(\d+) +(.+?) {2,}(?:is|(\w+) =) (-?\d+) : (\w+)$/.exec(line);
+  return found && { of: found[1], line: +found[2], column: +found[3], text: found[4], name: found[5] ?? "",
+    word: found[6], class: found[7] };
+}
+
+/**
+ * The steps of `compare --steps`, a pair for each: both runs are at one command, or only one of them is, or each has
+ * its own. And for each class the place of the first difference that it sees, or null.
+ */
+export function inStep(output) {
+  const lines = output.split("\n"), list = lines.map(stepOf).filter(Boolean), pairs = [];
+  const isSame = (one, other) => one && other && one.line === other.line && one.column === other.column;
+  for (let now = 0; now < list.length;) {
+    const take = (of) => {
+      const begin = now;
+      while (list[now]?.of === of) now += 1;
+      return list.slice(begin, now);
+    };
+    pairs.push(...take(" ").map((both) => ({ first: both, second: both, kind: "same" })));
+    const first = take("<"), second = take(">"), last = [];
+    if (isSame(first[0], second[0])) pairs.push({ first: first.shift(), second: second.shift(), kind: "differs" });
+    while (isSame(first[first.length - 1], second[second.length - 1])) {
+      last.unshift({ first: first.pop(), second: second.pop(), kind: "differs" });
+    }
+    for (let at = 0; at < Math.max(first.length, second.length); at += 1) {
+      pairs.push({ first: first[at], second: second[at], kind: "apart" });
+    }
+    pairs.push(...last);
+  }
+  const seen = lines.map((line) => /^(\w+) sees (?:no difference|a difference at (\d+):(\d+))$/.exec(line))
+    .filter(Boolean).map(([, name, line, column]) => ({ class: name, place: line ? { line: +line, column: +column }
+      : null }));
+  return { pairs, seen };
+}
+
+/** How a monitored run ended: the labels of its words, or the place, the variable and the classes where it stopped. */
+export function monitored(output) {
+  const stop = /^(\d+):(\d+) (\w+) : (\w+) may not be assigned under (\w+)$/m.exec(output);
+  const labels = [...output.matchAll(/^(\w+) = -?\d+ : (\w+)$/gm)].map(([, name, label]) => ({ name, label }));
+  return { labels, stop: stop && { line: +stop[1], column: +stop[2], name: stop[3], label: stop[4], under: stop[5] } };
+}
+
 /** The steps of a trace, and the lines of the store after them. */
 export function trace(output) {
   const found = [], rest = [];

@@ -43,7 +43,8 @@ function command(app, line) {
     [/^vsi drive/, "Drive", () => app.open("cycles", "cycles-button")],
   ].find(([pattern]) => pattern.test(line));
   const note = /^cp /.test(line) ? "Not needed: the editor holds the copy."
-    : /^vsi build/.test(line) ? "Not needed: the server builds the image." : "";
+    : /^vsi build/.test(line) ? "Not needed: the server builds the image."
+      : /^vsi monitor/.test(line) ? "Beside the verdict, from the store of Run." : "";
   return h("li", {}, h("code", {}, line), " ",
     does ? button(does[1], does[2], { class: "plain" }) : h("small", {}, note));
 }

@@ -123,7 +123,11 @@ export class Verdict {
   take(key, json) {
     this.accepted = json ? json.accepted : null;
     this.isRunnable = json ? json.accepted || json.name === "Refused" : null;
-    if (key !== this.key || !json) this.app.panes.forgetBeside();
+    if (key !== this.key || !this.isRunnable) {
+      this.app.panes.forgetBeside();
+      this.app.judges.forget();
+    }
+    if (this.isRunnable && !this.app.program.isLarge) this.app.judges.types(json.accepted);
     this.key = key;
   }
 
@@ -131,6 +135,7 @@ export class Verdict {
   hide() {
     this.forget();
     this.app.panes.forgetBeside();
+    this.app.judges.forget();
     this.app.program.infer(new Map());
     this.app.program.mark(new Map());
     this.app.latticeEditor.mark(new Map());

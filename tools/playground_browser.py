@@ -6,13 +6,14 @@ usage: tools/playground_browser.py PROGRAM [--short] [--width N] [--scheme NAME]
 
 PROGRAM is the built program; `playground/serve` serves it on a free port. Chromium types a text, sees the refusal in
 words and what an observer sees of the leak, takes the quick fix, sees the run, lights lines and instructions, fills
-fields with what is no number, solves exercise 02 and level 3, shares a link and opens it again: at widths of 360, 800
-and 1,600, light and dark, and one exercise at 1,280. No page may be wider than its window, each control has a name,
-text has a contrast of at least 4.5 to 1, and the console shows no error. A request may take 20 seconds, a request that
-a busy server has refused is sent again, and what the page shows is waited for three minutes: a busy machine is no
-fault. --short goes through one width; --width and --scheme name the one to go through; --unproved takes the limit of memory from the
-server, for a program that `tools/build` has made; --pictures writes the pages as pictures. --readme writes the two
-pictures of README instead, as playground-light.png and playground-dark.png.
+fields with what is no number, sees what the types, a monitor and a search say of programs, goes through two runs in
+step, solves exercise 02 and level 3, shares a link and opens it again: at widths of 360, 800 and 1,600, light and dark,
+and one exercise at 1,280. No page may be wider than its window, each control has a name, text has a contrast of at
+least 4.5 to 1, and the console shows no error. A request may take 20 seconds, a request that a busy server has refused
+is sent again, and what the page shows is waited for three minutes: a busy machine is no fault. --short goes through one
+width; --width and --scheme name the one to go through; --unproved takes the limit of memory from the server, for a
+program that `tools/build` has made; --pictures writes the pages as pictures. --readme writes the two pictures of README
+instead, as playground-light.png and playground-dark.png.
 Silent where all is well. It needs chromium, chromium-driver and python3-selenium of Debian; where one of them is
 missing, it says so in one line and ends with status 0.
 """
@@ -37,6 +38,19 @@ REFUSED = "Refused: secret reaches shown"
 DIAMOND = 'classes = ["L", "A", "B", "H"]\nbelow = [["L", "A"], ["L", "B"], ["A", "H"], ["B", "H"]]\n'
 # The instructions, worked by hand: 0 LOAD 0, 1 JZ 5, 2 PUSH 1, 3 STORE 1, 4 JMP 7, 5 PUSH 0, 6 STORE 1, 7 HALT.
 LAMP = "var alarm : H;\nvar lamp : L;\n\nif alarm then\n  lamp := 1\nelse\n  lamp := 0\n"
+PARTED = "var h : H;\nvar l : L;\nif h then\n  l := 1\nelse\n  l := 0;\nh := 2\n"
+# A program, and what the types, the monitor of its run from zeros, and the search say of it.
+JUDGED = (
+    ("var h : H; var l : L; if h then l := 1 else l := 0",
+     ["refuse the program", "stops the run at line 1, column 45: l with label L is assigned under H",
+      "finds a leak at L"]),
+    ("var h : H; var l : L; if 0 then l := h else l := 1",
+     ["refuse the program", "lets the run end", "finds no leak in 0 pairs of runs"]),
+    ("var h : H; var l : L; l := h",
+     ["refuse the program", "lets the run end; now l has label H", "finds a leak at L"]),
+    ("var h : H; var l : L; if h then h := 1 else h := l",
+     ["accept the program", "lets the run end", "finds no leak in 100 pairs of runs"]),
+)
 LAMP_LINES = ["4", "4", "5", "5", "6", "7", "7", None]
 # A program, words that its verdict must have, and the word of the program that is marked.
 FAULTS = (
@@ -401,6 +415,53 @@ class Student:
         time.sleep(1)
         self.look("report")
 
+    def judged(self) -> None:
+        """The types, the monitor and the search judge one program, side by side."""
+        self.go(self.address)
+        for text, wanted in JUDGED:
+            self.write(text)
+            self.wait(f"the three judges of {text!r}", lambda: self.texts("#judges dd") == wanted)
+            self.look("judged")
+        self.put("h-0", "x", "run-store")
+        self.wait("no monitored run", lambda: self.text("judge-monitor") == "needs a store and a budget")
+        self.write("var h : H; h :=")
+        self.wait("no judges of a fault", lambda: not self.at("judges").is_displayed())
+
+    def together(self) -> None:
+        """Two runs in step, by the keyboard: where they part and meet, and what each class sees."""
+        from selenium.webdriver.common.keys import Keys
+        self.go(self.address)
+        self.write(PARTED)
+        self.verdict("Refused: h reaches l")
+        self.press("tab-leak")
+        self.put("h-1", "1")
+        self.ask("pair-button", "pair-result", "the steps of both runs", lambda: self.at("pair-steps").is_displayed())
+        self.expect("where the runs part", self.text("pair-seen"), "The runs part at step 2 and meet again at step 3. "
+                    "L sees a difference, first at step 2H sees a difference, first at step 1")
+        self.expect("the first step", self.text("pair-now"),
+                    "Step 1 of 3. Both are at one command, with different words.")
+        self.at("pair-step").send_keys(Keys.ARROW_RIGHT)
+        self.expect("the second step", self.text("pair-now"), "Step 2 of 3. Here the runs part.")
+        self.expect("the lines of the runs", [self.texts(f"{place} [data-runs='{run}']") for run in (1, 2)
+                    for place in ("#program-editor", "#pair-lines")], [["  l := 0;\n"]] * 2 + [["  l := 1\n"]] * 2)
+        self.expect("what has changed", self.texts("#pair-table .changed"), ["l = 0", "l = 1", "0", "1"])
+        self.look("together")
+        self.press("pair-next")
+        self.expect("the third step", self.text("pair-now"),
+                    "Step 3 of 3. Here the runs meet again. Both runs do the same.")
+        self.expect("the line of both runs", self.texts("#pair-lines [data-runs='1+2']"), ["h := 2\n"])
+        self.click("#pair-seen li button")
+        self.expect("the step that L sees", self.text("pair-now"), "Step 2 of 3. Here the runs part.")
+        self.press("tab-run")
+        self.expect("marks beside another pane", self.texts("#program-editor [data-runs='1']"), [])
+        self.press("tab-leak")
+        self.expect("marks once more", self.texts("#program-editor [data-runs='1']"), ["  l := 0;\n"])
+        self.write("var l : L; while 1 do l := l + 1")
+        self.wait("no steps of another program", lambda: not self.at("pair-steps").is_displayed())
+        self.verdict("Accepted")
+        self.ask("pair-button", "pair-result", "too many steps", lambda: self.text("pair-now")
+                 == "A run takes more than 2000 steps, so they aren't shown.")
+
     def lights(self) -> None:
         """A line and its instructions light each other, by the pointer and by the keyboard."""
         from selenium.webdriver.common.keys import Keys
@@ -626,8 +687,8 @@ def go_through(options: argparse.Namespace, address: str) -> None:
             else:
                 wide = [student.beside, student.mapped] if size == SIZES[-1] or options.short else []
                 for part in (student.fix, student.share, student.fields, student.faults, student.wraps, student.panes,
-                             student.busy, student.keys, student.observers, student.pages, student.exercise,
-                             student.level, *wide):
+                             student.judged, student.together, student.busy, student.keys, student.observers,
+                             student.pages, student.exercise, student.level, *wide):
                     part()
         finally:
             student.end()

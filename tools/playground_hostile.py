@@ -53,7 +53,7 @@ def hostile(chance: random.Random, host: str) -> bytes:
     """One request that the server must not answer with success."""
     kind = chance.randrange(12)
     json_type = "Content-Type: application/json"
-    name = chance.choice(["view", "run", "compare", "leak", "check", "conform", "explain"])
+    name = chance.choice(["view", "run", "compare", "together", "monitor", "leak", "check", "conform", "explain"])
     good = json.dumps({"text": LAMP, "lattice": TWO}).encode()
     if kind < 2:
         return request(chance.choice(["GET", "POST", "HEAD"]), hostile_path(chance), host, b"{}", json_type)

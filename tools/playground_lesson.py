@@ -103,6 +103,10 @@ STEPS = (
     Step(12, "integrity/endorsed.vsi", "leak", "A leak at Trusted"),
     Step(12, "integrity/repaired.vsi", "verdict", "Accepted"),
     Step(13, "controller/lock.vsi", "verdict", "Accepted"),
+    Step(14, "implicit-flow/lamp.vsi", "pair", "lamp | 0 | 1 | ✱ differs"),
+    Step(14, "", "judges", "lets the run end", LOW_HIGH + "if h then l := 1\nelse h := h\n"),
+    Step(14, "", "judges", "refuse the program|lets the run end", LOW_HIGH + "if 0 then l := h\nelse l := 1\n"),
+    Step(14, "", "judges", "now l has label H|finds a leak at L", LOW_HIGH + "l := h\n"),
 )
 # The text of an element with ` | ` between the cells of a table.
 SHOWN = """
@@ -162,8 +166,14 @@ class Teacher(browser.Student):
     def work(self, step: Step) -> str:
         """Opens the pane that the step needs, presses a button where there is one; names what shows the answer."""
         does, *options = step.does.split(" ")
-        if does in ("verdict", "classes", "beside"):
-            return {"verdict": "verdict", "classes": "program-editor", "beside": "verdict-leak"}[does]
+        if does in ("verdict", "classes", "beside", "judges"):
+            return {"classes": "program-editor", "beside": "verdict-leak"}.get(does, does)
+        if does == "pair":
+            self.press("tab-leak")
+            self.put("alarm-1", "1")
+            self.ask("pair-button", "pair-result", "the steps", lambda: self.at("pair-steps").is_displayed())
+            self.press("pair-next")
+            return "pair-steps"
         pane = {"audit": "machine", "source": "machine", "drive": "cycles"}.get(does, does)
         if pane == "cycles":
             self.choose("more", pane)

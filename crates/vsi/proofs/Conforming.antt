@@ -5,20 +5,16 @@ use Rattle.std.proofs.lemmas.Bool.{false≢true}
 use Rattle.vsi_lattice.specs.declared.lattice.Lattice.{Lattice}
 use Rattle.vsi_conform.specs.Conforms.{Conforms, IsUnbounded}
 use Rattle.vsi_conform.specs.declared.interface.Interface.{Interface}
-use Rattle.vsi_conform.specs.declared.reader.InterfaceFile.{InterfaceFile}
 use Rattle.vsi_conform.specs.declared.reader.Policy.{Policy}
 use Rattle.vsi_conform.specs.declared.reader.Policy.TheVariants.{File, Tables}
 use Rattle.vsi_answers.specs.Judged.{Declares}
 use Rattle.vsi_answers.specs.Requests.{ReadsLattice}
 use Rattle.vsi_answers.specs.declared.unanswered.Unanswered.{Unanswered}
-use Rattle.vsi.specs.declared.failure.Failure.{Failure}
 use Rattle.vsi.specs.Filed.{policy_bytes}
 use Rattle.vsi.specs.Holding.{Holding}
-use Rattle.vsi.specs.Interfaces.{ArePolicyBytes, IsAskedAt, IsPolicyAt}
+use Rattle.vsi.specs.Interfaces.{ArePolicyBytes, IsPolicyAt}
 use Rattle.vsi.specs.Performed.{IsVerdict}
-use Rattle.vsi.specs.Refusals.{NoOther, FailsBy}
-use Rattle.vsi.specs.Undriven.{RefusesAsked, RefusesPolicy}
-use Rattle.vsi.proofs.Reasons.{fails_by}
+use Rattle.vsi.specs.Undriven.{RefusesPolicy}
 
 -- A Boolean that is true exactly if a text conforms, where no line is about its bound, gives its verdict.
 pub is_verdict : (conforms : Bool) (line : Option (Vec ℕ)) (l : Lattice) (source : List ℕ) (i : Interface) →
@@ -27,19 +23,6 @@ pub is_verdict : (conforms : Bool) (line : Option (Vec ℕ)) (l : Lattice) (sour
 is_verdict true line l source i is exact unbounded = is refl
 is_verdict false None l source i is exact unbounded = λ conforms. false≢true (exact conforms refl)
 is_verdict false (Some line) l source i is exact unbounded = unbounded
-
--- An interface whose lattice is refused has no answer.
-pub refuses_asked : (old new : Holding) (path : List ℕ) (asked : InterfaceFile) (other : Failure → Type 0) → new ≡ old →
-    IsAskedAt old path asked → (failure : Failure) → FailsBy (RefusesPolicy new path asked.policy) NoOther failure →
-    FailsBy (RefusesAsked old path) other failure
-refuses_asked old new path asked other same is failure told =
-    fails_by (RefusesPolicy new path asked.policy) (RefusesAsked old path) other
-    (λ reason refused. record {
-      asked = asked;
-      interface = is;
-      refused = subst (λ h. RefusesPolicy h path asked.policy reason) same refused;
-    })
-    failure told
 
 -- The lattice that an interface's bytes declare is that of the interface.
 pub policy_at : (holds : Holding) (interface : List ℕ) (p : Policy) (l : Lattice) (bytes : List ℕ) →

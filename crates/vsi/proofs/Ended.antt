@@ -1,5 +1,5 @@
 -- Answers, and what becomes of them.
-use Rattle.std.proofs.Common.{◌≡◌, ◌<◌, ◌⊎◌, ◌∙◌, ℕ, Bool, true, false, List, Option, Result, Ok, Err, inl, inr, sym, ap, subst, arith}
+use Rattle.std.proofs.Common.{◌≡◌, ◌<◌, ◌⊎◌, ◌∙◌, ℕ, Bool, true, false, List, Option, Result, Ok, Err, inl, inr, refl, sym, ap, subst, arith}
 use Rattle.std.specs.Prelude.{◌≢◌, IfErr, IfOk, IsErrAnd, MatchResult, OnOk}
 use Rattle.std.specs.Global.{Vec}
 use Rattle.std.specs.Io.KnownBytes.{Appends}
@@ -76,17 +76,16 @@ ended_leaves Kind spent otherwise Bad Told old new text (Err failure) is kind (i
 }
 
 -- A good answer has been put into its place.
-pub ended_puts : {T : Type 0} (holds mid left : Holding) (asked : Request) (place : Place) (good : Bool) (text : Vec ℕ)
-    (old new : Option (List ℕ)) (result : Result T Failure) → place ≡ place_of asked → mid ≡ holds →
-    Tells holds asked good text → OnOk result ((good ≡ true) × Puts place text.items mid left old new) →
+pub ended_puts : {T : Type 0} (holds left : Holding) (asked : Request) (place : Place) (good : Bool) (text : Vec ℕ)
+    (old new : Option (List ℕ)) (result : Result T Failure) → place ≡ place_of asked →
+    Tells holds asked good text → OnOk result ((good ≡ true) × Puts place text.items holds left old new) →
     OnOk result (PutsAnswer holds asked left old new)
-ended_puts holds mid left asked place good text old new result is kept told put =
+ended_puts holds left asked place good text old new result is told put =
     on_ok_weaker result
     (λ done. record {
       text = text;
       is = subst (λ g. Tells holds asked g text) done.0 told;
-      put = subst (λ h. Puts (place_of asked) text.items h left old new) kept
-          (subst (λ p. Puts p text.items mid left old new) is done.1);
+      put = subst (λ p. Puts p text.items holds left old new) is done.1;
     })
     put
 
@@ -115,16 +114,14 @@ ended_why holds asked otherwise good text old new result is told failed =
     failed
 
 -- Where no file has changed, an answer stays out of its place.
-pub stays_same : (place : Place) (old new : Holding) → new ≡ old → Stays place old new
-stays_same (Image path) old new same = λ other apart. ap (λ (h : Holding). h other) same
-stays_same (Out out) old new same = beside_same out old new same
+pub stays_same : (place : Place) (holds : Holding) → Stays place holds holds
+stays_same (Image path) holds = λ other apart. refl
+stays_same (Out out) holds = beside_same out holds
 
--- An answer that has been kept out of its place, by files that held the same before.
-pub ended_stays : {T : Type 0} (holds mid left : Holding) (place same : Place) (result : Result T Failure) →
-    place ≡ same → mid ≡ holds → IfErr result (λ _. Stays place mid left) → IfErr result (λ _. Stays same holds left)
-ended_stays holds mid left place same result is kept stays =
-    subst (λ p. IfErr result (λ _. Stays p holds left)) is
-    (subst (λ h. IfErr result (λ _. Stays place h left)) kept stays)
+-- An answer that has been kept out of its place.
+pub ended_stays : {T : Type 0} (holds left : Holding) (place same : Place) (result : Result T Failure) →
+    place ≡ same → IfErr result (λ _. Stays place holds left) → IfErr result (λ _. Stays same holds left)
+ended_stays holds left place same result is stays = subst (λ p. IfErr result (λ _. Stays p holds left)) is stays
 
 -- ---- the lines about it.
 

@@ -86,6 +86,9 @@ json_silent (request.View lattice class e o) json = omega arith
 json_silent (request.ViewWithin asked) json = omega arith
 json_silent (request.Drive driving) json = omega arith
 json_silent (request.Compare comparison) json = omega arith
+json_silent (request.CompareSteps comparison is_json) json = omega arith
+json_silent (request.Steps stepping is_json) json = omega arith
+json_silent (request.Monitor stepping rule is_json) json = omega arith
 json_silent (request.Leak search) json = omega arith
 json_silent (request.Report c) json = omega arith
 json_silent (request.Draw drawing) json = omega arith
@@ -163,6 +166,9 @@ told_state (request.Drive driving) holds given left old mid new first failure so
     let quiet = subst (λ b. TellsRefusal b first mid new failure) (both_false (is_refusal first)) told in
     subst (LeavesState holds driving given left old) (sym quiet.1) so
 told_state (request.Compare comparison) holds given left old mid new first failure so told = so
+told_state (request.CompareSteps comparison is_json) holds given left old mid new first failure so told = so
+told_state (request.Steps stepping is_json) holds given left old mid new first failure so told = so
+told_state (request.Monitor stepping rule is_json) holds given left old mid new first failure so told = so
 told_state (request.Leak search) holds given left old mid new first failure so told = so
 told_state (request.Report c) holds given left old mid new first failure so told = so
 told_state (request.Draw drawing) holds given left old mid new first failure so told = so

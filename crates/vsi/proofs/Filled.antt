@@ -1,28 +1,21 @@
 -- The contents of files after a text has been put into one.
-use Rattle.std.proofs.Common.{◌≡◌, ℕ, List, Result, Ok, Err, subst}
-use Rattle.std.specs.Prelude.{◌≢◌, ◌<◌, Option, IfErr, IfOk, OnOk}
-use Rattle.std.specs.Borrow.{Bor}
+use Rattle.std.proofs.Common.{◌≡◌, ℕ, Result, Ok, Err, refl, subst}
+use Rattle.std.specs.Prelude.{◌≢◌, ◌<◌, IfErr, IfOk, OnOk}
 use Rattle.vsi.specs.declared.failure.Failure.{Failure}
 use Rattle.vsi.specs.Failures.{status_of}
-use Rattle.vsi.specs.Holding.{Delivers, Holding}
+use Rattle.vsi.specs.Holding.{Holding}
 
 -- A deed that fills no file leaves the files as they were.
-pub alone : {T : Type 0} (A : Type 0) (result : Result T Failure) (left holds : Holding) → left ≡ holds → OnOk result A →
-    OnOk result ((left ≡ holds) × A)
-alone A (Ok x) left holds same does = (same, does)
-alone A (Err failure) left holds same does = tt
+pub alone : {T : Type 0} (A : Type 0) (result : Result T Failure) (holds : Holding) → OnOk result A →
+    OnOk result ((holds ≡ holds) × A)
+alone A (Ok x) holds does = (refl, does)
+alone A (Err failure) holds does = tt
 
 -- Two properties of one result hold together.
 pub both_done : {T : Type 0} (A B : Type 0) (result : Result T Failure) → OnOk result A → OnOk result B → OnOk result
     (A × B)
 both_done A B (Ok x) a b = (a, b)
 both_done A B (Err failure) a b = tt
-
--- A text has been put into the requested file, by files that held the same before.
-pub delivered_of : (out : Option (Bor (List ℕ))) (text same : List ℕ) (old before new : Holding) → text ≡ same →
-    old ≡ before → Delivers out text old new → Delivers out same before new
-delivered_of out text same old before new is kept done =
-    subst (λ h. Delivers out same h new) kept (subst (λ t. Delivers out t old new) is done)
 
 -- A property of the files after an answer that fails early holds if the status says that it has.
 pub unfilled_at : {T : Type 0} (A : Type 0) (answer : Result T Failure) (status : ℕ) →

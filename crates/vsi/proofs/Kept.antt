@@ -1,5 +1,5 @@
 -- The content of the store's file after a drive that fails.
-use Rattle.std.proofs.Common.{◌≡◌, ◌≢◌, ◌-◌, ◌∙◌, ℕ, ℤ, List, Some, None, inl, inr, subst}
+use Rattle.std.proofs.Common.{◌≡◌, ◌≢◌, ◌-◌, ◌∙◌, ℕ, ℤ, List, Some, None, inl, inr, refl, subst}
 use Rattle.std.specs.Prelude.{Option}
 use Rattle.std.specs.Borrow.{Bor}
 use Rattle.std.proofs.KnownBytes.{Keeps-refl}
@@ -34,55 +34,44 @@ delivered_after (Some path) text h g k touched done = record {
 }
 
 -- Where no file has changed, none but the one beside the requested one has.
-pub beside_same : (out : Option (Bor (List ℕ))) (old new : Holding) → new ≡ old → StaysBeside out old new
-beside_same out old new same = (StaysAt-same out old new same, Touches-same out old new same)
-
--- The same where files that have stayed as they were are followed by such a change.
-pub beside_after : (out : Option (Bor (List ℕ))) (old mid new : Holding) → mid ≡ old → StaysAt out mid new →
-    Touches out mid new → StaysBeside out old new
-beside_after out old mid new same stays touched = subst (λ h. StaysBeside out h new) same (stays, touched)
+pub beside_same : (out : Option (Bor (List ℕ))) (holds : Holding) → StaysBeside out holds holds
+beside_same out holds = (StaysAt-same out holds holds refl, Touches-same out holds holds refl)
 
 -- A drive begins with the words of the file at a path that it begins from.
-pub words_begun : (holds mid : Holding) (d : Driving) (image : Image) (words : List ℤ)
-    (path : Option (Bor (List ℕ))) → IsBegunFrom holds d path → mid ≡ holds → IsStoredAt mid path image words →
-    IsFullAt mid path image d.is_full → IsBegun holds d image words
-words_begun holds mid d image words path from same stored full = record {
-  path = path;
-  from = from;
-  stored = subst (λ h. IsStoredAt h path image words) same stored;
-  full = subst (λ h. IsFullAt h path image d.is_full) same full;
-}
+pub words_begun : (holds : Holding) (d : Driving) (image : Image) (words : List ℤ)
+    (path : Option (Bor (List ℕ))) → IsBegunFrom holds d path → IsStoredAt holds path image words →
+    IsFullAt holds path image d.is_full → IsBegun holds d image words
+words_begun holds d image words path from stored full =
+    record { path = path; from = from; stored = stored; full = full }
 
 -- A drive that hasn't begun leaves every file.
-pub early_state : (holds : Holding) (d : Driving) (given : Option (List ℕ)) (left : Holding) (old : Option (List ℕ)) →
-    left ≡ holds → LeavesState holds d given left old old
-early_state holds d given left old same = record {
-  touches = Touches-same d.save holds left same;
-  state = inl (StaysAt-same d.save holds left same, Keeps-refl old);
+pub early_state : (holds : Holding) (d : Driving) (given : Option (List ℕ)) (old : Option (List ℕ)) →
+    LeavesState holds d given holds old old
+early_state holds d given old = record {
+  touches = Touches-same d.save holds holds refl;
+  state = inl (StaysAt-same d.save holds holds refl, Keeps-refl old);
 }
 
 -- A drive whose first store can't be saved leaves the file as it was.
-pub first_state : (holds mid : Holding) (d : Driving) (given : Option (List ℕ)) (left : Holding)
-    (old : Option (List ℕ)) → mid ≡ holds → Touches d.save mid left → StaysAt d.save mid left →
+pub first_state : (holds : Holding) (d : Driving) (given : Option (List ℕ)) (left : Holding)
+    (old : Option (List ℕ)) → Touches d.save holds left → StaysAt d.save holds left →
     LeavesState holds d given left old old
-first_state holds mid d given left old same touched stays = record {
-  touches = subst (λ h. Touches d.save h left) same touched;
-  state = inl (subst (λ h. StaysAt d.save h left) same stays, Keeps-refl old);
-}
+first_state holds d given left old touched stays =
+    record { touches = touched; state = inl (stays, Keeps-refl old) }
 
 -- A drive that is cut short leaves the store after some of the lines.
-pub driven_state : (holds mid h left : Holding) (d : Driving) (given old new : Option (List ℕ)) (l : Lattice)
+pub driven_state : (holds h left : Holding) (d : Driving) (given old new : Option (List ℕ)) (l : Lattice)
     (driver : ℕ) (image : Image) (b : Boundary) (first : List ℤ) (budget most : ℕ) (k : Control) →
     IsBudgetOf d.execution.budget image budget → IsSteered holds d l driver image b →
     IsImageAt holds d.execution.image.now image → IsBegun holds d image first →
     k ≡ controlled l driver image budget b → IsAdmitted d.is_unbounded l image budget →
-    boundary_fault k ≡ None → mid ≡ holds →
-    Touches d.save mid h → Delivers d.save (state_text image first) mid h → Touches d.save h left →
+    boundary_fault k ≡ None →
+    Touches d.save holds h → Delivers d.save (state_text image first) holds h → Touches d.save h left →
     most ≡ d.every - 1 → CutsInput d.save image k first most given old new h left →
     LeavesState holds d given left old new
-driven_state holds mid h left d given old new l driver image b first budget most k within steered held begun same
-    admitted sound kept saving saved touched is cut = record {
-      touches = Touches-trans d.save holds h left (subst (λ f. Touches d.save f h) kept saving) touched;
+driven_state holds h left d given old new l driver image b first budget most k within steered held begun same
+    admitted sound saving saved touched is cut = record {
+      touches = Touches-trans d.save holds h left saving touched;
       state = inr (record {
         lattice = l;
         driver = driver;
@@ -98,6 +87,6 @@ driven_state holds mid h left d given old new l driver image b first budget most
         sound = subst (λ c. boundary_fault c ≡ None) same sound;
         saves = subst (λ c. SavesInput d.save image c first d.every given old new left) same
             (cut_saves d.save image k first most d.every given old new h left is
-            (delivered_state d.save (state_text image first) mid h saved) cut);
+            (delivered_state d.save (state_text image first) holds h saved) cut);
       });
     }

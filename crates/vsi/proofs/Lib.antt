@@ -34,3 +34,4 @@ pub mod Fed
 pub mod Faulted
 pub mod Hushed
 pub mod Ended
+pub mod Stepped

@@ -36,7 +36,7 @@ use Rattle.vsi.specs.Noted.{NotesDrive, TellsBudget}
 use Rattle.vsi.specs.Steering.{IsLatticeOf, IsSteered, IsSteeredBy}
 use Rattle.vsi.specs.Undriven.{FallsShort, IsBoundaryStart, LacksDrive, LacksSteering, RefusesControl, RefusesSteering, SaysShort, WhyDrive}
 use Rattle.vsi.proofs.Reasons.{FailsBy-weaker, handed, failed_by, fails_by}
-use Rattle.vsi.proofs.Unrun.{held_failed, kind_told}
+use Rattle.vsi.proofs.Unrun.{kind_told}
 
 -- A run that begins with a store file alone begins with its words.
 pub begins_stored : (holds : Holding) (store : Option (Bor (List ℕ))) (im : Image) (file : List ℕ) (is_full : Bool)
@@ -70,14 +70,14 @@ RefusesBeginning holds store image is_full reason =
     (file : List ℕ) × IsStoreAt holds store file × BeginsWith image file [] is_full (Err reason)
 
 -- It doesn't do for the image of a file.
-pub first_failed : {T : Type 0} (holds new : Holding) (path : List ℕ) (store : Option (Bor (List ℕ)))
+pub first_failed : {T : Type 0} (holds : Holding) (path : List ℕ) (store : Option (Bor (List ℕ)))
     (is_full : Bool) (so : Unanswered → Type 0) (other : Failure → Type 0) (image : Image) (result : Result T Failure)
-    (failure : Failure) → IsImageAt holds path image → new ≡ holds →
+    (failure : Failure) → IsImageAt holds path image →
     ((reason : Unanswered) → RefusesFirst holds path store is_full reason → so reason) →
-    IsErrAnd result (λ s. s ≡ failure) → FailsBy (RefusesBeginning new store image is_full) NoOther failure →
+    IsErrAnd result (λ s. s ≡ failure) → FailsBy (RefusesBeginning holds store image is_full) NoOther failure →
     IfErr result (FailsBy so other)
-first_failed holds new path store is_full so other image result failure held same f =
-    held_failed (λ h. RefusesBeginning h store image is_full) holds new so other result failure same
+first_failed holds path store is_full so other image result failure held f is told =
+    failed_by (RefusesBeginning holds store image is_full) so other
     (λ reason refused. f reason (record {
       image = image;
       held = held;
@@ -85,6 +85,7 @@ first_failed holds new path store is_full so other image result failure held sam
       read = refused.1;
       is = refused.2;
     }))
+    result failure is told
 
 -- Why there is no controller: a global, the first such one, has a class that the lattice lacks.
 abbrev pub LacksController : Lattice → Image → ViewError → Type 0

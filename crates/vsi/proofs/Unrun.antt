@@ -1,6 +1,6 @@
 -- The reason why an image isn't run, or runs aren't compared, as a failure claims it.
 use Rattle.std.proofs.Common.{◌≡◌, ℕ, ℤ, ◌<◌, ◌⊎◌, List, Result, Err, inl, inr, length, refl, sym, subst, arith}
-use Rattle.std.specs.Prelude.{Option, IfErr, IsErrAnd}
+use Rattle.std.specs.Prelude.{None, Option, IfErr, IsErrAnd}
 use Rattle.std.specs.Borrow.{Bor}
 use Rattle.std.proofs.lemmas.Result.{IfErr-weaker}
 use Rattle.std.specs.Global.{Vec}
@@ -25,6 +25,7 @@ use Rattle.vsi_devices.specs.Engine.{IsOfWriting}
 use Rattle.vsi_devices.specs.declared.engine.EngineError.{EngineError}
 use Rattle.vsi_devices.specs.declared.engine.EngineError.TheVariants as engine
 use Rattle.vsi_arguments.specs.declared.request.Budget.{Budget}
+use Rattle.vsi_arguments.specs.declared.request.Budget.TheVariants.{Auto}
 use Rattle.vsi_arguments.specs.declared.request.Execution.{Execution}
 use Rattle.vsi_arguments.specs.declared.request.InitialStore.{InitialStore}
 use Rattle.vsi.specs.declared.failure.Failure.{Failure}
@@ -32,7 +33,7 @@ use Rattle.vsi.specs.declared.failure.Failure.TheVariants as fails
 use Rattle.vsi.specs.Holding.{Holding, IsImageAt, IsLatticeAt, IsStoreAt}
 use Rattle.vsi.specs.Input.{two_classes}
 use Rattle.vsi.specs.Files.{BeginsAt}
-use Rattle.vsi.specs.Refusals.{IsNoMemory, LacksBound, LacksBoundAt, LacksClass, LacksClassAt, NoOther, RefusesImage, RefusesLattice, RefusesStart, RefusesStore, FailsBy}
+use Rattle.vsi.specs.Refusals.{IsNoMemory, IsUnbounded, LacksBound, LacksBoundAt, LacksClass, LacksClassAt, NoOther, RefusesImage, RefusesLattice, RefusesStart, RefusesStore, FailsBy}
 use Rattle.vsi.specs.Reasons.{HasNoText}
 use Rattle.vsi.specs.Undriven.{IsUnusable}
 use Rattle.vsi.specs.Failures.{status_of}
@@ -83,14 +84,6 @@ lacks_failed holds path name why l result failure at is told =
     (FailsBy-weaker (λ reason. ⊥) why (LacksClass l name) (LacksClassAt holds path name) (λ reason none. absurd none)
     (λ s lacks. (l, at, lacks)) failure told)
 
--- Why a step has failed is why the whole has, where the files hold what they held.
-pub held_failed : {T : Type 0} (Why : Holding → Unanswered → Type 0) (old new : Holding) (so : Unanswered → Type 0)
-    (other : Failure → Type 0) (result : Result T Failure) (failure : Failure) → new ≡ old →
-    ((reason : Unanswered) → Why old reason → so reason) → IsErrAnd result (λ s. s ≡ failure) →
-    FailsBy (Why new) NoOther failure → IfErr result (FailsBy so other)
-held_failed Why old new so other result failure same f is told =
-    failed_by (Why old) so other f result failure is (subst (λ h. FailsBy (Why h) NoOther failure) same told)
-
 -- Why a lattice file or an image is refused is why the whole has failed, and a class that is missing is missing.
 pub unseen_failed : {T : Type 0} (holds : Holding) (lattice image : List ℕ) (so : Unanswered → Type 0)
     (other : Failure → Type 0) (result : Result T Failure) (failure : Failure) →
@@ -112,6 +105,11 @@ pub more_failed : {T : Type 0} (why : Unanswered → Type 0) (other more : Failu
 more_failed why other more result f is =
     IfErr-weaker result (FailsBy why other) (FailsBy why more)
     (FailsBy-weaker why why other more (λ reason so. so) f) is
+
+-- An image for which no bound was found has none for the budget `auto`.
+pub lacks_bound : (image : Image) (failure : Failure) → IsUnbounded image failure → LacksBound Auto image failure
+lacks_bound image (fails.Refused text None) lacks = (refl, lacks)
+lacks_bound image failure lacks = absurd lacks
 
 -- If no bound was found for the image of a file, the caller that passes the failure on lacks that bound.
 pub unbounded_failed : {T : Type 0} (holds : Holding) (path : List ℕ) (budget : Budget) (image : Image)
@@ -188,13 +186,13 @@ words_failure holds path image file error failure read refused told =
     failure told
 
 -- A store file is refused for the image of a file.
-pub store_failed : {T : Type 0} (holds new : Holding) (path : List ℕ) (store : Option (Bor (List ℕ)))
+pub store_failed : {T : Type 0} (holds : Holding) (path : List ℕ) (store : Option (Bor (List ℕ)))
     (so : Unanswered → Type 0) (other : Failure → Type 0) (image : Image) (result : Result T Failure) (failure : Failure) →
-    IsImageAt holds path image → new ≡ holds →
+    IsImageAt holds path image →
     ((reason : Unanswered) → RefusesStore holds path store reason → so reason) → IsErrAnd result (λ s. s ≡ failure) →
-    FailsBy (RefusesWords new store image) NoOther failure → IfErr result (FailsBy so other)
-store_failed holds new path store so other image result failure held same f =
-    held_failed (λ h. RefusesWords h store image) holds new so other result failure same
+    FailsBy (RefusesWords holds store image) NoOther failure → IfErr result (FailsBy so other)
+store_failed holds path store so other image result failure held f is told =
+    failed_by (RefusesWords holds store image) so other
     (λ reason refused. f reason (record {
       image = image;
       held = held;
@@ -202,6 +200,7 @@ store_failed holds new path store so other image result failure held same f =
       read = refused.1;
       is = refused.2;
     }))
+    result failure is told
 
 -- A call that only writes fails at a fault of the output, or for lack of memory.
 pub ended_fails : (why : Unanswered → Type 0) (other : Failure → Type 0) (error : EngineError) (failure : Failure) →

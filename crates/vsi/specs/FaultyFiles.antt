@@ -39,6 +39,9 @@ answers_json (request.Check asked) = asked.is_json
 answers_json (request.Document asked) = document_answers_json asked
 answers_json (request.Conform asked) = is_json asked.form
 answers_json (request.Mend asked) = asked.is_json
+answers_json (request.CompareSteps comparison is_json) = is_json
+answers_json (request.Steps stepping is_json) = is_json
+answers_json (request.Monitor stepping rule is_json) = is_json
 answers_json asked = false
 
 -- A file is refused, a setting, or a text that has to be compiled; a leak and a missing bound have no cause.

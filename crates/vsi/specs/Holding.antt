@@ -43,10 +43,6 @@ HoldsAt holds path bytes = IfSome (holds path) (λ held. held ≡ bytes)
 abbrev pub KeepsOthers : List ℕ → Holding → Holding → Type 0
 KeepsOthers path old new = (other : List ℕ) → other ≢ path → new other ≡ old other
 
--- Files of this kind leave the contents of every file unknown.
-abbrev pub TellsNothing : {F : Type 0} → (F → Holding) → Type 0
-TellsNothing {F} holds = (files : F) (path : List ℕ) → holds files path ≡ None
-
 -- The file at the path has been filled with these bytes.
 pub record Fills (path bytes : List ℕ) (old new : Holding) : Type 0 where
   pub filled : HoldsAt new path bytes

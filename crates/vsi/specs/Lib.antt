@@ -29,9 +29,11 @@ pub mod Feeding
 pub mod Viewing
 pub mod Supplied
 pub mod Referred
+pub mod Stepping
 pub mod Performed
 pub mod Refusals
 pub mod Undriven
+pub mod Unstepped
 pub mod Reasons
 pub mod Partly
 pub mod Walked

@@ -94,6 +94,7 @@ use Rattle.vsi.specs.Tried.{TriesFile}
 use Rattle.vsi.specs.Beginning.{IsBegun}
 use Rattle.vsi.specs.Files.{BeginsAt, IsBudgetOf, IsStoredAt, LooksAt, LooksFor, OfFile, OfFiles, Writes, shown}
 use Rattle.vsi.specs.State.{state_text}
+use Rattle.vsi.specs.Stepping.{ComparesSteps, IsMonitored, IsStepped, OfStepFiles, rule_of}
 use Rattle.vsi.specs.Viewing.{ViewsWithin}
 use Rattle.vsi.specs.Works.{Drives, Lays, Lists, Puts, Replies, Runs, Talks, Work, place_of, work_of}
 
@@ -522,6 +523,9 @@ Tells holds (request.Bound asked) = TellsBounding false holds asked
 Tells holds (request.View lattice class e o) = Well (ViewsFiles holds lattice.now class.now e o)
 Tells holds (request.ViewWithin asked) = Well (ViewsWithin holds asked)
 Tells holds (request.Compare comparison) = TellsComparison false holds comparison
+Tells holds (request.CompareSteps comparison is_json) = λ same text. ComparesSteps holds comparison same
+Tells holds (request.Steps stepping is_json) = λ ended text. OfStepFiles holds stepping (IsStepped stepping ended)
+Tells holds (request.Monitor stepping rule is_json) = λ ended text. OfStepFiles holds stepping (IsMonitored stepping (rule_of rule) ended)
 Tells holds (request.Leak search) = Well (SearchesFiles holds search)
 Tells holds (request.Report c) = Well (OfFiles holds c (ToldPage c.is_strict))
 Tells holds (request.Draw drawing) = Well (DrawsFiles holds drawing)

@@ -61,6 +61,7 @@ use Rattle.vsi.specs.Failures.{status_of}
 use Rattle.vsi.specs.Works.{Drives, Lays, Lists, Replies, Runs, Talks, Work, end_of, spends, work_of}
 use Rattle.vsi.specs.Performed.{OfCompared, Tells, TellsBounding, compilation_of, profile_of, wanted_of}
 use Rattle.vsi.specs.Refusals.{AsksCanonical, AsksCheck, AsksClasses, AsksFlows, AsksImage, AsksMend, LacksBoundAt, LacksClassAt, LacksEither, LacksGiven, NoOther, RefusesFile, RefusesFiles, RefusesImage, RefusesLattice, RefusesSource, RefusesStart, RefusesStore, FailsBy}
+use Rattle.vsi.specs.Unstepped.{WhyCompareSteps, WhyMonitor, WhySteps}
 use Rattle.vsi.specs.Undriven.{FallsShort, IsUnusable, LacksDrive, LacksView, RefusesAsked, RefusesControl, RefusesSteering, SaysLine, WhyDrive}
 
 -- ---- why each subcommand has failed.
@@ -367,6 +368,10 @@ Refuses holds (request.View lattice class e o) =
     (LacksEither holds lattice.now class.now e.image.now e.budget)
 Refuses holds (request.ViewWithin asked) = FailsBy (WhyViewWithin holds asked) (LacksView holds asked)
 Refuses holds (request.Compare comparison) = FailsBy (WhyCompare holds comparison) (LacksCompare holds comparison)
+Refuses holds (request.CompareSteps c is_json) =
+    FailsBy (WhyCompareSteps holds c) (LacksClassAt holds c.lattice.now c.class.now)
+Refuses holds (request.Steps stepping is_json) = FailsBy (WhySteps holds stepping) NoOther
+Refuses holds (request.Monitor stepping rule is_json) = FailsBy (WhyMonitor holds stepping) NoOther
 Refuses holds (request.Leak search) = FailsBy (RefusesSearch holds search) (OtherLeak holds search)
 Refuses holds (request.Report c) = FailsBy (RefusesLattice holds c.lattice.now) NoOther
 Refuses holds (request.Draw drawing) = FailsBy (WhyDraw holds drawing.lattice.now drawing.source) NoOther

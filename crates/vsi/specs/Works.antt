@@ -52,6 +52,7 @@ document_spends asked = false
 -- A bad answer of the request says so.
 abbrev pub spends : Request → Bool
 spends (request.Document asked) = document_spends asked
+spends (request.Steps stepping is_json) = true
 spends asked = false
 
 -- How the program fails after a bad answer: a run is out of budget, or there is a difference.

@@ -18,9 +18,10 @@ ghost use Rattle.vsi.specs.Feeding.{AreFed, AreInputs, IsUnfed, at_number, fault
 ghost use Rattle.vsi_conform.specs.Reading as spec;
 ghost use Rattle.vsi_drive.specs.declared.starts.StartFault.TheVariants as start;
 
-use crate::failure::Failure;
-use crate::reading::{InputCache, InputKind, faulty};
+use crate::failure::{Failure, Fallible};
+use crate::inputs::{InputCache, InputKind};
 use crate::steering::Steering;
+use crate::subject::faulty;
 use std::alloc::{AllocError, Global};
 use vsi_answers::refused_start;
 use vsi_arguments::{DrivePolicy, NameLists};
@@ -186,7 +187,7 @@ fn faulty_list<'a>(lists: NameLists<'a>, fault: BoundaryFault) -> (&'static str,
 
 /// Keeps the list at fault for an explanation, if it was given on the command line.
 fn keep_list(
-    cache: &mut InputCache,
+    cache: &InputCache,
     policy: DrivePolicy<'_>,
     fault: BoundaryFault,
 ) -> Result<(), AllocError> {
@@ -201,7 +202,7 @@ fn keep_list(
 
 /// The failure for a fault of the boundary. The list at fault is kept for an explanation.
 fn boundary_failure<'a>(
-    cache: &mut InputCache,
+    cache: &InputCache,
     policy: DrivePolicy<'a>,
     fault: BoundaryFault,
 ) -> Failure<'a>
@@ -215,12 +216,12 @@ fn boundary_failure<'a>(
 
 /// A controller of an image with the boundary of its drive or of its view.
 pub(crate) fn controller_of<'a, 'c>(
-    cache: &mut InputCache,
+    cache: &InputCache,
     policy: DrivePolicy<'a>,
     names: &'c Names<'_>,
     steering: &'c Steering,
     budget: u64,
-) -> Result<Controller<'c>, Failure<'a>>
+) -> Fallible<'a, Controller<'c>>
     requires class { IsClass (order steering.now.lattice) steering.now.driver }
     requires names { boundary_in names.now ≡ boundary_for policy steering.now.cycle }
     ensures control { IfOk result (λ c. control c ≡ controlled steering.now.lattice
@@ -310,7 +311,7 @@ fn feed_all<'a>(
     controller: &Controller<'_>,
     words: &[i64],
     settings: &[&[u8]],
-) -> Result<(), Failure<'a>>
+) -> Fallible<'a, ()>
     requires { length words.now ≡ length (control controller.now).image.globals.items }
     ensures fed { OnOk result (AreInputs (control controller.now) (texts settings.now)) }
     ensures failed { IfErr result (FailsBy (Because (TellsStartFault
@@ -330,7 +331,7 @@ fn feed_within<'a>(
     names: &Names<'_>,
     words: &[i64],
     settings: &[&[u8]],
-) -> Result<(), Failure<'a>>
+) -> Fallible<'a, ()>
     requires class { IsClass (order steering.now.lattice) steering.now.driver }
     requires words { length words.now ≡ length steering.now.verified.globals.items }
     ensures fed { OnOk result (AreInputs (controlled steering.now.lattice steering.now.driver
@@ -360,7 +361,7 @@ pub(crate) fn feed<'a>(
     names: &Names<'_>,
     words: &[i64],
     settings: &[&[u8]],
-) -> Result<(), Failure<'a>>
+) -> Fallible<'a, ()>
     requires class { IsClass (order steering.now.lattice) steering.now.driver }
     requires words { length words.now ≡ length steering.now.verified.globals.items }
     ensures fed { OnOk result (AreFed policy.entry steering.now.lattice steering.now.driver

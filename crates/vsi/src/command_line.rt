@@ -15,10 +15,10 @@ ghost use Rattle.vsi.specs.Words as spec;
 ghost use Rattle.vsi_caret.specs.Safe as safe;
 ghost use Rattle.vsi.specs.Screen as screen_spec;
 
-use crate::carrying_out::carry_out;
-use crate::failure::{Failure, STREAM, write};
+use crate::failure::{Failure, Fallible, STREAM, write};
 use crate::files::Files;
-use crate::reading::{answered, device_failure, two_classes};
+use crate::requests::carry_out;
+use crate::subject::{answered, device_failure, two_classes};
 use std::alloc::{AllocError, Global};
 use std::io::{Read, Write};
 use vsi_devices::{Counted, read_all, write_out};
@@ -144,7 +144,7 @@ fn carried_out<'a, F: Files, R: Read, W: Write>(
     input: &mut Counted<R>,
     output: &mut Counted<W>,
     error_text: &mut ErrorText,
-) -> Result<(), Failure<'a>>
+) -> Fallible<'a, ()>
     requires input { faults_of input.old < u64.MAX }
     requires output { faults_of output.old < u64.MAX }
     requires unnoted { error_text.old.lines.items ≡ [] }
@@ -175,11 +175,7 @@ fn carried_out<'a, F: Files, R: Read, W: Write>(
 }
 
 /// Writes the message of an answer to standard error, and returns the status.
-fn ended<E: Write>(
-    answer: Result<(), Failure<'_>>,
-    error_text: &ErrorText,
-    error: &mut Counted<E>,
-) -> u8
+fn ended<E: Write>(answer: Fallible<'_, ()>, error_text: &ErrorText, error: &mut Counted<E>) -> u8
     ensures bound { result ≤ 5 }
     ensures done { IfOk answer.entry (λ _. result ≡ 0) }
     ensures failed { IfErr answer.entry (λ failure. result ≡ status_of failure) }
@@ -223,7 +219,7 @@ fn run_input<'a, R: Read, W: Write>(
     alloc: Global,
     input: &mut Counted<R>,
     output: &mut Counted<W>,
-) -> Result<(), Failure<'a>>
+) -> Fallible<'a, ()>
     requires input { faults_of input.old < u64.MAX }
     requires output { faults_of output.old < u64.MAX }
     ensures input_fault { TellsFault (faults_of input.old) (faults_of input.new) result }
@@ -251,7 +247,7 @@ fn write_run<'a, W: Write>(
     lattice: &Lattice,
     source: &[u8],
     output: &mut Counted<W>,
-) -> Result<(), Failure<'a>>
+) -> Fallible<'a, ()>
     requires { faults_of output.old < u64.MAX }
     ensures output_fault { TellsFault (faults_of output.old) (faults_of output.new) result }
     ensures silent { IfErr result (λ failure. status_of failure ≢ 4
@@ -270,7 +266,7 @@ fn write_run<'a, W: Write>(
 }
 
 /// The text of the final store of the run of a source text.
-fn ran<'a>(alloc: Global, lattice: &Lattice, source: &[u8]) -> Result<Vec<u8>, Failure<'a>>
+fn ran<'a>(alloc: Global, lattice: &Lattice, source: &[u8]) -> Fallible<'a, Vec<u8>>
     ensures ran { IfOk result
         (λ text. RunsSourceTo lattice.now source.now 1000000 (Ok text)) }
     ensures failed { IfErr result

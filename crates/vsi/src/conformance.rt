@@ -17,12 +17,12 @@ ghost use Rattle.vsi.specs.Supplied.{IsSuppliedAs, TellsSupplied};
 ghost use Rattle.vsi.specs.Supplied as supplied;
 ghost use Rattle.vsi_answers.specs.Requests.{ReadsImage};
 
-use crate::failure::Failure;
+use crate::conformity::{lines_after, reached_answer, with_lines};
+use crate::failure::{Failure, Fallible};
 use crate::files::Files;
-use crate::filing::{asked_files, lines_after, with_lines};
-use crate::reading::{InputCache, InputKind, bytes_in, whole_in};
-use crate::references::{reached_answer, with_reference};
+use crate::inputs::InputKind;
 use crate::replies::Reply;
+use crate::subject::{Subject, whole_in};
 use std::alloc::{AllocError, Global};
 use vsi_answers::judged_image;
 use vsi_arguments::{AnswerForm, Conformance};
@@ -55,66 +55,123 @@ pub(crate) fn unusable<'a>(alloc: Global, error: InterfaceError) -> Failure<'a>
     }
 }
 
-/// The bytes of a lattice file that an interface or a source text names. It must be a regular file.
-pub(crate) fn named_bytes<'a, F: Files>(
-    cache: &mut InputCache,
-    interface: &str,
-    path: &[u8],
-    files: &mut F,
-) -> Result<Vec<u8>, Failure<'a>>
-    ensures kept { F.holds files.new ≡ F.holds files.old }
-    ensures read { IfOk result (λ bytes. IsReadAt (F.holds files.old)
-        (utf8_lossy (beside interface.now path.now)) bytes.items) }
-    ensures failed { IfErr result (λ failure. 3 < status_of failure) }
-{
-    named_file(cache, InputKind::Lattice, interface, path, files)
-}
-
-/// The bytes of a file of this kind that another file names. It must be a regular file.
-pub(crate) fn named_file<'a, F: Files>(
-    cache: &mut InputCache,
-    kind: InputKind,
-    interface: &str,
-    path: &[u8],
-    files: &mut F,
-) -> Result<Vec<u8>, Failure<'a>>
-    ensures kept { F.holds files.new ≡ F.holds files.old }
-    ensures read { IfOk result (λ bytes. IsReadAt (F.holds files.old)
-        (utf8_lossy (beside interface.now path.now)) bytes.items) }
-    ensures failed { IfErr result (λ failure. 3 < status_of failure) }
-{
-    let beside = path_beside(cache.alloc, interface, path)?;
-    if files.may_wait(beside.as_str()) {
-        return Err(Failure::LostFile(beside));
+impl<F: Files> Subject<'_, F> {
+    /// The bytes of a lattice file that an interface or a source text names. It must be a regular file.
+    pub(crate) fn named_bytes<'a>(&self, interface: &str, path: &[u8]) -> Fallible<'a, Vec<u8>>
+        ensures read { IfOk result (λ bytes. IsReadAt (F.holds self.now.files.now)
+            (utf8_lossy (beside interface.now path.now)) bytes.items) }
+        ensures failed { IfErr result (λ failure. 3 < status_of failure) }
+    {
+        self.named_file(InputKind::Lattice, interface, path)
     }
-    match bytes_in(cache, kind, beside.as_str(), files) {
-        Ok(bytes) => return Ok(bytes),
-        Err(Failure::FileFault(_)) => {}
-        Err(_) => return Err(Failure::Memory),
-    }
-    Err(Failure::LostFile(beside))
-}
 
-/// The bytes of the lattice of an interface.
-pub(crate) fn policy_bytes<'a, F: Files>(
-    cache: &mut InputCache,
-    interface: &str,
-    policy: &Policy,
-    files: &mut F,
-) -> Result<Vec<u8>, Failure<'a>>
-    ensures kept { F.holds files.new ≡ F.holds files.old }
-    ensures are { IfOk result (λ bytes.
-        ArePolicyBytes (F.holds files.old) interface.now policy.now bytes.items) }
-    ensures failed { IfErr result (λ failure. 3 < status_of failure) }
-{
-    match policy {
-        Policy::File(path) => named_bytes(cache, interface, path, files),
-        Policy::Tables(text) => Ok(Vec::from_slice(cache.alloc, text)?),
+    /// The bytes of a file of this kind that another file names. It must be a regular file.
+    pub(crate) fn named_file<'a>(
+        &self,
+        kind: InputKind,
+        interface: &str,
+        path: &[u8],
+    ) -> Fallible<'a, Vec<u8>>
+        ensures read { IfOk result (λ bytes. IsReadAt (F.holds self.now.files.now)
+            (utf8_lossy (beside interface.now path.now)) bytes.items) }
+        ensures failed { IfErr result (λ failure. 3 < status_of failure) }
+    {
+        let beside = path_beside(self.alloc, interface, path)?;
+        if self.files.may_wait(beside.as_str()) {
+            return Err(Failure::LostFile(beside));
+        }
+        match self.bytes_in(kind, beside.as_str()) {
+            Ok(bytes) => return Ok(bytes),
+            Err(Failure::FileFault(_)) => {}
+            Err(_) => return Err(Failure::Memory),
+        }
+        Err(Failure::LostFile(beside))
+    }
+
+    /// The bytes of the lattice of an interface.
+    pub(crate) fn policy_bytes<'a>(&self, interface: &str, policy: &Policy) -> Fallible<'a, Vec<u8>>
+        ensures are { IfOk result (λ bytes.
+            ArePolicyBytes (F.holds self.now.files.now) interface.now policy.now bytes.items) }
+        ensures failed { IfErr result (λ failure. 3 < status_of failure) }
+    {
+        match policy {
+            Policy::File(path) => self.named_bytes(interface, path),
+            Policy::Tables(text) => Ok(Vec::from_slice(self.alloc, text)?),
+        }
+    }
+
+    /// The bytes of a file that is an image, by its first bytes, or else a source text.
+    fn operand_in<'a>(&self, path: &'a str) -> Fallible<'a, Vec<u8>>
+        ensures read { IfOk result
+            (λ bytes. IsReadAt (F.holds self.now.files.now) path.now bytes.items) }
+        ensures failed { IfErr result (λ failure. 3 < status_of failure) }
+    {
+        let bytes = whole_in(self.alloc, path, self.files)?;
+        let kind = if begins_image(bytes.as_slice()) {
+            InputKind::Image
+        } else {
+            InputKind::Source
+        };
+        self.cache.keep(kind, path, bytes.as_slice())?;
+        Ok(bytes)
+    }
+
+    /// The interface of a file and its lattice, which has all classes that the interface names. Its
+    /// runs take together at most the budget, if one is given.
+    pub(crate) fn asked_in<'a>(
+        &self,
+        path: &'a str,
+        budget: Option<u64>,
+    ) -> Fallible<'a, (InterfaceFile, Lattice)>
+        ensures asked { IfOk result (λ pair. IsAskedAt (F.holds self.now.files.now) path.now pair.0) }
+        ensures declared { IfOk result
+            (λ pair. IsPolicyAt (F.holds self.now.files.now) path.now pair.0.policy pair.1) }
+        ensures within { IfOk result
+            (λ pair. IfSome budget (λ most. total_of pair.0.interface ≤ most)) }
+        ensures failed { IfErr result
+            (FailsBy (RefusesAsked (F.holds self.now.files.now) path.now) IsUnusable) }
+    {
+        let asked = self.asked_files(path, budget)?;
+        Ok((asked.found, asked.lattice))
+    }
+
+    /// Whether the source text or the image conforms to the interface, and where it differs. The note
+    /// gets the warning about the image of a text.
+    pub(crate) fn conform<'a>(
+        &self,
+        asked: Conformance<'a>,
+        note: &mut Vec<u8>,
+    ) -> Fallible<'a, Reply>
+        ensures warned { note.old.items ≡ [] → MayWarn note.new.items }
+        ensures told { IfOk result (λ reply. ConformsFiles (F.holds self.now.files.now) asked.entry
+            reply.is_good reply.text) }
+        ensures failed { IfErr result
+            (FailsBy (RefusesConform (F.holds self.now.files.now) asked.entry) IsUnusable) }
+    {
+        let read = self.asked_files(asked.interface, Some(asked.budget))?;
+        let bytes = self.operand_in(asked.source)?;
+        let (fits, points) = bytes_answer(
+            self.alloc,
+            asked.form,
+            asked.source,
+            &read.lattice,
+            &bytes,
+            &read.found.interface,
+            note,
+        )?;
+        let (holds, answer) = reached_answer(self.alloc, asked.form, &read, &bytes, fits, &points)?;
+        let (conforms, told) = self.with_reference(asked, &read, &bytes, holds, answer)?;
+        let lines = lines_after(self.alloc, asked, conforms, &read, &bytes)?;
+        let text = with_lines(told, &lines)?;
+        Ok(Reply {
+            text,
+            is_good: conforms,
+        })
     }
 }
 
 /// The interface with these bytes.
-pub(crate) fn interface_of<'a>(alloc: Global, bytes: &[u8]) -> Result<InterfaceFile, Failure<'a>>
+pub(crate) fn interface_of<'a>(alloc: Global, bytes: &[u8]) -> Fallible<'a, InterfaceFile>
     ensures read { IfOk result (IsReadAs bytes.now) }
     ensures inside { IfOk result (λ asked. IsInside asked.policy) }
     ensures failed { IfErr result (FailsBy (λ reason. ⊥) IsUnusable) }
@@ -130,7 +187,7 @@ pub(crate) fn know_cycles<'a>(
     alloc: Global,
     lattice: &Lattice,
     cycles: &[Cycle],
-) -> Result<(), Failure<'a>>
+) -> Fallible<'a, ()>
     ensures { IfErr result (FailsBy (λ reason. ⊥) IsUnusable) }
 {
     let Some(place) = unknown_cycle(lattice, cycles) else {
@@ -149,7 +206,7 @@ pub(crate) fn know_classes<'a>(
     alloc: Global,
     lattice: &Lattice,
     interface: &Interface,
-) -> Result<(), Failure<'a>>
+) -> Fallible<'a, ()>
     ensures { IfErr result (FailsBy (λ reason. ⊥) IsUnusable) }
 {
     let Some(number) = unknown_class(lattice, interface) else {
@@ -167,7 +224,7 @@ pub(crate) fn know_budgets<'a>(
     alloc: Global,
     interface: &Interface,
     budget: Option<u64>,
-) -> Result<(), Failure<'a>>
+) -> Fallible<'a, ()>
     ensures within { OnOk result (IfSome budget (λ most. total_of interface.now ≤ most)) }
     ensures failed { IfErr result (FailsBy (λ reason. ⊥) IsUnusable) }
 {
@@ -178,7 +235,7 @@ pub(crate) fn know_budgets<'a>(
 }
 
 /// Judges the budgets of an interface's runs, which take together at most this one.
-fn know_total<'a>(alloc: Global, interface: &Interface, most: u64) -> Result<(), Failure<'a>>
+fn know_total<'a>(alloc: Global, interface: &Interface, most: u64) -> Fallible<'a, ()>
     ensures within { OnOk result (total_of interface.now ≤ most) }
     ensures failed { IfErr result (FailsBy (λ reason. ⊥) IsUnusable) }
 {
@@ -264,7 +321,7 @@ fn answer_of<'a>(
     text: &[u8],
     interface: &Interface,
     note: &mut Vec<u8>,
-) -> Result<(bool, Vec<u8>), Failure<'a>>
+) -> Fallible<'a, (bool, Vec<u8>)>
     ensures warned { note.old.items ≡ [] → MayWarn note.new.items }
     ensures told { IfOk result (λ pair.
         TellsConforming form path.now pair.0 lattice.now text.now interface.now pair.1.items) }
@@ -282,27 +339,6 @@ pub(crate) fn begins_image(bytes: &[u8]) -> bool
     ensures { result ≡ supplied.begins_image bytes.now }
 {
     matches!(bytes, [b'V', b'S', b'I', version, ..] if *version < 9)
-}
-
-/// The bytes of a file that is an image, by its first bytes, or else a source text.
-fn operand_in<'a, F: Files>(
-    cache: &mut InputCache,
-    path: &'a str,
-    files: &mut F,
-) -> Result<Vec<u8>, Failure<'a>>
-    ensures kept { F.holds files.new ≡ F.holds files.old }
-    ensures read { IfOk result
-        (λ bytes. IsReadAt (F.holds files.old) path.now bytes.items) }
-    ensures failed { IfErr result (λ failure. 3 < status_of failure) }
-{
-    let bytes = whole_in(cache.alloc, path, files)?;
-    let kind = if begins_image(bytes.as_slice()) {
-        InputKind::Image
-    } else {
-        InputKind::Source
-    };
-    cache.keep(kind, path, bytes.as_slice())?;
-    Ok(bytes)
 }
 
 /// An answer about an image as it is written.
@@ -333,7 +369,7 @@ fn image_answer<'a>(
     lattice: &Lattice,
     bytes: &[u8],
     interface: &Interface,
-) -> Result<(bool, Vec<u8>), Failure<'a>>
+) -> Fallible<'a, (bool, Vec<u8>)>
     ensures told { IfOk result (λ pair.
         TellsSupplied form path.now pair.0 lattice.now bytes.now interface.now pair.1.items) }
     ensures failed { IfErr result
@@ -364,7 +400,7 @@ fn bytes_answer<'a>(
     bytes: &[u8],
     interface: &Interface,
     note: &mut Vec<u8>,
-) -> Result<(bool, Vec<u8>), Failure<'a>>
+) -> Fallible<'a, (bool, Vec<u8>)>
     ensures warned { note.old.items ≡ [] → MayWarn note.new.items }
     ensures told { IfOk result (λ pair. TellsBytes (supplied.begins_image bytes.now) form path.now
         pair.0 lattice.now bytes.now interface.now pair.1.items) }
@@ -376,61 +412,4 @@ fn bytes_answer<'a>(
     } else {
         answer_of(alloc, form, path, lattice, bytes, interface, note)
     }
-}
-
-/// The interface of a file and its lattice, which has all classes that the interface names. Its
-/// runs take together at most the budget, if one is given.
-pub(crate) fn asked_in<'a, F: Files>(
-    cache: &mut InputCache,
-    path: &'a str,
-    budget: Option<u64>,
-    files: &mut F,
-) -> Result<(InterfaceFile, Lattice), Failure<'a>>
-    ensures kept { F.holds files.new ≡ F.holds files.old }
-    ensures asked { IfOk result (λ pair. IsAskedAt (F.holds files.old) path.now pair.0) }
-    ensures declared { IfOk result
-        (λ pair. IsPolicyAt (F.holds files.old) path.now pair.0.policy pair.1) }
-    ensures within { IfOk result
-        (λ pair. IfSome budget (λ most. total_of pair.0.interface ≤ most)) }
-    ensures failed { IfErr result
-        (FailsBy (RefusesAsked (F.holds files.old) path.now) IsUnusable) }
-{
-    let asked = asked_files(cache, path, budget, files)?;
-    Ok((asked.found, asked.lattice))
-}
-
-/// Whether the source text or the image conforms to the interface, and where it differs. The note
-/// gets the warning about the image of a text.
-pub(crate) fn conform<'a, F: Files>(
-    cache: &mut InputCache,
-    asked: Conformance<'a>,
-    files: &mut F,
-    note: &mut Vec<u8>,
-) -> Result<Reply, Failure<'a>>
-    ensures kept { F.holds files.new ≡ F.holds files.old }
-    ensures warned { note.old.items ≡ [] → MayWarn note.new.items }
-    ensures told { IfOk result
-        (λ reply. ConformsFiles (F.holds files.old) asked.entry reply.is_good reply.text) }
-    ensures failed { IfErr result
-        (FailsBy (RefusesConform (F.holds files.old) asked.entry) IsUnusable) }
-{
-    let read = asked_files(cache, asked.interface, Some(asked.budget), files)?;
-    let bytes = operand_in(cache, asked.source, files)?;
-    let (fits, points) = bytes_answer(
-        cache.alloc,
-        asked.form,
-        asked.source,
-        &read.lattice,
-        &bytes,
-        &read.found.interface,
-        note,
-    )?;
-    let (holds, answer) = reached_answer(cache.alloc, asked.form, &read, &bytes, fits, &points)?;
-    let (conforms, told) = with_reference(cache, asked, &read, &bytes, holds, answer, files)?;
-    let lines = lines_after(cache.alloc, asked, conforms, &read, &bytes)?;
-    let text = with_lines(told, &lines)?;
-    Ok(Reply {
-        text,
-        is_good: conforms,
-    })
 }

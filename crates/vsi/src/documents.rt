@@ -1,99 +1,169 @@
-//! Answers as lines of JSON and as documents of SARIF.
+//! Answers as lines of JSON and documents of SARIF, pages, graphs, and searches for leaks.
 
-ghost use Rattle.std.specs.Prelude.{◌≡◌, ◌⊎◌, [], IfErr, IfOk, OnOk};
+ghost use Rattle.std.specs.Prelude.{◌≡◌, ◌⊎◌, [], IfErr, IfOk, OnOk, List, Some, IsSomeAnd, IfSome};
 ghost use Rattle.vsi.specs.Documents.{AuditsDocument, ToldAudit, ToldAuditJson, ToldAuditSarif, ToldClassesJson, ToldFlowsJson, ToldSarif, RunsJson};
 ghost use Rattle.vsi.specs.Files.{OfFiles};
 ghost use Rattle.vsi.specs.Noted.{IsNoteBefore, NotesAnswer, document_noting};
-ghost use Rattle.vsi.specs.Performed.{DocumentOf, judgement_of, profile_of};
-ghost use Rattle.vsi.specs.Reasons.{LacksDocument, RefusesDocument};
-ghost use Rattle.vsi.specs.Refusals.{NoOther, RefusesImage, RefusesLattice, FailsBy, LacksBoundAt, RefusesStart};
+ghost use Rattle.vsi.specs.Performed.{DocumentOf, judgement_of, profile_of, AreSought, DrawsFiles, DrawsGraph, GraphOf, ToldPage, SearchesFiles, SearchesJson};
+ghost use Rattle.vsi.specs.Reasons.{LacksDocument, RefusesDocument, LacksSought, OtherLeak, RefusesSearch, WhyDraw};
+ghost use Rattle.vsi.specs.Refusals.{NoOther, RefusesImage, RefusesLattice, FailsBy, LacksBoundAt, RefusesStart, RefusesProgramAt};
+ghost use Rattle.vsi_lattice.specs.LatticeView.{class_named, order};
+ghost use Rattle.vsi_syntax.specs.Tree.{Whole};
+ghost use Rattle.vsi_scope.specs.Language.{Command};
+ghost use Rattle.vsi_scope.specs.Resolving.{IsResolution};
+ghost use Rattle.vsi_compiler.specs.Source.{Reads};
+ghost use Rattle.vsi_compiler.specs.declared.error.CompileError.TheVariants.{Memory};
+ghost use Rattle.vsi_compiler.specs.Refusal.{RefusesProgram};
+ghost use Rattle.vsi_report.specs.Page.{HasPanel};
+ghost use Rattle.vsi_report.specs.Verdict.{HasVerdict};
+ghost use Rattle.vsi_lattice.specs.Order.{IsClass};
 
-use crate::auditing::bound;
-use crate::drawing::leak_line;
-use crate::driving::budget_of;
-use crate::failure::Failure;
+use crate::drives::budget_of;
+use crate::failure::{Failure, Fallible};
 use crate::files::Files;
-use crate::reading::{InputCache, image_in, lattice_in};
+use crate::images::version;
+use crate::inputs::InputKind;
 use crate::replies::Reply;
-use crate::running::{compare, image_and_words};
-use crate::subcommands::{judgement, policy_and_text, profile};
+use crate::subject::{Subject, refused, viewer_of};
+use crate::texts::{judgement, profile};
 use std::alloc::{AllocError, Global};
-use vsi_arguments::{Audit, Compilation, Document, Execution, InitialStore, Judging};
+use vsi_arguments::{
+    Audit, Compilation, Document, Drawing, Execution, InitialStore, Judging, Search,
+};
+use vsi_compiler::CompileError;
 use vsi_documents::{
-    Documented, audit_json, audit_sarif, check_sarif, classes_json, flows_json, run_json,
-    steady_json, steady_sarif,
+    Documented, audit_json, audit_sarif, check_sarif, classes_json, flows_json, leak_json,
+    run_json, steady_json, steady_sarif,
 };
 use vsi_image::Verified;
 use vsi_lattice::Lattice;
+use vsi_leak::{Effort, Finding, Wanted, leak_of_text, leak_text};
+use vsi_report::{Filing, filed_page, flows_dot, lattice_dot, policy_dot};
 
-/// Whether the source text is accepted, and the document of SARIF that says so.
-fn checked_sarif<'a, F: Files>(
-    cache: &mut InputCache,
-    asked: Judging<'a>,
-    files: &mut F,
-) -> Result<Reply, Failure<'a>>
-    ensures kept { F.holds files.new ≡ F.holds files.old }
-    ensures told { IfOk result (λ reply. OfFiles (F.holds files.old) asked.entry.compilation
-        (ToldSarif (judgement_of asked.entry) asked.entry.compilation.source.now reply.is_good)
-        reply.text) }
-    ensures failed { IfErr result (FailsBy
-        (RefusesLattice (F.holds files.old) asked.entry.compilation.lattice.now) NoOther) }
-{
-    let (classes, text) = policy_and_text(cache, asked.compilation, files)?;
-    let path = asked.compilation.source;
-    let told = check_sarif(
-        cache.alloc,
-        judgement(asked),
-        &classes,
-        path,
-        text.as_slice(),
-    )?;
-    Ok(Reply {
-        text: told.line,
-        is_good: told.is_good,
-    })
-}
+impl<F: Files> Subject<'_, F> {
+    /// Whether the source text is accepted, and the document of SARIF that says so.
+    fn checked_sarif<'a>(&self, asked: Judging<'a>) -> Fallible<'a, Reply>
+        ensures told { IfOk result (λ reply. OfFiles (F.holds self.now.files.now)
+            asked.entry.compilation (ToldSarif (judgement_of asked.entry)
+            asked.entry.compilation.source.now reply.is_good) reply.text) }
+        ensures failed { IfErr result (FailsBy (RefusesLattice (F.holds self.now.files.now)
+            asked.entry.compilation.lattice.now) NoOther) }
+    {
+        let (classes, text) = self.policy_and_text(asked.compilation)?;
+        let path = asked.compilation.source;
+        let told = check_sarif(
+            self.alloc,
+            judgement(asked),
+            &classes,
+            path,
+            text.as_slice(),
+        )?;
+        Ok(Reply {
+            text: told.line,
+            is_good: told.is_good,
+        })
+    }
 
-/// The line of JSON for a source text with its classes, and whether it is accepted.
-fn classes_line<'a, F: Files>(
-    cache: &mut InputCache,
-    compilation: Compilation<'a>,
-    files: &mut F,
-) -> Result<Reply, Failure<'a>>
-    ensures kept { F.holds files.new ≡ F.holds files.old }
-    ensures told { IfOk result (λ reply. OfFiles (F.holds files.old) compilation.entry
-        (ToldClassesJson (profile_of compilation.entry.is_strict) reply.is_good) reply.text) }
-    ensures failed { IfErr result (FailsBy
-        (RefusesLattice (F.holds files.old) compilation.entry.lattice.now) NoOther) }
-{
-    let (classes, text) = policy_and_text(cache, compilation, files)?;
-    let profile = profile(compilation.is_strict);
-    let told = classes_json(cache.alloc, profile, &classes, text.as_slice())?;
-    Ok(Reply {
-        text: told.line,
-        is_good: told.is_good,
-    })
-}
+    /// The line of JSON for a source text with its classes, and whether it is accepted.
+    fn classes_line<'a>(&self, compilation: Compilation<'a>) -> Fallible<'a, Reply>
+        ensures told { IfOk result (λ reply. OfFiles (F.holds self.now.files.now) compilation.entry
+            (ToldClassesJson (profile_of compilation.entry.is_strict) reply.is_good) reply.text) }
+        ensures failed { IfErr result (FailsBy
+            (RefusesLattice (F.holds self.now.files.now) compilation.entry.lattice.now) NoOther) }
+    {
+        let (classes, text) = self.policy_and_text(compilation)?;
+        let profile = profile(compilation.is_strict);
+        let told = classes_json(self.alloc, profile, &classes, text.as_slice())?;
+        Ok(Reply {
+            text: told.line,
+            is_good: told.is_good,
+        })
+    }
 
-/// The line of JSON for a source text with its flows, and whether it has a program.
-fn flows_line<'a, F: Files>(
-    cache: &mut InputCache,
-    compilation: Compilation<'a>,
-    files: &mut F,
-) -> Result<Reply, Failure<'a>>
-    ensures kept { F.holds files.new ≡ F.holds files.old }
-    ensures told { IfOk result (λ reply. OfFiles (F.holds files.old) compilation.entry
-        (ToldFlowsJson (profile_of compilation.entry.is_strict) reply.is_good) reply.text) }
-    ensures failed { IfErr result (FailsBy
-        (RefusesLattice (F.holds files.old) compilation.entry.lattice.now) NoOther) }
-{
-    let (classes, text) = policy_and_text(cache, compilation, files)?;
-    let profile = profile(compilation.is_strict);
-    let told = flows_json(cache.alloc, profile, &classes, text.as_slice())?;
-    Ok(Reply {
-        text: told.line,
-        is_good: told.is_good,
-    })
+    /// The line of JSON for a source text with its flows, and whether it has a program.
+    fn flows_line<'a>(&self, compilation: Compilation<'a>) -> Fallible<'a, Reply>
+        ensures told { IfOk result (λ reply. OfFiles (F.holds self.now.files.now) compilation.entry
+            (ToldFlowsJson (profile_of compilation.entry.is_strict) reply.is_good) reply.text) }
+        ensures failed { IfErr result (FailsBy
+            (RefusesLattice (F.holds self.now.files.now) compilation.entry.lattice.now) NoOther) }
+    {
+        let (classes, text) = self.policy_and_text(compilation)?;
+        let profile = profile(compilation.is_strict);
+        let told = flows_json(self.alloc, profile, &classes, text.as_slice())?;
+        Ok(Reply {
+            text: told.line,
+            is_good: told.is_good,
+        })
+    }
+
+    /// The line of JSON for an image, or the document of SARIF, and whether it is accepted.
+    fn audit_document<'a>(&self, asked: Audit<'a>, is_sarif: bool) -> Fallible<'a, Reply>
+        ensures told { IfOk result (λ reply. AuditsDocument is_sarif (F.holds self.now.files.now)
+            asked.entry reply.is_good reply.text) }
+        ensures failed { IfErr result (FailsBy (λ reason.
+            RefusesLattice (F.holds self.now.files.now) asked.entry.lattice.now reason
+            ⊎ RefusesImage (F.holds self.now.files.now) asked.entry.image.now reason) NoOther) }
+    {
+        let classes = self.lattice_in(asked.lattice)?;
+        let verified = self.image_in(asked.image)?;
+        let reply = judged_document(self.alloc, asked, is_sarif, &classes, &verified)?;
+        Ok(reply)
+    }
+
+    /// The document that answers a request. The note gets a line if the budget of a comparison isn't
+    /// enough and is taken all the same.
+    pub(crate) fn document<'a>(
+        &self,
+        asked: Document<'a>,
+        note: &mut Vec<u8>,
+    ) -> Fallible<'a, Reply>
+        ensures told { IfOk result (λ reply. DocumentOf (F.holds self.now.files.now) asked.entry
+            reply.is_good reply.text) }
+        ensures noted { note.old.items ≡ [] → OnOk result (NotesAnswer (F.holds self.now.files.now)
+            (document_noting asked.entry) note.new.items) }
+        ensures hushed { note.old.items ≡ [] → IfErr result (λ failure. IsNoteBefore
+            (F.holds self.now.files.now) (document_noting asked.entry) failure note.new.items) }
+        ensures failed { IfErr result
+            (FailsBy (RefusesDocument (F.holds self.now.files.now) asked.entry)
+            (LacksDocument (F.holds self.now.files.now) asked.entry)) }
+    {
+        match asked {
+            Document::Sarif(judging) => self.checked_sarif(judging),
+            Document::Classes(compilation) => self.classes_line(compilation),
+            Document::Flows(compilation) => self.flows_line(compilation),
+            Document::Audit(audit) => self.audit_document(audit, false),
+            Document::AuditSarif(audit) => self.audit_document(audit, true),
+            Document::Bound(bounding) => self.bound(bounding, true),
+            Document::Run {
+                execution,
+                initial_store,
+            } => self.run_line(execution, &initial_store),
+            Document::Compare(comparison) => self.compare(comparison, true, note),
+            Document::Leak(search) => self.leak_line(search),
+        }
+    }
+
+    /// The line of JSON for the run of an image file, and whether it halts within its budget.
+    fn run_line<'a>(
+        &self,
+        execution: Execution<'a>,
+        initial_store: &InitialStore<'a>,
+    ) -> Fallible<'a, Reply>
+        ensures told { IfOk result (λ reply. RunsJson (F.holds self.now.files.now) execution.entry
+            initial_store.now reply.is_good reply.text) }
+        ensures failed { IfErr result (FailsBy (λ reason. RefusesImage (F.holds self.now.files.now)
+            execution.entry.image.now reason ⊎ RefusesStart (F.holds self.now.files.now)
+            execution.entry initial_store.now reason) (LacksBoundAt (F.holds self.now.files.now)
+            execution.entry.image.now execution.entry.budget)) }
+    {
+        let (verified, words) = self.image_and_words(execution, initial_store)?;
+        let budget = budget_of(self.alloc, execution.budget, &verified)?;
+        let told = run_json(self.alloc, &verified, &words, budget)?;
+        Ok(Reply {
+            text: told.line,
+            is_good: told.is_good,
+        })
+    }
 }
 
 /// The line of JSON for an image that is judged as requested.
@@ -135,26 +205,6 @@ fn judged_sarif(
     )
 }
 
-/// The line of JSON for an image, or the document of SARIF, and whether it is accepted.
-fn audit_document<'a, F: Files>(
-    cache: &mut InputCache,
-    asked: Audit<'a>,
-    is_sarif: bool,
-    files: &mut F,
-) -> Result<Reply, Failure<'a>>
-    ensures kept { F.holds files.new ≡ F.holds files.old }
-    ensures told { IfOk result (λ reply. AuditsDocument is_sarif (F.holds files.old) asked.entry
-        reply.is_good reply.text) }
-    ensures failed { IfErr result (FailsBy (λ reason.
-        RefusesLattice (F.holds files.old) asked.entry.lattice.now reason
-        ⊎ RefusesImage (F.holds files.old) asked.entry.image.now reason) NoOther) }
-{
-    let classes = lattice_in(cache, asked.lattice, files)?;
-    let verified = image_in(cache, asked.image, files)?;
-    let reply = judged_document(cache.alloc, asked, is_sarif, &classes, &verified)?;
-    Ok(reply)
-}
-
 /// The document for an image that is judged as requested.
 fn judged_document(
     alloc: Global,
@@ -163,8 +213,8 @@ fn judged_document(
     classes: &Lattice,
     verified: &Verified,
 ) -> Result<Reply, AllocError>
-    ensures { IfOk result (λ reply. ToldAudit is_sarif asked.entry (profile_of asked.entry.is_strict)
-        classes.now verified.now reply.is_good reply.text) }
+    ensures { IfOk result (λ reply. ToldAudit is_sarif asked.entry (profile_of
+        asked.entry.is_strict) classes.now verified.now reply.is_good reply.text) }
 {
     if is_sarif {
         let document = judged_sarif(alloc, asked, classes, verified)?;
@@ -180,61 +230,202 @@ fn judged_document(
     })
 }
 
-/// The document that answers a request. The note gets a line if the budget of a comparison isn't
-/// enough and is taken all the same.
-pub(crate) fn document<'a, F: Files>(
-    cache: &mut InputCache,
-    asked: Document<'a>,
-    files: &mut F,
-    note: &mut Vec<u8>,
-) -> Result<Reply, Failure<'a>>
-    ensures kept { F.holds files.new ≡ F.holds files.old }
-    ensures told { IfOk result
-        (λ reply. DocumentOf (F.holds files.old) asked.entry reply.is_good reply.text) }
-    ensures noted { note.old.items ≡ [] → OnOk result
-        (NotesAnswer (F.holds files.old) (document_noting asked.entry) note.new.items) }
-    ensures hushed { note.old.items ≡ [] → IfErr result (λ failure. IsNoteBefore
-        (F.holds files.old) (document_noting asked.entry) failure note.new.items) }
-    ensures failed { IfErr result
-        (FailsBy (RefusesDocument (F.holds files.old) asked.entry)
-        (LacksDocument (F.holds files.old) asked.entry)) }
+/// The page of a source text over a lattice, with the names of both files.
+fn page_of(
+    alloc: Global,
+    compilation: Compilation<'_>,
+    policy: &[u8],
+    classes: &Lattice,
+    text: &[u8],
+) -> Result<Vec<u8>, AllocError>
+    ensures panel { IfOk result (λ page. HasPanel page.items text.now) }
+    ensures verdict { IfOk result (λ page. HasVerdict classes.now
+        (profile_of compilation.entry.is_strict) text.now page.items) }
 {
-    match asked {
-        Document::Sarif(judging) => checked_sarif(cache, judging, files),
-        Document::Classes(compilation) => classes_line(cache, compilation, files),
-        Document::Flows(compilation) => flows_line(cache, compilation, files),
-        Document::Audit(audit) => audit_document(cache, audit, false, files),
-        Document::AuditSarif(audit) => audit_document(cache, audit, true, files),
-        Document::Bound(bounding) => bound(cache, bounding, true, files),
-        Document::Run {
-            execution,
-            initial_store,
-        } => run_line(cache, execution, &initial_store, files),
-        Document::Compare(comparison) => compare(cache, comparison, true, files, note),
-        Document::Leak(search) => leak_line(cache, search, files),
+    let filing = Filing {
+        source: compilation.source.as_bytes(),
+        lattice: compilation.lattice.as_bytes(),
+        policy,
+        version: version(),
+    };
+    filed_page(
+        alloc,
+        profile(compilation.is_strict),
+        &filing,
+        classes,
+        text,
+    )
+}
+
+impl<F: Files> Subject<'_, F> {
+    /// The page of a source text.
+    pub(crate) fn report<'a>(&self, compilation: Compilation<'a>) -> Fallible<'a, Vec<u8>>
+        ensures told { IfOk result (OfFiles (F.holds self.now.files.now) compilation.entry
+            (ToldPage compilation.entry.is_strict)) }
+        ensures failed { IfErr result (FailsBy (RefusesLattice (F.holds self.now.files.now)
+            compilation.entry.lattice.now) NoOther) }
+    {
+        let read = self.policy_in(compilation.lattice)?;
+        let text = self.bytes_in(InputKind::Source, compilation.source)?;
+        Ok(page_of(self.alloc, compilation, &read.0, &read.1, text.as_slice())?)
+    }
+
+    /// The graph of the flows of the source text, alone or beside that of the lattice.
+    fn flows_graph<'a>(
+        &self,
+        classes: &Lattice,
+        source: &'a str,
+        is_strict: bool,
+        is_alone: bool,
+    ) -> Fallible<'a, Vec<u8>>
+        ensures told { IfOk result (λ graph. DrawsGraph (F.holds self.now.files.now)
+            (Some source.entry) is_strict is_alone classes.now graph.items) }
+        ensures failed { IfErr result (FailsBy (RefusesProgramAt (F.holds self.now.files.now)
+            classes.now source.now) NoOther) }
+    {
+        let text = self.bytes_in(InputKind::Source, source)?;
+        match graph_of(self.alloc, is_strict, is_alone, classes, text.as_slice()) {
+            Ok(graph) => Ok(graph),
+            Err(error) => Err(refused(self.alloc, classes, text.as_slice(), error)),
+        }
+    }
+
+    /// The graph of the lattice, or with a source text that of its flows, alone or beside the lattice.
+    fn graph_for<'a>(
+        &self,
+        classes: &Lattice,
+        source: Option<&'a str>,
+        is_strict: bool,
+        is_alone: bool,
+    ) -> Fallible<'a, Vec<u8>>
+        ensures told { IfOk result (λ graph. DrawsGraph (F.holds self.now.files.now) source.entry
+            is_strict is_alone classes.now graph.items) }
+        ensures failed { IfErr result (FailsBy (λ reason. IsSomeAnd source.entry (λ path.
+            RefusesProgramAt (F.holds self.now.files.now) classes.now path.now reason)) NoOther) }
+    {
+        match source {
+            Some(source) => self.flows_graph(classes, source, is_strict, is_alone),
+            None => Ok(lattice_dot(self.alloc, classes)?),
+        }
+    }
+
+    /// The graph that a drawing requests.
+    pub(crate) fn draw<'a>(&self, drawing: Drawing<'a>) -> Fallible<'a, Vec<u8>>
+        ensures told { IfOk result (DrawsFiles (F.holds self.now.files.now) drawing.entry) }
+        ensures failed { IfErr result (FailsBy (WhyDraw (F.holds self.now.files.now)
+            drawing.entry.lattice.now drawing.entry.source) NoOther) }
+    {
+        let classes = self.lattice_in(drawing.lattice)?;
+        let graph = self.graph_for(
+            &classes,
+            drawing.source,
+            drawing.is_strict,
+            drawing.is_alone,
+        )?;
+        Ok(graph)
+    }
+
+    /// Reads the files of a search.
+    pub(crate) fn sought_in<'a>(&self, search: Search<'a>) -> Fallible<'a, Sought>
+        ensures within { IfOk result
+            (λ sought. IfSome sought.wanted.class (IsClass (order sought.lattice))) }
+        ensures told { IfOk result (λ sought. AreSought (F.holds self.now.files.now) search.entry
+            sought.lattice sought.text.items sought.wanted) }
+        ensures failed { IfErr result (FailsBy (RefusesSearch (F.holds self.now.files.now)
+            search.entry) (LacksSought (F.holds self.now.files.now) search.entry)) }
+    {
+        let lattice = self.lattice_in(search.lattice)?;
+        let class = viewer_of(&lattice, search.class)?;
+        let text = self.bytes_in(InputKind::Source, search.source)?;
+        Ok(Sought {
+            lattice,
+            text,
+            wanted: Wanted {
+                class,
+                endings: search.has_endings,
+                steps: search.has_steps,
+                effort: Effort {
+                    budget: search.budget,
+                    tries: search.tries,
+                    seed: search.seed,
+                },
+            },
+        })
+    }
+
+    /// Searches a source text for a leak, which is reported as a refusal. If none is found the line has
+    /// the number of pairs.
+    pub(crate) fn leak<'a>(&self, search: Search<'a>) -> Fallible<'a, Vec<u8>>
+        ensures told { IfOk result (SearchesFiles (F.holds self.now.files.now) search.entry) }
+        ensures failed { IfErr result (FailsBy (RefusesSearch (F.holds self.now.files.now)
+            search.entry) (OtherLeak (F.holds self.now.files.now) search.entry)) }
+    {
+        let sought = self.sought_in(search)?;
+        let lattice = &sought.lattice;
+        let text = sought.text.as_slice();
+        let (verified, finding) = match leak_of_text(self.alloc, lattice, text, &sought.wanted) {
+            Ok(found) => found,
+            Err(error) => return Err(refused(self.alloc, lattice, text, error)),
+        };
+        match &finding {
+            Finding::Leak(leak) => {
+                let shown = leak_text(self.alloc, lattice, verified.image(), leak)?;
+                Err(Failure::Refused(shown, None))
+            }
+            Finding::Nothing { pairs } => {
+                let line = format!(in self.alloc; "no leak in {pairs} pairs of runs\n")?;
+                Ok(line.into_bytes())
+            }
+        }
+    }
+
+    /// The line of JSON for a search of a source text, and whether it found no leak.
+    pub(crate) fn leak_line<'a>(&self, search: Search<'a>) -> Fallible<'a, Reply>
+        ensures told { IfOk result (λ reply.
+            SearchesJson (F.holds self.now.files.now) search.entry reply.is_good reply.text) }
+        ensures failed { IfErr result (FailsBy (RefusesSearch (F.holds self.now.files.now)
+            search.entry) (LacksSought (F.holds self.now.files.now) search.entry)) }
+    {
+        let sought = self.sought_in(search)?;
+        let lattice = &sought.lattice;
+        let text = sought.text.as_slice();
+        match leak_json(self.alloc, lattice, text, &sought.wanted) {
+            Ok(told) => Ok(Reply {
+                text: told.line,
+                is_good: told.is_good,
+            }),
+            Err(error) => Err(refused(self.alloc, lattice, text, error)),
+        }
     }
 }
 
-/// The line of JSON for the run of an image file, and whether it halts within its budget.
-fn run_line<'a, F: Files>(
-    cache: &mut InputCache,
-    execution: Execution<'a>,
-    initial_store: &InitialStore<'a>,
-    files: &mut F,
-) -> Result<Reply, Failure<'a>>
-    ensures kept { F.holds files.new ≡ F.holds files.old }
-    ensures told { IfOk result (λ reply. RunsJson (F.holds files.old) execution.entry
-        initial_store.now reply.is_good reply.text) }
-    ensures failed { IfErr result (FailsBy (λ reason.
-        RefusesImage (F.holds files.old) execution.entry.image.now reason
-        ⊎ RefusesStart (F.holds files.old) execution.entry initial_store.now reason)
-        (LacksBoundAt (F.holds files.old) execution.entry.image.now execution.entry.budget)) }
+/// The graph of a text's flows, alone or beside that of its lattice.
+fn graph_of(
+    alloc: Global,
+    is_strict: bool,
+    is_alone: bool,
+    classes: &Lattice,
+    text: &[u8],
+) -> Result<Vec<u8>, CompileError>
+    ensures graph { IfOk result (λ graph.
+        GraphOf is_alone (profile_of is_strict) classes.now text.now graph.items) }
+    ensures refused { IfErr result (RefusesProgram (class_named classes.now) text.now) }
+    ensures exact { (tree : Whole) (commands : List Command) → Reads text.now tree
+        → IsResolution (class_named classes.now) tree commands
+        → IfErr result (λ e. e ≡ Memory) }
 {
-    let (verified, words) = image_and_words(cache, execution, initial_store, files)?;
-    let budget = budget_of(cache.alloc, execution.budget, &verified)?;
-    let told = run_json(cache.alloc, &verified, &words, budget)?;
-    Ok(Reply {
-        text: told.line,
-        is_good: told.is_good,
-    })
+    let judged = profile(is_strict);
+    if is_alone {
+        flows_dot(alloc, judged, classes, text)
+    } else {
+        policy_dot(alloc, judged, classes, text)
+    }
+}
+
+/// What a search is about: a source text under a lattice, and what is wanted of it.
+#[derive(Drop)]
+pub(crate) struct Sought {
+    pub(crate) lattice: Lattice,
+    pub(crate) text: Vec<u8>,
+    pub(crate) wanted: Wanted,
 }

@@ -11,8 +11,8 @@ ghost use Rattle.vsi_diagnostics.specs.View.{diagnostic_of};
 ghost use Rattle.vsi.specs.Diagnosing as spec;
 ghost use Rattle.vsi.specs.FaultyFiles as faultyFiles_spec;
 
-use crate::explaining::source_of;
-use crate::reading::InputCache;
+use crate::explanations::source_of;
+use crate::inputs::Inputs;
 use std::alloc::{AllocError, AllocFailed};
 use std::io::Write;
 use vsi_answers::{Cause, Unanswered};
@@ -55,6 +55,9 @@ pub(crate) enum Failure<'a> {
     /// An allocation failed.
     Memory,
 }
+
+/// The result of a call, or why a command line ends early.
+pub(crate) type Fallible<'a, T> = Result<T, Failure<'a>>;
 
 impl From<AllocError> for Failure<'_> {
     ghost from_gives = { λ _ e. e ≡ Memory };
@@ -148,7 +151,7 @@ impl Failure<'_> {
 }
 
 /// Writes a text to standard output.
-pub(crate) fn write<'a, W: Write>(text: &[u8], output: &mut Counted<W>) -> Result<(), Failure<'a>>
+pub(crate) fn write<'a, W: Write>(text: &[u8], output: &mut Counted<W>) -> Fallible<'a, ()>
     requires { faults_of output.old < u64.MAX }
     ensures fault { TellsFault (faults_of output.old) (faults_of output.new) result }
     ensures failure { IfErr result (λ failure. status_of failure ≡ 4) }
@@ -167,13 +170,13 @@ pub(crate) fn write_answer<'a, W: Write>(
     text: &[u8],
     agrees: bool,
     output: &mut Counted<W>,
-) -> Result<(), Failure<'a>>
+) -> Fallible<'a, ()>
     requires { faults_of output.old < u64.MAX }
     ensures fault { TellsFault (faults_of output.old) (faults_of output.new) result }
     ensures part { WritesPart text.now
         (W.contents (device_of output.old)) (W.contents (device_of output.new)) }
-    ensures whole { OnOk result ((agrees ≡ true)
-        × Appends (W.contents (device_of output.old)) (W.contents (device_of output.new)) text.now) }
+    ensures whole { OnOk result ((agrees ≡ true) × Appends (W.contents (device_of output.old))
+        (W.contents (device_of output.new)) text.now) }
     ensures failed { IfErr result (λ failure. ((failure ≡ Differs) × ((agrees ≡ false)
         × Appends (W.contents (device_of output.old)) (W.contents (device_of output.new)) text.now))
         ⊎ (status_of failure ≡ 4)) }
@@ -301,6 +304,9 @@ pub(crate) fn answers_json(request: &Request<'_>) -> bool
         Request::Document(asked) => document_answers_json(asked),
         Request::Conform(asked) => is_json(asked.form),
         Request::Mend(asked) => asked.is_json,
+        Request::Steps { is_json, .. }
+        | Request::Monitor { is_json, .. }
+        | Request::CompareSteps { is_json, .. } => *is_json,
         _ => false,
     }
 }
@@ -324,28 +330,28 @@ fn begins_with(text: &[u8], line: &[u8]) -> bool
 
 /// The line of JSON of the refusal with this cause and this text. An error means that memory ran
 /// out, or that the text isn't that of the cause, which it always is.
-fn line_by(cache: &InputCache, cause: &Cause, text: &[u8]) -> Result<Vec<u8>, AllocError>
+fn line_by(inputs: &Inputs, cause: &Cause, text: &[u8]) -> Result<Vec<u8>, AllocError>
     ensures { IfOk result (λ line. faultyFiles_spec.IsLineBy cause.now text.now line.items) }
 {
-    let Some(diagnostic) = cause_diagnostic(source_of(cache), cause) else {
+    let Some(diagnostic) = cause_diagnostic(source_of(inputs), cause) else {
         return Err(AllocError);
     };
-    let fixed = line_text(cache.alloc, &diagnostic)?;
+    let fixed = line_text(inputs.alloc, &diagnostic)?;
     if !begins_with(text, fixed.as_slice()) {
         return Err(AllocError);
     }
-    let line = refused_json(cache.alloc, &diagnostic, text)?;
+    let line = refused_json(inputs.alloc, &diagnostic, text)?;
     Ok(line)
 }
 
 /// The line of JSON of a refusal.
-fn refusal_line(cache: &InputCache, failure: &Failure<'_>) -> Result<Vec<u8>, AllocError>
+fn refusal_line(inputs: &Inputs, failure: &Failure<'_>) -> Result<Vec<u8>, AllocError>
     ensures { IfOk result (λ line. faultyFiles_spec.IsRefusalLine failure.now line.items) }
 {
     match failure {
-        Failure::Refused(text, Some(cause)) => line_by(cache, cause, text.as_slice()),
+        Failure::Refused(text, Some(cause)) => line_by(inputs, cause, text.as_slice()),
         Failure::Interface(text, error) => {
-            refused_interface_json(cache.alloc, error, text.as_slice())
+            refused_interface_json(inputs.alloc, error, text.as_slice())
         }
         _ => Err(AllocError),
     }
@@ -373,7 +379,7 @@ fn after_line<'a, W: Write>(
 /// Writes the line of a refusal, if the request answers with JSON. The failure stays, unless the
 /// output fails or memory runs out.
 pub(crate) fn tell_refusal<'a, W: Write>(
-    cache: &InputCache,
+    inputs: &Inputs,
     is_json: bool,
     failure: Failure<'a>,
     output: &mut Counted<W>,
@@ -382,8 +388,8 @@ pub(crate) fn tell_refusal<'a, W: Write>(
     ensures fault { faults_of output.old < faults_of output.new → status_of result ≡ 4 }
     ensures late { 3 < status_of failure.entry → result ≡ failure.entry }
     ensures early { status_of result < 4 → result ≡ failure.entry }
-    ensures told { faultyFiles_spec.TellsRefusal (faultyFiles_spec.has_line is_json failure.entry) failure.entry
-        (W.contents (device_of output.old)) (W.contents (device_of output.new)) result }
+    ensures told { faultyFiles_spec.TellsRefusal (faultyFiles_spec.has_line is_json failure.entry)
+        failure.entry (W.contents (device_of output.old)) (W.contents (device_of output.new)) result }
 {
     if !is_refusal(&failure) {
         return failure;
@@ -391,7 +397,7 @@ pub(crate) fn tell_refusal<'a, W: Write>(
     if !is_json {
         return failure;
     }
-    match refusal_line(cache, &failure) {
+    match refusal_line(inputs, &failure) {
         Ok(line) => after_line(line.as_slice(), failure, output),
         Err(_) => Failure::Memory,
     }

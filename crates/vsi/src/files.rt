@@ -14,8 +14,8 @@ ghost use Rattle.vsi.specs.Refusals.{NoOther, FailsBy};
 ghost use Rattle.vsi.specs.Saved.{SavesLine};
 ghost use Rattle.vsi_answers.specs.Requests.{BeginsWith};
 
-use crate::failure::{Failure, write};
-use crate::reading::{InputCache, store_in};
+use crate::failure::{Failure, Fallible, write};
+use crate::subject::Subject;
 use std::alloc::Global;
 use std::io::{Read, Write};
 use vsi_answers::start_words;
@@ -59,10 +59,9 @@ pub trait Files {
     ghost holds: { Self → List ℕ → Option (List ℕ) } = { λ _ _. None };
 
     /// The file at the path to read from, or nothing if it doesn't open.
-    fn open_file(&mut self, path: &str) -> Option<Self::Input>
-        ensures gives { IfSome (holds self.old path.now)
-            (λ bytes. IfSome result (λ input. Self.Input.remaining input ≡ Some bytes)) }
-        ensures kept { holds self.new ≡ holds self.old };
+    fn open_file(&self, path: &str) -> Option<Self::Input>
+        ensures { IfSome (holds self.now path.now)
+            (λ bytes. IfSome result (λ input. Self.Input.remaining input ≡ Some bytes)) };
 
     /// Makes or empties the file at the path, and fills it with these bytes; nothing if that fails.
     fn fill_file(&mut self, path: &str, bytes: &[u8]) -> Option<()>
@@ -108,34 +107,25 @@ pub trait Files {
     {}
 
     /// Why a file wasn't replaced, in a sentence, if that is because it is of another kind.
-    fn objection(&mut self) -> Option<&'static str>
-        ensures kept { holds self.new ≡ holds self.old }
-        ensures known { IfSome result (λ sentence. Contains OBJECTIONS sentence.now) }
+    fn objection(&self) -> Option<&'static str>
+        ensures { IfSome result (λ sentence. Contains OBJECTIONS sentence.now) }
     {
         None
     }
 
     /// Why the file at the path can't be used, in a sentence, if that is known.
-    fn trouble(&mut self, _path: &str) -> Option<&'static str>
-        ensures kept { holds self.new ≡ holds self.old }
-    {
+    fn trouble(&self, _path: &str) -> Option<&'static str> {
         None
     }
 
     /// Whether the text on standard error may be coloured.
-    fn wants_colour(&mut self) -> bool
-        ensures kept { holds self.new ≡ holds self.old }
-    {
+    fn wants_colour(&self) -> bool {
         false
     }
 }
 
 /// Makes or empties a file, and fills it with these bytes.
-pub(crate) fn fill<'a, F: Files>(
-    bytes: &[u8],
-    path: &'a str,
-    files: &mut F,
-) -> Result<(), Failure<'a>>
+pub(crate) fn fill<'a, F: Files>(bytes: &[u8], path: &'a str, files: &mut F) -> Fallible<'a, ()>
     ensures failure { IfErr result (λ failure. 3 < status_of failure) }
     ensures filled { OnOk result
         (Fills path.now bytes.now (F.holds files.old) (F.holds files.new)) }
@@ -153,7 +143,7 @@ pub(crate) fn replace<'a, F: Files>(
     text: &[u8],
     path: &'a str,
     files: &mut F,
-) -> Result<(), Failure<'a>>
+) -> Fallible<'a, ()>
     ensures failure { IfErr result (λ failure. 3 < status_of failure) }
     ensures replaced { OnOk result
         (Replaces path.now text.now (F.holds files.old) (F.holds files.new)) }
@@ -175,7 +165,7 @@ pub(crate) fn deliver<'a, F: Files, W: Write>(
     out: Option<&'a str>,
     files: &mut F,
     output: &mut Counted<W>,
-) -> Result<(), Failure<'a>>
+) -> Fallible<'a, ()>
     requires { faults_of output.old < u64.MAX }
     ensures fault { TellsFault (faults_of output.old) (faults_of output.new) result }
     ensures failure { IfErr result (λ failure. 3 < status_of failure) }
@@ -217,27 +207,27 @@ pub(crate) fn first_path<'a, F: Files>(driving: Driving<'a>, files: &F) -> Optio
     }
 }
 
-/// The words that a store file gives to the globals of an image, or zeros without one. With
-/// `is_full` each global must have a key in the file.
-pub(crate) fn first_store<'a, F: Files>(
-    cache: &mut InputCache,
-    verified: &Verified,
-    path: Option<&'a str>,
-    is_full: bool,
-    files: &mut F,
-) -> Result<Vec<i64>, Failure<'a>>
-    ensures kept { F.holds files.new ≡ F.holds files.old }
-    ensures len { IfOk result (λ words. length words.items ≡ length verified.now.globals.items) }
-    ensures stored { IfOk result (λ words.
-        IsStoredAt (F.holds files.old) path.entry verified.now words.items) }
-    ensures full { IfOk result (λ words.
-        IsFullAt (F.holds files.old) path.entry verified.now is_full) }
-    ensures failed { IfErr result (FailsBy (λ reason.
-        (file : List ℕ) × IsStoreAt (F.holds files.old) path.entry file
-        × BeginsWith verified.now file [] is_full (Err reason)) NoOther) }
-{
-    let bytes = store_in(cache, path, files)?;
-    Ok(start_words(cache.alloc, verified, &bytes, &[], is_full)?)
+impl<F: Files> Subject<'_, F> {
+    /// The words that a store file gives to the globals of an image, or zeros without one. With
+    /// `is_full` each global must have a key in the file.
+    pub(crate) fn first_store<'a>(
+        &self,
+        verified: &Verified,
+        path: Option<&'a str>,
+        is_full: bool,
+    ) -> Fallible<'a, Vec<i64>>
+        ensures len { IfOk result (λ words. length words.items ≡ length verified.now.globals.items) }
+        ensures stored { IfOk result (λ words.
+            IsStoredAt (F.holds self.now.files.now) path.entry verified.now words.items) }
+        ensures full { IfOk result (λ words.
+            IsFullAt (F.holds self.now.files.now) path.entry verified.now is_full) }
+        ensures failed { IfErr result (FailsBy (λ reason.
+            (file : List ℕ) × IsStoreAt (F.holds self.now.files.now) path.entry file
+            × BeginsWith verified.now file [] is_full (Err reason)) NoOther) }
+    {
+        let bytes = self.store_in(path)?;
+        Ok(start_words(self.alloc, verified, &bytes, &[], is_full)?)
+    }
 }
 
 /// Writes a store to the requested file, if there is one, after the line with its checksum.
@@ -247,7 +237,7 @@ pub(crate) fn save<'a, F: Files>(
     words: &[i64],
     path: Option<&'a str>,
     files: &mut F,
-) -> Result<(), Failure<'a>>
+) -> Fallible<'a, ()>
     requires { length words.now ≡ length verified.now.globals.items }
     ensures failure { IfErr result (λ failure. 3 < status_of failure) }
     ensures saved { OnOk result (Delivers path.entry (state_text verified.now words.now)
@@ -271,7 +261,7 @@ pub(crate) fn save_line<'a, F: Files>(
     words: &[i64],
     unsaved: &mut u64,
     files: &mut F,
-) -> Result<(), Failure<'a>>
+) -> Fallible<'a, ()>
     requires len { length words.now ≡ length drive.now.verified.now.globals.items }
     requires few { unsaved.old ≤ drive.now.most }
     ensures few { unsaved.new ≤ drive.now.most }

@@ -16,33 +16,31 @@
 //! stepping stones of proofs.
 #![tactic(auto)]
 
-mod answering;
-mod auditing;
 mod boundaries;
-mod carrying_out;
+mod c_code;
+mod choices;
 mod command_line;
 mod conformance;
+mod conformity;
 mod documents;
-mod drawing;
-mod driving;
-mod emitting;
-mod explaining;
+mod drives;
+mod explanations;
 mod failure;
 mod files;
-mod filing;
-mod interface_policies;
+mod images;
+mod inputs;
 pub mod laws;
-mod laying;
+mod layouts;
 mod loaded;
-mod objections;
 mod policies;
-mod reading;
-mod references;
 mod replies;
-mod running;
+mod requests;
+mod runs;
 mod steering;
-mod subcommands;
-mod trying;
+mod steps;
+mod subject;
+mod texts;
+mod trials;
 
 pub use command_line::command;
 pub use files::Files;

@@ -8,7 +8,7 @@ ghost use Rattle.vsi.specs.Loading.{AreRead, held, left_of};
 
 use crate::failure::Failure;
 use crate::files::{Files, OutputKind, Writing};
-use crate::reading::whole_in;
+use crate::subject::whole_in;
 use std::alloc::{AllocError, Global};
 use std::io;
 use std::io::{AsBytes, Cursor, Read};
@@ -116,7 +116,7 @@ impl<F: Files> Loaded<F> {
         ensures told { AreRead (F.holds self.old.system) self.old.texts.items
             → AreRead (F.holds self.old.system) self.new.texts.items }
     {
-        let bytes = match whole_in(self.alloc, path, &mut self.system) {
+        let bytes = match whole_in(self.alloc, path, &self.system) {
             Ok(bytes) => bytes,
             Err(Failure::Memory) => return Err(AllocError),
             Err(_) => return Ok(false),
@@ -210,7 +210,7 @@ impl<F: Files> Files for Loaded<F> {
 
     ghost holds = { λ loaded. held loaded.texts.items };
 
-    fn open_file(&mut self, path: &str) -> Option<Opened<F::Input>> {
+    fn open_file(&self, path: &str) -> Option<Opened<F::Input>> {
         if is_path(&self.lost, path.as_bytes()) {
             return None;
         }
@@ -256,18 +256,18 @@ impl<F: Files> Files for Loaded<F> {
         self.system.expect(writing)
     }
 
-    fn objection(&mut self) -> Option<&'static str> {
+    fn objection(&self) -> Option<&'static str> {
         self.system.objection()
     }
 
-    fn trouble(&mut self, path: &str) -> Option<&'static str> {
+    fn trouble(&self, path: &str) -> Option<&'static str> {
         if self.is_spared {
             return Some(SPARED);
         }
         self.system.trouble(path)
     }
 
-    fn wants_colour(&mut self) -> bool {
+    fn wants_colour(&self) -> bool {
         self.system.wants_colour()
     }
 }
@@ -327,6 +327,23 @@ pub(crate) fn paths_of<'a>(request: &Request<'a>) -> [Option<&'a str>; MOST_READ
             Some(asked.stores.0),
             Some(asked.stores.1),
         ],
+        Request::CompareSteps {
+            comparison: asked,
+            ..
+        } => [
+            Some(asked.lattice),
+            Some(asked.source),
+            Some(asked.stores.0),
+            Some(asked.stores.1),
+        ],
+        Request::Steps {
+            stepping: asked,
+            ..
+        }
+        | Request::Monitor {
+            stepping: asked,
+            ..
+        } => [Some(asked.lattice), Some(asked.source), asked.store, None],
         Request::Leak(asked) | Request::Document(Document::Leak(asked)) => {
             two(asked.lattice, asked.source)
         }

@@ -1,82 +1,91 @@
-//! The classes that each class sees under a lattice, and lattice files.
+//! The classes that each class sees under lattices and interfaces, and lattice files.
 
 ghost use Rattle.std.specs.Prelude.{◌≡◌, Some, IfErr, IfOk, IsSomeAnd};
 ghost use Rattle.vsi.specs.Refusals.{NoOther, RefusesLattice, FailsBy};
-ghost use Rattle.vsi.specs.Reasons.{WhyPolicy};
+ghost use Rattle.vsi.specs.Reasons.{WhyPolicy, WhyVisible};
 ghost use Rattle.vsi.specs.Seeing.{SeesFiles, ToldPolicy};
 ghost use Rattle.vsi.specs.Shaping.{ShapedText};
 ghost use Rattle.vsi.specs.Holding.{IsLatticeAt};
+ghost use Rattle.vsi.specs.Undriven.{IsUnusable, RefusesAsked};
+ghost use Rattle.vsi.specs.Visible.{ShowsFiles, ToldVisible};
 
-use crate::failure::Failure;
+use crate::failure::{Failure, Fallible};
 use crate::files::Files;
-use crate::reading::{InputCache, InputKind, bytes_in, declared_lattice, lattice_in};
+use crate::inputs::InputKind;
+use crate::subject::{Subject, declared_lattice};
 use std::alloc::{AllocError, Global};
-use vsi_arguments::Looking;
+use vsi_arguments::{Looking, Visibility};
 use vsi_caret::put_safe;
+use vsi_conform::{Interface, InterfaceFile};
 use vsi_lattice::Lattice;
-use vsi_policy::{Shape, ShapeError, lattice_text, policy_warnings, seen_changes, seen_table};
+use vsi_policy::{
+    Shape, ShapeError, lattice_text, policy_warnings, seen_changes, seen_table, unused_warnings,
+    visible_changes, visible_table,
+};
 
-/// The differences of a lattice from that of an older file.
-fn changes<'a, F: Files>(
-    cache: &mut InputCache,
-    classes: &Lattice,
-    old: &'a str,
-    files: &mut F,
-) -> Result<Vec<u8>, Failure<'a>>
-    ensures kept { F.holds files.new ≡ F.holds files.old }
-    ensures told { IfOk result (λ text. ToldPolicy (F.holds files.old) (Some old.entry) classes.now
-        text.items) }
-    ensures failed { IfErr result
-        (FailsBy (RefusesLattice (F.holds files.old) old.now) NoOther) }
-{
-    let before = lattice_in(cache, old, files)?;
-    Ok(seen_changes(cache.alloc, classes, &before)?)
-}
-
-/// The table of a lattice, or its differences from that of an older file.
-fn answered<'a, F: Files>(
-    cache: &mut InputCache,
-    classes: &Lattice,
-    old: Option<&'a str>,
-    files: &mut F,
-) -> Result<Vec<u8>, Failure<'a>>
-    ensures kept { F.holds files.new ≡ F.holds files.old }
-    ensures told { IfOk result (λ text. ToldPolicy (F.holds files.old) old.entry classes.now
-        text.items) }
-    ensures failed { IfErr result (FailsBy (λ reason. IsSomeAnd old.entry
-        (λ path. RefusesLattice (F.holds files.old) path.now reason)) NoOther) }
-{
-    match old {
-        Some(old) => changes(cache, classes, old, files),
-        None => Ok(seen_table(cache.alloc, classes)?),
+impl<F: Files> Subject<'_, F> {
+    /// The differences of a lattice from that of an older file.
+    fn lattice_since<'a>(&self, classes: &Lattice, old: &'a str) -> Fallible<'a, Vec<u8>>
+        ensures told { IfOk result (λ text. ToldPolicy (F.holds self.now.files.now) (Some old.entry)
+            classes.now text.items) }
+        ensures failed { IfErr result
+            (FailsBy (RefusesLattice (F.holds self.now.files.now) old.now) NoOther) }
+    {
+        let before = self.lattice_in(old)?;
+        Ok(seen_changes(self.alloc, classes, &before)?)
     }
-}
 
-/// The table of the lattice of a file, or its differences from an older one. The note gets the
-/// warnings about the lattice.
-pub(crate) fn policy<'a, F: Files>(
-    cache: &mut InputCache,
-    looking: Looking<'a>,
-    files: &mut F,
-    note: &mut Vec<u8>,
-) -> Result<Vec<u8>, Failure<'a>>
-    ensures kept { F.holds files.new ≡ F.holds files.old }
-    ensures told { IfOk result (SeesFiles (F.holds files.old) looking.entry) }
-    ensures failed { IfErr result (FailsBy
-        (WhyPolicy (F.holds files.old) looking.entry.lattice.now looking.entry.old) NoOther) }
-{
-    let classes = lattice_in(cache, looking.lattice, files)?;
-    let text = answered(cache, &classes, looking.old, files)?;
-    let warnings = policy_warnings(cache.alloc, &classes)?;
-    note.extend_from_slice(&warnings)?;
-    Ok(text)
+    /// The table of a lattice, or its differences from that of an older file.
+    fn lattice_table<'a>(&self, classes: &Lattice, old: Option<&'a str>) -> Fallible<'a, Vec<u8>>
+        ensures told { IfOk result (λ text. ToldPolicy (F.holds self.now.files.now) old.entry
+            classes.now text.items) }
+        ensures failed { IfErr result (FailsBy (λ reason. IsSomeAnd old.entry
+            (λ path. RefusesLattice (F.holds self.now.files.now) path.now reason)) NoOther) }
+    {
+        match old {
+            Some(old) => self.lattice_since(classes, old),
+            None => Ok(seen_table(self.alloc, classes)?),
+        }
+    }
+
+    /// The table of the lattice of a file, or its differences from an older one. The note gets the
+    /// warnings about the lattice.
+    pub(crate) fn policy<'a>(
+        &self,
+        looking: Looking<'a>,
+        note: &mut Vec<u8>,
+    ) -> Fallible<'a, Vec<u8>>
+        ensures told { IfOk result (SeesFiles (F.holds self.now.files.now) looking.entry) }
+        ensures failed { IfErr result (FailsBy (WhyPolicy (F.holds self.now.files.now)
+            looking.entry.lattice.now looking.entry.old) NoOther) }
+    {
+        let classes = self.lattice_in(looking.lattice)?;
+        let text = self.lattice_table(&classes, looking.old)?;
+        let warnings = policy_warnings(self.alloc, &classes)?;
+        note.extend_from_slice(&warnings)?;
+        Ok(text)
+    }
+
+    /// The lattice of a file that comes before an image, which a drive may not give in its place.
+    pub(crate) fn first_lattice<'a>(&self, path: &'a str, is_drive: bool) -> Fallible<'a, Lattice>
+        ensures read { IfOk result (IsLatticeAt (F.holds self.now.files.now) path.now) }
+        ensures failed { IfErr result
+            (FailsBy (RefusesLattice (F.holds self.now.files.now) path.now) NoOther) }
+    {
+        let bytes = self.bytes_in(InputKind::Lattice, path)?;
+        let is_exchanged = is_drive && begins_image(bytes.as_slice());
+        if is_exchanged {
+            return Err(exchanged(self.alloc));
+        }
+        declared_lattice(self.alloc, bytes.as_slice())
+    }
 }
 
 /// How a mistake in the arguments ends.
 const MORE: &[u8] = b"\n\nFor more information, try 'vsi help lattice'.\n";
 
 /// The text of the lattice file that arguments describe.
-pub(crate) fn lattice<'a>(alloc: Global, arguments: &[&[u8]]) -> Result<Vec<u8>, Failure<'a>>
+pub(crate) fn lattice<'a>(alloc: Global, arguments: &[&[u8]]) -> Fallible<'a, Vec<u8>>
     ensures told { IfOk result (ShapedText arguments.now) }
     ensures failed { IfErr result (FailsBy (λ reason. ⊥) NoOther) }
 {
@@ -163,22 +172,68 @@ fn exchanged<'a>(alloc: Global) -> Failure<'a>
     }
 }
 
-/// The lattice of a file that comes before an image, which a drive may not give in its place.
-pub(crate) fn first_lattice<'a, F: Files>(
-    cache: &mut InputCache,
-    path: &'a str,
-    is_drive: bool,
-    files: &mut F,
-) -> Result<Lattice, Failure<'a>>
-    ensures kept { F.holds files.new ≡ F.holds files.old }
-    ensures read { IfOk result (IsLatticeAt (F.holds files.old) path.now) }
-    ensures failed { IfErr result
-        (FailsBy (RefusesLattice (F.holds files.old) path.now) NoOther) }
-{
-    let bytes = bytes_in(cache, InputKind::Lattice, path, files)?;
-    let is_exchanged = is_drive && begins_image(bytes.as_slice());
-    if is_exchanged {
-        return Err(exchanged(cache.alloc));
+impl<F: Files> Subject<'_, F> {
+    /// The differences of an interface from that of an older file.
+    fn interface_since<'a>(
+        &self,
+        asked: &InterfaceFile,
+        lattice: &Lattice,
+        old: &'a str,
+    ) -> Fallible<'a, Vec<u8>>
+        ensures told { IfOk result (λ text. ToldVisible (F.holds self.now.files.now) (Some
+            old.entry) asked.now lattice.now text.items) }
+        ensures failed { IfErr result
+            (FailsBy (RefusesAsked (F.holds self.now.files.now) old.now) IsUnusable) }
+    {
+        let (before, old_lattice) = self.asked_in(old, None)?;
+        Ok(visible_changes(self.alloc, lattice, asked, &old_lattice, &before)?)
     }
-    declared_lattice(cache.alloc, bytes.as_slice())
+
+    /// The table of an interface, or its differences from that of an older file.
+    fn interface_table<'a>(
+        &self,
+        asked: &InterfaceFile,
+        lattice: &Lattice,
+        old: Option<&'a str>,
+    ) -> Fallible<'a, Vec<u8>>
+        ensures told { IfOk result (λ text. ToldVisible (F.holds self.now.files.now) old.entry
+            asked.now lattice.now text.items) }
+        ensures failed { IfErr result (FailsBy (λ reason. IsSomeAnd old.entry
+            (λ path. RefusesAsked (F.holds self.now.files.now) path.now reason)) IsUnusable) }
+    {
+        match old {
+            Some(old) => self.interface_since(asked, lattice, old),
+            None => Ok(visible_table(self.alloc, lattice, asked)?),
+        }
+    }
+
+    /// The globals that each class sees, sets, reads and releases under the interface of a file, or the
+    /// differences from an older one. The note gets the warnings about the interface.
+    pub(crate) fn visible<'a>(
+        &self,
+        asked: Visibility<'a>,
+        note: &mut Vec<u8>,
+    ) -> Fallible<'a, Vec<u8>>
+        ensures told { IfOk result (ShowsFiles (F.holds self.now.files.now) asked.entry) }
+        ensures failed { IfErr result (FailsBy (WhyVisible (F.holds self.now.files.now)
+            asked.entry.interface.now asked.entry.old) IsUnusable) }
+    {
+        let (found, lattice) = self.asked_in(asked.interface, None)?;
+        let text = self.interface_table(&found, &lattice, asked.old)?;
+        put_warnings(self.alloc, &lattice, &found.interface, note)?;
+        Ok(text)
+    }
+}
+
+/// Adds the warnings about a lattice, and about its classes that no global of the interface has.
+fn put_warnings(
+    alloc: Global,
+    lattice: &Lattice,
+    interface: &Interface,
+    note: &mut Vec<u8>,
+) -> Result<(), AllocError> {
+    let warnings = policy_warnings(alloc, lattice)?;
+    note.extend_from_slice(&warnings)?;
+    let unused = unused_warnings(alloc, lattice, interface)?;
+    note.extend_from_slice(&unused)
 }

@@ -21,12 +21,11 @@ ghost use Rattle.vsi_conform.specs.Reading as reading;
 ghost use Rattle.vsi_answers.specs.declared.unanswered.Unanswered.TheVariants as unanswered;
 
 use crate::boundaries::{controller_of, feed, names_in};
-use crate::conformance::asked_in;
-use crate::driving::{admit, budget_of};
-use crate::failure::Failure;
+use crate::drives::{admit, budget_of};
+use crate::failure::{Failure, Fallible};
 use crate::files::Files;
-use crate::reading::{InputCache, class_in, image_in, policy_and_image, store_in};
-use crate::running::words_in;
+use crate::runs::words_in;
+use crate::subject::{Subject, class_in};
 use std::alloc::{AllocError, Global};
 use vsi_arguments::{DrivePolicy, RUNS_BUDGET, Viewing};
 use vsi_conform::images::points_text;
@@ -57,8 +56,9 @@ fn insisting_line(alloc: Global) -> Result<Vec<u8>, AllocError>
 }
 
 /// Refuses `--unbounded` with an interface that requires a bound.
-fn insist<'a>(alloc: Global, is_unbounded: bool, interface: &Interface) -> Result<(), Failure<'a>>
-    ensures insists { OnOk result (is_unbounded ≡ true → demands_bound interface.now.bounded ≡ false) }
+fn insist<'a>(alloc: Global, is_unbounded: bool, interface: &Interface) -> Fallible<'a, ()>
+    ensures insists { OnOk result (is_unbounded ≡ true → demands_bound interface.now.bounded ≡
+        false) }
     ensures failed { IfErr result (FailsBy (λ reason. ⊥) (λ failure. (is_unbounded ≡ true)
         × (demands_bound interface.now.bounded ≡ true) × SaysLine insisting_line failure)) }
 {
@@ -78,7 +78,7 @@ fn know_image<'a>(
     lattice: &Lattice,
     verified: &Verified,
     asked: &InterfaceFile,
-) -> Result<(), Failure<'a>>
+) -> Fallible<'a, ()>
     ensures conforms { OnOk result (Conforms lattice.now verified.now asked.now.interface) }
     ensures allows { OnOk result (AllowsReleases lattice.now verified.now asked.now) }
     ensures failed { IfErr result
@@ -123,11 +123,7 @@ fn lacking_line(alloc: Global, class: &[u8]) -> Result<Vec<u8>, AllocError>
 }
 
 /// The boundary of a class among those of an interface; without any, no class needs one.
-fn cycle_for<'a>(
-    alloc: Global,
-    cycles: Vec<Cycle>,
-    class: &'a str,
-) -> Result<Option<Cycle>, Failure<'a>>
+fn cycle_for<'a>(alloc: Global, cycles: Vec<Cycle>, class: &'a str) -> Fallible<'a, Option<Cycle>>
     ensures bounded { IfOk result (λ cycle.
         boundary_at (map reading.cycle cycles.items) class.now
         ≡ Some (bound_by (option_map reading.cycle cycle))) }
@@ -146,97 +142,134 @@ fn cycle_for<'a>(
     }
 }
 
-/// The class that drives or views an image by a lattice file.
-fn by_lattice<'a, F: Files>(
-    cache: &mut InputCache,
-    lattice: &'a str,
-    class: &'a str,
-    image: &'a str,
-    is_drive: bool,
-    files: &mut F,
-) -> Result<Steering, Failure<'a>>
-    ensures kept { F.holds files.new ≡ F.holds files.old }
-    ensures looks { IfOk result (λ steering.
-        LooksAt (F.holds files.old) lattice.now class.now steering.lattice steering.driver) }
-    ensures held { IfOk result
-        (λ steering. IsImageAt (F.holds files.old) image.now steering.verified) }
-    ensures failed { IfErr result (FailsBy (λ reason.
-        RefusesLattice (F.holds files.old) lattice.now reason
-        ⊎ RefusesImage (F.holds files.old) image.now reason)
-        (LacksClassAt (F.holds files.old) lattice.now class.now)) }
-{
-    let (lattice, driver, verified) = policy_and_image(
-        cache, lattice, class, image, is_drive, files,
-    )?;
-    Ok(Steering {
-        lattice,
-        driver,
-        verified,
-        cycle: None,
-    })
-}
+impl<F: Files> Subject<'_, F> {
+    /// The class that drives or views an image by a lattice file.
+    fn by_lattice<'a>(
+        &self,
+        lattice: &'a str,
+        class: &'a str,
+        image: &'a str,
+        is_drive: bool,
+    ) -> Fallible<'a, Steering>
+        ensures looks { IfOk result (λ steering. LooksAt (F.holds self.now.files.now) lattice.now
+            class.now steering.lattice steering.driver) }
+        ensures held { IfOk result
+            (λ steering. IsImageAt (F.holds self.now.files.now) image.now steering.verified) }
+        ensures failed { IfErr result (FailsBy (λ reason.
+            RefusesLattice (F.holds self.now.files.now) lattice.now reason
+            ⊎ RefusesImage (F.holds self.now.files.now) image.now reason)
+            (LacksClassAt (F.holds self.now.files.now) lattice.now class.now)) }
+    {
+        let (lattice, driver, verified) = self.policy_and_image(lattice, class, image, is_drive)?;
+        Ok(Steering {
+            lattice,
+            driver,
+            verified,
+            cycle: None,
+        })
+    }
 
-/// The class that drives or views an image by an interface, to which the image conforms.
-fn by_interface<'a, F: Files>(
-    cache: &mut InputCache,
-    interface: &'a str,
-    class: &'a str,
-    image: &'a str,
-    is_unbounded: bool,
-    files: &mut F,
-) -> Result<Steering, Failure<'a>>
-    ensures kept { F.holds files.new ≡ F.holds files.old }
-    ensures governed { IfOk result (λ steering. IsGoverned (F.holds files.old) interface.now
-        class.now is_unbounded steering.lattice steering.driver steering.verified
-        (bound_by (option_map reading.cycle steering.cycle))) }
-    ensures held { IfOk result
-        (λ steering. IsImageAt (F.holds files.old) image.now steering.verified) }
-    ensures failed { IfErr result (FailsBy (λ reason.
-        RefusesAsked (F.holds files.old) interface.now reason
-        ⊎ RefusesImage (F.holds files.old) image.now reason)
-        (LacksGoverned (F.holds files.old) interface.now class.now image.now is_unbounded)) }
-{
-    let (asked, lattice) = asked_in(cache, interface, Some(RUNS_BUDGET), files)?;
-    insist(cache.alloc, is_unbounded, &asked.interface)?;
-    let driver = class_in(&lattice, class)?;
-    let verified = image_in(cache, image, files)?;
-    know_image(cache.alloc, &lattice, &verified, &asked)?;
-    let cycle = cycle_for(cache.alloc, asked.cycles, class)?;
-    Ok(Steering {
-        lattice,
-        driver,
-        verified,
-        cycle,
-    })
-}
+    /// The class that drives or views an image by an interface, to which the image conforms.
+    fn by_interface<'a>(
+        &self,
+        interface: &'a str,
+        class: &'a str,
+        image: &'a str,
+        is_unbounded: bool,
+    ) -> Fallible<'a, Steering>
+        ensures governed { IfOk result (λ steering. IsGoverned (F.holds self.now.files.now)
+            interface.now class.now is_unbounded steering.lattice steering.driver steering.verified
+            (bound_by (option_map reading.cycle steering.cycle))) }
+        ensures held { IfOk result
+            (λ steering. IsImageAt (F.holds self.now.files.now) image.now steering.verified) }
+        ensures failed { IfErr result (FailsBy (λ reason. RefusesAsked (F.holds self.now.files.now)
+            interface.now reason ⊎ RefusesImage (F.holds self.now.files.now) image.now reason)
+            (LacksGoverned (F.holds self.now.files.now) interface.now class.now image.now
+            is_unbounded)) }
+    {
+        let (asked, lattice) = self.asked_in(interface, Some(RUNS_BUDGET))?;
+        insist(self.alloc, is_unbounded, &asked.interface)?;
+        let driver = class_in(&lattice, class)?;
+        let verified = self.image_in(image)?;
+        know_image(self.alloc, &lattice, &verified, &asked)?;
+        let cycle = cycle_for(self.alloc, asked.cycles, class)?;
+        Ok(Steering {
+            lattice,
+            driver,
+            verified,
+            cycle,
+        })
+    }
 
-/// The class that drives or views an image by a policy, its lattice and its boundary.
-pub(crate) fn steered<'a, F: Files>(
-    cache: &mut InputCache,
-    policy: DrivePolicy<'a>,
-    class: &'a str,
-    image: &'a str,
-    is_drive: bool,
-    is_unbounded: bool,
-    files: &mut F,
-) -> Result<Steering, Failure<'a>>
-    ensures kept { F.holds files.new ≡ F.holds files.old }
-    ensures class { IfOk result (λ steering. IsClass (order steering.lattice) steering.driver) }
-    ensures steered { IfOk result (λ steering. IsSteeredBy (F.holds files.old) class.now policy.entry
-        is_unbounded steering.lattice steering.driver steering.verified
-        (boundary_for policy.entry steering.cycle)) }
-    ensures held { IfOk result
-        (λ steering. IsImageAt (F.holds files.old) image.now steering.verified) }
-    ensures failed { IfErr result (FailsBy (λ reason.
-        RefusesSteering (F.holds files.old) policy.entry reason
-        ⊎ RefusesImage (F.holds files.old) image.now reason)
-        (LacksPolicy (F.holds files.old) class.now image.now policy.entry is_unbounded)) }
-{
-    match policy {
-        DrivePolicy::Lattice(path, _) => by_lattice(cache, path, class, image, is_drive, files),
-        DrivePolicy::Interface(path) => {
-            by_interface(cache, path, class, image, is_unbounded, files)
+    /// The class that drives or views an image by a policy, its lattice and its boundary.
+    pub(crate) fn steered<'a>(
+        &self,
+        policy: DrivePolicy<'a>,
+        class: &'a str,
+        image: &'a str,
+        is_drive: bool,
+        is_unbounded: bool,
+    ) -> Fallible<'a, Steering>
+        ensures class { IfOk result (λ steering. IsClass (order steering.lattice) steering.driver) }
+        ensures steered { IfOk result (λ steering. IsSteeredBy (F.holds self.now.files.now)
+            class.now policy.entry is_unbounded steering.lattice steering.driver steering.verified
+            (boundary_for policy.entry steering.cycle)) }
+        ensures held { IfOk result
+            (λ steering. IsImageAt (F.holds self.now.files.now) image.now steering.verified) }
+        ensures failed { IfErr result (FailsBy (λ reason. RefusesSteering (F.holds
+            self.now.files.now) policy.entry reason ⊎ RefusesImage (F.holds self.now.files.now)
+            image.now reason) (LacksPolicy (F.holds self.now.files.now) class.now image.now
+            policy.entry is_unbounded)) }
+    {
+        match policy {
+            DrivePolicy::Lattice(path, _) => self.by_lattice(path, class, image, is_drive),
+            DrivePolicy::Interface(path) => { self.by_interface(path, class, image, is_unbounded) }
         }
+    }
+
+    /// The lines of the final store of a run of an image file that are written within its boundary. The
+    /// note gets a line if the budget isn't enough and is taken all the same.
+    pub(crate) fn view_within<'a>(
+        &self,
+        asked: &Viewing<'a>,
+        note: &mut Vec<u8>,
+    ) -> Fallible<'a, Vec<u8>>
+        ensures told { IfOk result (ViewsWithin (F.holds self.now.files.now) asked.now) }
+        ensures noted { note.old.items ≡ [] → OnOk result
+            (NotesView (F.holds self.now.files.now) asked.now note.new.items) }
+        ensures hushed { note.old.items ≡ [] → IfErr result (λ _. (note.new.items ≡ []) ⊎ NotesView
+            (F.holds self.now.files.now) asked.now note.new.items) }
+        ensures failed { IfErr result (FailsBy (WhyViewWithin (F.holds self.now.files.now)
+            asked.now) (LacksView (F.holds self.now.files.now) asked.now)) }
+    {
+        let policy = asked.policy;
+        let class = asked.class;
+        let image = asked.execution.image;
+        let is_unbounded = asked.is_unbounded;
+        let steering = self.steered(policy, class, image, false, is_unbounded)?;
+        let file = self.store_in(asked.execution.store)?;
+        let words = words_in(self.cache, &steering.verified, &file, &asked.initial_store)?;
+        let budget = budget_of(self.alloc, asked.execution.budget, &steering.verified)?;
+        let names = names_in(self.alloc, asked.policy, &steering.cycle)?;
+        let controller = controller_of(self.cache, asked.policy, &names, &steering, budget)?;
+        feed(
+            self.alloc,
+            asked.policy,
+            &steering,
+            &names,
+            &words,
+            asked.initial_store.settings.as_slice(),
+        )?;
+        admit(
+            self.alloc,
+            is_unbounded,
+            &steering.lattice,
+            &steering.verified,
+            budget,
+            note,
+        )?;
+        let text = written_lines(self.alloc, &controller, &words)?;
+        Ok(text)
     }
 }
 
@@ -245,63 +278,16 @@ fn written_lines<'a>(
     alloc: Global,
     controller: &Controller<'_>,
     words: &[i64],
-) -> Result<Vec<u8>, Failure<'a>>
+) -> Fallible<'a, Vec<u8>>
     requires { length words.now ≡ length (control controller.now).image.globals.items }
-    ensures view { IfOk result (λ text.
-        view_of (control controller.now) (control controller.now).budget words.now ≡ Some text.items) }
-    ensures failed { IfErr result (FailsBy (λ reason. (reason ≡ unanswered.OutOfBudget)
-        × (view_of (control controller.now) (control controller.now).budget words.now ≡ None)) NoOther) }
+    ensures view { IfOk result (λ text. view_of (control controller.now) (control
+        controller.now).budget words.now ≡ Some text.items) }
+    ensures failed { IfErr result (FailsBy (λ reason. (reason ≡ unanswered.OutOfBudget) × (view_of
+        (control controller.now) (control controller.now).budget words.now ≡ None)) NoOther) }
 {
     match controller.view(alloc, words) {
         Ok(Some(text)) => Ok(text),
         Ok(None) => Err(Failure::OutOfBudget),
         Err(_) => Err(Failure::Memory),
     }
-}
-
-/// The lines of the final store of a run of an image file that are written within its boundary. The
-/// note gets a line if the budget isn't enough and is taken all the same.
-pub(crate) fn view_within<'a, F: Files>(
-    cache: &mut InputCache,
-    asked: &Viewing<'a>,
-    files: &mut F,
-    note: &mut Vec<u8>,
-) -> Result<Vec<u8>, Failure<'a>>
-    ensures kept { F.holds files.new ≡ F.holds files.old }
-    ensures told { IfOk result (ViewsWithin (F.holds files.old) asked.now) }
-    ensures noted { note.old.items ≡ [] → OnOk result
-        (NotesView (F.holds files.old) asked.now note.new.items) }
-    ensures hushed { note.old.items ≡ [] → IfErr result (λ _.
-        (note.new.items ≡ []) ⊎ NotesView (F.holds files.old) asked.now note.new.items) }
-    ensures failed { IfErr result (FailsBy (WhyViewWithin (F.holds files.old) asked.now)
-        (LacksView (F.holds files.old) asked.now)) }
-{
-    let policy = asked.policy;
-    let class = asked.class;
-    let image = asked.execution.image;
-    let is_unbounded = asked.is_unbounded;
-    let steering = steered(cache, policy, class, image, false, is_unbounded, files)?;
-    let file = store_in(cache, asked.execution.store, files)?;
-    let words = words_in(cache, &steering.verified, &file, &asked.initial_store)?;
-    let budget = budget_of(cache.alloc, asked.execution.budget, &steering.verified)?;
-    let names = names_in(cache.alloc, asked.policy, &steering.cycle)?;
-    let controller = controller_of(cache, asked.policy, &names, &steering, budget)?;
-    feed(
-        cache.alloc,
-        asked.policy,
-        &steering,
-        &names,
-        &words,
-        asked.initial_store.settings.as_slice(),
-    )?;
-    admit(
-        cache.alloc,
-        is_unbounded,
-        &steering.lattice,
-        &steering.verified,
-        budget,
-        note,
-    )?;
-    let text = written_lines(cache.alloc, &controller, &words)?;
-    Ok(text)
 }

@@ -9,7 +9,7 @@ use Rattle.vsi_arguments.specs.declared.request.Judging.{Judging}
 use Rattle.vsi_arguments.specs.declared.request.Request.{Request}
 use Rattle.vsi_arguments.specs.declared.request.Document.{Document}
 use Rattle.vsi_arguments.specs.declared.request.Document.TheVariants as document
-use Rattle.vsi_arguments.specs.declared.request.Request.TheVariants.{Check, Document as Documented, Drive, Explain, Layout, Mend, ViewWithin}
+use Rattle.vsi_arguments.specs.declared.request.Request.TheVariants.{Check, Document as Documented, Drive, Explain, Layout, Mend, Monitor, ViewWithin}
 use Rattle.vsi_arguments.specs.Asked.{AsksFor, Spells, name_of}
 use Rattle.vsi_arguments.specs.Help.{front_of, is_first, is_help, is_short}
 use Rattle.vsi_arguments.specs.Laws.{ArePlainCheck, CheckIsAsked, IsPlainCheck}
@@ -39,6 +39,7 @@ unvalued word plain =
       apart word (codes "--out") plain refl,
       apart word (codes "--outputs") plain refl,
       apart word (codes "--release") plain refl,
+      apart word (codes "--rule") plain refl,
       apart word (codes "--save") plain refl,
       apart word (codes "--save-every") plain refl,
       apart word (codes "--seed") plain refl,
@@ -150,6 +151,8 @@ one_request words lattice source plain (Layout layout) asks =
     absurd (unnamed (texts words) _ asks.spelled.asks.rest (codes "fmt") plain.are asks.spelled.asks.named refl)
 one_request words lattice source plain (Mend mending) asks =
     absurd (unnamed (texts words) _ asks.spelled.asks.rest (codes "mend") plain.are asks.spelled.asks.named refl)
+one_request words lattice source plain (Monitor stepping rule is_json) asks =
+    absurd (unnamed (texts words) _ asks.spelled.asks.rest (codes "monitor") plain.are asks.spelled.asks.named refl)
 one_request words lattice source plain (ViewWithin viewing) asks =
     absurd (unnamed (texts words) _ asks.spelled.asks.rest (codes "view") plain.are asks.spelled.asks.named refl)
 one_request words lattice source plain (Drive driving) asks =

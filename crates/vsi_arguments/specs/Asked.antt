@@ -19,15 +19,19 @@ use Rattle.vsi_arguments.specs.declared.request.Execution.{Execution}
 use Rattle.vsi_arguments.specs.declared.request.Judging.{Judging}
 use Rattle.vsi_arguments.specs.declared.request.Layout.{Layout as Laid}
 use Rattle.vsi_arguments.specs.declared.request.Mending.{Mending}
+use Rattle.vsi_arguments.specs.declared.request.MonitorRule.{MonitorRule}
+use Rattle.vsi_arguments.specs.declared.request.MonitorRule.TheVariants.{NoSensitiveUpgrade, PermissiveUpgrade}
 use Rattle.vsi_arguments.specs.declared.request.NameLists.{NameLists}
 use Rattle.vsi_arguments.specs.declared.request.InitialStore.{InitialStore}
 use Rattle.vsi_arguments.specs.declared.request.Search.{Search}
+use Rattle.vsi_arguments.specs.declared.request.StepComparison.{StepComparison}
+use Rattle.vsi_arguments.specs.declared.request.Stepping.{Stepping}
 use Rattle.vsi_arguments.specs.declared.request.Viewing.{Viewing}
 use Rattle.vsi_arguments.specs.declared.request.AnswerForm.{AnswerForm}
 use Rattle.vsi_arguments.specs.declared.request.AnswerForm.TheVariants.{Lines, Json, Sarif}
 use Rattle.vsi_arguments.specs.declared.request.Request.{Request}
-use Rattle.vsi_arguments.specs.declared.request.Request.TheVariants.{Try, Lsp, Check, Document as Documented, Conform, Classes, Flows, Mend, Build, List as Listing, Audit, Source, EmitC, Bound, Run, View, ViewWithin, Drive, Compare, Leak, Report, Draw, Policy, Visible, Format, Layout, Lattice as Shaped, Explain}
-use Rattle.vsi_arguments.specs.declared.request.TheConstants.{EVERY, RUNS_BUDGET, SEARCH, TRY_BUDGET}
+use Rattle.vsi_arguments.specs.declared.request.Request.TheVariants.{Try, Lsp, Check, Document as Documented, Conform, Classes, Flows, Mend, Build, List as Listing, Audit, Source, EmitC, Bound, Run, View, ViewWithin, Drive, Compare, CompareSteps, Steps, Monitor, Leak, Report, Draw, Policy, Visible, Format, Layout, Lattice as Shaped, Explain}
+use Rattle.vsi_arguments.specs.declared.request.TheConstants.{EVERY, RUNS_BUDGET, SEARCH, STEPS, TRY_BUDGET}
 use Rattle.vsi_explain.specs.Pages.{page_of}
 use Rattle.vsi_explain.specs.Subjects.{subject_page}
 use Rattle.vsi_arguments.specs.Numbers.{GivesBudget, number_in}
@@ -65,6 +69,9 @@ name_of (View lattice class execution initial_store) = codes "view"
 name_of (ViewWithin viewing) = codes "view"
 name_of (Drive driving) = codes "drive"
 name_of (Compare comparison) = codes "compare"
+name_of (CompareSteps comparison is_json) = codes "compare"
+name_of (Steps stepping is_json) = codes "steps"
+name_of (Monitor stepping rule is_json) = codes "monitor"
 name_of (Leak search) = codes "leak"
 name_of (Report compilation) = codes "report"
 name_of (Draw drawing) = codes "draw"
@@ -115,6 +122,10 @@ compared comparison = comparison.lattice.now ∷ comparison.image.now ∷ []
 abbrev pub leaking : Search → List (List ℕ)
 leaking search = search.lattice.now ∷ search.source.now ∷ []
 
+-- The lattice file and the source text of a run in steps.
+abbrev pub stepped : Stepping → List (List ℕ)
+stepped stepping = stepping.lattice.now ∷ stepping.source.now ∷ []
+
 -- The operands of a request for a document.
 abbrev pub document_operands : Document → List (List ℕ)
 document_operands (document.Sarif judging) = compiled judging.compilation
@@ -148,6 +159,9 @@ operands_of (View lattice class execution initial_store) = lattice.now ∷ execu
 operands_of (ViewWithin viewing) = given (lattice_of viewing.policy) ++ viewing.execution.image.now ∷ []
 operands_of (Drive driving) = given (lattice_of driving.policy) ++ driving.execution.image.now ∷ []
 operands_of (Compare comparison) = compared comparison
+operands_of (CompareSteps comparison is_json) = comparison.lattice.now ∷ comparison.source.now ∷ []
+operands_of (Steps stepping is_json) = stepped stepping
+operands_of (Monitor stepping rule is_json) = stepped stepping
 operands_of (Leak search) = leaking search
 operands_of (Report compilation) = compiled compilation
 operands_of (Draw drawing) = drawing.lattice.now ∷ given drawing.source
@@ -212,6 +226,10 @@ abbrev pub leak_flags : Search → Bool → List (List ℕ × Bool)
 leak_flags search is_json =
     (codes "--endings", search.has_endings) ∷ (codes "--steps", search.has_steps) ∷ (codes "--json", is_json) ∷ []
 
+-- The flags of a run in steps, each with whether it is set.
+abbrev pub step_flags : Stepping → Bool → List (List ℕ × Bool)
+step_flags stepping is_json = (codes "--full-store", stepping.is_full) ∷ (codes "--json", is_json) ∷ []
+
 -- The flags of a request for a document, each with whether it is set.
 abbrev pub document_flags : Document → List (List ℕ × Bool)
 document_flags (document.Sarif judging) = check_flags judging true
@@ -251,6 +269,9 @@ flags_of (ViewWithin viewing) =
 flags_of (Drive driving) =
     (codes "--full-store", driving.is_full) ∷ (codes "--unbounded", driving.is_unbounded) ∷ []
 flags_of (Compare comparison) = compare_flags comparison false
+flags_of (CompareSteps comparison is_json) = (codes "--steps", true) ∷ (codes "--json", is_json) ∷ []
+flags_of (Steps stepping is_json) = step_flags stepping is_json
+flags_of (Monitor stepping rule is_json) = step_flags stepping is_json
 flags_of (Leak search) = leak_flags search false
 flags_of (Report compilation) = (codes "--strict", compilation.is_strict) ∷ []
 flags_of (Draw drawing) = (codes "--strict", drawing.is_strict) ∷ (codes "--flows", drawing.is_alone) ∷ []
@@ -308,6 +329,32 @@ compare_options comparison =
     (codes "--class", comparison.class.now ∷ [])
     ∷ (codes "--store", comparison.stores.0.now ∷ comparison.stores.1.now ∷ []) ∷ []
 
+-- The options of `compare --steps`, each with its values.
+abbrev pub step_comparison_options : StepComparison → List (List ℕ × List (List ℕ))
+step_comparison_options comparison =
+    (codes "--class", comparison.class.now ∷ [])
+    ∷ (codes "--store", comparison.stores.0.now ∷ comparison.stores.1.now ∷ []) ∷ []
+
+-- The options for the beginning of a run in steps, each with its values.
+abbrev pub step_options : Stepping → List (List ℕ × List (List ℕ))
+step_options stepping =
+    (codes "--store", given stepping.store) ∷ (codes "--set", shown stepping.settings.items) ∷ []
+
+-- The options of a monitored run, each with its values; those of `--rule` are these.
+abbrev pub monitor_options : Stepping → List (List ℕ) → List (List ℕ × List (List ℕ))
+monitor_options stepping rules = (codes "--rule", rules) ∷ step_options stepping
+
+-- The name of a monitor's rule.
+abbrev pub rule_name : MonitorRule → List ℕ
+rule_name NoSensitiveUpgrade = codes "no-sensitive-upgrade"
+rule_name PermissiveUpgrade = codes "permissive-upgrade"
+
+-- These values of an option give the rule: the only value is its name, or there is none and the rule is the default.
+abbrev pub GivesRule : List (List ℕ) → MonitorRule → Type 0
+GivesRule [] rule = rule ≡ NoSensitiveUpgrade
+GivesRule (value ∷ []) rule = value ≡ rule_name rule
+GivesRule (value ∷ next ∷ rest) rule = ⊥
+
 -- The option of `leak`, with its values.
 abbrev pub leak_options : Search → List (List ℕ × List (List ℕ))
 leak_options search = (codes "--class", given search.class) ∷ []
@@ -335,6 +382,9 @@ options_of (View lattice class execution initial_store) = (codes "--class", clas
 options_of (ViewWithin viewing) = view_options viewing (interface_of viewing.policy) (lists_of viewing.policy)
 options_of (Drive driving) = drive_options driving (interface_of driving.policy) (lists_of driving.policy)
 options_of (Compare comparison) = compare_options comparison
+options_of (CompareSteps comparison is_json) = step_comparison_options comparison
+options_of (Steps stepping is_json) = step_options stepping
+options_of (Monitor stepping rule is_json) = monitor_options stepping (rule_name rule ∷ [])
 options_of (Leak search) = leak_options search
 options_of (Policy looking) = policy_options None
 options_of (Visible visibility) = policy_options (Some visibility.interface)
@@ -345,6 +395,10 @@ options_of request = []
 -- The budget of a run, which is required.
 abbrev pub budgeted : Budget → List (List ℕ × Option Budget × Budget)
 budgeted budget = (codes "--budget", None, budget) ∷ []
+
+-- The most steps of a run, with its default.
+abbrev pub step_numbers : ℕ → List (List ℕ × Option Budget × Budget)
+step_numbers budget = (codes "--budget", Some (Number STEPS), Number budget) ∷ []
 
 -- The options of `leak` that take numbers, each with its default and the request's number.
 abbrev pub leak_numbers : Search → List (List ℕ × Option Budget × Budget)
@@ -373,6 +427,9 @@ numbers_of (Drive driving) =
     (codes "--budget", Some Auto, driving.execution.budget)
     ∷ (codes "--save-every", Some (Number EVERY), Number driving.every) ∷ []
 numbers_of (Compare comparison) = budgeted comparison.budget
+numbers_of (CompareSteps comparison is_json) = budgeted (Number comparison.budget)
+numbers_of (Steps stepping is_json) = step_numbers stepping.budget
+numbers_of (Monitor stepping rule is_json) = step_numbers stepping.budget
 numbers_of (Leak search) = leak_numbers search
 numbers_of (Documented asked) = document_numbers asked
 numbers_of request = []
@@ -458,6 +515,14 @@ pub record AsksDrive (words : List (String Global)) (driving : Driving) : Type 0
       (options_of (Drive driving)) (numbers_of (Drive driving))
   pub kept : IsKept driving.start driving.execution.store driving.save
 
+-- The arguments are `monitor` with its operands, flags, options and numbers, and give its rule.
+pub record AsksMonitor (words : List (String Global)) (stepping : Stepping) (rule : MonitorRule) (is_json : Bool) :
+    Type 0 where
+  pub rules : List (List ℕ)
+  pub asks : Asks words (codes "monitor") (stepped stepping) (step_flags stepping is_json)
+      (monitor_options stepping rules) (step_numbers stepping.budget)
+  pub given : GivesRule rules rule
+
 -- The arguments spell the request: its subcommand, then its operands, flags, options and numbers or, for `explain`, an
 -- operand that names its page.
 abbrev pub Spells : List (String Global) → Request → Type 0
@@ -469,6 +534,7 @@ Spells words (View lattice class execution initial_store) =
 Spells words (ViewWithin viewing) = AsksViewWithin words viewing
 Spells words (Drive driving) = AsksDrive words driving
 Spells words (Layout layout) = AsksLayout words layout
+Spells words (Monitor stepping rule is_json) = AsksMonitor words stepping rule is_json
 Spells words (Explain page) = AsksPage words page.now
 Spells words request =
     Asks words (name_of request) (operands_of request) (flags_of request) (options_of request) (numbers_of request)

@@ -24,8 +24,8 @@ is_among (name ∷ names) word = if bytes_eq word name then true else is_among n
 abbrev pub VALUED : List (List ℕ)
 VALUED =
     codes "--budget" ∷ codes "--class" ∷ codes "--color" ∷ codes "--init" ∷ codes "--inputs" ∷ codes "--interface"
-    ∷ codes "--lattice" ∷ codes "--name" ∷ codes "--out" ∷ codes "--outputs" ∷ codes "--release" ∷ codes "--save"
-    ∷ codes "--save-every" ∷ codes "--seed" ∷ codes "--set" ∷ codes "--store" ∷ codes "--tries" ∷ []
+    ∷ codes "--lattice" ∷ codes "--name" ∷ codes "--out" ∷ codes "--outputs" ∷ codes "--release" ∷ codes "--rule"
+    ∷ codes "--save" ∷ codes "--save-every" ∷ codes "--seed" ∷ codes "--set" ∷ codes "--store" ∷ codes "--tries" ∷ []
 
 -- The argument begins with a hyphen and is longer than that.
 abbrev pub is_dashed : List ℕ → Bool
@@ -42,6 +42,10 @@ operands_in false (word ∷ rest) =
     if is_end word then rest
     else (if is_among VALUED word then operands_in true rest
     else (if is_dashed word then operands_in false rest else word ∷ operands_in false rest))
+
+-- The operands among arguments, each of which is one if `--` came before them.
+abbrev pub left : Bool → Bool → List (List ℕ) → List (List ℕ)
+left is_over is_value words = if is_over then words else operands_in is_value words
 
 -- The flag is one of the arguments before the first `--`.
 abbrev pub has_flag : List ℕ → List (List ℕ) → Bool

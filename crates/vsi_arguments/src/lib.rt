@@ -8,31 +8,24 @@
 //! To be believed: all files of `specs/`.
 #![tactic(auto)]
 
-mod asking;
-mod error;
-mod escaped;
-mod given_numbers;
-mod images;
-mod judging;
+mod arguments;
 pub mod laws;
-mod numbers;
+mod manner;
+mod message;
 mod pages;
-mod reader;
-mod reading;
+mod programs;
 mod request;
 mod requests;
-mod running;
+mod run_requests;
 mod runs;
 mod subcommand;
-mod texts;
 mod usage;
 
-pub use asking::{asks_help, request_of};
-pub use error::ArgumentsError;
-pub use reader::manner_of;
+pub use manner::{ArgumentsError, manner_of};
 pub use request::{
     AnswerForm, Attempt, Audit, Bounding, Budget, Colour, Comparison, Compilation, Conformance,
     Document, Drawing, DrivePolicy, Driving, EVERY, Emission, Execution, InitialStore, Judging,
-    Layout, Looking, Manner, Mending, NameLists, RUNS_BUDGET, Reporting, Request, SEARCH, Search,
-    Serving, TRY_BUDGET, Viewing, Visibility,
+    Layout, Looking, Manner, Mending, MonitorRule, NameLists, RUNS_BUDGET, Reporting, Request,
+    SEARCH, STEPS, Search, Serving, StepComparison, Stepping, TRY_BUDGET, Viewing, Visibility,
 };
+pub use requests::{asks_help, request_of};

@@ -101,6 +101,38 @@ pub struct Search<'a> {
     pub has_steps: bool,
 }
 
+/// A run of a source text in steps, from a store file, or from zeros without one, and settings, each
+/// `NAME=NUMBER`.
+#[derive(Drop, PartialEq, Eq)]
+pub struct Stepping<'a> {
+    pub lattice: &'a str,
+    pub source: &'a str,
+    pub store: Option<&'a str>,
+    pub settings: Vec<&'a [u8]>,
+    pub is_full: bool,
+    pub budget: u64,
+}
+
+/// By which rule a monitor judges an assignment in a branch or a loop whose guard depends on a class
+/// that isn't at or below the label of the variable.
+#[derive(Clone, Copy, Debug, PartialEq, Eq)]
+pub enum MonitorRule {
+    /// The run is stopped before the assignment.
+    NoSensitiveUpgrade,
+    /// The run goes on, and is stopped only before a guard that reads the variable.
+    PermissiveUpgrade,
+}
+
+/// A comparison of two runs of a source text in steps, from two store files.
+#[derive(Clone, Copy, PartialEq, Eq)]
+pub struct StepComparison<'a> {
+    pub lattice: &'a str,
+    pub source: &'a str,
+    pub class: &'a str,
+    pub budget: u64,
+    pub stores: (&'a str, &'a str),
+}
+
 /// An audit of an image, by its commands, or by its jumps if `is_steady`.
 #[derive(Clone, Copy, PartialEq, Eq)]
 pub struct Audit<'a> {
@@ -300,6 +332,19 @@ pub enum Request<'a> {
     ViewWithin(Viewing<'a>),
     Drive(Driving<'a>),
     Compare(Comparison<'a>),
+    CompareSteps {
+        comparison: StepComparison<'a>,
+        is_json: bool,
+    },
+    Steps {
+        stepping: Stepping<'a>,
+        is_json: bool,
+    },
+    Monitor {
+        stepping: Stepping<'a>,
+        rule: MonitorRule,
+        is_json: bool,
+    },
     Leak(Search<'a>),
     Report(Compilation<'a>),
     Draw(Drawing<'a>),
@@ -316,6 +361,9 @@ pub enum Request<'a> {
 
 /// The default budget and the default number of pairs of a search.
 pub const SEARCH: u64 = 10_000;
+
+/// The default number of steps of a run.
+pub const STEPS: u64 = 10_000;
 
 /// The default number of lines after which a drive saves its store.
 pub const EVERY: u64 = 1;

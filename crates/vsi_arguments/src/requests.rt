@@ -1,27 +1,30 @@
-//! Requests about the files of a text, an image or a policy, and those that read no file.
+//! The request that arguments make.
 
-ghost use Rattle.std.specs.Prelude.{◌≡◌, IfSome, Some, codes, false};
+ghost use Rattle.std.specs.Prelude.{◌≡◌, ◌↔◌, IfOk, IfSome, IsTrue, Some, codes, false};
 ghost use Rattle.vsi_arguments.specs.Asked as spec;
+ghost use Rattle.vsi_arguments.specs.Help as help_spec;
 ghost use Rattle.vsi_arguments.specs.Words.{has_flag as is_flag, operands_in, texts};
 
-use crate::given_numbers::{number, number_in};
-use crate::reading::{
-    behind, has_flag, has_operands, one, one_or_none, one_or_two, rest_of, two, value,
+use crate::arguments::{
+    at_most_one, behind, has_flag, is_end, is_valued, number, number_in, one, one_or_two, operands,
+    rest_of, three, two, value, values_of,
 };
+use crate::run_requests::{attempt, compare, compare_steps, drive, monitor, run, steps, view};
 use crate::{
     AnswerForm, Audit, Bounding, Compilation, Conformance, Document, Drawing, Emission, Judging,
     Layout, Looking, Mending, RUNS_BUDGET, Request, SEARCH, Search, Serving, Visibility,
 };
+use std::alloc::{AllocError, Global};
 use vsi_explain::{page, subject_page};
 
 /// The compilation of the two operands.
-pub(crate) fn compilation<'a>(words: &[String], proposed: &[&'a str]) -> Option<Compilation<'a>>
+fn compilation<'a>(words: &'a [String]) -> Option<Compilation<'a>>
     ensures files { IfSome result (λ made.
         operands_in false (texts words.now) ≡ spec.compiled made) }
     ensures strict { IfSome result (λ made.
         is_flag (codes "--strict") (texts words.now) ≡ made.is_strict) }
 {
-    let (lattice, source) = two(words, proposed)?;
+    let (lattice, source) = two(words)?;
     Some(Compilation {
         lattice,
         source,
@@ -30,14 +33,13 @@ pub(crate) fn compilation<'a>(words: &[String], proposed: &[&'a str]) -> Option<
 }
 
 /// The request of `check`.
-pub(crate) fn check<'a>(words: &[String], proposed: &[&'a str]) -> Option<Request<'a>>
+fn check<'a>(words: &'a [String]) -> Option<Request<'a>>
     ensures { IfSome result (spec.AsksFor words.now) }
 {
-    let rest = rest_of! { words "check"
-    ["--strict" "--steady" "--json" "--sarif" "--warnings" "--explain"]
-    ["--color"] };
+    let rest =
+        rest_of! { words "check" ["--strict" "--steady" "--json" "--sarif" "--warnings"] [] };
     let judging = Judging {
-        compilation: compilation(rest, proposed)?,
+        compilation: compilation(rest)?,
         is_steady: has_flag(rest, "--steady"),
         is_json: has_flag(rest, "--json"),
         has_warnings: has_flag(rest, "--warnings"),
@@ -64,12 +66,11 @@ fn form(words: &[String]) -> Option<AnswerForm>
 }
 
 /// The request of `conform`.
-pub(crate) fn conform<'a>(words: &[String], proposed: &[&'a str]) -> Option<Request<'a>>
+fn conform<'a>(words: &'a [String]) -> Option<Request<'a>>
     ensures { IfSome result (spec.AsksFor words.now) }
 {
-    let rest = rest_of! { words "conform" ["--json" "--sarif" "--evidence" "--explain"]
-    ["--budget" "--color"] };
-    let (interface, source) = two(rest, proposed)?;
+    let rest = rest_of! { words "conform" ["--json" "--sarif" "--evidence"] ["--budget"] };
+    let (interface, source) = two(rest)?;
     Some(Request::Conform(Conformance {
         interface,
         source,
@@ -80,11 +81,11 @@ pub(crate) fn conform<'a>(words: &[String], proposed: &[&'a str]) -> Option<Requ
 }
 
 /// The request of `classes`.
-pub(crate) fn classes<'a>(words: &[String], proposed: &[&'a str]) -> Option<Request<'a>>
+fn classes<'a>(words: &'a [String]) -> Option<Request<'a>>
     ensures { IfSome result (spec.AsksFor words.now) }
 {
-    let rest = rest_of! { words "classes" ["--strict" "--json" "--explain"] ["--color"] };
-    let compilation = compilation(rest, proposed)?;
+    let rest = rest_of! { words "classes" ["--strict" "--json"] [] };
+    let compilation = compilation(rest)?;
     if has_flag(rest, "--json") {
         return Some(Request::Document(Document::Classes(compilation)));
     }
@@ -92,11 +93,11 @@ pub(crate) fn classes<'a>(words: &[String], proposed: &[&'a str]) -> Option<Requ
 }
 
 /// The request of `flows`. Steps are written as lines alone.
-pub(crate) fn flows<'a>(words: &[String], proposed: &[&'a str]) -> Option<Request<'a>>
+fn flows<'a>(words: &'a [String]) -> Option<Request<'a>>
     ensures { IfSome result (spec.AsksFor words.now) }
 {
-    let rest = rest_of! { words "flows" ["--strict" "--walks" "--json" "--explain"] ["--color"] };
-    let compilation = compilation(rest, proposed)?;
+    let rest = rest_of! { words "flows" ["--strict" "--walks" "--json"] [] };
+    let compilation = compilation(rest)?;
     match (has_flag(rest, "--walks"), has_flag(rest, "--json")) {
         (true, true) => None,
         (false, true) => Some(Request::Document(Document::Flows(compilation))),
@@ -108,11 +109,11 @@ pub(crate) fn flows<'a>(words: &[String], proposed: &[&'a str]) -> Option<Reques
 }
 
 /// The request of `mend`. A text isn't written as JSON.
-pub(crate) fn mend<'a>(words: &[String], proposed: &[&'a str]) -> Option<Request<'a>>
+fn mend<'a>(words: &'a [String]) -> Option<Request<'a>>
     ensures { IfSome result (spec.AsksFor words.now) }
 {
-    let rest = rest_of! { words "mend" ["--strict" "--apply" "--json" "--explain"] ["--color"] };
-    let compilation = compilation(rest, proposed)?;
+    let rest = rest_of! { words "mend" ["--strict" "--apply" "--json"] [] };
+    let compilation = compilation(rest)?;
     let is_applied = has_flag(rest, "--apply");
     let is_json = has_flag(rest, "--json");
     if is_applied && is_json {
@@ -126,13 +127,12 @@ pub(crate) fn mend<'a>(words: &[String], proposed: &[&'a str]) -> Option<Request
 }
 
 /// The request of `audit`.
-pub(crate) fn audit<'a>(words: &[String], proposed: &[&'a str]) -> Option<Request<'a>>
+fn audit<'a>(words: &'a [String]) -> Option<Request<'a>>
     ensures { IfSome result (spec.AsksFor words.now) }
 {
-    let rest = rest_of! { words "audit"
-    ["--strict" "--steady" "--evidence" "--json" "--sarif" "--explain"]
-    ["--color"] };
-    let (lattice, image) = two(rest, proposed)?;
+    let rest =
+        rest_of! { words "audit" ["--strict" "--steady" "--evidence" "--json" "--sarif"] [] };
+    let (lattice, image) = two(rest)?;
     let audit = Audit {
         lattice,
         image,
@@ -148,12 +148,12 @@ pub(crate) fn audit<'a>(words: &[String], proposed: &[&'a str]) -> Option<Reques
 }
 
 /// The request of `leak`.
-pub(crate) fn leak<'a>(words: &'a [String], proposed: &[&'a str]) -> Option<Request<'a>>
+fn leak<'a>(words: &'a [String]) -> Option<Request<'a>>
     ensures { IfSome result (spec.AsksFor words.now) }
 {
-    let rest = rest_of! { words "leak" ["--endings" "--steps" "--json" "--explain"]
-    ["--class" "--budget" "--tries" "--seed" "--color"] };
-    let (lattice, source) = two(rest, proposed)?;
+    let rest = rest_of! { words "leak" ["--endings" "--steps" "--json"]
+    ["--class" "--budget" "--tries" "--seed"] };
+    let (lattice, source) = two(rest)?;
     let search = Search {
         lattice,
         source,
@@ -171,17 +171,11 @@ pub(crate) fn leak<'a>(words: &'a [String], proposed: &[&'a str]) -> Option<Requ
 }
 
 /// The request of `build`.
-pub(crate) fn build<'a>(words: &[String], proposed: &[&'a str]) -> Option<Request<'a>>
+fn build<'a>(words: &'a [String]) -> Option<Request<'a>>
     ensures { IfSome result (spec.AsksFor words.now) }
 {
-    let rest = rest_of! { words "build" ["--strict" "--explain" "--force"] ["--color"] };
-    let [lattice, source, image] = proposed else {
-        return None;
-    };
-    let operands = [lattice.as_bytes(), source.as_bytes(), image.as_bytes()];
-    if !has_operands(rest, operands.as_slice()) {
-        return None;
-    }
+    let rest = rest_of! { words "build" ["--strict"] [] "--force" };
+    let (lattice, (source, image)) = three(rest)?;
     let compilation = Compilation {
         lattice,
         source,
@@ -191,30 +185,29 @@ pub(crate) fn build<'a>(words: &[String], proposed: &[&'a str]) -> Option<Reques
 }
 
 /// The request of `list`.
-pub(crate) fn list<'a>(words: &[String], proposed: &[&'a str]) -> Option<Request<'a>>
+fn list<'a>(words: &'a [String]) -> Option<Request<'a>>
     ensures { IfSome result (spec.AsksFor words.now) }
 {
-    let rest = rest_of! { words "list" ["--explain"] ["--color"] };
-    Some(Request::List(one(rest, proposed)?))
+    let rest = rest_of! { words "list" [] [] };
+    Some(Request::List(one(rest)?))
 }
 
 /// The request of `source`.
-pub(crate) fn source<'a>(words: &[String], proposed: &[&'a str]) -> Option<Request<'a>>
+fn source<'a>(words: &'a [String]) -> Option<Request<'a>>
     ensures { IfSome result (spec.AsksFor words.now) }
 {
-    let rest = rest_of! { words "source" ["--explain"] ["--color"] };
-    Some(Request::Source(one(rest, proposed)?))
+    let rest = rest_of! { words "source" [] [] };
+    Some(Request::Source(one(rest)?))
 }
 
 /// The request of `emit-c`.
-pub(crate) fn emit_c<'a>(words: &'a [String], proposed: &[&'a str]) -> Option<Request<'a>>
+fn emit_c<'a>(words: &'a [String]) -> Option<Request<'a>>
     ensures { IfSome result (spec.AsksFor words.now) }
 {
-    let rest = rest_of! { words "emit-c" ["--header" "--bounded" "--explain"]
-    ["--lattice" "--name" "--color"] };
+    let rest = rest_of! { words "emit-c" ["--header" "--bounded"] ["--lattice" "--name"] };
     Some(Request::EmitC(Emission {
         lattice: value(rest, "--lattice")?,
-        file: one(rest, proposed)?,
+        file: one(rest)?,
         name: value(rest, "--name")?,
         is_header: has_flag(rest, "--header"),
         is_bounded: has_flag(rest, "--bounded"),
@@ -222,20 +215,15 @@ pub(crate) fn emit_c<'a>(words: &'a [String], proposed: &[&'a str]) -> Option<Re
 }
 
 /// The request of `bound`. With a second operand the first one is a lattice file.
-pub(crate) fn bound<'a>(words: &[String], proposed: &[&'a str]) -> Option<Request<'a>>
+fn bound<'a>(words: &'a [String]) -> Option<Request<'a>>
     ensures { IfSome result (spec.AsksFor words.now) }
 {
-    let rest = rest_of! { words "bound" ["--json" "--explain"] ["--color"] };
-    let bounding = match one_or_two(rest, proposed)? {
-        (file, None) => Bounding {
-            lattice: None,
-            file,
-        },
-        (lattice, Some(file)) => Bounding {
-            lattice: Some(lattice),
-            file,
-        },
+    let rest = rest_of! { words "bound" ["--json"] [] };
+    let (lattice, file) = match one_or_two(rest)? {
+        (file, None) => (None, file),
+        (lattice, Some(file)) => (Some(lattice), file),
     };
+    let bounding = Bounding { lattice, file };
     if has_flag(rest, "--json") {
         return Some(Request::Document(Document::Bound(bounding)));
     }
@@ -243,19 +231,19 @@ pub(crate) fn bound<'a>(words: &[String], proposed: &[&'a str]) -> Option<Reques
 }
 
 /// The request of `report`.
-pub(crate) fn report<'a>(words: &[String], proposed: &[&'a str]) -> Option<Request<'a>>
+fn report<'a>(words: &'a [String]) -> Option<Request<'a>>
     ensures { IfSome result (spec.AsksFor words.now) }
 {
-    let rest = rest_of! { words "report" ["--strict" "--explain"] ["--color"] };
-    Some(Request::Report(compilation(rest, proposed)?))
+    let rest = rest_of! { words "report" ["--strict"] [] };
+    Some(Request::Report(compilation(rest)?))
 }
 
 /// The request of `draw`.
-pub(crate) fn draw<'a>(words: &[String], proposed: &[&'a str]) -> Option<Request<'a>>
+fn draw<'a>(words: &'a [String]) -> Option<Request<'a>>
     ensures { IfSome result (spec.AsksFor words.now) }
 {
-    let rest = rest_of! { words "draw" ["--strict" "--flows" "--explain"] ["--color"] };
-    let (lattice, source) = one_or_two(rest, proposed)?;
+    let rest = rest_of! { words "draw" ["--strict" "--flows"] [] };
+    let (lattice, source) = one_or_two(rest)?;
     Some(Request::Draw(Drawing {
         lattice,
         source,
@@ -266,15 +254,15 @@ pub(crate) fn draw<'a>(words: &[String], proposed: &[&'a str]) -> Option<Request
 
 /// The request of `policy`. With an interface, which has the lattice, the one operand is the older
 /// interface.
-pub(crate) fn policy<'a>(words: &'a [String], proposed: &[&'a str]) -> Option<Request<'a>>
+fn policy<'a>(words: &'a [String]) -> Option<Request<'a>>
     ensures { IfSome result (spec.AsksFor words.now) }
 {
-    let rest = rest_of! { words "policy" ["--explain"] ["--interface" "--color"] };
+    let rest = rest_of! { words "policy" [] ["--interface"] };
     let Some(interface) = value(rest, "--interface")? else {
-        let (lattice, old) = one_or_two(rest, proposed)?;
+        let (lattice, old) = one_or_two(rest)?;
         return Some(Request::Policy(Looking { lattice, old }));
     };
-    let old = one_or_none(rest, proposed)?;
+    let old = at_most_one(rest, false)?;
     Some(Request::Visible(Visibility { interface, old }))
 }
 
@@ -290,13 +278,12 @@ fn keeps_comments(layout: &Layout<'_>) -> bool
 }
 
 /// The request of `fmt`. Without a flag comments are dropped, and with any of them they are kept.
-pub(crate) fn layout<'a>(words: &[String], proposed: &[&'a str]) -> Option<Request<'a>>
+fn layout<'a>(words: &'a [String]) -> Option<Request<'a>>
     ensures { IfSome result (spec.AsksFor words.now) }
 {
-    let rest = rest_of! { words "fmt" ["--keep-comments" "--check" "--write" "--explain"]
-    ["--color"] };
+    let rest = rest_of! { words "fmt" ["--keep-comments" "--check" "--write"] [] };
     let layout = Layout {
-        source: one(rest, proposed)?,
+        source: one(rest)?,
         is_kept: has_flag(rest, "--keep-comments"),
         is_checked: has_flag(rest, "--check"),
         is_written: has_flag(rest, "--write"),
@@ -304,33 +291,33 @@ pub(crate) fn layout<'a>(words: &[String], proposed: &[&'a str]) -> Option<Reque
     if keeps_comments(&layout) {
         return Some(Request::Layout(layout));
     }
-    let rest = rest_of! { words "fmt" ["--explain"] ["--color"] };
-    Some(Request::Format(one(rest, proposed)?))
+    let rest = rest_of! { words "fmt" [] [] };
+    Some(Request::Format(one(rest)?))
 }
 
-/// The request of `lattice`, whose operands are these.
-pub(crate) fn lattice<'a>(words: &[String], proposed: Vec<&'a [u8]>) -> Option<Request<'a>>
-    ensures { IfSome result (spec.AsksFor words.now) }
+/// The request of `lattice`.
+fn lattice<'a>(alloc: Global, words: &'a [String]) -> Result<Option<Request<'a>>, AllocError>
+    ensures { IfOk result (λ request. IfSome request (spec.AsksFor words.now)) }
 {
-    let rest = behind(words, "lattice", &[], &[])?;
-    if has_operands(rest, proposed.as_slice()) {
-        Some(Request::Lattice(proposed))
-    } else {
-        None
-    }
+    let Some(rest) = behind(words, "lattice", &[], &[]) else {
+        return Ok(None);
+    };
+    Ok(Some(Request::Lattice(operands(alloc, rest)?)))
 }
 
 /// The request of `lsp`.
-pub(crate) fn lsp<'a>(words: &'a [String]) -> Option<Request<'a>>
+fn lsp<'a>(words: &'a [String]) -> Option<Request<'a>>
     ensures { IfSome result (spec.AsksFor words.now) }
 {
-    let rest = rest_of! { words "lsp" ["--strict"] ["--lattice"] };
-    if !has_operands(rest, &[]) {
-        return None;
+    let (flags, options) = (["--strict"], ["--lattice"]);
+    let rest = behind(words, "lsp", flags.as_slice(), options.as_slice())?;
+    match at_most_one(rest, false)? {
+        Some(_) => None,
+        None => Some(Request::Lsp(Serving {
+            lattice: value(rest, "--lattice")?,
+            is_strict: has_flag(rest, "--strict"),
+        })),
     }
-    let lattice = value(rest, "--lattice")?;
-    let is_strict = has_flag(rest, "--strict");
-    Some(Request::Lsp(Serving { lattice, is_strict }))
 }
 
 /// The page that an argument names.
@@ -344,10 +331,102 @@ fn named_page(argument: &str) -> Option<&'static str>
 }
 
 /// The request of `explain`.
-pub(crate) fn explain<'a>(words: &[String], proposed: &[&'a str]) -> Option<Request<'a>>
+fn explain<'a>(words: &'a [String]) -> Option<Request<'a>>
     ensures { IfSome result (spec.AsksFor words.now) }
 {
     let rest = behind(words, "explain", &[], &[])?;
-    let argument = one(rest, proposed)?;
+    let argument = one(rest)?;
     Some(Request::Explain(named_page(argument)?))
+}
+
+/// The request of a subcommand that takes no list of arguments.
+fn plain<'a>(name: &str, words: &'a [String]) -> Option<Request<'a>>
+    ensures { IfSome result (spec.AsksFor words.now) }
+{
+    match name {
+        "check" => check(words),
+        "conform" => conform(words),
+        "classes" => classes(words),
+        "flows" => flows(words),
+        "mend" => mend(words),
+        "build" => build(words),
+        "list" => list(words),
+        "audit" => audit(words),
+        "source" => source(words),
+        "emit-c" => emit_c(words),
+        "bound" => bound(words),
+        "drive" => drive(words),
+        "compare" => match compare(words) {
+            Some(request) => Some(request),
+            None => compare_steps(words),
+        },
+        "leak" => leak(words),
+        "report" => report(words),
+        "draw" => draw(words),
+        "policy" => policy(words),
+        "fmt" => layout(words),
+        "lsp" => lsp(words),
+        "explain" => explain(words),
+        _ => None,
+    }
+}
+
+/// The request that the arguments make, if they make one.
+///
+/// # Errors
+///
+/// Out of memory.
+pub fn request_of<'a>(alloc: Global, words: &'a [String]) -> Result<Option<Request<'a>>, AllocError>
+    ensures asked { IfOk result (λ request. IfSome request (spec.AsksFor words.now)) }
+{
+    let [name, rest @ ..] = words else {
+        return Ok(None);
+    };
+    if name.as_str() == "lattice" {
+        return lattice(alloc, words);
+    }
+    let settings = values_of(alloc, rest, "--set")?;
+    Ok(match name.as_str() {
+        "monitor" => monitor(words, settings),
+        "run" => run(words, settings),
+        "steps" => steps(words, settings),
+        "try" => attempt(words, settings),
+        "view" => view(words, settings),
+        name => plain(name, words),
+    })
+}
+
+/// Whether an argument asks for help or for the version.
+fn is_help(word: &[u8]) -> bool
+    ensures { result ≡ help_spec.is_help word.now }
+{
+    match word {
+        [b'-', b'h' | b'V', ..] => true,
+        _ => word == b"--help".as_slice() || word == b"--version".as_slice(),
+    }
+}
+
+/// Whether the arguments ask for help or for the version, in the first or in one before the first
+/// `--`.
+pub fn asks_help(words: &[String]) -> bool
+    ensures help { IsTrue result ↔ help_spec.AsksHelp words.now }
+{
+    if let [first, ..] = words
+        && first.as_bytes() == b"help".as_slice()
+    {
+        return true;
+    }
+    let mut rest = words;
+    let mut is_value = false;
+    while let [word, behind @ ..] = rest {
+        if !is_value && is_end(word.as_bytes()) {
+            return false;
+        }
+        if is_help(word.as_bytes()) {
+            return true;
+        }
+        is_value = !is_value && is_valued(word.as_bytes());
+        rest = behind;
+    }
+    false
 }

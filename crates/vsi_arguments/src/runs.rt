@@ -3,7 +3,7 @@
 use crate::subcommand::{Argument, Form, Subcommand, argument, subcommand, *};
 
 /// The subcommands that run an image or a text, in the order of the help.
-pub(crate) const RUNS: [Subcommand; 5] = [
+pub(crate) const RUNS: [Subcommand; 7] = [
     subcommand! { "run" "Runs an image and prints its final store" "\
 Reads the store file, if one is given, then the image, verifies the image,
 judges the store file, sets globals, and runs the image until it halts or its
@@ -155,9 +155,13 @@ both sides, the first run's first; in a row without one they are equal. The
 class sees the same if both runs halt and no row after them has a star, except
 the row for how they end, or if neither run halts. How they end may depend on
 what the class doesn't see, so a --budget below the bound of the image is
-refused, unless the image is steady."
+refused, unless the image is steady.
+With --steps the second operand is a source text, accepted or not, and both runs
+are shown in step, as `vsi steps` shows one: a step of one run alone has a mark,
+`<` for the first run and `>` for the second."
     statuses "0 the class sees the same after both runs, 1 it doesn't, or refused,
-2 usage or no such class, 4 file fault, 5 out of memory."
+2 usage or no such class, 3 out of budget, with --steps, 4 file fault, 5 out of
+memory."
     example "  $ printf 'h = 5\\nl = 1\\n' > a
   $ printf 'h = 9\\nl = 1\\n' > b
   $ vsi compare two.toml add.image --class H --budget 7 --store a --store b
@@ -168,13 +172,19 @@ refused, unless the image is steady."
     h = 2
     l = 2
     after 7 instructions"
-    { LATTICE } { IMAGE } { CLASS }
+    { LATTICE }
+    { Place "IMAGE" "The image file; with --steps a source text" LONG_IMAGE }
+    { CLASS }
     { NeededNumber("N") "budget" "The maximum number of instructions, or `auto`" "\
 The maximum number of instructions of each run, the halt included: a
 whole number from 0 to 18446744073709551615, in digits alone; or
 `auto`, the number that `vsi bound` prints for the image, within which
 every run halts. Refused are a smaller number, unless the image is
-steady, and any number if no bound is found; --unbounded takes both." }
+steady, and any number if no bound is found; --unbounded takes both.
+With --steps it is the maximum number of steps of each run." }
+    { Flag "steps" "Compares the steps of a source text instead" "\
+Runs a source text from both stores in step, and prints a line for
+each guard that is tested and each word that is stored." }
     { Flag "unbounded" "Takes a budget that may reveal secrets" "\
 Takes a --budget that the image may exceed for a reason that the class
 doesn't see: whether a run is out of budget may then reveal secrets to
@@ -185,7 +195,8 @@ the first run begins from the first file, the second from the second." }
     { Flag "json" "Writes the answer as JSON" "\
 Writes the answer as a line of JSON: an object with `class`, `same`,
 the words that the class sees `before` and `after` both runs, and how
-the `first` and the `second` run end." } },
+the `first` and the `second` run end; with --steps the steps of both
+runs in their place." } },
     subcommand! { "leak" "Searches a source text for a leak, and shows it" "\
 Reads the lattice file, looks for the class in it, reads the source text, and
 runs it, accepted or not, from pairs of stores that agree on each global whose
@@ -230,4 +241,49 @@ different numbers of instructions." }
 Writes the answer as a line of JSON: an object with `found`. For a
 leak it also has its `class`, the words `before` and `after` both
 runs, and how they end; otherwise the number of `pairs` of runs." } },
+    subcommand! { "steps" "Runs a source text, and prints each step" "\
+Reads the lattice file, the source text and the store file, if one is given,
+sets globals, and runs the text as it is written, accepted or not. Prints a line
+for each guard that is tested and each word that is stored, in order: its place,
+its text, and the value with the class of the guard or of the variable. If the
+run ends within the budget, a line `NAME = NUMBER` follows for each global."
+    statuses "0 the run has ended, 1 refused, 2 usage, 3 out of budget,
+4 file fault, 5 out of memory."
+    example "  $ vsi steps two.toml lamp.vsi --set h=1
+  1:23  if h    is 1 : H
+  1:33  l := 1  l = 1 : L
+  h = 1
+  l = 1"
+    { LATTICE } { SOURCE } { STEP_BUDGET } { STORE } { SET } { FULL_STORE }
+    { Flag "json" "Writes the answer as JSON" "\
+Writes the answer as a line of JSON: an object with `steps`, an array
+with an object for each step, whether the run has `halted`, and
+`store`, an array with an object for each global." } },
+    subcommand! { "monitor" "Runs a source text under a monitor of flows" "\
+Reads the lattice file, the source text and the store file, if one is given,
+sets globals, and runs the text as it is written, accepted or not, under a
+monitor. Each word has a class as its label, at first that of its variable. The
+run is stopped before an assignment in a branch or a loop whose guard depends on
+a class that isn't at or below the label of the variable. If the run ends within
+the budget, a line `NAME = NUMBER : CLASS` is printed for each global, with the
+label of its word. A text that `vsi check` accepts is never stopped. With --rule
+permissive-upgrade the run goes on there, and is stopped later if a guard reads
+the variable."
+    statuses "0 the run has ended, 1 it was stopped, or refused, 2 usage, 3 out of
+budget, 4 file fault, 5 out of memory."
+    example "  $ vsi monitor two.toml lamp.vsi --set h=1
+  1:33 l : L may not be assigned under H"
+    { LATTICE } { SOURCE } { STEP_BUDGET } { STORE } { SET } { FULL_STORE }
+    { Choice("RULE", &["no-sensitive-upgrade", "permissive-upgrade"]) "rule"
+    "no-sensitive-upgrade or permissive-upgrade; default: the first" "\
+The rule for an assignment in a branch or a loop whose guard depends
+on a class that isn't at or below the label of the variable. With
+`no-sensitive-upgrade`, the default, the run is stopped before it.
+With `permissive-upgrade` the run goes on, and is stopped before a
+guard that reads the variable." }
+    { Flag "json" "Writes the answer as JSON" "\
+Writes the answer as a line of JSON: an object with the `outcome`,
+`halted` or `stopped`, and with `store`, an array with an object for
+each global, or with the assignment or guard before which the run
+was stopped." } },
 ];

@@ -102,9 +102,6 @@ fn with_argument<'a>(
     }
 }
 
-/// The values of `--color`: when an explanation is coloured.
-const WHEN: [&str; 3] = ["auto", "always", "never"];
-
 /// How an argument is given: by position, or by `--NAME`, with the name of its value in the help.
 /// `Needed` forms are required, and plural ones may be given several times.
 #[derive(Clone, Copy)]
@@ -125,8 +122,8 @@ pub(crate) enum Form {
     /// The number is checked later, and its sign doesn't make it another argument.
     Number(&'static str),
     NeededNumber(&'static str),
-    /// With one of the values of `WHEN`.
-    When(&'static str),
+    /// With one of these values.
+    Choice(&'static str, &'static [&'static str]),
 }
 
 /// An argument: its name, how it is given, and its short and long help.
@@ -142,10 +139,10 @@ pub(crate) struct Argument {
 /// the row.
 macro_rules! argument {
     ($shared:ident) => { $shared };
-    ($form:ident $(($value:literal))? $name:literal $line:literal $whole:expr) => {
+    ($form:ident $(($value:literal $(, $choices:expr)?))? $name:literal $line:literal $whole:expr) => {
         Argument {
             name: $name,
-            form: Form::$form $(($value))?,
+            form: Form::$form $(($value $(, $choices)?))?,
             line: $line,
             whole: $whole,
         }
@@ -188,7 +185,7 @@ fn formed<'a>(told: Arg<'a>, name: &'a str, form: Form) -> Arg<'a> {
         Form::NeededValues(value) => appending(told.long(name), value).required(true),
         Form::Number(value) => numeric(told.long(name), value),
         Form::NeededNumber(value) => numeric(told.long(name), value).required(true),
-        Form::When(value) => chosen(told.long(name), value),
+        Form::Choice(value, choices) => chosen(told.long(name), value, choices),
     }
 }
 
@@ -202,11 +199,11 @@ fn appending<'a>(option: Arg<'a>, value: &'a str) -> Arg<'a> {
     option.value_name(value).action(ArgAction::Append)
 }
 
-/// Makes an option whose value is one of `WHEN`.
-fn chosen<'a>(option: Arg<'a>, value: &'a str) -> Arg<'a> {
+/// Makes an option whose value is one of these choices.
+fn chosen<'a>(option: Arg<'a>, value: &'a str, choices: &'a [&'a str]) -> Arg<'a> {
     option
         .value_name(value)
-        .value_parser(WHEN.as_slice())
+        .value_parser(choices)
         .hide_possible_values(true)
 }
 
@@ -247,7 +244,7 @@ pub(crate) const DRIVEN_IMAGE: Argument = argument! {
     PlaceUnless("interface") "IMAGE" "The image file" LONG_IMAGE };
 
 pub(crate) const COLOR: Argument = argument! {
-    When("WHEN") "color" "Colours an explanation: auto, always or never" "\
+    Choice("WHEN", &["auto", "always", "never"]) "color" "Colours an explanation: auto, always or never" "\
 Colours an explanation: `always`, `never`, or `auto`, the default: if
 standard error is a terminal and NO_COLOR isn't set." };
 
@@ -267,6 +264,12 @@ Sets a global of any class after the store file is read: its name, `=`
 and a number from -9223372036854775808 to 9223372036854775807. It can
 be repeated; if a global is set twice, the second setting counts. With
 --interface only the inputs of the class are set." };
+
+pub(crate) const STEP_BUDGET: Argument = argument! {
+    Number("N") "budget" "The maximum number of steps; default: 10000" "\
+The maximum number of steps, each a guard that is tested or a word
+that is stored: a whole number from 0 to 18446744073709551615, in
+digits alone. Default: 10000." };
 
 pub(crate) const OUT: Argument = argument! {
     Value("FILE") "out" "The file to write the store to, not standard output" "\

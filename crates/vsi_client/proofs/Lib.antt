@@ -1,3 +1,4 @@
 mod Applying
+mod Keeping
 mod Lining
 mod Placing

@@ -1,3 +1,6 @@
 pub mod Changes
+pub mod Names
 pub mod Pieces
 pub mod Places
+pub mod Renamed
+pub mod Respelled

@@ -1,1 +1,3 @@
 pub mod Framing
+pub mod TitleLemmas
+pub mod Verdicts

@@ -1,1 +1,4 @@
 pub mod Frames
+pub mod Severity
+pub mod Titles
+pub mod Verdict

@@ -1,20 +1,27 @@
 //! Open documents, and the errors that are published for them.
 
-use crate::interfaces::interface_errors;
+use crate::diagnostics::{START, error_list, objects_in};
+use crate::document::{DocumentText, Made, joined};
 use serde_json::Value;
 use std::alloc::{AllocError, Global};
-use vsi_choices::DocumentText;
-use vsi_client::Encoding;
+use vsi_client::{Encoding, Marked, path_beside};
+use vsi_conform::{
+    InterfaceError, InterfaceFile, Policy as Place, interface_text, read_interface, unknown_class,
+    unknown_cycle,
+};
 use vsi_diagnostics::{Fault, fault_diagnostic, fault_text};
-use vsi_errors::{error_object, objects_in, one_error};
-use vsi_lattice::{LatticeError, read_lattice};
-use vsi_names::START;
+use vsi_lattice::{Lattice, LatticeError, read_lattice};
 use vsi_policy::named_policy;
 use vsi_syntax::Span;
 use vsi_types::Profile;
 
 /// The lattice file of two classes, for a document that names none.
 const TWO_CLASSES: &[u8] = b"classes = [\"L\", \"H\"]\nbelow = [[\"L\", \"H\"]]\n";
+
+/// Keys, or beginnings of lines, that an interface file has and a lattice file hasn't.
+const OF_INTERFACES: [&[u8]; 6] = [
+    b"globals", b"profile", b"order", b"lattice", b"[[runs", b"[[cycle",
+];
 
 /// The lattice file of a document.
 #[derive(Drop)]
@@ -46,31 +53,30 @@ pub(crate) struct Document {
     pub(crate) policy: Policy,
 }
 
-/// Whether a line of a TOML text begins with a key.
-fn has_key(text: &[u8], key: &[u8]) -> bool {
-    text.split(|byte| *byte == b'\n')
-        .any(|line| line.starts_with(key))
-}
-
-/// Whether a TOML text has a key that an interface file has and a lattice file hasn't.
-fn is_interface(text: &[u8]) -> bool {
-    has_key(text, b"globals")
-        || has_key(text, b"profile")
-        || has_key(text, b"order")
-        || has_key(text, b"lattice")
-        || has_key(text, b"[[runs")
-        || has_key(text, b"[[cycle")
-}
-
 impl Document {
     /// The document as it is judged.
-    pub(crate) fn text_in(&self, alloc: Global, encoding: Encoding) -> DocumentText<'_> {
+    pub(crate) fn text_in<'a>(
+        &'a self,
+        alloc: Global,
+        encoding: Encoding,
+        profile: Profile,
+        marked: &'a Marked<'a>,
+    ) -> DocumentText<'a> {
         DocumentText {
             alloc,
             encoding,
+            profile,
             uri: &self.uri,
             text: &self.text,
+            marked,
         }
+    }
+
+    /// Whether a line of the text begins with a key.
+    fn has(&self, key: &[u8]) -> bool {
+        self.text
+            .split(|byte| *byte == b'\n')
+            .any(|line| line.starts_with(key))
     }
 
     /// The kind of the document: a TOML file that has a key of interfaces is an interface, and
@@ -79,10 +85,10 @@ impl Document {
         if !self.uri.ends_with(b".toml") {
             return DocumentKind::Source;
         }
-        if is_interface(&self.text) {
+        if OF_INTERFACES.iter().any(|key| self.has(key)) {
             return DocumentKind::Interface;
         }
-        if has_key(&self.text, b"classes") || has_key(&self.text, b"below") {
+        if self.has(b"classes") || self.has(b"below") {
             return DocumentKind::Lattice;
         }
         DocumentKind::Other
@@ -106,8 +112,9 @@ impl Document {
         alloc: Global,
         encoding: Encoding,
         profile: Profile,
-    ) -> Result<Vec<Value>, AllocError> {
-        let document = self.text_in(alloc, encoding);
+    ) -> Made<Vec<Value>> {
+        let marked = Marked::of(alloc, encoding, &self.text)?;
+        let document = self.text_in(alloc, encoding, profile, &marked);
         match self.kind() {
             DocumentKind::Other => Ok(Vec::new(alloc)),
             DocumentKind::Interface => interface_errors(document, &self.policy),
@@ -118,8 +125,8 @@ impl Document {
             DocumentKind::Source => {
                 let span = naming_span(&self.text);
                 match &self.policy {
-                    Policy::Two => source_errors(document, profile, span, TWO_CLASSES),
-                    Policy::File(bytes) => source_errors(document, profile, span, bytes),
+                    Policy::Two => source_errors(document, span, TWO_CLASSES),
+                    Policy::File(bytes) => source_errors(document, span, bytes),
                     Policy::Lost(path) => lost_errors(document, span, path),
                 }
             }
@@ -128,7 +135,7 @@ impl Document {
 }
 
 /// The part of a text from a byte to the end of its line.
-pub(crate) fn line_span(text: &[u8], start: usize) -> Span {
+fn line_span(text: &[u8], start: usize) -> Span {
     let line = text.get(start..).unwrap_or(b"");
     let size = line
         .iter()
@@ -140,50 +147,104 @@ pub(crate) fn line_span(text: &[u8], start: usize) -> Span {
 
 /// The part of a source text that names its lattice file.
 fn naming_span(text: &[u8]) -> Span {
-    if named_policy(text).is_none() {
-        return START;
+    if named_policy(text).is_some()
+        && let Some(start) = text.iter().position(|byte| *byte == b'#')
+    {
+        return line_span(text, start);
     }
-    match text.iter().position(|byte| *byte == b'#') {
-        Some(start) => line_span(text, start),
-        None => START,
-    }
+    START
 }
 
 /// The error of a lattice file that can't be read.
-pub(crate) fn lost_errors(
-    document: DocumentText<'_>,
-    span: Span,
-    path: &[u8],
-) -> Result<Vec<Value>, AllocError> {
-    let mut message = Vec::from_slice(document.alloc, b"file fault: ")?;
-    message.extend_from_slice(path)?;
-    one_error(document.alloc, error_object(document, span, 0, &message)?)
+fn lost_errors(document: DocumentText<'_>, span: Span, path: &[u8]) -> Made<Vec<Value>> {
+    let message = joined(document.alloc, &[b"file fault: ", path])?;
+    error_list(document, span, 0, &message)
 }
 
 /// The error of a lattice file that is refused.
-pub(crate) fn refused_errors(
-    document: DocumentText<'_>,
-    span: Span,
-    error: LatticeError,
-) -> Result<Vec<Value>, AllocError> {
+fn refused_errors(document: DocumentText<'_>, span: Span, error: LatticeError) -> Made<Vec<Value>> {
     let fault = Fault::Lattice(error);
     let Some(diagnostic) = fault_diagnostic(&fault) else {
         return Err(AllocError);
     };
     let text = fault_text(document.alloc, &fault)?;
-    let error = error_object(document, span, diagnostic.code, text.trim_ascii_end())?;
-    one_error(document.alloc, error)
+    error_list(document, span, diagnostic.code, text.trim_ascii_end())
 }
 
 /// The errors and warnings of a source text under a lattice file, which a part of the text names.
-fn source_errors(
-    document: DocumentText<'_>,
-    profile: Profile,
-    span: Span,
-    bytes: &[u8],
-) -> Result<Vec<Value>, AllocError> {
+fn source_errors(document: DocumentText<'_>, span: Span, bytes: &[u8]) -> Made<Vec<Value>> {
     match read_lattice(document.alloc, bytes) {
-        Ok(lattice) => objects_in(document, profile, &lattice),
+        Ok(lattice) => objects_in(document, &lattice),
         Err(error) => refused_errors(document, span, error),
     }
+}
+
+/// The path of the lattice file that an interface names, if it does.
+pub(crate) fn interface_path(alloc: Global, uri: &[u8], text: &[u8]) -> Made<Option<String>> {
+    match read_interface(alloc, text) {
+        Ok(asked) => match &asked.policy {
+            Place::File(path) => Ok(Some(path_beside(alloc, uri, path)?)),
+            Place::Tables(_) => Ok(None),
+        },
+        Err(InterfaceError::Memory) => Err(AllocError),
+        Err(_) => Ok(None),
+    }
+}
+
+/// The errors of an interface file that is open, with the lattice file that was read for it.
+/// Without such a file only the interface itself is judged.
+fn interface_errors(document: DocumentText<'_>, policy: &Policy) -> Made<Vec<Value>> {
+    let span = line_span(document.text, 0);
+    let asked = match read_interface(document.alloc, document.text) {
+        Ok(asked) => asked,
+        Err(error) => return refused_interface(document, span, &error),
+    };
+    let bytes = match (&asked.policy, policy) {
+        (Place::Tables(text), _) => text,
+        (Place::File(_), Policy::File(bytes)) => bytes,
+        (Place::File(_), Policy::Lost(path)) => return lost_errors(document, span, path),
+        (Place::File(_), Policy::Two) => return Ok(Vec::new(document.alloc)),
+    };
+    match read_lattice(document.alloc, bytes) {
+        Ok(lattice) => match unknown_name(document.alloc, &lattice, &asked)? {
+            Some(error) => refused_interface(document, span, &error),
+            None => Ok(Vec::new(document.alloc)),
+        },
+        Err(error) => refused_errors(document, span, error),
+    }
+}
+
+/// The error of an interface that is refused.
+fn refused_interface(
+    document: DocumentText<'_>,
+    span: Span,
+    error: &InterfaceError,
+) -> Made<Vec<Value>> {
+    if let InterfaceError::Memory = error {
+        return Err(AllocError);
+    }
+    let text = interface_text(document.alloc, error)?;
+    let line = text.strip_suffix(b"\n").unwrap_or(&text);
+    error_list(document, span, 0, line)
+}
+
+/// The first global whose class isn't in the lattice, or else the first such boundary.
+fn unknown_name(
+    alloc: Global,
+    lattice: &Lattice,
+    asked: &InterfaceFile,
+) -> Made<Option<InterfaceError>> {
+    if let Some(place) = unknown_class(lattice, &asked.interface)
+        && let Some(entry) = asked.interface.globals.get(place)
+    {
+        let name = Vec::from_slice(alloc, &entry.0)?;
+        return Ok(Some(InterfaceError::UnknownClass(name)));
+    }
+    if let Some(place) = unknown_cycle(lattice, &asked.cycles)
+        && let Some(cycle) = asked.cycles.get(place)
+    {
+        let name = Vec::from_slice(alloc, &cycle.class)?;
+        return Ok(Some(InterfaceError::UnknownInCycle(place.saturating_add(1), name)));
+    }
+    Ok(None)
 }

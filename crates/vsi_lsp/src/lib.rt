@@ -5,13 +5,24 @@
 //! of that file, and `outgoing` gives the bytes for the client: messages, each after its length, and
 //! nothing else (clause `framed`). No call reads or writes a device.
 //!
-//! To be believed: `specs/Frames`.
+//! `objects_in` lists errors, and then warnings or further errors: there is an error exactly if the
+//! text is refused, and only warnings come after the errors of a text that has a program (clause
+//! `exact`). `raised_text` is the text with the least raises, which is accepted (clause `accepted`),
+//! under the title that names these raises (clause `title` of `raising_title`). `laid_out` keeps the
+//! program and the comments (clause `laid`). Only tests show which messages there are, where an
+//! error points, and what it says.
+//!
+//! To be believed: `specs/Frames`, `specs/Severity`, `specs/Titles`, `specs/Verdict`, and the
+//! definitions of the crates below that the clauses cite.
 #![tactic(auto)]
 
-mod asking;
+mod completion;
+mod diagnostics;
+mod document;
 mod documents;
-mod interfaces;
+mod layout;
 mod reading;
+mod repairs;
 mod replies;
 mod server;
 

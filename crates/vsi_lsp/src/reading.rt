@@ -1,38 +1,66 @@
-//! A document as requests read it: its program, the names in it, and the classes of its variables.
+//! A document as requests about its names read it, and the answers to them.
 
 ghost use Rattle.std.specs.List.{All};
 ghost use Rattle.vsi_lattice.specs.LatticeView.{order};
 ghost use Rattle.vsi_lattice.specs.Order.{IsClass};
 
-use serde_json::Value;
+use crate::completion::completion;
+use crate::document::{DocumentText, Made, edit, joined, text_at, text_value};
+use crate::repairs::fixes;
+use crate::replies::{Fault, PARAMETERS, RENAME};
+use serde_json::{Value, json};
 use std::alloc::{AllocError, Global};
-use vsi_choices::{DocumentText, place_at};
-use vsi_client::offset_of;
+use vsi_client::{Change, Mention, Range, mentions_of, rename};
 use vsi_compiler::{CompileError, Source, judge};
-use vsi_errors::Marked;
+use vsi_flows::related;
+use vsi_infer::put_variable;
 use vsi_lattice::{Class, Lattice};
-use vsi_names::{Mention, mention_at, mentions_of};
+use vsi_scope::Var;
 use vsi_syntax::Span;
-use vsi_types::Profile;
 
-/// A document whose text has a program: its positions, the names in it, and the names of the
-/// classes of its letvars, which are none if a flow is refused.
+/// Whether a request about a document has this topic.
+pub(crate) fn is_topic(topic: &str) -> bool {
+    match topic {
+        "formatting" | "foldingRange" | "completion" | "codeAction" => true,
+        "inlayHint" | "documentSymbol" | "rename" | "hover" => true,
+        "definition" | "references" | "documentHighlight" => true,
+        _ => false,
+    }
+}
+
+/// The answer to a request about a text and its lattice; nothing if the request is about the names
+/// of a program and the text has none.
+pub(crate) fn lattice_answer<'a>(
+    document: DocumentText<'a>,
+    lattice: &'a Lattice,
+    topic: &str,
+    value: &Value,
+) -> Result<Value, Fault> {
+    match topic {
+        "completion" => {
+            let at = document.byte_at(value, "/params/position");
+            Ok(completion(document, lattice, at.ok_or(PARAMETERS)?)?)
+        }
+        "codeAction" => Ok(fixes(document, lattice, value)?),
+        _ => match document.source(lattice)? {
+            Some(source) => Reading::of(document, source)?.answer(topic, value),
+            None => Ok(Value::Null),
+        },
+    }
+}
+
+/// A document whose text has a program: the names in it, and the names of the classes of its
+/// letvars, which are none if a flow is refused.
 #[derive(Drop)]
-pub(crate) struct Reading<'a> {
-    pub(crate) document: DocumentText<'a>,
-    pub(crate) profile: Profile,
-    pub(crate) source: Source<'a>,
-    pub(crate) marked: Marked<'a>,
-    pub(crate) mentions: Vec<Mention>,
+struct Reading<'a> {
+    document: DocumentText<'a>,
+    source: Source<'a>,
+    mentions: Vec<Mention>,
     classes: Vec<&'a [u8]>,
 }
 
 /// The names of classes.
-fn names_of<'a>(
-    alloc: Global,
-    lattice: &'a Lattice,
-    classes: &[Class],
-) -> Result<Vec<&'a [u8]>, AllocError>
+fn names_of<'a>(alloc: Global, lattice: &'a Lattice, classes: &[Class]) -> Made<Vec<&'a [u8]>>
     requires { All (IsClass (order lattice.now)) classes.now }
 {
     let mut names = Vec::new(alloc);
@@ -43,50 +71,64 @@ fn names_of<'a>(
 }
 
 /// The names of the least classes of the letvars; none if a flow is refused.
-fn classes_of<'a>(
-    alloc: Global,
-    profile: Profile,
-    source: &Source<'a>,
-) -> Result<Vec<&'a [u8]>, AllocError> {
-    match judge(alloc, profile, source) {
-        Ok(classes) => names_of(alloc, source.lattice(), &classes),
+fn classes_of<'a>(document: DocumentText<'a>, source: &Source<'a>) -> Made<Vec<&'a [u8]>> {
+    match judge(document.alloc, document.profile, source) {
+        Ok(classes) => names_of(document.alloc, source.lattice(), &classes),
         Err(CompileError::Memory) => Err(AllocError),
-        Err(_) => Ok(Vec::new(alloc)),
+        Err(_) => Ok(Vec::new(document.alloc)),
     }
 }
 
 impl<'a> Reading<'a> {
     /// A document as requests read it.
-    pub(crate) fn of(
-        document: DocumentText<'a>,
-        profile: Profile,
-        source: Source<'a>,
-    ) -> Result<Self, AllocError> {
+    fn of(document: DocumentText<'a>, source: Source<'a>) -> Made<Self> {
         let mentions = mentions_of(document.alloc, &source)?;
-        let classes = classes_of(document.alloc, profile, &source)?;
+        let classes = classes_of(document, &source)?;
         Ok(Reading {
             document,
-            profile,
             source,
-            marked: Marked::of(document)?,
             mentions,
             classes,
         })
     }
 
+    /// The answer to a request about the names of a program.
+    fn answer(&self, topic: &str, value: &Value) -> Result<Value, Fault> {
+        match topic {
+            "inlayHint" => Ok(self.hints()?),
+            "documentSymbol" => Ok(self.symbols()?),
+            _ => match self.pointed(value) {
+                Some(mention) => self.pointed_answer(mention, topic, value),
+                None if topic == "rename" => Err(RENAME),
+                None => Ok(Value::Null),
+            },
+        }
+    }
+
+    /// The answer to a request about a name.
+    fn pointed_answer(&self, name: Mention, topic: &str, value: &Value) -> Result<Value, Fault> {
+        match topic {
+            "rename" => self.renaming(name.variable, value),
+            "hover" => Ok(self.hover(name)?),
+            "definition" => Ok(self.definition(name.variable)?),
+            _ => Ok(self.parts(name.variable, topic == "references")?),
+        }
+    }
+
     /// The name to which a message points.
-    pub(crate) fn pointed(&self, value: &Value) -> Option<Mention> {
-        let place = place_at(value, "/params/position")?;
-        let at = offset_of(self.document.encoding, self.document.text, place);
-        mention_at(&self.mentions, at)
+    fn pointed(&self, value: &Value) -> Option<Mention> {
+        let at = self.document.byte_at(value, "/params/position")?;
+        for mention in &self.mentions {
+            if mention.span.start <= at && at <= mention.span.stop {
+                return Some(*mention);
+            }
+        }
+        None
     }
 
     /// The text of a part.
-    pub(crate) fn text_of(&self, span: Span) -> &[u8] {
-        match self.document.text.get(span.start..span.stop) {
-            Some(text) => text,
-            None => b"",
-        }
+    fn text_of(&self, span: Span) -> &[u8] {
+        self.document.text.get(span.start..span.stop).unwrap_or(b"")
     }
 
     /// The number of a variable among the letvars, if it is one.
@@ -95,7 +137,7 @@ impl<'a> Reading<'a> {
     }
 
     /// Whether the class of a variable isn't declared.
-    pub(crate) fn is_inferred(&self, variable: usize) -> bool {
+    fn is_inferred(&self, variable: usize) -> bool {
         let Some(number) = self.letvar_of(variable) else {
             return false;
         };
@@ -106,10 +148,138 @@ impl<'a> Reading<'a> {
     }
 
     /// The class of a variable, if it is known.
-    pub(crate) fn class_of(&self, variable: usize) -> Option<&[u8]> {
+    fn class_of(&self, variable: usize) -> Option<&[u8]> {
         if let Some(global) = self.source.globals().get(variable) {
             return Some(global.class.text);
         }
         self.classes.get(self.letvar_of(variable)?).copied()
     }
+
+    /// The text about a name: the class of its variable, and the declared variables that reach it
+    /// or that it reaches.
+    fn hover(&self, name: Mention) -> Made<Value> {
+        let alloc = self.document.alloc;
+        let mut shown = Vec::from_slice(alloc, self.text_of(name.span))?;
+        if let Some(class) = self.class_of(name.variable) {
+            shown.extend_from_slice(b" : ")?;
+            shown.extend_from_slice(class)?;
+        }
+        if self.is_inferred(name.variable) {
+            shown.extend_from_slice(b" (inferred)")?;
+        }
+        if name.variable < 65535 {
+            let variable = Var(name.variable as u16);
+            let found = related(alloc, self.document.profile, &self.source, variable)?;
+            put_line(&mut shown, &self.source, b"\nfrom ", &found.from)?;
+            put_line(&mut shown, &self.source, b"\nto ", &found.to)?;
+        }
+        let contents = text_value(alloc, &shown)?;
+        let range = self.document.range(name.span)?;
+        json!(in alloc; {"contents": contents, "range": range})
+    }
+
+    /// Where a variable is declared.
+    fn definition(&self, variable: usize) -> Made<Value> {
+        for mention in &self.mentions {
+            if mention.is_declaration && mention.variable == variable {
+                return self.document.location(mention.span);
+            }
+        }
+        Ok(Value::Null)
+    }
+
+    /// The parts of the text that name a variable, with the name of the document or without.
+    fn parts(&self, variable: usize, is_named: bool) -> Made<Value> {
+        let mut list = Vec::new(self.document.alloc);
+        for mention in &self.mentions {
+            if mention.variable != variable {
+                continue;
+            }
+            if is_named {
+                list.push(self.document.location(mention.span)?)?;
+            } else {
+                let range = self.document.range(mention.span)?;
+                list.push(json!(in self.document.alloc; {"range": range})?)?;
+            }
+        }
+        Ok(Value::Array(list))
+    }
+
+    /// The classes that aren't declared, after the names of their variables.
+    fn hints(&self) -> Made<Value> {
+        let alloc = self.document.alloc;
+        let mut list = Vec::new(alloc);
+        for mention in &self.mentions {
+            if mention.is_declaration
+                && self.is_inferred(mention.variable)
+                && let Some(class) = self.class_of(mention.variable)
+            {
+                let label = text_value(alloc, &joined(alloc, &[b" : ", class])?)?;
+                let place = self.document.marked.range(mention.span).stop;
+                list.push(json!(in alloc; {
+                    "position": {"line": place.line, "character": place.character},
+                    "label": label, "kind": 1
+                })?)?;
+            }
+        }
+        Ok(Value::Array(list))
+    }
+
+    /// The declarations.
+    fn symbols(&self) -> Made<Value> {
+        let alloc = self.document.alloc;
+        let mut list = Vec::new(alloc);
+        for mention in &self.mentions {
+            if !mention.is_declaration {
+                continue;
+            }
+            let name = text_value(alloc, self.text_of(mention.span))?;
+            let class = text_value(alloc, self.class_of(mention.variable).unwrap_or(b""))?;
+            let range = self.document.range(mention.span)?;
+            list.push(json!(in alloc; {
+                "name": name, "detail": class, "kind": 13, "range": &range, "selectionRange": range
+            })?)?;
+        }
+        Ok(Value::Array(list))
+    }
+
+    /// The changes that rename a variable, unless they would change the program.
+    fn renaming(&self, variable: usize, value: &Value) -> Result<Value, Fault> {
+        let name = text_at(value, "/params/newName").ok_or(PARAMETERS)?;
+        let (alloc, encoding) = (self.document.alloc, self.document.encoding);
+        let (source, mentions) = (&self.source, &self.mentions);
+        match rename(alloc, encoding, source, mentions, variable, name.as_bytes())? {
+            Some(changes) => Ok(self.edits(&changes)?),
+            None => Err(RENAME),
+        }
+    }
+
+    /// The object of changes at positions.
+    fn edits(&self, changes: &[Change<'_>]) -> Made<Value> {
+        let alloc = self.document.alloc;
+        let mut list = Vec::new(alloc);
+        for change in changes {
+            if let Some((start, stop)) = change.range {
+                list.push(edit(alloc, Range { start, stop }, change.text)?)?;
+            }
+        }
+        self.document.changes(Value::Array(list))
+    }
+}
+
+/// The most variables of a line.
+const MOST_VARIABLES: usize = 8;
+
+/// Adds a line of variables with their declared classes, if there are any.
+fn put_line(text: &mut Vec<u8>, source: &Source<'_>, word: &[u8], variables: &[Var]) -> Made<()> {
+    let mut before = word;
+    for (i, variable) in variables.iter().enumerate() {
+        text.extend_from_slice(before)?;
+        if i == MOST_VARIABLES {
+            return text.extend_from_slice(b"..");
+        }
+        put_variable(text, source.lattice(), source.resolved(), *variable)?;
+        before = b", ";
+    }
+    Ok(())
 }

@@ -3,30 +3,41 @@
 ghost use Rattle.std.specs.Prelude.{◌≡◌, ◌++◌, IfOk, OnOk};
 ghost use Rattle.vsi_lsp.specs.Frames as spec;
 
+use crate::document::{Made, text_value};
 use serde_json::{Value, json};
 use std::alloc::{AllocError, Global};
-use vsi_choices::text_value;
 use vsi_client::Encoding;
 use vsi_syntax::put_number;
 
 /// Why a message isn't obeyed.
-#[derive(Clone, Copy, Debug, PartialEq, Eq)]
+#[derive(Clone, Copy, Debug)]
 pub(crate) enum Fault {
-    /// The message is no JSON.
-    Parse,
-    /// The message is no request, or comes after `shutdown`.
-    Request,
-    /// There is no such method.
-    Method,
-    /// The parameters are wrong.
-    Parameters,
-    /// The request comes before `initialize`.
-    Uninitialized,
-    /// A new name isn't one, or would change the program.
-    Rename,
+    /// An error with this number of the protocol, and this text.
+    Error(i64, &'static str),
     /// Memory ran out, which ends the server in place of an answer.
     Memory,
 }
+
+/// The message is no JSON.
+pub(crate) const PARSE: Fault = Fault::Error(-32700, "the message can't be read");
+
+/// The message is no request, or comes after `shutdown`.
+pub(crate) const REQUEST: Fault = Fault::Error(-32600, "the message is no request");
+
+/// There is no such method.
+pub(crate) const METHOD: Fault = Fault::Error(-32601, "there is no such method");
+
+/// The parameters are wrong.
+pub(crate) const PARAMETERS: Fault = Fault::Error(-32602, "the parameters are wrong");
+
+/// The request comes before `initialize`.
+pub(crate) const EARLY: Fault = Fault::Error(-32002, "`initialize` has to come first");
+
+/// A new name isn't one, or would change the program.
+pub(crate) const RENAME: Fault = Fault::Error(
+    -32803,
+    "the new name is no name, or it would change the program",
+);
 
 impl From<AllocError> for Fault {
     fn from(_error: AllocError) -> Fault {
@@ -34,26 +45,8 @@ impl From<AllocError> for Fault {
     }
 }
 
-impl Fault {
-    /// The number and the text of a fault.
-    pub(crate) fn said(self) -> (i64, &'static str) {
-        match self {
-            Fault::Parse => (-32700, "the message can't be read"),
-            Fault::Request => (-32600, "the message is no request"),
-            Fault::Method => (-32601, "there is no such method"),
-            Fault::Parameters => (-32602, "the parameters are wrong"),
-            Fault::Uninitialized => (-32002, "`initialize` has to come first"),
-            Fault::Rename => (
-                -32803,
-                "the new name is no name, or it would change the program",
-            ),
-            Fault::Memory => (-32603, "memory ran out"),
-        }
-    }
-}
-
 /// Adds a message after its header.
-fn put_frame(out: &mut Vec<u8>, body: &[u8]) -> Result<(), AllocError>
+fn put_frame(out: &mut Vec<u8>, body: &[u8]) -> Made<()>
     ensures { OnOk result (out.new.items ≡ out.old.items ++ spec.frame body.now) }
 {
     out.extend_from_slice(b"Content-Length: ")?;
@@ -74,26 +67,19 @@ pub fn framed(alloc: Global, messages: &[Value]) -> Result<Vec<u8>, AllocError>
     Ok(out)
 }
 
-/// The text at a path of an object.
-pub(crate) fn text_at<'v>(value: &'v Value, path: &str) -> Option<&'v str> {
-    value.pointer(path)?.as_str()
-}
-
 /// The encoding of positions for a client: UTF-8 if it offers that, otherwise UTF-16.
 pub(crate) fn encoding_for(value: &Value) -> Encoding {
     let path = "/params/capabilities/general/positionEncodings";
-    if let Some(Value::Array(offered)) = value.pointer(path) {
-        for encoding in offered {
-            if encoding.as_str() == Some("utf-8") {
-                return Encoding::Utf8;
-            }
-        }
+    if let Some(Value::Array(offered)) = value.pointer(path)
+        && offered.iter().any(|name| name.as_str() == Some("utf-8"))
+    {
+        return Encoding::Utf8;
     }
     Encoding::Utf16
 }
 
 /// The result of `initialize`.
-pub(crate) fn welcome(alloc: Global, encoding: Encoding) -> Result<Value, AllocError> {
+pub(crate) fn welcome(alloc: Global, encoding: Encoding) -> Made<Value> {
     let encoding = match encoding {
         Encoding::Utf8 => "utf-8",
         Encoding::Utf16 => "utf-16",
@@ -120,7 +106,7 @@ pub(crate) fn welcome(alloc: Global, encoding: Encoding) -> Result<Value, AllocE
 }
 
 /// A message that isn't an answer.
-fn notification(alloc: Global, method: &str, parameters: Value) -> Result<Value, AllocError> {
+fn notification(alloc: Global, method: &str, parameters: Value) -> Made<Value> {
     json!(in alloc; {"jsonrpc": "2.0", "method": method, "params": parameters})
 }
 
@@ -130,7 +116,7 @@ pub(crate) fn published(
     uri: &[u8],
     version: Option<i64>,
     errors: Vec<Value>,
-) -> Result<Value, AllocError> {
+) -> Made<Value> {
     let uri = text_value(alloc, uri)?;
     let errors = Value::Array(errors);
     let parameters = match version {
@@ -141,7 +127,7 @@ pub(crate) fn published(
 }
 
 /// A message for the log of the client.
-pub(crate) fn said(alloc: Global, line: &[u8]) -> Result<Value, AllocError> {
+pub(crate) fn said(alloc: Global, line: &[u8]) -> Made<Value> {
     let line = text_value(alloc, line)?;
     let parameters = json!(in alloc; {"type": 3, "message": line})?;
     notification(alloc, "window/logMessage", parameters)

@@ -3,14 +3,17 @@
 ghost use Rattle.std.specs.Prelude.{IfOk};
 ghost use Rattle.vsi_lsp.specs.Frames.{AreFrames};
 
-use crate::asking::{is_topic, lattice_answer};
-use crate::documents::{Document, DocumentKind, Policy};
-use crate::interfaces::interface_path;
-use crate::replies::{Fault, encoding_for, framed, published, said, text_at, welcome};
+use crate::document::{Made, place_at, text_at};
+use crate::documents::{Document, DocumentKind, Policy, interface_path};
+use crate::layout::{folds, layout_edits};
+use crate::reading::{is_topic, lattice_answer};
+use crate::replies::{
+    EARLY, Fault, METHOD, PARAMETERS, PARSE, REQUEST, encoding_for, framed, published, said,
+    welcome,
+};
 use serde_json::{Value, json};
 use std::alloc::{AllocError, Global};
-use vsi_choices::{folds, layout_edits, place_at};
-use vsi_client::{Change, Encoding, Piece, changed_by, next_piece, path_beside};
+use vsi_client::{Change, Encoding, Marked, Piece, changed_by, next_piece, path_beside};
 use vsi_lattice::{LatticeError, read_lattice};
 use vsi_policy::named_policy;
 use vsi_types::Profile;
@@ -134,17 +137,17 @@ impl Server {
                 if error.is_memory() {
                     return Err(AllocError);
                 }
-                self.fail(&Value::Null, Fault::Parse)?;
+                self.fail(&Value::Null, PARSE)?;
                 Ok(None)
             }
         }
     }
 
     /// Does what a value asks. Answers of the client are nothing to do.
-    fn obey_value(&mut self, value: &Value) -> Result<Option<Wanted>, AllocError> {
+    fn obey_value(&mut self, value: &Value) -> Made<Option<Wanted>> {
         let Some(method) = text_at(value, "/method") else {
             if value.get("result").is_none() && value.get("error").is_none() {
-                self.fail(&Value::Null, Fault::Request)?;
+                self.fail(&Value::Null, REQUEST)?;
             }
             return Ok(None);
         };
@@ -156,15 +159,16 @@ impl Server {
                 let message = json!(in self.alloc; {"jsonrpc": "2.0", "id": id, "result": answer})?;
                 self.messages.push(message)?;
             }
-            Err(Fault::Memory) => return Err(AllocError),
             Err(fault) => self.fail(id, fault)?,
         }
         Ok(None)
     }
 
     /// Adds the answer to a request that isn't obeyed.
-    fn fail(&mut self, id: &Value, fault: Fault) -> Result<(), AllocError> {
-        let (code, text) = fault.said();
+    fn fail(&mut self, id: &Value, fault: Fault) -> Made<()> {
+        let Fault::Error(code, text) = fault else {
+            return Err(AllocError);
+        };
         let message = json!(in self.alloc; {
             "jsonrpc": "2.0", "id": id, "error": {"code": code, "message": text}
         })?;
@@ -179,25 +183,26 @@ impl Server {
                 self.phase = Phase::Running;
                 Ok(welcome(self.alloc, self.encoding)?)
             }
-            (Phase::New, _) => Err(Fault::Uninitialized),
-            (Phase::Running, "initialize") => Err(Fault::Request),
+            (Phase::New, _) => Err(EARLY),
+            (Phase::Running, "initialize") => Err(REQUEST),
             (Phase::Running, "shutdown") => {
                 self.phase = Phase::ShutDown;
                 Ok(Value::Null)
             }
             (Phase::Running, _) => match method.strip_prefix("textDocument/") {
                 Some(topic) if is_topic(topic) => self.tell(topic, value),
-                _ => Err(Fault::Method),
+                _ => Err(METHOD),
             },
-            _ => Err(Fault::Request),
+            _ => Err(REQUEST),
         }
     }
 
     /// The answer to a request about a document.
     fn tell(&self, topic: &str, value: &Value) -> Result<Value, Fault> {
-        let place = self.place_of(value).ok_or(Fault::Parameters)?;
-        let document = self.documents.get(place).ok_or(Fault::Parameters)?;
-        let judged = document.text_in(self.alloc, self.encoding);
+        let place = self.place_of(value).ok_or(PARAMETERS)?;
+        let document = self.documents.get(place).ok_or(PARAMETERS)?;
+        let marked = Marked::of(self.alloc, self.encoding, &document.text)?;
+        let judged = document.text_in(self.alloc, self.encoding, self.profile, &marked);
         match topic {
             "formatting" => return Ok(layout_edits(judged)?),
             "foldingRange" => return Ok(folds(self.alloc, judged.text)?),
@@ -207,14 +212,14 @@ impl Server {
             return Ok(Value::Null);
         };
         match read_lattice(self.alloc, bytes) {
-            Ok(lattice) => lattice_answer(judged, self.profile, &lattice, topic, value),
+            Ok(lattice) => lattice_answer(judged, &lattice, topic, value),
             Err(LatticeError::Memory) => Err(Fault::Memory),
             Err(_) => Ok(Value::Null),
         }
     }
 
     /// Does what a notification asks.
-    fn note(&mut self, method: &str, value: &Value) -> Result<Option<Wanted>, AllocError> {
+    fn note(&mut self, method: &str, value: &Value) -> Made<Option<Wanted>> {
         match (self.phase, method) {
             (Phase::ShutDown, "exit") => self.phase = Phase::Exited,
             (_, "exit") => self.phase = Phase::Failed,
@@ -244,7 +249,7 @@ impl Server {
     }
 
     /// Opens a document.
-    fn open(&mut self, value: &Value) -> Result<Option<Wanted>, AllocError> {
+    fn open(&mut self, value: &Value) -> Made<Option<Wanted>> {
         let Some(uri) = text_at(value, "/params/textDocument/uri") else {
             return Ok(None);
         };
@@ -273,7 +278,7 @@ impl Server {
     }
 
     /// Closes a document, which has no errors then.
-    fn close(&mut self, value: &Value) -> Result<(), AllocError> {
+    fn close(&mut self, value: &Value) -> Made<()> {
         let Some(uri) = text_at(value, "/params/textDocument/uri") else {
             return Ok(());
         };
@@ -283,7 +288,7 @@ impl Server {
     }
 
     /// Changes a document.
-    fn change(&mut self, value: &Value) -> Result<Option<Wanted>, AllocError> {
+    fn change(&mut self, value: &Value) -> Made<Option<Wanted>> {
         let Some(place) = self.place_of(value) else {
             return Ok(None);
         };
@@ -299,7 +304,7 @@ impl Server {
     }
 
     /// The path of the lattice file of a document, if it has one.
-    fn policy_path(&self, document: &Document) -> Result<Option<String>, AllocError> {
+    fn policy_path(&self, document: &Document) -> Made<Option<String>> {
         match document.kind() {
             DocumentKind::Interface => interface_path(self.alloc, &document.uri, &document.text),
             DocumentKind::Lattice | DocumentKind::Other => Ok(None),
@@ -313,7 +318,7 @@ impl Server {
 
     /// The lattice file that is to be read for a document; if there is none, its errors are
     /// published.
-    fn want(&mut self, place: usize) -> Result<Option<Wanted>, AllocError> {
+    fn want(&mut self, place: usize) -> Made<Option<Wanted>> {
         let Some(document) = self.documents.get(place) else {
             return Ok(None);
         };
@@ -327,7 +332,7 @@ impl Server {
 
     /// Gives a document its lattice file, and adds the message with its errors. A message before it
     /// says once that texts are judged with two classes.
-    fn publish(&mut self, place: usize, policy: Policy) -> Result<(), AllocError> {
+    fn publish(&mut self, place: usize, policy: Policy) -> Made<()> {
         let Some(document) = self.documents.get_mut(place) else {
             return Ok(());
         };
@@ -362,7 +367,7 @@ fn version_in(value: &Value) -> Option<i64> {
 }
 
 /// The changes that a list gives, up to the first that is malformed.
-fn changes_in<'v>(alloc: Global, list: &'v [Value]) -> Result<Vec<Change<'v>>, AllocError> {
+fn changes_in<'v>(alloc: Global, list: &'v [Value]) -> Made<Vec<Change<'v>>> {
     let mut changes = Vec::new(alloc);
     for value in list {
         let Some(text) = text_at(value, "/text") else {

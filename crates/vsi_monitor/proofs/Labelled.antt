@@ -7,7 +7,8 @@ use Rattle.vsi_scope.specs.Language.{Expression, Number, Location, Operator, Com
 use Rattle.vsi_scope.specs.Meaning.{Store, value}
 use Rattle.vsi_types.specs.Typing.{Locations}
 use Rattle.vsi_monitor.specs.Labels.{HasLabel, IsStored, IsLabelled}
-use Rattle.vsi_monitor.specs.Monitor.{Outcome, Halted, Monitored, NOTHING, ASSIGN, UPGRADE, COMPOSE, COMPOSE_STOP, IF_TRUE, IF_FALSE, WHILE_TRUE, WHILE_STOP, WHILE_FALSE, LETVAR, LETVAR_STOP}
+use Rattle.vsi_monitor.specs.declared.rule.Rule.{Rule}
+use Rattle.vsi_monitor.specs.Monitor.{Outcome, Halted, Monitored, NOTHING, ASSIGN, UPGRADE, MARK, COMPOSE, COMPOSE_STOP, IF_TRUE, IF_FALSE, IF_MARK, WHILE_TRUE, WHILE_STOP, WHILE_FALSE, WHILE_MARK, LETVAR, LETVAR_STOP}
 use Rattle.vsi_monitor.proofs.Computing.{IfHalted}
 
 module _ (L : Lattice) (laws : IsLattice L) where
@@ -64,27 +65,41 @@ module _ (L : Lattice) (laws : IsLattice L) where
         (fit.classes l (omega arith));
   }
 
-  module _ (classes : ℕ → ℕ) where
-    -- A run keeps the form of its store.
-    pub kept : (f : Locations) (k pc n : ℕ) (c : Command) (m : Store) (q : Locations) (r : Outcome) →
-        HasPlaces k c → IsLabelled L k m q → Monitored L classes f pc n c m q r →
-        IfHalted r (λ m' q'. IsLabelled L k m' q')
-    kept f k pc n c m q r has fit NOTHING = fit
-    kept f k pc n c m q r has fit (ASSIGN {l = l} {v = v} {e = e} up t is) =
-        fit_set k m q fit l has.0 (value e m) v is.within
-    kept f k pc n c m q r has fit (UPGRADE not) = tt
-    kept f k pc n c m q r has fit (COMPOSE {q₁ = q₁} {a = a} {b = b} {m₁ = m₁} d d') =
-        kept f k pc (n + letvars a) b m₁ q₁ r has.1 (kept f k pc n a m q (Halted m₁ q₁) has.0 fit d) d'
-    kept f k pc n c m q r has fit (COMPOSE_STOP d) = tt
-    kept f k pc n c m q r has fit (IF_TRUE {u = u} {a = a} z t is d) = kept f k u n a m q r has.1 fit d
-    kept f k pc n c m q r has fit (IF_FALSE {u = u} {a = a} {b = b} z t is d) =
-        kept f k u (n + letvars a) b m q r has.2 fit d
-    kept f k pc n c m q r has fit (WHILE_TRUE {q₁ = q₁} {u = u} {e = e} {c = c'} {m₁ = m₁} z t is d d') =
-        kept f k u n (While e c') m₁ q₁ r has (kept f k u n c' m q (Halted m₁ q₁) has.1 fit d) d'
-    kept f k pc n c m q r has fit (WHILE_STOP z t is d) = tt
-    kept f k pc n c m q r has fit (WHILE_FALSE z) = fit
-    kept f k pc n c m q r has fit (LETVAR {q₁ = q₁} {v = v} {e = e} {c = c'} {m₁ = m₁} t is d) =
-        fit_less k (length m) (length q) m₁ q₁ fit.words fit.labels
-        (kept (f ++ classes n ∷ []) (k + 1) pc (n + 1) c' (m ++ value e m ∷ []) (q ++ v ∷ []) (Halted m₁ q₁) has.1
-        (fit_more k m q fit (value e m) v is.within) d)
-    kept f k pc n c m q r has fit (LETVAR_STOP t is d) = tt
+  -- An expression has at most one label.
+  pub one_label : (q : Locations) (e : Expression) (t t' : ℕ) → HasLabel L q e t → HasLabel L q e t' → t ≡ t'
+  one_label q (Number z) t t' h k = h ∙ sym k
+  one_label q (Location l s) t t' h k = h ∙ sym k
+  one_label q (Operator o a b) t t' h k =
+      let e = one_label q a h.0 k.0 h.2 k.2 in
+      let e' = one_label q b h.1 k.1 h.3 k.3 in
+      one_join h.0 h.1 t t' h.4 (subst (λ x. IsJoin L.count (Below L) h.0 x t') (sym e')
+      (subst (λ x. IsJoin L.count (Below L) x k.1 t') (sym e) k.4))
+
+module _ (R : Rule) (L : Lattice) (laws : IsLattice L) (classes : ℕ → ℕ) where
+  -- A run keeps the form of its store.
+  pub kept : (f : Locations) (k pc n : ℕ) (c : Command) (m : Store) (q : Locations) (r : Outcome) →
+      HasPlaces k c → IsLabelled L k m q → Monitored R L classes f pc n c m q r →
+      IfHalted r (λ m' q'. IsLabelled L k m' q')
+  kept f k pc n c m q r has fit NOTHING = fit
+  kept f k pc n c m q r has fit (ASSIGN {l = l} {v = v} {e = e} up t is) =
+      fit_set L laws k m q fit l has.0 (value e m) v is.within
+  kept f k pc n c m q r has fit (UPGRADE by not) = tt
+  kept f k pc n c m q r has fit (MARK {l = l} {e = e} by not) =
+      fit_set L laws k m q fit l has.0 (value e m) L.top laws.top_within
+  kept f k pc n c m q r has fit (COMPOSE {q₁ = q₁} {a = a} {b = b} {m₁ = m₁} d d') =
+      kept f k pc (n + letvars a) b m₁ q₁ r has.1 (kept f k pc n a m q (Halted m₁ q₁) has.0 fit d) d'
+  kept f k pc n c m q r has fit (COMPOSE_STOP d) = tt
+  kept f k pc n c m q r has fit (IF_TRUE {u = u} {a = a} z clean t is d) = kept f k u n a m q r has.1 fit d
+  kept f k pc n c m q r has fit (IF_FALSE {u = u} {a = a} {b = b} z clean t is d) =
+      kept f k u (n + letvars a) b m q r has.2 fit d
+  kept f k pc n c m q r has fit (IF_MARK reads) = tt
+  kept f k pc n c m q r has fit (WHILE_TRUE {q₁ = q₁} {u = u} {e = e} {c = c'} {m₁ = m₁} z clean t is d d') =
+      kept f k u n (While e c') m₁ q₁ r has (kept f k u n c' m q (Halted m₁ q₁) has.1 fit d) d'
+  kept f k pc n c m q r has fit (WHILE_STOP z clean t is d) = tt
+  kept f k pc n c m q r has fit (WHILE_FALSE z clean) = fit
+  kept f k pc n c m q r has fit (WHILE_MARK reads) = tt
+  kept f k pc n c m q r has fit (LETVAR {q₁ = q₁} {v = v} {e = e} {c = c'} {m₁ = m₁} t is d) =
+      fit_less L laws k (length m) (length q) m₁ q₁ fit.words fit.labels
+      (kept (f ++ classes n ∷ []) (k + 1) pc (n + 1) c' (m ++ value e m ∷ []) (q ++ v ∷ []) (Halted m₁ q₁) has.1
+      (fit_more L laws k m q fit (value e m) v is.within) d)
+  kept f k pc n c m q r has fit (LETVAR_STOP t is d) = tt

@@ -1,6 +1,11 @@
+pub mod Marks
 pub mod Computing
 pub mod Labelled
 pub mod Forms
+pub mod Words
 pub mod Secret
 pub mod Agreeing
 pub mod Passing
+pub mod More
+pub mod Watching
+pub mod Whole

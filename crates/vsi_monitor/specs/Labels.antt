@@ -1,9 +1,13 @@
 -- The labels of words and expressions.
-use Rattle.std.specs.Prelude.{◌≡◌, ℕ, ◌<◌, ◌⊎◌, length, slice_index, slice_index_or, pos}
+use Rattle.std.specs.Prelude.{◌≡◌, ℕ, ◌+◌, ◌<◌, ◌==◌, cond, true, false, ◌⊎◌, length, slice_index, slice_index_or, ℤ, pos}
 use Rattle.vsi_lattice.specs.Order.{Lattice, IsClass, Below, IsJoin}
+use Rattle.vsi_syntax.specs.declared.token.Span.{Span}
 use Rattle.vsi_scope.specs.Language.{Expression, Number, Location, Operator}
 use Rattle.vsi_scope.specs.Meaning.{Store}
 use Rattle.vsi_types.specs.Typing.{Locations}
+use Rattle.vsi_types.specs.Security.{IsReadIn}
+use Rattle.vsi_monitor.specs.declared.rule.Rule.{Rule}
+use Rattle.vsi_monitor.specs.declared.rule.Rule.TheVariants.{NoSensitiveUpgrade, PermissiveUpgrade}
 
 -- The label of an expression, where q gives the label of each location: that of a number is the bottom class, and that
 -- of an operator the join of those of its operands.
@@ -28,9 +32,44 @@ pub record IsLabelled (L : Lattice) (k : ℕ) (m : Store) (q : Locations) : Type
   pub labels : length q ≡ k
   pub classes : (l : ℕ) → l < k → IsClass L (slice_index q l)
 
--- Two labelled stores agree at a: a location that one of them labels at or below a has the same label and the same word
--- in both.
-abbrev pub AgreeAt : Lattice → ℕ → ℕ → Store → Locations → Store → Locations → Type 0
-AgreeAt L k a m q m' q' =
-    (l : ℕ) → l < k → Below L (slice_index q l) a ⊎ Below L (slice_index q' l) a →
-    (slice_index q l ≡ slice_index q' l) × (slice_index_or m l (pos 0) ≡ slice_index_or m' l (pos 0))
+-- The lattice with one label more, above all classes: the mark of words that are partly leaked.
+abbrev pub with_mark : Lattice → Lattice
+with_mark L =
+    record {
+      count = L.count + 1;
+      leq = λ a b. cond (b == L.count) true (cond (a == L.count) false (L.leq a b));
+      bottom = L.bottom;
+      top = L.count;
+    }
+
+-- The labels that words have by a rule: the classes, and by permissive upgrade the mark too.
+abbrev pub labelling : Rule → Lattice → Lattice
+labelling NoSensitiveUpgrade L = L
+labelling PermissiveUpgrade L = with_mark L
+
+-- The label is the mark, which is the topmost one of the labels by permissive upgrade.
+abbrev pub IsMark : Rule → Lattice → ℕ → Type 0
+IsMark NoSensitiveUpgrade L t = ⊥
+IsMark PermissiveUpgrade L t = t ≡ L.top
+
+-- The expression reads no word with the mark.
+abbrev pub ReadsNoMark : Rule → Lattice → Locations → Expression → Type 0
+ReadsNoMark R L q e = (l : ℕ) → IsReadIn e l → IsMark R L (slice_index q l) → ⊥
+
+-- The first word with the mark that the expression reads has its name at s.
+abbrev pub ReadsMarkAt : Rule → Lattice → Locations → Expression → Span → Type 0
+ReadsMarkAt R L q (Number z) s = ⊥
+ReadsMarkAt R L q (Location l p) s = IsMark R L (slice_index q l) × (s ≡ p)
+ReadsMarkAt R L q (Operator o a b) s = ReadsMarkAt R L q a s ⊎ (ReadsNoMark R L q a × ReadsMarkAt R L q b s)
+
+-- Two labelled words agree at a: if neither has the mark, and one of the labels is at or below a, then the labels are
+-- the same, and so are the words.
+abbrev pub WordsAgree : Rule → Lattice → ℕ → ℕ → ℤ → ℕ → ℤ → Type 0
+WordsAgree R L a t x t' x' =
+    (IsMark R L t → ⊥) → (IsMark R L t' → ⊥) → Below L t a ⊎ Below L t' a → (t ≡ t') × (x ≡ x')
+
+-- Two labelled stores agree at a: the words of each location do.
+abbrev pub StoresAgree : Rule → Lattice → ℕ → ℕ → Store → Locations → Store → Locations → Type 0
+StoresAgree R L k a m q m' q' =
+    (l : ℕ) → l < k →
+    WordsAgree R L a (slice_index q l) (slice_index_or m l (pos 0)) (slice_index q' l) (slice_index_or m' l (pos 0))

@@ -1,3 +1,4 @@
 pub mod Labels
 pub mod Monitor
+pub mod Watched
 pub mod Laws

@@ -5,6 +5,7 @@ use crate::claims::Claim;
 use crate::kinds::is_of_kind;
 use crate::replacing::{Filling, fill_whole, replace_by_new, sync_folder};
 use crate::troubles::{NO_FILE, Objection, Trouble, reason_of};
+use std::cell::Cell;
 use std::fs::{File, Metadata};
 use std::io::ErrorKind;
 use std::os::unix::fs::{FileTypeExt, MetadataExt};
@@ -43,7 +44,7 @@ struct Identity {
 pub(crate) struct Disk<'a> {
     rt: &'a HostRuntime,
     /// The files that this request has opened to read, the first ones if there are more.
-    read: [Option<Identity>; MOST_READ],
+    read: Cell<[Option<Identity>; MOST_READ]>,
     /// The kind of the file that this request writes.
     kind: OutputKind,
     /// The file that this request reads and may replace, if it is there.
@@ -59,7 +60,7 @@ pub(crate) struct Disk<'a> {
     /// Why a file wasn't written that is of another kind, or that others may read.
     objection: Option<Objection>,
     /// Why the last file that wasn't read or written wasn't, if the system said it.
-    fault: Option<&'static str>,
+    fault: Cell<Option<&'static str>>,
     /// Whether the request serves an editor, which waits for no file.
     is_server: bool,
 }
@@ -69,7 +70,7 @@ impl<'a> Disk<'a> {
     pub(crate) fn new(rt: &'a HostRuntime, is_server: bool) -> Disk<'a> {
         Disk {
             rt,
-            read: [None; MOST_READ],
+            read: Cell::new([None; MOST_READ]),
             kind: OutputKind::Image,
             replaced: None,
             claim: Claim::Free,
@@ -77,19 +78,21 @@ impl<'a> Disk<'a> {
             has_filled: false,
             is_spared: false,
             objection: None,
-            fault: None,
+            fault: Cell::new(None),
             is_server,
         }
     }
 
     /// Notes a file that was opened to read.
-    fn note(&mut self, identity: Identity) {
-        for place in &mut self.read {
+    fn note(&self, identity: Identity) {
+        let mut read = self.read.get();
+        for place in &mut read {
             if place.is_none() {
                 *place = Some(identity);
-                return;
+                break;
             }
         }
+        self.read.set(read);
     }
 
     /// The identity of the file at the path, whatever its name, if there is one.
@@ -110,7 +113,7 @@ impl<'a> Disk<'a> {
         if self.has_filled || found.is_none() || found == self.replaced {
             return false;
         }
-        if self.read.contains(&found) {
+        if self.read.get().contains(&found) {
             self.is_spared = true;
             return true;
         }
@@ -163,7 +166,7 @@ impl<'a> Disk<'a> {
         match done {
             Ok(()) => return Some(()),
             Err(Trouble::Objection(objection)) => self.objection = Some(objection),
-            Err(Trouble::Fault(reason)) => self.fault = reason,
+            Err(Trouble::Fault(reason)) => self.fault.set(reason),
         }
         None
     }
@@ -260,9 +263,9 @@ fn identity_of(device: u64, number: u64) -> Identity {
 impl Files for Disk<'_> {
     type Input = File;
 
-    fn open_file(&mut self, path: &str) -> Option<File> {
+    fn open_file(&self, path: &str) -> Option<File> {
         if self.is_barred(path) {
-            self.fault = Some(NO_FILE);
+            self.fault.set(Some(NO_FILE));
             return None;
         }
         let file = File::open(self.rt, path).ok()?;
@@ -311,7 +314,7 @@ impl Files for Disk<'_> {
         }
     }
 
-    fn objection(&mut self) -> Option<&'static str> {
+    fn objection(&self) -> Option<&'static str> {
         match self.objection {
             Some(objection) => Some(objection.sentence()),
             None => None,
@@ -332,14 +335,14 @@ impl Files for Disk<'_> {
         }
     }
 
-    fn trouble(&mut self, path: &str) -> Option<&'static str> {
+    fn trouble(&self, path: &str) -> Option<&'static str> {
         if let Some(objection) = self.objection {
             return Some(objection.sentence());
         }
         match fs::metadata(self.rt, path) {
             Ok(found) if found.is_dir() => Some("this is a folder."),
             Ok(_) if self.is_spared => Some(IS_READ),
-            _ if self.fault.is_some() => self.fault,
+            _ if self.fault.get().is_some() => self.fault.get(),
             Ok(found) if is_pipe(&found) => Some(NO_FILE),
             Ok(found) if found.len() >= LIMIT => {
                 Some("the file has more than 1048576 bytes, or may not be read or written.")
@@ -349,7 +352,7 @@ impl Files for Disk<'_> {
         }
     }
 
-    fn wants_colour(&mut self) -> bool {
+    fn wants_colour(&self) -> bool {
         env::var(self.rt, "NO_COLOR").is_err() && self.is_terminal("/proc/self/fd/2")
     }
 }

@@ -20,12 +20,12 @@ ghost use Rattle.vsi_report.specs.Reached.{AreReached};
 use crate::order::{Order, name_of};
 use crate::page::Made;
 use std::alloc::{AllocError, Global};
+use vsi_client::Mention;
 use vsi_flows::{FlowsError, Pair, declarations, flows_in};
 use vsi_infer::{
     Flow, FlowRows, InferError, declared_class, fewest_flows, flow_rows, flow_rows_by, infer_in,
 };
 use vsi_lattice::{Class, Classes, Lattice};
-use vsi_names::Mention;
 use vsi_scope::{Resolved, Var};
 use vsi_types::{Profile, Rule, Step};
 

@@ -10,7 +10,7 @@ use crate::facts::colour;
 use crate::page::{Added, Made, put_byte, put_escaped, put_number};
 use crate::report::View;
 use std::alloc::{AllocError, Global};
-use vsi_names::Mention;
+use vsi_client::Mention;
 use vsi_syntax::{Kind, LexError, Token, lex};
 
 /// The names of the control characters below the space.

@@ -168,9 +168,9 @@ aria-label=\"%0\" xmlns=\"http://www.w3.org/2000/svg\" width=\"%1\" height=\"%2\
 viewBox=\"0 %3 %1 %2\">";
 
 /// Adds the beginning of a picture with a label, without what is above `top`.
-fn put_picture(page: &mut Page, label: &'static [u8], drawing: &Drawing, top: usize) -> Added {
+fn put_picture(page: &mut Page, label: Part<'_>, drawing: &Drawing, top: usize) -> Added {
     let numbers = [drawing.wide, drawing.high.saturating_sub(top), top];
-    page.fill(PICTURE, &[Part::Markup(label)], &numbers)
+    page.fill(PICTURE, &[label], &numbers)
 }
 
 /// A box with a name in the colour of a class.
@@ -235,7 +235,8 @@ const TITLE: usize = 34;
 
 /// Adds the picture of a lattice.
 pub(crate) fn put_lattice(page: &mut Page, view: &View<'_>, drawing: &Drawing) -> Added {
-    put_picture(page, b"The lattice of classes", drawing, TITLE)?;
+    let label = Part::Markup(b"The lattice of classes");
+    put_picture(page, label, drawing, TITLE)?;
     for index in 0..drawing.ways.len() {
         let line = line_of(view.alloc, drawing, index)?;
         page.fill(
@@ -372,10 +373,24 @@ fn put_boxes(page: &mut Page, view: &View<'_>, drawing: &Drawing) -> Added {
     Ok(())
 }
 
+/// The label of the picture of the flows, with the ends of the refused walk.
+fn label_of(view: &View<'_>) -> Made<Page> {
+    let mut label = Page::new(view.alloc);
+    label.put(b"The flows of one step between variables.")?;
+    if let (Some(first), Some(last)) = (view.walk.first(), view.walk.last()) {
+        let from = view.facts.name(view.facts.number(first.source));
+        let to = view.facts.name(view.facts.number(last.target));
+        let ends = [Part::Text(from), Part::Text(to)];
+        label.fill(b" The chain from %0 to %1 is refused.", &ends, &[])?;
+    }
+    Ok(label)
+}
+
 /// Adds the picture of a program's flows.
 pub(crate) fn put_scene(page: &mut Page, view: &View<'_>, scene: &Scene) -> Added {
     let drawing = &scene.drawing;
-    put_picture(page, b"The flows of one step between variables", drawing, 0)?;
+    let label = label_of(view)?;
+    put_picture(page, Part::Page(&label), drawing, 0)?;
     page.put(TIPS)?;
     put_areas(page, view, drawing, false)?;
     put_arrows(page, view, scene, false)?;
@@ -417,15 +432,26 @@ pub(crate) fn put_legend(page: &mut Page, scene: &Scene) -> Added {
     page.put(b"</ul>\n")
 }
 
-/// Adds a row for each arrow, with the names of its ends and its rule.
+/// Adds a row for each arrow, with the names of its ends and its rule, and whether it is a step of
+/// the refused walk.
 pub(crate) fn put_arrow_rows(page: &mut Page, view: &View<'_>, scene: &Scene) -> Added {
-    for arrow in &scene.arrows {
+    for (index, arrow) in scene.arrows.iter().enumerate() {
         let (from, to) = (
             Part::Name(view.facts, arrow.source),
             Part::Name(view.facts, arrow.target),
         );
-        let parts = [from, to, Part::Markup(rule_text(arrow.rule))];
-        page.fill(b"<tr><td>%0</td><td>%1</td><td>%2</td></tr>\n", &parts, &[])?;
+        let mark: &[u8] = if scene.walk.contains(&index) {
+            b", in the refused chain"
+        } else {
+            b""
+        };
+        let rule = Part::Markup(rule_text(arrow.rule));
+        let parts = [from, to, rule, Part::Markup(mark)];
+        page.fill(
+            b"<tr><td>%0</td><td>%1</td><td>%2%3</td></tr>\n",
+            &parts,
+            &[],
+        )?;
     }
     Ok(())
 }

@@ -196,8 +196,18 @@ const ENDING: &[u8] = b"<li>%4: %0 flows to %1 by %6</li>";
 const TABLE: &[u8] = b"<table>\n<thead><tr><th scope=\"col\">From</th><th scope=\"col\">To</th>\
 <th scope=\"col\">Verdict</th><th scope=\"col\">Fewest steps</th></tr></thead>\n<tbody>\n";
 
+/// The most refused pairs that are printed with their walks.
+const MOST_PRINTED: usize = 10;
+/// The text on paper above more of them.
+const FIRST: &[u8] = b"<p class=\"paper\">Only the first ten refused flows are printed.</p>\n";
+
 /// Adds a row for each of these refused pairs, and below it its walk, which opens.
 fn put_walks(page: &mut Page, view: &View<'_>, walks: &[WalkedPair]) -> Added {
+    page.put(if walks.len() > MOST_PRINTED {
+        FIRST
+    } else {
+        b""
+    })?;
     page.put(TABLE)?;
     for walked in walks {
         let source = view.facts.number(walked.pair.source);
@@ -261,8 +271,13 @@ fn put_groups(page: &mut Page, view: &View<'_>, are_allowed: bool) -> Added {
 }
 
 /// The text about refused pairs without a walk.
-const NO_WALKS: &[u8] = b"<p>All refused flows, of which only the first have their walks above: \
+const NO_WALKS: &[u8] = b"<div class=\"spare\"><p>All refused flows, of which only the first \
+have their walks above: \
 <code>vsi flows --walks</code> prints each.</p>\n";
+
+/// The beginning of many allowed pairs, which aren't printed.
+const MANY: &[u8] = b"<p class=\"paper\">The allowed flows aren't printed.</p>\n\
+<details class=\"spare\"><summary>%4%1</summary>\n";
 
 /// Adds the numbers of pairs, the refused ones, the first of them with their walks, and the allowed
 /// ones, which open.
@@ -291,12 +306,14 @@ pub(crate) fn put_table(page: &mut Page, view: &View<'_>, walks: &[WalkedPair]) 
     if walks.len() < refused {
         page.put(NO_WALKS)?;
         put_groups(page, view, false)?;
+        page.put(b"</div>\n")?;
     }
     if refused < all {
-        page.fill(b"<details><summary>%4%1</summary>\n", &parts, &numbers)?;
         if allowed > MOST_PAIRS {
+            page.fill(MANY, &parts, &numbers)?;
             put_groups(page, view, true)?;
         } else {
+            page.fill(b"<details><summary>%4%1</summary>\n", &parts, &numbers)?;
             put_allowed(page, view)?;
         }
         page.put(b"</details>\n")?;

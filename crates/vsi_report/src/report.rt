@@ -24,11 +24,11 @@ use crate::refusal::{put_fault, put_fixes, put_walk, refused_walks};
 use crate::sections::{Filing, lattice_section, leaf, put_all_flows, put_filing, put_promise};
 use crate::style::style_of;
 use std::alloc::{AllocError, Global};
+use vsi_client::mentions_of;
 use vsi_compiler::{CompileError, Source, image_of, judge, read_source};
 use vsi_diagnostics::{Field, refusal_diagnostic};
 use vsi_image::{Verified, listing};
 use vsi_lattice::{Class, Lattice};
-use vsi_names::mentions_of;
 use vsi_scope::Resolved;
 use vsi_types::{Profile, Step};
 

@@ -117,10 +117,10 @@ pub(crate) fn put_all_flows(
 const PROMISE: &[u8] = b"<section aria-labelledby=\"promise\"><h2 id=\"promise\">What is promised\
 </h2>\n<p>The image does what the text says. Take any class, and two stores that agree on each \
 global whose class is at or below it: if the runs of the image from both halt, their final stores \
-agree on these globals too. So, in runs that halt, nothing that an observer at the class reads at \
-the end depends on what the observer may not see.</p>\n<p>%0</p>\n<p>This is proved about the \
-compiler, for every text that it accepts. It is about who learns what: the class of a variable \
-says who may read it, and nothing says who may write it.</p></section>\n";
+agree on these globals too. So, in runs that halt, no final value at or below the class depends on \
+a global that isn't.</p>\n<p>%0</p>\n<p>This is proved about the compiler, for every text that it \
+accepts. It says what may depend on what; the lattice decides whether a class means secrecy or \
+trust.</p></section>\n";
 
 /// Adds the promises.
 pub(crate) fn put_promise(page: &mut Page, profile: Profile) -> Added {

@@ -78,9 +78,12 @@ color:var(--bad);font-weight:700;white-space:nowrap}\n.refused,.apart{background
 left;font-weight:700;padding:.3rem 0}.runs{margin:.4rem 0}\nth[scope=row]{min-width:5.5em;\
 font-size:inherit;color:inherit;font-weight:600}\n.wrap,.raise{white-space:pre-wrap;\
 overflow-wrap:anywhere}summary{cursor:pointer;padding:.2rem 0}dl{margin:.5rem 0}dt{font-weight:\
-700;margin-top:.4rem}\ndd{margin:0}.sum{font-size:.85em}\n@media (max-width:40rem){body{\
+700;margin-top:.4rem}\ndd{margin:0}.sum{font-size:.85em}\n.paper{\
+display:none}\n@media (min-width:40rem){th[scope=row]{overflow-wrap:break-word}}\
+\n@media (max-width:40rem){body{\
 font-size:16px}header h1{font-size:1.6rem}.line{padding-left:2.6rem}.line::before{width:2rem}pre{\
-font-size:.85rem}th,td{padding-right:.5rem}}\n@media print{@page{margin:13mm 12mm}:root{--paper:\
+font-size:.85rem}th,td{padding-right:.5rem}td .chip{\
+white-space:normal}}\n@media print{@page{margin:13mm 12mm}:root{--paper:\
 #fff;--panel:#fff;--ink:#000;-webkit-print-color-adjust:exact;print-color-adjust:exact}body{\
 font-size:10.5pt;line-height:1.45}main{max-width:none;padding:0}.beside{display:block}header{\
 margin-top:0}h2{margin-top:1.3rem}pre{overflow:visible;white-space:pre-wrap;overflow-wrap:\
@@ -88,7 +91,8 @@ anywhere;font-size:9pt;line-height:1.35;-webkit-box-decoration-break:clone;box-d
 clone}.listing{columns:17em;column-rule:1px solid var(--rule)}.scroll{overflow:visible}.picture{\
 max-width:100%;max-height:23cm;height:auto}table{font-size:9pt}.line{min-height:1.35em}th,td{\
 padding-top:.1rem;padding-bottom:.1rem}header,figure,tr,li,.line,.end{break-inside:avoid}.spare{\
-display:none}h2,h3,summary{break-after:avoid}.turn{display:none}details::details-content{\
+display:none}.paper{display:block}.paper+table tr:nth-child(n+21){display:none}\
+h2,h3,summary{break-after:avoid}.turn{display:none}details::details-content{\
 content-visibility:visible;display:block;height:auto}@page{@bottom-right{content:counter(page) \
 \" of \" counter(pages)}}thead{display:table-header-group}}\n";
 

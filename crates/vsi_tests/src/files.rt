@@ -64,7 +64,7 @@ impl Files for Shelf {
 
     ghost holds = { λ shelf. held shelf.written };
 
-    fn open_file(&mut self, path: &str) -> Option<Drip<'static>> {
+    fn open_file(&self, path: &str) -> Option<Drip<'static>> {
         if self.has_written(path.as_bytes()) {
             return None;
         }

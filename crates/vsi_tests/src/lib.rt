@@ -10,3 +10,7 @@ mod engines;
 mod files;
 #[cfg(test)]
 mod loads;
+#[cfg(test)]
+mod monitors;
+#[cfg(test)]
+mod steps;

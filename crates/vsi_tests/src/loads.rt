@@ -3,24 +3,25 @@
 use crate::devices::{Drip, SUM, TWO};
 use crate::files::{AMPLE, LEAK, Shelf, Shown, call, words_of};
 use std::alloc::{AllocError, Global};
+use std::cell::Cell;
 use std::test::Fail;
 use vsi::{Files, load};
 
 /// Files in which `text` has another content from its second opening on.
 #[derive(Drop)]
 struct Turncoat {
-    is_read: bool,
+    is_read: Cell<bool>,
 }
 
 impl Files for Turncoat {
     type Input = Drip<'static>;
 
-    fn open_file(&mut self, path: &str) -> Option<Drip<'static>> {
+    fn open_file(&self, path: &str) -> Option<Drip<'static>> {
         match path {
             "two" => Some(Drip::new(TWO, 0)),
-            "text" if self.is_read => Some(Drip::new(LEAK, 0)),
+            "text" if self.is_read.get() => Some(Drip::new(LEAK, 0)),
             "text" => {
-                self.is_read = true;
+                self.is_read.set(true);
                 Some(Drip::new(SUM, 0))
             }
             _ => None,
@@ -43,10 +44,22 @@ fn carried<F: Files + Drop>(alloc: Global, line: &str, system: F) -> Result<Show
 #[test]
 fn judges_the_text_that_was_read(rt: HostRuntime) -> Result<(), Fail> {
     let line = "check two text";
-    let first = carried(rt.alloc(), line, Turncoat { is_read: false })?;
+    let first = carried(
+        rt.alloc(),
+        line,
+        Turncoat {
+            is_read: Cell::new(false),
+        },
+    )?;
     assert!(rt; first.status == 0 && first.error.is_empty());
     assert!(rt; first.output.as_slice() == b"accepted\n".as_slice());
-    let second = carried(rt.alloc(), line, Turncoat { is_read: true })?;
+    let second = carried(
+        rt.alloc(),
+        line,
+        Turncoat {
+            is_read: Cell::new(true),
+        },
+    )?;
     assert!(rt; second.status == 1 && second.output.is_empty());
     let told = second.error.as_slice();
     assert!(rt; told.starts_with(b"refused: 25 Refused\n"));

@@ -52,10 +52,10 @@ returns-then-not-reply-clause-failed g c = inl (
 )
 
 pub returns-in_err-write-clause-state : goal.returns-in_err-write-clause-state
-returns-in_err-write-clause-state g c = any_failure _ c.from_residual.result (stays_same c.args.place _ _ refl)
+returns-in_err-write-clause-state g c = any_failure _ c.from_residual.result (stays_same c.args.place _)
 
 pub returns-then-not-reply-clause-state : goal.returns-then-not-reply-clause-state
-returns-then-not-reply-clause-state g c = stays_same c.args.place _ _ refl
+returns-then-not-reply-clause-state g c = stays_same c.args.place _
 
 -- ---- a good one, in an image file.
 

@@ -1,0 +1,488 @@
+//! Explanations of failures, made from the files that were read, and why a file can't be used.
+
+ghost use Rattle.std.specs.Prelude.{◌≡◌, ◌⊎◌, ◌++◌, Contains, IfOk, IfSome, OnOk};
+ghost use Rattle.vsi.specs.Objections as spec;
+ghost use Rattle.vsi.specs.Objections.{MayObject, OBJECTIONS, objection_line};
+
+use crate::failure::{Failure, STREAM, cause_diagnostic, failure_diagnostic};
+use crate::files::Files;
+use crate::inputs::{InputKind, Inputs, Kept};
+use crate::subject::TWO_CLASSES;
+use crate::texts::profile;
+use std::alloc::{AllocError, Global};
+use vsi_advice::advice;
+use vsi_answers::Cause;
+use vsi_arguments::{Colour, Document, Request};
+use vsi_caret::{ColourMode, put_safe};
+use vsi_compiler::{CompileError, read_source};
+use vsi_conform::{
+    InterfaceError, InterfaceFile, Judgement, Policy, flows_profile, judged, read_interface,
+};
+use vsi_diagnostics::{Diagnostic, Fault};
+use vsi_drive::{LineFault, StartFault};
+use vsi_image::{Image, decode};
+use vsi_lattice::{Lattice, read_lattice};
+use vsi_steady::{SteadyError, UnsteadyError};
+use vsi_store::StoreError;
+use vsi_syntax::put_number;
+use vsi_telling::{RefusedFile, class_list, explanation, flows_explanation};
+use vsi_types::Profile;
+
+/// The advice for a run that is out of budget.
+const SPENT: &[u8] = b"\
+The run did not halt within its budget. Give a larger --budget, or look for a
+loop whose guard never becomes 0.
+";
+
+/// The advice for a text that has grown too long by the names of its raised classes.
+const TOO_LONG: &[u8] = b"\
+With the names of the new classes the text is longer than a text may be. Shorten
+a comment, or give the classes shorter names in the lattice file.
+";
+
+/// The advice for a text whose image isn't steady.
+const UNSTEADY: &[u8] = b"\
+With --steady each `if` counts as a `while`: a variable that a guard reads must
+have the least class. Compute both results and select one by arithmetic, as in
+`out := g * a + (1 - g) * b` for a guard g that is 0 or 1.
+";
+
+/// The settings of an explanation: its colours, and the profile that judges a source text.
+#[derive(Clone, Copy)]
+pub(crate) struct Explaining {
+    pub(crate) mode: ColourMode,
+    pub(crate) profile: Profile,
+}
+
+impl Explaining {
+    /// The settings for explaining a request's refusal.
+    pub(crate) fn new<F: Files>(request: &Request<'_>, colour: Colour, files: &F) -> Self {
+        let is_coloured = match colour {
+            Colour::Always => true,
+            Colour::Never => false,
+            Colour::Auto => files.wants_colour(),
+        };
+        Explaining {
+            mode: if is_coloured {
+                ColourMode::Coloured
+            } else {
+                ColourMode::Plain
+            },
+            profile: profile(is_strict(request)),
+        }
+    }
+}
+
+/// Whether the strict profile judges the source text.
+fn is_strict(request: &Request<'_>) -> bool {
+    match request {
+        Request::Check(asked) | Request::Document(Document::Sarif(asked)) => {
+            asked.compilation.is_strict || asked.is_steady
+        }
+        Request::Classes(compilation)
+        | Request::Document(Document::Classes(compilation))
+        | Request::Document(Document::Flows(compilation))
+        | Request::Build(compilation, _)
+        | Request::Report(compilation)
+        | Request::Flows { compilation, .. } => compilation.is_strict,
+        Request::Mend(asked) => asked.compilation.is_strict,
+        Request::Draw(drawing) => drawing.is_strict,
+        _ => false,
+    }
+}
+
+/// The explanation of a failure, with the page that says more about a refusal that has a number.
+pub(crate) fn explained<F: Files>(
+    inputs: &Inputs,
+    explaining: Explaining,
+    files: &F,
+    failure: &Failure<'_>,
+) -> Result<Vec<u8>, AllocError> {
+    let mut lines = explaining.of_failure(inputs, files, failure)?;
+    if let Some(diagnostic) = failure_diagnostic(source_of(inputs), failure) {
+        put_page(&mut lines, &diagnostic)?;
+    }
+    Ok(lines)
+}
+
+/// The source text that was read, or an empty one if none was.
+pub(crate) fn source_of(inputs: &Inputs) -> &[u8] {
+    match inputs.last(InputKind::Source) {
+        Some(kept) => kept.bytes.as_slice(),
+        None => b"",
+    }
+}
+
+impl Explaining {
+    /// The explanation of a failure.
+    fn of_failure<F: Files>(
+        self,
+        inputs: &Inputs,
+        files: &F,
+        failure: &Failure<'_>,
+    ) -> Result<Vec<u8>, AllocError> {
+        match failure {
+            Failure::Refused(_, Some(cause)) => self.of_cause(inputs, cause),
+            Failure::Interface(_, error) => self.of_interface(inputs, error),
+            Failure::Audit(_, _) | Failure::Unsteady(_, _) => self.of_audit(inputs, failure),
+            Failure::FileFault(path) => of_fault(inputs, files, path),
+            Failure::LostFile(path) => of_fault(inputs, files, path.as_str()),
+            Failure::OutOfBudget => Vec::from_slice(inputs.alloc, SPENT),
+            Failure::NoClass(_) => of_class(inputs),
+            Failure::Differs => self.of_difference(inputs),
+            Failure::Refused(_, None) | Failure::Usage(_) | Failure::Memory => {
+                Ok(Vec::new(inputs.alloc))
+            }
+        }
+    }
+
+    /// The explanation of a source text that isn't accepted as its interface requires, with the
+    /// page that says more. There is none if no text was read beside an interface, or if it is
+    /// accepted.
+    fn of_difference(self, inputs: &Inputs) -> Result<Vec<u8>, AllocError> {
+        let (Some(kept), Some(asked)) = (
+            inputs.last(InputKind::Source),
+            inputs.last(InputKind::Interface),
+        ) else {
+            return Ok(Vec::new(inputs.alloc));
+        };
+        let (Ok(asked), Some(lattice)) = (
+            read_interface(inputs.alloc, &asked.bytes),
+            policy(inputs),
+        ) else {
+            return Err(AllocError);
+        };
+        let judgement = asked.interface.judgement;
+        let Err(error) = judged(inputs.alloc, judgement, &lattice, &kept.bytes)? else {
+            return Ok(Vec::new(inputs.alloc));
+        };
+        let is_flow = matches!(&error, UnsteadyError::Compile(CompileError::Flow(_)));
+        let explaining = Explaining {
+            mode: self.mode,
+            profile: flows_profile(judgement),
+        };
+        let cause = Cause::Steady(error);
+        let mut lines = if is_flow && !matches!(judgement, Judgement::Steady) {
+            explaining.of_flow(inputs.alloc, &lattice, kept)?
+        } else {
+            explaining.of_cause(inputs, &cause)?
+        };
+        if let Some(diagnostic) = cause_diagnostic(&kept.bytes, &cause) {
+            put_page(&mut lines, &diagnostic)?;
+        }
+        Ok(lines)
+    }
+
+    /// The explanation of a refusal with this cause.
+    fn of_cause(self, inputs: &Inputs, cause: &Cause) -> Result<Vec<u8>, AllocError> {
+        match cause {
+            Cause::Source(error) => self.of_source(inputs, error),
+            Cause::Steady(UnsteadyError::Compile(CompileError::Flow(_))) => {
+                Vec::from_slice(inputs.alloc, UNSTEADY)
+            }
+            Cause::Steady(UnsteadyError::Compile(error)) => self.of_source(inputs, error),
+            Cause::Steady(UnsteadyError::Image(error)) => self.of_text_image(inputs, error),
+            Cause::File(Fault::Store(error)) => self.of_store(inputs, error),
+            Cause::File(fault) => self.of_file(inputs, fault),
+            Cause::Start(fault) => self.of_start(inputs, *fault),
+            Cause::Raised(_) => Vec::from_slice(inputs.alloc, TOO_LONG),
+            Cause::Steady(UnsteadyError::Memory) => Ok(Vec::new(inputs.alloc)),
+        }
+    }
+
+    /// The explanation of a refused source text.
+    fn of_source(self, inputs: &Inputs, error: &CompileError) -> Result<Vec<u8>, AllocError> {
+        let Some(kept) = inputs.last(InputKind::Source) else {
+            return Ok(Vec::new(inputs.alloc));
+        };
+        if let Some(lines) = inputs.flow_lines() {
+            return lines;
+        }
+        let lattice = policy(inputs).ok_or(AllocError)?;
+        if let CompileError::Flow(_) = error {
+            return self.of_flow(inputs.alloc, &lattice, kept);
+        }
+        let refused = RefusedFile::Source {
+            path: &kept.path,
+            bytes: &kept.bytes,
+            lattice: &lattice,
+            error,
+        };
+        explanation(inputs.alloc, self.mode, &refused)
+    }
+
+    /// The explanation of a refused store file.
+    fn of_store(self, inputs: &Inputs, error: &StoreError) -> Result<Vec<u8>, AllocError> {
+        let Some(kept) = inputs.last(InputKind::Store) else {
+            return Ok(Vec::new(inputs.alloc));
+        };
+        let image = read_image(inputs).ok_or(AllocError)?;
+        let refused = RefusedFile::Store {
+            path: &kept.path,
+            bytes: &kept.bytes,
+            image: &image,
+            error,
+        };
+        explanation(inputs.alloc, self.mode, &refused)
+    }
+
+    /// The explanation of a source text whose image isn't steady.
+    fn of_text_image(self, inputs: &Inputs, error: &SteadyError) -> Result<Vec<u8>, AllocError> {
+        let Some(kept) = inputs.last(InputKind::Source) else {
+            return Ok(Vec::new(inputs.alloc));
+        };
+        let lattice = policy(inputs).ok_or(AllocError)?;
+        let refused = vsi_advice::RefusedInput::Text {
+            lattice: &lattice,
+            bytes: &kept.bytes,
+            error,
+        };
+        advice(inputs.alloc, self.mode, &kept.path, refused)
+    }
+
+    /// The explanation of a source text that is refused for a flow, which is read once more.
+    fn of_flow(self, alloc: Global, lattice: &Lattice, kept: &Kept) -> Result<Vec<u8>, AllocError> {
+        let Ok(source) = read_source(alloc, lattice, &kept.bytes) else {
+            return Err(AllocError);
+        };
+        flows_explanation(alloc, self.mode, self.profile, &kept.path, &source)
+    }
+
+    /// The explanation of a refused lattice file or image.
+    fn of_file(self, inputs: &Inputs, fault: &Fault) -> Result<Vec<u8>, AllocError> {
+        let kind = match fault {
+            Fault::Lattice(_) => InputKind::Lattice,
+            Fault::Store(_) => InputKind::Store,
+            Fault::Decode(_) | Fault::Verify(_) | Fault::View(_) => InputKind::Image,
+        };
+        let Some(kept) = of_kind(inputs, kind) else {
+            return Ok(Vec::new(inputs.alloc));
+        };
+        let refused = RefusedFile::File {
+            path: &kept.path,
+            bytes: &kept.bytes,
+            fault,
+        };
+        explanation(inputs.alloc, self.mode, &refused)
+    }
+
+    /// The explanation of a refused interface.
+    fn of_interface(self, inputs: &Inputs, error: &InterfaceError) -> Result<Vec<u8>, AllocError> {
+        let Some(kept) = inputs.last(InputKind::Interface) else {
+            return Ok(Vec::new(inputs.alloc));
+        };
+        match read_policy(inputs)? {
+            Some(lattice) => self.interface_advice(inputs.alloc, kept, Some(&lattice), error),
+            None => self.interface_advice(inputs.alloc, kept, None, error),
+        }
+    }
+
+    /// The explanation of this refused interface, with its lattice if that was read.
+    fn interface_advice<'d>(
+        self,
+        alloc: Global,
+        kept: &'d Kept,
+        lattice: Option<&'d Lattice>,
+        error: &'d InterfaceError,
+    ) -> Result<Vec<u8>, AllocError> {
+        let refused = vsi_advice::RefusedInput::Interface {
+            bytes: &kept.bytes,
+            lattice,
+            error,
+        };
+        advice(alloc, self.mode, &kept.path, refused)
+    }
+
+    /// The explanation of a run that doesn't begin.
+    fn of_start(self, inputs: &Inputs, fault: StartFault) -> Result<Vec<u8>, AllocError> {
+        let Some(kept) = faulty_start(inputs, fault) else {
+            return Ok(Vec::new(inputs.alloc));
+        };
+        let image = read_image(inputs).ok_or(AllocError)?;
+        let refused = vsi_advice::RefusedInput::Start {
+            bytes: &kept.bytes,
+            image: &image,
+            fault,
+        };
+        advice(inputs.alloc, self.mode, &kept.path, refused)
+    }
+
+    /// The explanation of an image that an audit refuses.
+    fn of_audit(self, inputs: &Inputs, failure: &Failure<'_>) -> Result<Vec<u8>, AllocError> {
+        let kept = inputs.last(InputKind::Image).ok_or(AllocError)?;
+        let image = read_image(inputs).ok_or(AllocError)?;
+        let lattice = policy(inputs).ok_or(AllocError)?;
+        let (lattice, image) = (&lattice, &image);
+        let refused = match failure {
+            Failure::Audit(_, error) => vsi_advice::RefusedInput::Audit {
+                lattice,
+                image,
+                error,
+            },
+            Failure::Unsteady(_, error) => vsi_advice::RefusedInput::Steady {
+                lattice,
+                image,
+                error,
+            },
+            _ => return Ok(Vec::new(inputs.alloc)),
+        };
+        advice(inputs.alloc, self.mode, &kept.path, refused)
+    }
+}
+
+/// Adds the line that names the page of a refusal.
+fn put_page(lines: &mut Vec<u8>, diagnostic: &Diagnostic) -> Result<(), AllocError> {
+    lines.extend_from_slice(b"More: vsi explain ")?;
+    put_number(lines, diagnostic.code)?;
+    lines.extend_from_slice(b"\n")
+}
+
+/// The lattice that an interface has itself, or `L` below `H` if it names a file.
+fn own_lattice(alloc: Global, asked: &InterfaceFile) -> Option<Lattice> {
+    match &asked.policy {
+        Policy::Tables(text) => read_lattice(alloc, text).ok(),
+        _ => read_lattice(alloc, TWO_CLASSES).ok(),
+    }
+}
+
+/// The lattice that was read or that an interface has, or `L` below `H` if there is none.
+fn policy(inputs: &Inputs) -> Option<Lattice> {
+    if let Some(kept) = inputs.last(InputKind::Lattice) {
+        return read_lattice(inputs.alloc, kept.bytes.as_slice()).ok();
+    }
+    let Some(kept) = inputs.last(InputKind::Interface) else {
+        return read_lattice(inputs.alloc, TWO_CLASSES).ok();
+    };
+    match read_interface(inputs.alloc, &kept.bytes) {
+        Ok(asked) => own_lattice(inputs.alloc, &asked),
+        Err(error) => match &error {
+            InterfaceError::Memory => None,
+            _ => read_lattice(inputs.alloc, TWO_CLASSES).ok(),
+        },
+    }
+}
+
+/// The explanation of a class name that the lattice lacks.
+fn of_class(inputs: &Inputs) -> Result<Vec<u8>, AllocError> {
+    let lattice = policy(inputs).ok_or(AllocError)?;
+    class_list(inputs.alloc, &lattice)
+}
+
+/// The image that was read.
+fn read_image(inputs: &Inputs) -> Option<Image> {
+    decode(
+        inputs.alloc,
+        inputs.last(InputKind::Image)?.bytes.as_slice(),
+    )
+    .ok()
+}
+
+/// The last file of a kind; an interface that has its own classes counts as a lattice file.
+fn of_kind<'d>(inputs: &'d Inputs, kind: InputKind) -> Option<&'d Kept> {
+    match inputs.last(kind) {
+        None if kind == InputKind::Lattice => inputs.last(InputKind::Interface),
+        kept => kept,
+    }
+}
+
+/// The lattice of the file that was read, if one was.
+fn read_policy(inputs: &Inputs) -> Result<Option<Lattice>, AllocError> {
+    match inputs.last(InputKind::Lattice) {
+        Some(kept) => match read_lattice(inputs.alloc, &kept.bytes) {
+            Ok(lattice) => Ok(Some(lattice)),
+            Err(_) => Err(AllocError),
+        },
+        None => Ok(None),
+    }
+}
+
+/// The text that keeps a run from beginning: a setting, a list of names, the store file, or else
+/// the image.
+fn faulty_start<'d>(inputs: &'d Inputs, fault: StartFault) -> Option<&'d Kept> {
+    match fault {
+        StartFault::Setting(
+            LineFault::BadSetting(number)
+            | LineFault::UnknownGlobal(number)
+            | LineFault::AboveClass(number)
+            | LineFault::NotAnInput(number)
+            | LineFault::NotANumber(number),
+        ) => inputs.behind(InputKind::Setting, number),
+        StartFault::Setting(LineFault::TooLong) => None,
+        StartFault::Boundary(_) => inputs.last(InputKind::Names),
+        StartFault::Unnamed(_) => match inputs.last(InputKind::Store) {
+            None => inputs.last(InputKind::Image),
+            kept => kept,
+        },
+    }
+}
+
+/// The sentence about a store file with a wrong checksum.
+const BROKEN: &str = "the file was changed or cut short: its first line isn't the checksum of the \
+rest. To use it all the same, delete that line.";
+
+/// The reason why a file can't be used.
+pub(crate) fn of_fault<F: Files>(
+    inputs: &Inputs,
+    files: &F,
+    path: &str,
+) -> Result<Vec<u8>, AllocError> {
+    if path == STREAM {
+        return Vec::from_slice(
+            inputs.alloc,
+            b"A standard stream can't be read or written.\n",
+        );
+    }
+    let found = match objection_to(inputs, files) {
+        Some(sentence) => Some(sentence),
+        None => files.trouble(path),
+    };
+    if let Some(sentence) = found {
+        return sentence_line(inputs.alloc, path, sentence);
+    }
+    let mut lines = Vec::new(inputs.alloc);
+    put_safe(&mut lines, path.as_bytes())?;
+    lines.extend_from_slice(b" can't be opened, read or written.\n")?;
+    Ok(lines)
+}
+
+/// Why a file isn't used, where each user has to know: its checksum is wrong, or it would be
+/// replaced and is of another kind.
+fn objection_to<F: Files>(inputs: &Inputs, files: &F) -> Option<&'static str>
+    ensures { IfSome result (λ sentence. Contains OBJECTIONS sentence.now
+        ⊎ (sentence.now ≡ spec.BROKEN)) }
+{
+    if inputs.is_broken {
+        return Some(BROKEN);
+    }
+    files.objection()
+}
+
+/// The line with the path and a sentence about its file.
+fn sentence_line(alloc: Global, path: &str, sentence: &str) -> Result<Vec<u8>, AllocError>
+    ensures { IfOk result (λ line. line.items ≡ objection_line path.now sentence.now) }
+{
+    let mut line = Vec::new(alloc);
+    put_safe(&mut line, path.as_bytes())?;
+    line.extend_from_slice(b": ")?;
+    line.extend_from_slice(sentence.as_bytes())?;
+    line.extend_from_slice(b"\n")?;
+    Ok(line)
+}
+
+/// The line about such a file, if it is the reason for the failure.
+pub(crate) fn objection<F: Files>(
+    inputs: &Inputs,
+    files: &F,
+    failure: &Failure<'_>,
+) -> Result<Vec<u8>, AllocError>
+    ensures { IfOk result (λ line. MayObject failure.now line.items) }
+{
+    let Failure::FileFault(path) = failure else {
+        return Ok(Vec::new(inputs.alloc));
+    };
+    let Some(sentence) = objection_to(inputs, files) else {
+        return Ok(Vec::new(inputs.alloc));
+    };
+    let line = sentence_line(inputs.alloc, path, sentence)?;
+    Ok(line)
+}

@@ -1,9 +1,0 @@
-use Rattle.std.proofs.Common.{◌≡◌, length}
-use Rattle.vsi_arguments.specs.Words.{is_among, shown}
-use Rattle.vsi_arguments.proofs.reading.is_among.Given as goal
-
-abbrev pub invariant-loop-rest : goal.invariant-loop-rest
-invariant-loop-rest l = is_among (shown l.rest) l.word ≡ is_among (shown l.names) l.word
-
-abbrev pub decreases-loop-rest : goal.decreases-loop-rest
-decreases-loop-rest l = length l.rest

@@ -1,0 +1,167 @@
+//! Messages of the command-line parser, with tips, which can't control a terminal.
+
+use crate::usage::owners_of;
+use std::alloc::{AllocError, Global};
+
+/// The subcommands that have the options of how a refusal is reported.
+const MOST: &str =
+    "every subcommand except lattice, lsp and explain, and comes after the subcommand";
+
+/// Texts and tips, as rows.
+macro_rules! tips {
+    ($($part:literal => $tip:literal;)*) => { [$(($part, $tip)),*] };
+}
+
+/// A part of a mistake, and the tip that helps with it.
+const TIPS: [(&str, &str); 4] = tips! {
+    "  --class <C>" => "the observer: a class of the lattice file, as in `--class L`";
+    "  --budget <N>" =>
+    "how many instructions may be executed, as in `--budget 1000` or `--budget auto`";
+    "`--init` needs" =>
+    "write the path of the state twice, as in `--store state --init start.toml --save state`";
+    ", in digits alone" => "write digits alone, as in 1000: no sign, no point and no `_`";
+};
+
+/// The gap between the paragraphs of a text.
+const GAP: &str = "\n\n";
+
+/// The beginning of a tip.
+const TIP: &str = "  tip: ";
+
+/// The beginning of a mistake in the subcommand, up to the quoted argument.
+const UNRECOGNIZED: &str = "error: unrecognized subcommand '";
+
+/// The beginning of a tip to write `--` before an argument. No argument of the program needs one.
+const DASHES: &str = "  tip: to pass ";
+
+/// Adds texts.
+fn put(told: &mut String, parts: &[&str]) -> Result<(), AllocError> {
+    for part in parts {
+        told.push_str(part)?;
+    }
+    Ok(())
+}
+
+/// Rewrites a message of the command-line parser. If it names an option of other subcommands, its
+/// tip lists them. If arguments are missing or should be numbers, tips explain them. A tip to write
+/// `--` is left out.
+fn with_tips(alloc: Global, text: &str) -> Result<String, AllocError> {
+    let mut told = String::new(alloc);
+    let Some((mistake, rest)) = text.split_once(GAP) else {
+        told.push_str(text)?;
+        return Ok(told);
+    };
+    told.push_str(mistake)?;
+    put_tips(&mut told, mistake)?;
+    put_attempt(&mut told, mistake)?;
+    let is_owned = put_owners(alloc, &mut told, mistake)?;
+    match tip_of(rest) {
+        Some((tip, behind)) if is_owned || tip.starts_with(DASHES) => {
+            put(&mut told, &[GAP, behind])?;
+        }
+        Some((tip, behind)) => put(&mut told, &[GAP, tip, GAP, behind])?,
+        None => put(&mut told, &[GAP, rest])?,
+    }
+    Ok(told)
+}
+
+/// The first line of the tip at the beginning of the paragraphs, and the paragraphs after it.
+fn tip_of(rest: &str) -> Option<(&str, &str)> {
+    let (tips, behind) = rest.split_once(GAP)?;
+    let (first, _) = tips.split_once("\n").unwrap_or((tips, ""));
+    first.starts_with(TIP).then_some((first, behind))
+}
+
+/// Adds the tips for arguments that are missing or should be numbers, in a paragraph.
+fn put_tips(told: &mut String, mistake: &str) -> Result<(), AllocError> {
+    let mut is_first = true;
+    for (part, tip) in &TIPS {
+        if mistake.contains(*part) {
+            let gap = if is_first { GAP } else { "\n" };
+            put(told, &[gap, TIP, tip])?;
+            is_first = false;
+        }
+    }
+    Ok(())
+}
+
+/// Adds a tip that shows `try`, if the path of a source text is given in place of a subcommand.
+fn put_attempt(told: &mut String, mistake: &str) -> Result<(), AllocError> {
+    let Some(rest) = mistake.strip_prefix(UNRECOGNIZED) else {
+        return Ok(());
+    };
+    let path = rest.strip_suffix("'").unwrap_or(rest);
+    if !path.contains(".") && !path.contains("/") {
+        return Ok(());
+    }
+    let end = "` judges a source text and runs it";
+    put(told, &[GAP, TIP, "`vsi try ", path, end])
+}
+
+/// The name of the first option that a mistake quotes, if it is about an unexpected argument.
+fn unexpected_option(mistake: &str) -> Option<&str> {
+    let argument = mistake.strip_prefix("error: unexpected argument ")?;
+    let (_, quoted) = argument.split_once("'--")?;
+    let (option, _) = quoted.split_once("'")?;
+    Some(option)
+}
+
+/// Adds names, which have commas between them, with `and` before the last.
+fn put_names(told: &mut String, names: &str) -> Result<(), AllocError> {
+    match names.rsplit_once(", ") {
+        Some((others, last)) => put(told, &[others, " and ", last]),
+        None => told.push_str(names),
+    }
+}
+
+/// Adds a tip that lists the subcommands with the option of the mistake, if there are any.
+fn put_owners(alloc: Global, told: &mut String, mistake: &str) -> Result<bool, AllocError> {
+    let Some(option) = unexpected_option(mistake) else {
+        return Ok(false);
+    };
+    let owners = owners_of(alloc, option)?;
+    let is_of_most = option == "color" || option == "explain";
+    if owners.is_empty() && !is_of_most {
+        return Ok(false);
+    }
+    put(told, &[GAP, TIP, "'--", option, "' is an option of "])?;
+    match option {
+        "color" => told.push_str(MOST)?,
+        "explain" => put(told, &[MOST, ", as in `vsi try a.vsi --explain`"])?,
+        _ => put_names(told, owners.as_str())?,
+    }
+    Ok(true)
+}
+
+/// The digits of a hexadecimal number.
+const DIGITS: &[u8; 16] = b"0123456789ABCDEF";
+
+/// The first control character that is no ASCII; in UTF-8 the byte `C2` comes before its own.
+const HIGH_CONTROL: u32 = 0x80;
+
+/// Adds a control character as `\x` and two digits for each of its bytes.
+fn put_control(told: &mut String, number: u32) -> Result<(), AllocError> {
+    let start = if number < HIGH_CONTROL {
+        "\\x"
+    } else {
+        "\\xC2\\x"
+    };
+    told.push_str(start)?;
+    told.push(char::from(DIGITS[(number / 16 % 16) as usize]))?;
+    told.push(char::from(DIGITS[(number % 16) as usize]))
+}
+
+/// The message for a mistake, with tips, and with each control character in it, except for line feeds,
+/// as `\x` and two digits for each of its bytes.
+pub(crate) fn message(alloc: Global, text: &str) -> Result<String, AllocError> {
+    let text = with_tips(alloc, text)?;
+    let mut told = String::new(alloc);
+    for character in text.as_str().chars() {
+        if character.is_control() && character != '\n' {
+            put_control(&mut told, character as u32)?;
+        } else {
+            told.push(character)?;
+        }
+    }
+    Ok(told)
+}

@@ -1,0 +1,252 @@
+//! Renaming of a variable.
+
+ghost use Rattle.std.specs.Prelude.{◌≡◌, true, [], ◌∷◌, length, map, slice_set, IfOk, IfSome};
+ghost use Rattle.vsi_lattice.specs.LatticeView.{class_named};
+ghost use Rattle.vsi_client.specs.Changes.{changed_by};
+ghost use Rattle.vsi_client.specs.Names.{after_first, with_name};
+ghost use Rattle.vsi_client.specs.Renamed as spec;
+ghost use Rattle.vsi_client.specs.Respelled.{AreInOrder, parts_of, respelled};
+
+use crate::changes::{Change, changed_by};
+use crate::marks::Marked;
+use crate::mentions::Mention;
+use crate::places::{Encoding, Range};
+use std::alloc::{AllocError, Global};
+use vsi_code::generate;
+use vsi_compiler::{CompileError, Source, read_source};
+use vsi_image::Instr;
+use vsi_scope::{Entry, Global as Declared, Resolved};
+use vsi_syntax::{Span, is_name};
+
+/// The same place in the list without its first item.
+fn after_first(place: Option<usize>) -> Option<usize>
+    ensures { result ≡ after_first place }
+{
+    match place {
+        Some(place) => place.checked_sub(1),
+        None => None,
+    }
+}
+
+/// Whether the first name of a list is kept, or is the new one if that is its place.
+fn keeps_name(place: Option<usize>, name: &[u8], old: &[u8], new: &[u8]) -> bool
+    ensures { result ≡ true → (new.now ∷ []) ≡ with_name place name.now (old.now ∷ []) }
+{
+    match place {
+        Some(0) => new == name,
+        _ => new == old,
+    }
+}
+
+/// Whether each global keeps its class, and its name unless it gets the new one.
+fn keep_globals(
+    place: Option<usize>,
+    name: &[u8],
+    olds: &[Declared<'_>],
+    news: &[Declared<'_>],
+) -> bool
+    ensures classes { result ≡ true → map (λ g. g.class) news.now ≡ map (λ g. g.class) olds.now }
+    ensures named { result ≡ true → map (λ g. g.name.now) news.now
+        ≡ with_name place name.now (map (λ g. g.name.now) olds.now) }
+{
+    let [old, more @ ..] = olds else {
+        return news.is_empty();
+    };
+    let [new, others @ ..] = news else {
+        return false;
+    };
+    new.class == old.class
+        && keeps_name(place, name, old.name, new.name)
+        && keep_globals(after_first(place), name, more, others)
+}
+
+/// Whether each letvar keeps its declared class, and its name unless it gets the new one.
+fn keep_letvars(place: Option<usize>, name: &[u8], olds: &[Entry<'_>], news: &[Entry<'_>]) -> bool
+    ensures classes { result ≡ true → map (λ e. e.class) news.now ≡ map (λ e. e.class) olds.now }
+    ensures named { result ≡ true → map (λ e. e.name.now) news.now
+        ≡ with_name place name.now (map (λ e. e.name.now) olds.now) }
+{
+    let [old, more @ ..] = olds else {
+        return news.is_empty();
+    };
+    let [new, others @ ..] = news else {
+        return false;
+    };
+    new.class == old.class
+        && keeps_name(place, name, old.name, new.name)
+        && keep_letvars(after_first(place), name, more, others)
+}
+
+/// Whether the variables keep their classes, and their names but for one, which gets the new one.
+fn keep_variables(variable: usize, name: &[u8], old: &Resolved<'_>, new: &Resolved<'_>) -> bool
+    ensures globals { result ≡ true →
+        map (λ g. g.class) new.now.globals ≡ map (λ g. g.class) old.now.globals }
+    ensures letvars { result ≡ true →
+        map (λ e. e.class) new.now.letvars ≡ map (λ e. e.class) old.now.letvars }
+    ensures named { result ≡ true →
+        spec.names new.now ≡ slice_set (spec.names old.now) variable name.now }
+{
+    let globals = old.globals();
+    let place = variable.checked_sub(globals.len());
+    keep_globals(Some(variable), name, globals, new.globals())
+        && keep_letvars(place, name, old.letvars(), new.letvars())
+}
+
+/// Whether two codes are the same.
+fn is_same_code(old: &[Instr], new: &[Instr]) -> bool
+    ensures { result ≡ true → new.now ≡ old.now }
+{
+    let mut olds = old;
+    let mut news = new;
+    while let [instruction, more @ ..] = olds {
+        let [other, others @ ..] = news else {
+            return false;
+        };
+        if *other != *instruction {
+            return false;
+        }
+        olds = more;
+        news = others;
+    }
+    news.is_empty()
+}
+
+/// Whether the code of two programs is the same.
+fn code_alike(alloc: Global, old: &Source<'_>, new: &Source<'_>) -> Result<bool, AllocError>
+    ensures { IfOk result (λ same. same ≡ true → spec.SameCode old.now.resolved new.now.resolved) }
+{
+    let before = generate(alloc, old.resolved())?;
+    let after = generate(alloc, new.resolved())?;
+    Ok(is_same_code(&before.image().code, &after.image().code))
+}
+
+/// Whether a program is another one but for the name of a variable.
+fn is_kept(
+    alloc: Global,
+    variable: usize,
+    name: &[u8],
+    old: &Source<'_>,
+    new: &Source<'_>,
+) -> Result<bool, AllocError>
+    ensures { IfOk result (λ kept. kept ≡ true →
+        spec.SameProgram variable name.now old.now.resolved new.now.resolved) }
+{
+    if !keep_variables(variable, name, old.resolved(), new.resolved()) {
+        return Ok(false);
+    }
+    code_alike(alloc, old, new)
+}
+
+/// Whether the program of a text is that of a source but for the name of a variable.
+fn keeps_program(
+    alloc: Global,
+    variable: usize,
+    name: &[u8],
+    old: &Source<'_>,
+    text: &[u8],
+) -> Result<bool, AllocError>
+    ensures kept { IfOk result (λ kept. kept ≡ true →
+        spec.KeepsProgram (class_named old.now.lattice) variable name.now old.now.text text.now) }
+{
+    // `resolved` ensures that the program is the text's, which the proof needs.
+    let _program = old.resolved();
+    match read_source(alloc, old.lattice(), text) {
+        Ok(new) => is_kept(alloc, variable, name, old, &new),
+        Err(CompileError::Memory) => Err(AllocError),
+        Err(_) => Ok(false),
+    }
+}
+
+/// The parts of a text that mention a variable.
+fn parts_of(alloc: Global, variable: usize, mentions: &[Mention]) -> Result<Vec<Span>, AllocError>
+    ensures { IfOk result (λ parts. parts.items ≡ parts_of variable mentions.now) }
+{
+    let mut parts = Vec::new(alloc);
+    for mention in mentions {
+        if mention.variable == variable {
+            parts.push(mention.span)?;
+        }
+    }
+    Ok(parts)
+}
+
+/// The text with a name in place of each part: nothing unless the parts follow one another in it.
+fn respelled(
+    alloc: Global,
+    name: &[u8],
+    text: &[u8],
+    parts: &[Span],
+) -> Result<Option<Vec<u8>>, AllocError>
+    ensures respelled { IfOk result (λ answer. IfSome answer
+        (λ new. new.items ≡ respelled name.now text.now 0 parts.now)) }
+    ensures in_order { IfOk result (λ answer. IfSome answer
+        (λ new. AreInOrder (length text.now) 0 parts.now)) }
+{
+    let mut out = Vec::new(alloc);
+    let mut at = 0;
+    for part in parts {
+        if at > part.start || part.start > part.stop || part.stop > text.len() {
+            return Ok(None);
+        }
+        out.extend_from_slice(&text[at..part.start])?;
+        out.extend_from_slice(name)?;
+        at = part.stop;
+    }
+    out.extend_from_slice(&text[at..])?;
+    Ok(Some(out))
+}
+
+/// The changes of a text that put a name at each of these parts, which follow one another: the last
+/// first.
+fn proposed<'a>(
+    alloc: Global,
+    encoding: Encoding,
+    text: &[u8],
+    parts: &[Span],
+    name: &'a [u8],
+) -> Result<Vec<Change<'a>>, AllocError> {
+    let marked = Marked::of(alloc, encoding, text)?;
+    let mut changes = Vec::new(alloc);
+    for part in parts.iter().rev() {
+        let Range { start, stop } = marked.range(*part);
+        let range = Some((start, stop));
+        changes.push(Change { range, text: name })?;
+    }
+    Ok(changes)
+}
+
+/// The changes that put a new name at each mention of a variable of a source, each of the text that
+/// the one before it left: none if the new name is no name or the program would become another one.
+pub fn rename<'a>(
+    alloc: Global,
+    encoding: Encoding,
+    source: &Source<'_>,
+    mentions: &[Mention],
+    variable: usize,
+    name: &'a [u8],
+) -> Result<Option<Vec<Change<'a>>>, AllocError>
+    ensures kept { IfOk result (λ answer. IfSome answer (λ changes.
+        spec.KeepsProgram (class_named source.now.lattice) variable name.now source.now.text
+        (changed_by encoding changes.items source.now.text))) }
+    ensures respelled { IfOk result (λ answer. IfSome answer (λ changes.
+        changed_by encoding changes.items source.now.text
+        ≡ respelled name.now source.now.text 0 (parts_of variable mentions.now))) }
+    ensures in_order { IfOk result (λ answer. IfSome answer (λ changes.
+        AreInOrder (length source.now.text) 0 (parts_of variable mentions.now))) }
+{
+    if !is_name(name) {
+        return Ok(None);
+    }
+    let parts = parts_of(alloc, variable, mentions)?;
+    let Some(text) = respelled(alloc, name, source.text(), &parts)? else {
+        return Ok(None);
+    };
+    let changes = proposed(alloc, encoding, source.text(), &parts, name)?;
+    let changed = changed_by(alloc, encoding, source.text(), &changes)?;
+    if changed.as_slice() == text.as_slice()
+        && keeps_program(alloc, variable, name, source, &changed)?
+    {
+        return Ok(Some(changes));
+    }
+    Ok(None)
+}

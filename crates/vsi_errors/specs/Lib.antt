@@ -1,2 +1,0 @@
-pub mod Severity
-pub mod Verdict

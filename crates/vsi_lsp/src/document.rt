@@ -1,0 +1,126 @@
+//! A document, and JSON objects about its parts.
+
+use serde_json::{Value, json};
+use std::alloc::{AllocError, Global};
+use vsi_client::{Encoding, Marked, Place, Range, offset_of};
+use vsi_compiler::{CompileError, Source, read_source};
+use vsi_lattice::Lattice;
+use vsi_syntax::{LexError, Span, Token, lex};
+use vsi_types::Profile;
+
+/// A result whose only error is that memory ran out.
+pub(crate) type Made<T> = Result<T, AllocError>;
+
+/// A document: the allocator of the objects about it, the code units of its positions, the profile
+/// under which it is judged, its name, its text, and the text's positions.
+#[derive(Clone, Copy)]
+pub(crate) struct DocumentText<'a> {
+    pub(crate) alloc: Global,
+    pub(crate) encoding: Encoding,
+    pub(crate) profile: Profile,
+    pub(crate) uri: &'a [u8],
+    pub(crate) text: &'a [u8],
+    pub(crate) marked: &'a Marked<'a>,
+}
+
+impl<'a> DocumentText<'a> {
+    /// The program of the text, if it has one.
+    pub(crate) fn source(&self, lattice: &'a Lattice) -> Made<Option<Source<'a>>> {
+        match read_source(self.alloc, lattice, self.text) {
+            Ok(source) => Ok(Some(source)),
+            Err(CompileError::Memory) => Err(AllocError),
+            Err(_) => Ok(None),
+        }
+    }
+
+    /// The byte at the position at a path of an object.
+    pub(crate) fn byte_at(&self, value: &Value, path: &str) -> Option<usize> {
+        Some(offset_of(self.encoding, self.text, place_at(value, path)?))
+    }
+
+    /// The object of a part of the text.
+    pub(crate) fn range(&self, span: Span) -> Made<Value> {
+        range_object(self.alloc, self.marked.range(span))
+    }
+
+    /// The object of a part of the text, with the name of the document.
+    pub(crate) fn location(&self, span: Span) -> Made<Value> {
+        let uri = text_value(self.alloc, self.uri)?;
+        let range = self.range(span)?;
+        json!(in self.alloc; {"uri": uri, "range": range})
+    }
+
+    /// The list of the one change that puts a text in place of a part.
+    pub(crate) fn edits(&self, span: Span, new: &[u8]) -> Made<Value> {
+        let change = edit(self.alloc, self.marked.range(span), new)?;
+        json!(in self.alloc; [change])
+    }
+
+    /// The list of the one change that puts another text in place of the whole text.
+    pub(crate) fn whole_edits(&self, new: &[u8]) -> Made<Value> {
+        let stop = self.text.len();
+        self.edits(Span { start: 0, stop }, new)
+    }
+
+    /// The changes of the document in a list.
+    pub(crate) fn changes(&self, list: Value) -> Made<Value> {
+        let uri = String::from_utf8_lossy(self.alloc, self.uri)?;
+        json!(in self.alloc; {"changes": {(uri.as_str()): list}})
+    }
+}
+
+/// Texts, one after the other.
+pub(crate) fn joined(alloc: Global, parts: &[&[u8]]) -> Made<Vec<u8>> {
+    let mut text = Vec::new(alloc);
+    for part in parts {
+        text.extend_from_slice(part)?;
+    }
+    Ok(text)
+}
+
+/// The text of bytes, with those that aren't UTF-8 replaced.
+pub(crate) fn text_value(alloc: Global, bytes: &[u8]) -> Made<Value> {
+    Ok(Value::String(String::from_utf8_lossy(alloc, bytes)?))
+}
+
+/// The object of a part of a text.
+fn range_object(alloc: Global, range: Range) -> Made<Value> {
+    json!(in alloc; {
+        "start": {"line": range.start.line, "character": range.start.character},
+        "end": {"line": range.stop.line, "character": range.stop.character}
+    })
+}
+
+/// The change of a part of a text.
+pub(crate) fn edit(alloc: Global, range: Range, new: &[u8]) -> Made<Value> {
+    let range = range_object(alloc, range)?;
+    let new = text_value(alloc, new)?;
+    json!(in alloc; {"range": range, "newText": new})
+}
+
+/// The text at a path of an object.
+pub(crate) fn text_at<'v>(value: &'v Value, path: &str) -> Option<&'v str> {
+    value.pointer(path)?.as_str()
+}
+
+/// The number at a path of an object.
+pub(crate) fn number_at(value: &Value, path: &str) -> Option<u64> {
+    value.pointer(path)?.as_u64()
+}
+
+/// The position at a path of an object.
+pub(crate) fn place_at(value: &Value, path: &str) -> Option<Place> {
+    let place = value.pointer(path)?;
+    let line = usize::try_from(number_at(place, "/line")?).ok()?;
+    let character = usize::try_from(number_at(place, "/character")?).ok()?;
+    Some(Place { line, character })
+}
+
+/// The tokens of a text, if each part of it has one.
+pub(crate) fn tokens_of(alloc: Global, text: &[u8]) -> Made<Option<Vec<Token<'_>>>> {
+    match lex(alloc, text) {
+        Ok(tokens) => Ok(Some(tokens)),
+        Err(LexError::Memory) => Err(AllocError),
+        Err(_) => Ok(None),
+    }
+}

@@ -1,0 +1,350 @@
+//! Repairs of a text that is refused: its least raises, and rewrites of the parts with errors.
+
+ghost use Rattle.std.specs.Prelude.{IfOk, IfSome, ◌≡◌, ◌++◌, OnOk};
+ghost use Rattle.vsi_lattice.specs.LatticeView.{class_named, order};
+ghost use Rattle.vsi_compiler.specs.Acceptance.{IsAccepted};
+ghost use Rattle.vsi_lattice.specs.Order.{IsClass};
+ghost use Rattle.vsi_flows.specs.Answers.{HasClassesIn};
+ghost use Rattle.vsi_lsp.specs.Titles as spec;
+
+use crate::completion::names_after;
+use crate::document::{DocumentText, Made, joined, number_at, text_value, tokens_of};
+use serde_json::{Value, json};
+use std::alloc::{AllocError, Global};
+use std::str::from_utf8;
+use strsim::osa_distance;
+use vsi_compiler::Source;
+use vsi_flows::{Raise, RaisedError, Raising, raised_text_of, raises_of};
+use vsi_hints::{Hint, hint_at};
+use vsi_infer::variable_name;
+use vsi_lattice::Lattice;
+use vsi_recovery::{Sort, expected_after};
+use vsi_scope::Resolved;
+use vsi_syntax::{Kind, ParseError, Span, Token, parse};
+
+/// The number of the refusal of the tree as Unexpected; the three before it are those of tokens.
+const UNEXPECTED: u64 = 15;
+
+/// The number of the refusal of a name that isn't declared.
+const UNBOUND: u64 = 19;
+
+/// The number of a refused flow.
+const REFUSED: u64 = 25;
+
+/// The most bytes of a text that a title shows.
+const LONGEST: usize = 120;
+
+/// The repairs for a request: one that writes the text with the least raises, if the request is
+/// about a refused flow, and the rewrites of the parts that its errors are about, up to 20 errors.
+pub(crate) fn fixes(document: DocumentText<'_>, lattice: &Lattice, value: &Value) -> Made<Value> {
+    let list = Vec::new(document.alloc);
+    let mut repairs = Repairs { document, list };
+    if let Some(Value::Array(errors)) = value.pointer("/params/context/diagnostics") {
+        let mut codes = errors.iter().map(|error| number_at(error, "/code"));
+        if codes.any(|code| code == Some(REFUSED)) {
+            repairs.put_raises(lattice)?;
+        }
+        for error in errors.iter().take(20) {
+            repairs.put_rewrites(error)?;
+        }
+    }
+    Ok(Value::Array(repairs.list))
+}
+
+/// The repairs of a document that have been found.
+#[derive(Drop)]
+struct Repairs<'a> {
+    document: DocumentText<'a>,
+    list: Vec<Value>,
+}
+
+impl<'a> Repairs<'a> {
+    /// Adds the repair that makes all raises of a text at once: none if it has no program, no raise
+    /// makes it accepted, or it is accepted as it is.
+    fn put_raises(&mut self, lattice: &'a Lattice) -> Made<()> {
+        let alloc = self.document.alloc;
+        let Some(source) = self.document.source(lattice)? else {
+            return Ok(());
+        };
+        if let Some(title) = raising_title(self.document, &source)?
+            && let Some(new) = raised_text(self.document, &source)?
+        {
+            let title = text_value(alloc, &title)?;
+            let changes = self.document.changes(self.document.whole_edits(&new)?)?;
+            self.list.push(json!(in alloc; {
+                "title": title, "kind": "quickfix", "isPreferred": true, "edit": changes
+            })?)?;
+        }
+        Ok(())
+    }
+
+    /// Adds the rewrites for an error of a request.
+    fn put_rewrites(&mut self, error: &Value) -> Made<()> {
+        let Some(at) = self.document.byte_at(error, "/range/start") else {
+            return Ok(());
+        };
+        match number_at(error, "/code") {
+            Some(UNBOUND) => self.put_nearest(at),
+            Some(UNEXPECTED) => {
+                self.put_hinted(at)?;
+                self.put_branch(at)
+            }
+            Some(12..=14) => self.put_hinted(at),
+            _ => Ok(()),
+        }
+    }
+
+    /// Adds the repair with a title that puts a text in place of a part.
+    fn put(&mut self, title: &[&[u8]], span: Span, new: &[u8]) -> Made<()> {
+        let alloc = self.document.alloc;
+        let title = text_value(alloc, &joined(alloc, title)?)?;
+        let changes = self.document.changes(self.document.edits(span, new)?)?;
+        let repair = json!(in alloc; {"title": title, "kind": "quickfix", "edit": changes})?;
+        Ok(self.list.push(repair)?)
+    }
+
+    /// Adds the repair that writes a text in place of a part.
+    fn put_rewrite(&mut self, span: Span, new: &[u8], old: &[u8]) -> Made<()> {
+        self.put(&[b"Write `", new, b"` in place of `", old, b"`"], span, new)
+    }
+
+    /// Adds the rewrite that the hint at a byte offers, if it has one.
+    fn put_hinted(&mut self, at: usize) -> Made<()> {
+        let text = self.document.text;
+        let hint = hint_at(self.document.alloc, text, at)?;
+        let (new, old): (&[u8], &[u8]) = match &hint {
+            Some(Hint::Offer(new, old, _)) => (new, old),
+            Some(Hint::Put(new, old, _)) => (new.as_bytes(), old),
+            _ => return Ok(()),
+        };
+        if old.is_empty() || LONGEST < old.len() || LONGEST < new.len() {
+            return Ok(());
+        }
+        match span_of(text, old, at) {
+            Some(span) => self.put_rewrite(span, new, old),
+            None => Ok(()),
+        }
+    }
+
+    /// Adds the rewrite of a name that isn't declared to the nearest name in scope.
+    fn put_nearest(&mut self, at: usize) -> Made<()> {
+        let alloc = self.document.alloc;
+        let Some(tokens) = tokens_of(alloc, self.document.text)? else {
+            return Ok(());
+        };
+        let (ahead, rest) = parted(&tokens, at);
+        if let Some(token) = rest.first()
+            && token.span.start == at
+            && let Some(name) = nearest(alloc, token.text, &names_after(alloc, ahead)?)?
+        {
+            self.put_rewrite(token.span, name, token.text)?;
+        }
+        Ok(())
+    }
+
+    /// Adds the repair that puts in a branch at a byte.
+    fn put_added(&mut self, at: usize, new: &[u8]) -> Made<()> {
+        let branch = new.trim_ascii_start();
+        let span = Span {
+            start: at,
+            stop: at,
+        };
+        self.put(&[b"Add `", branch, b"`, which changes nothing"], span, new)
+    }
+
+    /// Adds the repair of an `if` whose `else` is missing at a byte, if `else` may come there and
+    /// the text is read on with the repair. The branch assigns to a variable of the other branch its
+    /// own value, so nothing flows by it that doesn't flow without it.
+    fn put_branch(&mut self, at: usize) -> Made<()> {
+        let (alloc, text) = (self.document.alloc, self.document.text);
+        let Some(tokens) = tokens_of(alloc, text)? else {
+            return Ok(());
+        };
+        let (ahead, rest) = parted(&tokens, at);
+        if let Some(last) = ahead.last()
+            && expected_after(alloc, ahead)?.has(Sort::Else)
+            && let Some(name) = assigned(alloc, ahead)?
+        {
+            let stop = last.span.stop;
+            let new = branch(alloc, name)?;
+            if is_read(alloc, text, stop, &new, rest)? {
+                self.put_added(stop, &new)?;
+            }
+        }
+        Ok(())
+    }
+}
+
+/// A branch that assigns to a variable its own value.
+fn branch(alloc: Global, name: &[u8]) -> Made<Vec<u8>> {
+    joined(alloc, &[b" else ", name, b" := ", name])
+}
+
+/// The text with the least raises, which is accepted: nothing if no raise makes the text accepted.
+fn raised_text(document: DocumentText<'_>, source: &Source<'_>) -> Made<Option<Vec<u8>>>
+    ensures accepted { IfOk result (λ found. IfSome found (λ out. IsAccepted
+        (class_named source.now.lattice) (order source.now.lattice) document.entry.profile
+        out.items)) }
+{
+    match raised_text_of(document.alloc, document.profile, source) {
+        Ok(out) => Ok(Some(out)),
+        Err(RaisedError::Memory) => Err(AllocError),
+        Err(_) => Ok(None),
+    }
+}
+
+/// Adds a raise: `l from L to H`.
+fn put_raise(
+    title: &mut Vec<u8>,
+    lattice: &Lattice,
+    program: &Resolved<'_>,
+    raise: &Raise,
+) -> Made<()>
+    requires old { IsClass (order lattice.now) raise.now.old }
+    requires new { IsClass (order lattice.now) raise.now.new }
+    ensures { OnOk result (title.new.items ≡ title.old.items
+        ++ spec.raise_words lattice.now program.now raise.now) }
+{
+    title.extend_from_slice(variable_name(program, raise.variable))?;
+    title.extend_from_slice(b" from ")?;
+    title.extend_from_slice(lattice.name(raise.old))?;
+    title.extend_from_slice(b" to ")?;
+    title.extend_from_slice(lattice.name(raise.new))
+}
+
+/// The title of the fix that makes these raises: `Raise l from L to H, m from L to H`.
+fn title_of(
+    alloc: Global,
+    lattice: &Lattice,
+    program: &Resolved<'_>,
+    raises: &[Raise],
+) -> Made<Vec<u8>>
+    requires old { spec.HasOldClassesIn (order lattice.now) raises.now }
+    requires new { HasClassesIn (order lattice.now) raises.now }
+    ensures { IfOk result (λ title. title.items
+        ≡ spec.raises_title lattice.now program.now raises.now) }
+{
+    let mut title = Vec::from_slice(alloc, b"Raise ")?;
+    let [first, rest @ ..] = raises else {
+        return Ok(title);
+    };
+    put_raise(&mut title, lattice, program, first)?;
+    for raise in rest {
+        title.extend_from_slice(b", ")?;
+        put_raise(&mut title, lattice, program, raise)?;
+    }
+    Ok(title)
+}
+
+/// The title of the fix that makes all raises of a source: none if no raise makes it accepted, or it
+/// is accepted as it is.
+fn raising_title(document: DocumentText<'_>, source: &Source<'_>) -> Made<Option<Vec<u8>>>
+    ensures title { IfOk result (λ found. IfSome found (λ title. spec.IsTitle
+        source.now.lattice document.entry.profile source.now.text title.items)) }
+{
+    let lattice = source.lattice();
+    let program = source.resolved();
+    let raising = raises_of(document.alloc, document.profile, source)?;
+    match raising {
+        Raising::Raised(raises) => {
+            if raises.is_empty() {
+                return Ok(None);
+            }
+            let title = title_of(document.alloc, lattice, program, &raises)?;
+            Ok(Some(title))
+        }
+        Raising::Refused(_walk) => Ok(None),
+    }
+}
+
+/// The tokens that begin before a byte, and the others.
+fn parted<'a>(tokens: &'a [Token<'a>], at: usize) -> (&'a [Token<'a>], &'a [Token<'a>]) {
+    let count = tokens
+        .iter()
+        .take_while(|token| token.span.start < at)
+        .count();
+    let ahead = tokens.get(..count).unwrap_or(&[]);
+    (ahead, tokens.get(count..).unwrap_or(&[]))
+}
+
+/// The span of a part of a text around a byte.
+fn span_of(text: &[u8], part: &[u8], at: usize) -> Option<Span> {
+    for start in at.saturating_sub(part.len())..at.saturating_add(1) {
+        let stop = start.saturating_add(part.len());
+        if at <= stop && text.get(start..).unwrap_or(b"").starts_with(part) {
+            return Some(Span { start, stop });
+        }
+    }
+    None
+}
+
+/// How many letters differ between two names, if they are near: fewer than a third of them.
+fn distance(alloc: Global, written: &[u8], meant: &[u8]) -> Made<Option<usize>> {
+    let (Ok(written_text), Ok(meant_text)) = (from_utf8(written), from_utf8(meant)) else {
+        return Ok(None);
+    };
+    if written.eq_ignore_ascii_case(meant) {
+        return Ok(Some(0));
+    }
+    let far = osa_distance(alloc, written_text, meant_text)?;
+    if written.len().min(meant.len()) <= far.saturating_mul(2) {
+        return Ok(None);
+    }
+    Ok(Some(far))
+}
+
+/// The nearest of the names, the first of those as near.
+fn nearest<'n>(alloc: Global, written: &[u8], names: &[&'n [u8]]) -> Made<Option<&'n [u8]>> {
+    let mut best = None;
+    let mut least = LONGEST;
+    for name in names {
+        if let Some(far) = distance(alloc, written, name)?
+            && far < least
+        {
+            least = far;
+            best = Some(*name);
+        }
+    }
+    Ok(best)
+}
+
+/// The last variable that is assigned after the last `then` of these tokens and is in scope after
+/// an `else` that follows them.
+fn assigned<'a>(alloc: Global, ahead: &[Token<'a>]) -> Made<Option<&'a [u8]>> {
+    let mut list = Vec::from_slice(alloc, ahead)?;
+    if let Some(tokens) = tokens_of(alloc, b"else")? {
+        list.extend_from_slice(&tokens)?;
+    }
+    let names = names_after(alloc, &list)?;
+    let mut found = None;
+    let mut last: &'a [u8] = b"";
+    for token in ahead {
+        match token.kind {
+            Kind::Then => found = None,
+            Kind::Assign if names.contains(&last) => found = Some(last),
+            _ => {}
+        }
+        last = token.text;
+    }
+    Ok(found)
+}
+
+/// Whether the text into which `new` is put at a byte is read over the next two tokens, or is a
+/// program if there are fewer.
+fn is_read(alloc: Global, text: &[u8], at: usize, new: &[u8], next: &[Token<'_>]) -> Made<bool> {
+    let (before, after) = text.split_at(at.min(text.len()));
+    let changed = joined(alloc, &[before, new, after])?;
+    let least = match next {
+        [_, second, ..] => second.span.stop.saturating_add(new.len()),
+        _ => usize::MAX,
+    };
+    let Some(tokens) = tokens_of(alloc, &changed)? else {
+        return Ok(false);
+    };
+    match parse(alloc, &tokens) {
+        Ok(_) => Ok(true),
+        Err(ParseError::Unexpected(span)) => Ok(least <= span.start),
+        Err(ParseError::Memory) => Err(AllocError),
+        Err(ParseError::TooDeep(_)) => Ok(false),
+    }
+}

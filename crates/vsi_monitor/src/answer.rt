@@ -1,0 +1,127 @@
+//! The answer of a monitored run, as lines and as a value of JSON.
+
+use crate::stop::{Stop, Unfinished};
+use crate::watch::Watched;
+use serde_json::{Value, json};
+use std::alloc::{AllocError, Global as Heap};
+use vsi_lattice::{Class, Classes, Lattice};
+use vsi_scope::Global;
+use vsi_syntax::{line_column, put_place, put_word};
+
+/// What the answer of a run names: the classes, the text, and the globals.
+#[derive(Clone, Copy)]
+pub struct Naming<'a> {
+    pub lattice: &'a Lattice,
+    pub text: &'a [u8],
+    pub globals: &'a [Global<'a>],
+}
+
+/// The name of a label.
+fn class_name(lattice: &Lattice, class: Class) -> &[u8] {
+    if class.index() < lattice.count() {
+        lattice.name(class)
+    } else {
+        b"partly leaked"
+    }
+}
+
+/// The name of the variable of an assignment or in a guard.
+fn variable_name<'a>(naming: &Naming<'a>, stop: &Stop) -> &'a [u8] {
+    let name = naming.text.get(stop.place.start..stop.place.stop);
+    name.unwrap_or(b"?")
+}
+
+/// The line of a run that is stopped: `3:5 l : L may not be assigned under H`, or
+/// `3:5 a guard reads l, which is partly leaked`.
+fn put_stop(text: &mut Vec<u8>, naming: &Naming<'_>, stop: &Stop) -> Result<(), AllocError> {
+    put_place(text, naming.text, stop.place.start)?;
+    let name = variable_name(naming, stop);
+    if stop.label.index() >= naming.lattice.count() {
+        text.extend_from_slice(b" a guard reads ")?;
+        text.extend_from_slice(name)?;
+        return text.extend_from_slice(b", which is partly leaked\n");
+    }
+    text.extend_from_slice(b" ")?;
+    text.extend_from_slice(name)?;
+    text.extend_from_slice(b" : ")?;
+    text.extend_from_slice(class_name(naming.lattice, stop.label))?;
+    text.extend_from_slice(b" may not be assigned under ")?;
+    text.extend_from_slice(class_name(naming.lattice, stop.counter))?;
+    text.extend_from_slice(b"\n")
+}
+
+/// The lines of the last store, each with its label.
+fn put_store(text: &mut Vec<u8>, naming: &Naming<'_>, end: &Watched) -> Result<(), AllocError> {
+    let ends = end.words.iter().zip(end.labels.iter());
+    for (global, (word, label)) in naming.globals.iter().zip(ends) {
+        text.extend_from_slice(global.name)?;
+        text.extend_from_slice(b" = ")?;
+        put_word(text, *word)?;
+        text.extend_from_slice(b" : ")?;
+        text.extend_from_slice(class_name(naming.lattice, *label))?;
+        text.extend_from_slice(b"\n")?;
+    }
+    Ok(())
+}
+
+/// The lines of the last store of a run, each with its label, or the line of the stop or of the
+/// limit.
+pub fn monitor_text(
+    alloc: Heap,
+    naming: &Naming<'_>,
+    run: &Result<Watched, Unfinished>,
+) -> Result<Vec<u8>, AllocError> {
+    let mut text = Vec::new(alloc);
+    match run {
+        Ok(end) => put_store(&mut text, naming, end)?,
+        Err(Unfinished::Stopped(stop)) => put_stop(&mut text, naming, stop)?,
+        Err(Unfinished::Limit) => text.extend_from_slice(b"limit of steps\n")?,
+        Err(Unfinished::Memory) => return Err(AllocError),
+    }
+    Ok(text)
+}
+
+/// A text as a string.
+fn string(alloc: Heap, bytes: &[u8]) -> Result<Value, AllocError> {
+    Ok(Value::String(String::from_utf8_lossy(alloc, bytes)?))
+}
+
+/// The object of a run that halts: the array `store` of the globals, each with its label.
+fn halted(alloc: Heap, naming: &Naming<'_>, end: &Watched) -> Result<Value, AllocError> {
+    let mut store = Vec::new(alloc);
+    let ends = end.words.iter().zip(end.labels.iter());
+    for (global, (word, label)) in naming.globals.iter().zip(ends) {
+        let name = string(alloc, global.name)?;
+        let label = string(alloc, class_name(naming.lattice, *label))?;
+        store.push(json!(in alloc; {"name": name, "word": (*word), "label": label})?)?;
+    }
+    json!(in alloc; {"outcome": "halted", "store": (Value::Array(store))})
+}
+
+/// The object of a run that is stopped: the place of the assignment, its variable and the variable's
+/// label, and the class of the counter.
+fn stopped(alloc: Heap, naming: &Naming<'_>, stop: &Stop) -> Result<Value, AllocError> {
+    let (line, column) = line_column(naming.text, stop.place.start);
+    let name = string(alloc, variable_name(naming, stop))?;
+    let label = string(alloc, class_name(naming.lattice, stop.label))?;
+    let counter = string(alloc, class_name(naming.lattice, stop.counter))?;
+    json!(in alloc; {
+        "outcome": "stopped", "line": line, "column": column, "name": name, "label": label,
+        "counter": counter
+    })
+}
+
+/// A monitored run: its `outcome`, which is `halted`, `stopped` or `limit`, with the last store or
+/// with the assignment.
+pub fn monitor_json(
+    alloc: Heap,
+    naming: &Naming<'_>,
+    run: &Result<Watched, Unfinished>,
+) -> Result<Value, AllocError> {
+    match run {
+        Ok(end) => halted(alloc, naming, end),
+        Err(Unfinished::Stopped(stop)) => stopped(alloc, naming, stop),
+        Err(Unfinished::Limit) => json!(in alloc; {"outcome": "limit"}),
+        Err(Unfinished::Memory) => Err(AllocError),
+    }
+}
