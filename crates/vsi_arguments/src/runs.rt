@@ -275,7 +275,7 @@ budget, 4 file fault, 5 out of memory."
   1:33 l : L may not be assigned under H"
     { LATTICE } { SOURCE } { STEP_BUDGET } { STORE } { SET } { FULL_STORE }
     { Choice("RULE", &["no-sensitive-upgrade", "permissive-upgrade"]) "rule"
-    "no-sensitive-upgrade or permissive-upgrade; default: the first" "\
+    "no-sensitive-upgrade (default), permissive-upgrade" "\
 The rule for an assignment in a branch or a loop whose guard depends
 on a class that isn't at or below the label of the variable. With
 `no-sensitive-upgrade`, the default, the run is stopped before it.

@@ -10,7 +10,3 @@ mod engines;
 mod files;
 #[cfg(test)]
 mod loads;
-#[cfg(test)]
-mod monitors;
-#[cfg(test)]
-mod steps;
