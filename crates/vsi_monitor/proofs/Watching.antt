@@ -1,7 +1,8 @@
 -- Combining the runs of the parts of a command into its run.
-use Rattle.std.proofs.Common.{◌≡◌, ◌≢◌, ℕ, ◌+◌, ◌<◌, ◌≤◌, List, [], ◌∷◌, ◌++◌, length, take, drop, set, get_or, min, ℤ, pos, w64, SFits, to_z, of_z, refl, sym, ap, ◌∙◌, subst, ⊎_elim, arith, rules}
+use Rattle.std.proofs.Common.{◌≡◌, ◌≢◌, ℕ, ◌+◌, ◌-◌, ◌<◌, ◌≤◌, List, [], ◌∷◌, ◌++◌, length, take, drop, set, get_or, min, ℤ, pos, w64, SFits, to_z, of_z, refl, sym, ap, ◌∙◌, subst, ⊎_elim, arith, rules}
 use Rattle.std.proofs.lemmas.Int.{to_z-of_z}
-use Rattle.std.specs.Prelude.{slice_index, false, ◌==◌, cond, ⊤, Some, None, Result, Ok, Err, IsErrAnd}
+use Rattle.std.specs.Prelude.{slice_index, false, ◌==◌, cond, ⊤, Option, Some, None, Result, Ok, Err, IsErrAnd, SomeIff}
+use Rattle.std.specs.Option.{ok_or}
 use Rattle.std.specs.List.{All}
 use Rattle.std.proofs.lemmas.List.{drop_more, drop_all, length_push, take_at}
 use Rattle.std.proofs.lemmas.List.Elements.{All-push}
@@ -36,6 +37,10 @@ zero_word x fits e = sym (to_z-of_z w64 x fits) ∙ ap (to_z w64) e
 pub small : (k n x : ℕ) → x ≡ min k 65535 → n + k ≤ max_declarations → n + x ≡ n + k
 small k n x is few = first_of (omega (arith, is, few), grind (arith, is, few), search (rules, is, few))
 
+-- A step is taken from those that are left.
+pub taken : (o : Option ℕ) (n k : ℕ) (e : Unfinished) → SomeIff o (1 ≤ n) (n - 1) → Ok k ≡ ok_or o e → k ≤ n
+taken o n k e h is = grind arith
+
 -- Past the end of a list nothing is left.
 pub at_end : (cs : List Cmd) (i : ℕ) → length cs ≤ i → sequence (drop i cs) ≡ Skip
 at_end cs i le = ap sequence (drop_all i cs le)
@@ -64,7 +69,6 @@ module _ (R : Rule) (L : Lattice) (classes : ℕ → ℕ) where
   pub record Leads (table : List ℕ) (pc n : ℕ) (c : Command) (a : Held) (pc' n' : ℕ) (c' : Command) (b : Held) :
       Type 0 where
     pub ready : IsReady L table pc' n' c' b
-    pub few : n' + letvars c' ≤ max_declarations
     pub variables : b.variables ≡ a.variables
     pub left : b.left ≤ a.left
     pub runs : (r : Outcome) → Monitored R L classes b.variables pc' n' c' b.words b.labels r →
@@ -72,9 +76,8 @@ module _ (R : Rule) (L : Lattice) (classes : ℕ → ℕ) where
 
   -- Each run leads to itself.
   pub leads_self : (table : List ℕ) (pc n : ℕ) (c : Command) (a : Held) → IsReady L table pc n c a →
-      n + letvars c ≤ max_declarations → Leads table pc n c a pc n c a
-  leads_self table pc n c a h few' =
-      record { ready = h; few = few'; variables = refl; left = omega arith; runs = λ r d. d }
+      Leads table pc n c a pc n c a
+  leads_self table pc n c a h = record { ready = h; variables = refl; left = omega arith; runs = λ r d. d }
 
   -- The end of the second run is the end of the first.
   pub leads_watched : (table : List ℕ) (pc n : ℕ) (c : Command) (a : Held) (pc' n' : ℕ) (c' : Command) (b d : Held)
@@ -122,18 +125,18 @@ module _ (R : Rule) (L : Lattice) (classes : ℕ → ℕ) where
 
   -- A choice whose guard is true leads to its first branch.
   pub leads_yes : (table : List ℕ) (pc n t u : ℕ) (e : Expression) (p q : Command) (x : ℤ) (a : Held) (k : ℕ) →
-      IsReady L table pc n (If e p q) a → n + letvars (If e p q) ≤ max_declarations → k ≤ a.left →
+      IsReady L table pc n (If e p q) a → k ≤ a.left →
       Guarded R L pc a.labels e (Ok t) → IsJoin L.count (Below L) pc t u → x ≡ value e a.words → x ≢ pos 0 →
       Leads table pc n (If e p q) a u n p (with_left a k)
-  leads_yes table pc n t u e p q x a k h few' le has j is z = record {
+  leads_yes table pc n t u e p q x a k h le has j is z = record {
     ready = record {
       table_classes = h.table_classes;
       entries = omega (arith, h.entries);
+      few = omega (arith, h.few);
       held = record { labelled = h.held.labelled; variables = h.held.variables };
       counter = j.within;
       places = h.places.1;
     };
-    few = omega (arith, few');
     variables = refl;
     left = le;
     runs = λ r d. IF_TRUE (λ y. z (is ∙ y)) has.0 has.2 j d;
@@ -141,20 +144,19 @@ module _ (R : Rule) (L : Lattice) (classes : ℕ → ℕ) where
 
   -- A choice whose guard is false leads to its second branch.
   pub leads_no : (table : List ℕ) (pc n i t u : ℕ) (e : Expression) (p q : Command) (x : ℤ) (a : Held) (k : ℕ) →
-      i ≡ n + letvars p → IsReady L table pc n (If e p q) a → n + letvars (If e p q) ≤ max_declarations →
-      k ≤ a.left → Guarded R L pc a.labels e (Ok t) → IsJoin L.count (Below L) pc t u → x ≡ value e a.words →
-      x ≡ pos 0 →
+      i ≡ n + letvars p → IsReady L table pc n (If e p q) a → k ≤ a.left → Guarded R L pc a.labels e (Ok t) →
+      IsJoin L.count (Below L) pc t u → x ≡ value e a.words → x ≡ pos 0 →
       Leads table pc n (If e p q) a u i q (with_left a k)
-  leads_no table pc n i t u e p q x a k at h few' le has j is z =
+  leads_no table pc n i t u e p q x a k at h le has j is z =
       subst (λ y. Leads table pc n (If e p q) a u y q (with_left a k)) (sym at) (record {
         ready = record {
           table_classes = h.table_classes;
           entries = omega (arith, h.entries);
+          few = omega (arith, h.few);
           held = record { labelled = h.held.labelled; variables = h.held.variables };
           counter = j.within;
           places = h.places.2;
         };
-        few = omega (arith, few');
         variables = refl;
         left = le;
         runs = λ r d. IF_FALSE (sym is ∙ z) has.0 has.2 j d;
@@ -174,14 +176,11 @@ module _ (R : Rule) (L : Lattice) (classes : ℕ → ℕ) where
     first_ready = let l = subst (λ y. Leads table pc n c a pc n' y b) is l' in record {
       table_classes = l.ready.table_classes;
       entries = omega (arith, l.ready.entries);
+      few = omega (arith, l.ready.few);
       held = l.ready.held;
       counter = l.ready.counter;
       places = l.ready.places.0;
     }
-
-    -- It has few declarations.
-    pub first_few : n' + letvars p ≤ max_declarations
-    first_few = omega (arith, l'.few, ap letvars is)
 
     -- A command that isn't finished ends the list.
     pub leads_stop : (d : Held) (e : Unfinished) → Watched R L classes pc n' p b d (Err e) →
@@ -213,11 +212,11 @@ module _ (R : Rule) (L : Lattice) (classes : ℕ → ℕ) where
           ready = record {
             table_classes = l.ready.table_classes;
             entries = omega (arith, l.ready.entries);
+            few = omega (arith, l.ready.few);
             held = left_held pc n' p b d l.ready.held l.ready.places.0 w.0 w.1;
             counter = l.ready.counter;
             places = subst (λ x. HasPlaces x q) (ap length (sym w.1)) l.ready.places.1;
           };
-          few = omega (arith, l.few);
           variables = w.1 ∙ l.variables;
           left = omega (arith, w.2, l.left);
           runs = λ r' m. l.runs r' (COMPOSE w.0
@@ -246,6 +245,7 @@ module _ (R : Rule) (L : Lattice) (classes : ℕ → ℕ) where
         turn_ready = record {
           table_classes = l.ready.table_classes;
           entries = l.ready.entries;
+          few = l.ready.few;
           held = record { labelled = l.ready.held.labelled; variables = l.ready.held.variables };
           counter = j.within;
           places = l.ready.places.1;
@@ -265,11 +265,11 @@ module _ (R : Rule) (L : Lattice) (classes : ℕ → ℕ) where
           ready = record {
             table_classes = l.ready.table_classes;
             entries = l.ready.entries;
+            few = l.ready.few;
             held = left_held u n c b d l.ready.held l.ready.places.1 w.0 w.1;
             counter = j.within;
             places = subst (λ y. HasPlaces y (While e c)) (ap length (sym w.1)) l.ready.places;
           };
-          few = l.few;
           variables = w.1 ∙ l.variables;
           left = omega (arith, w.2, le, l.left);
           runs = λ r m. l.runs r (WHILE_TRUE (λ y. z (is ∙ y)) has.0 has.2 j w.0
@@ -290,7 +290,7 @@ inside a m q f k = record { words = m; labels = q; variables = f; left = k }
 
 module _ (R : Rule) (L : Lattice) (laws : IsLattice L) (table : List ℕ) (pc n : ℕ) (e : Expression) (c : Command) (x :
     ℤ)
-    (t v class : ℕ) (a : Held) (m : List ℤ) (q f : List ℕ) (k : ℕ) (few : n + letvars (Letvar e c) ≤ max_declarations)
+    (t v class : ℕ) (a : Held) (m : List ℤ) (q f : List ℕ) (k : ℕ)
     (h : IsReady L table pc n (Letvar e c) a) (le : k ≤ a.left) (is : x ≡ value e a.words)
     (has : HasLabel L a.labels e t) (at : class ≡ slice_index table n) (j : IsJoin L.count (Below L) t class v)
     (words : m ≡ a.words ++ x ∷ []) (labels : q ≡ a.labels ++ v ∷ []) (variables : f ≡ a.variables ++ class ∷ []) where
@@ -299,6 +299,7 @@ module _ (R : Rule) (L : Lattice) (laws : IsLattice L) (table : List ℕ) (pc n 
   letvar_ready = record {
     table_classes = h.table_classes;
     entries = omega (arith, h.entries);
+    few = omega (arith, h.few);
     held = record {
       labelled = subst (λ y. IsLabelled L (length f) y q) (sym words)
           (subst (λ y. IsLabelled L (length f) (a.words ++ x ∷ []) y) (sym labels)
@@ -315,7 +316,7 @@ module _ (R : Rule) (L : Lattice) (laws : IsLattice L) (table : List ℕ) (pc n 
 
   -- The class of the new location.
   there : class ≡ class_of L table n
-  there = at ∙ sym (class_there L table n (omega (arith, few)))
+  there = at ∙ sym (class_there L table n (omega (arith, h.few)))
 
   -- The join with the class of the declaration.
   joined_there : IsJoin L.count (Below L) t (class_of L table n) v

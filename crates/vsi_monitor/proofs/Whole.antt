@@ -1,5 +1,5 @@
 -- The monitored run of a program.
-use Rattle.std.proofs.Common.{◌≡◌, ℕ, ◌+◌, ◌<◌, ◌≤◌, List, ◌++◌, length, take, get_or, sym, ap, ◌∙◌, subst, arith}
+use Rattle.std.proofs.Common.{◌≡◌, ℕ, ◌+◌, ◌<◌, List, ◌++◌, length, take, get_or, sym, ap, ◌∙◌, subst, arith}
 use Rattle.std.specs.Prelude.{◌≢◌, ◌==◌, cond, slice_index, ⊤, Result, Ok, Err, IfErr, IsErrAnd}
 use Rattle.std.specs.List.{All}
 use Rattle.std.proofs.lemmas.List.{length-map, length-take-le, take_at}
@@ -7,7 +7,6 @@ use Rattle.std.proofs.lemmas.List.Elements.{All-get_or, All-take}
 use Rattle.vsi_lattice.specs.Order.{Lattice, IsLattice, IsClass}
 use Rattle.vsi_scope.specs.declared.program.Cmd.{Cmd}
 use Rattle.vsi_scope.specs.Language.{letvars, HasPlaces}
-use Rattle.vsi_scope.specs.Limits.{max_declarations}
 use Rattle.vsi_scope.specs.Meaning.{Store}
 use Rattle.vsi_scope.specs.Program.{Resolved, IsResolved}
 use Rattle.vsi_scope.specs.View.{sequence}
@@ -50,10 +49,6 @@ module _ (R : Rule) (L : Lattice) (laws : IsLattice L) (table : List ℕ) (r : R
   length_firsts = length-take-le (length r.globals) table (omega (arith, each))
 
   module _ (cs : List Cmd) (is : cs ≡ r.body) (n : ℕ) (count : n ≡ length r.globals) where
-    -- A program has few declarations.
-    pub whole_few : n + letvars (sequence cs) ≤ max_declarations
-    whole_few = omega (arith, count, ap (λ l. letvars (sequence l)) is, kept.few_declarations)
-
     module _ (pc : ℕ) (low : pc ≡ L.bottom) (m : Store) (long : length m ≡ length r.globals) (a : Held)
         (words : a.words ≡ m) (labels : a.labels ≡ firsts) (variables : a.variables ≡ firsts) where
       -- Its body can be run from a store whose words have the classes of their globals as labels.
@@ -62,6 +57,7 @@ module _ (R : Rule) (L : Lattice) (laws : IsLattice L) (table : List ℕ) (r : R
           let size : length a.variables ≡ length r.globals = ap length variables ∙ length_firsts in record {
             table_classes = λ i x lt. labels_class R L (get_or table i x) (all i x lt);
             entries = omega (arith, each, count, ap (λ l. letvars (sequence l)) is);
+            few = omega (arith, count, ap (λ l. letvars (sequence l)) is, kept.few_declarations);
             held = record {
               labelled = record {
                 words = ap length words ∙ long ∙ sym size;

@@ -4,6 +4,7 @@ use Rattle.std.specs.List.{All}
 use Rattle.vsi_lattice.specs.Order.{Lattice, IsClass}
 use Rattle.vsi_syntax.specs.declared.token.Span.{Span}
 use Rattle.vsi_scope.specs.Language.{Expression, Command, letvars, HasPlaces}
+use Rattle.vsi_scope.specs.Limits.{max_declarations}
 use Rattle.vsi_scope.specs.Meaning.{Store}
 use Rattle.vsi_scope.specs.Program.{Resolved}
 use Rattle.vsi_scope.specs.View.{sequence}
@@ -35,11 +36,12 @@ pub record IsHeld (L : Lattice) (a : Held) : Type 0 where
   pub labelled : IsLabelled L (length a.variables) a.words a.labels
   pub variables : All (IsClass L) a.variables
 
--- A command, which has n declarations before it, can be run under a counter: the table has a class for each of its
--- declarations, and the state has its locations.
+-- A command, which has n declarations before it, can be run under a counter: its declarations are few, the table has a
+-- class for each of them, and the state has its locations.
 pub record IsReady (L : Lattice) (table : List ℕ) (pc n : ℕ) (c : Command) (a : Held) : Type 0 where
   pub table_classes : All (IsClass L) table
   pub entries : n + letvars c ≤ length table
+  pub few : n + letvars c ≤ max_declarations
   pub held : IsHeld L a
   pub counter : IsClass L pc
   pub places : HasPlaces (length a.variables) c

@@ -4,8 +4,9 @@ use crate::stop::{Stop, Unfinished};
 use crate::watch::Watched;
 use serde_json::{Value, json};
 use std::alloc::{AllocError, Global as Heap};
-use vsi_lattice::{Class, Classes, Lattice};
+use vsi_lattice::{Classes, Lattice};
 use vsi_scope::Global;
+use vsi_steps::{class_name, put_parts, string};
 use vsi_syntax::{line_column, put_place, put_word};
 
 /// What the answer of a run names: the classes, the text, and the globals.
@@ -14,15 +15,6 @@ pub struct Naming<'a> {
     pub lattice: &'a Lattice,
     pub text: &'a [u8],
     pub globals: &'a [Global<'a>],
-}
-
-/// The name of a label.
-fn class_name(lattice: &Lattice, class: Class) -> &[u8] {
-    if class.index() < lattice.count() {
-        lattice.name(class)
-    } else {
-        b"partly leaked"
-    }
 }
 
 /// The name of the variable of an assignment or in a guard.
@@ -37,29 +29,22 @@ fn put_stop(text: &mut Vec<u8>, naming: &Naming<'_>, stop: &Stop) -> Result<(), 
     put_place(text, naming.text, stop.place.start)?;
     let name = variable_name(naming, stop);
     if stop.label.index() >= naming.lattice.count() {
-        text.extend_from_slice(b" a guard reads ")?;
-        text.extend_from_slice(name)?;
+        put_parts(text, &[b" a guard reads ", name])?;
         return text.extend_from_slice(b", which is partly leaked\n");
     }
-    text.extend_from_slice(b" ")?;
-    text.extend_from_slice(name)?;
-    text.extend_from_slice(b" : ")?;
-    text.extend_from_slice(class_name(naming.lattice, stop.label))?;
-    text.extend_from_slice(b" may not be assigned under ")?;
-    text.extend_from_slice(class_name(naming.lattice, stop.counter))?;
-    text.extend_from_slice(b"\n")
+    let label = class_name(naming.lattice, stop.label);
+    put_parts(text, &[b" ", name, b" : ", label])?;
+    let counter = class_name(naming.lattice, stop.counter);
+    put_parts(text, &[b" may not be assigned under ", counter, b"\n"])
 }
 
 /// The lines of the last store, each with its label.
 fn put_store(text: &mut Vec<u8>, naming: &Naming<'_>, end: &Watched) -> Result<(), AllocError> {
     let ends = end.words.iter().zip(end.labels.iter());
     for (global, (word, label)) in naming.globals.iter().zip(ends) {
-        text.extend_from_slice(global.name)?;
-        text.extend_from_slice(b" = ")?;
+        put_parts(text, &[global.name, b" = "])?;
         put_word(text, *word)?;
-        text.extend_from_slice(b" : ")?;
-        text.extend_from_slice(class_name(naming.lattice, *label))?;
-        text.extend_from_slice(b"\n")?;
+        put_parts(text, &[b" : ", class_name(naming.lattice, *label), b"\n"])?;
     }
     Ok(())
 }
@@ -81,11 +66,6 @@ pub fn monitor_text(
     Ok(text)
 }
 
-/// A text as a string.
-fn string(alloc: Heap, bytes: &[u8]) -> Result<Value, AllocError> {
-    Ok(Value::String(String::from_utf8_lossy(alloc, bytes)?))
-}
-
 /// The object of a run that halts: the array `store` of the globals, each with its label.
 fn halted(alloc: Heap, naming: &Naming<'_>, end: &Watched) -> Result<Value, AllocError> {
     let mut store = Vec::new(alloc);
@@ -98,16 +78,15 @@ fn halted(alloc: Heap, naming: &Naming<'_>, end: &Watched) -> Result<Value, Allo
     json!(in alloc; {"outcome": "halted", "store": (Value::Array(store))})
 }
 
-/// The object of a run that is stopped: the place of the assignment, its variable and the variable's
-/// label, and the class of the counter.
+/// The object of a run that is stopped: the place of the assignment, its variable and the
+/// variable's label, and the class of the counter.
 fn stopped(alloc: Heap, naming: &Naming<'_>, stop: &Stop) -> Result<Value, AllocError> {
     let (line, column) = line_column(naming.text, stop.place.start);
-    let name = string(alloc, variable_name(naming, stop))?;
-    let label = string(alloc, class_name(naming.lattice, stop.label))?;
-    let counter = string(alloc, class_name(naming.lattice, stop.counter))?;
     json!(in alloc; {
-        "outcome": "stopped", "line": line, "column": column, "name": name, "label": label,
-        "counter": counter
+        "outcome": "stopped", "line": line, "column": column,
+        "name": (string(alloc, variable_name(naming, stop))?),
+        "label": (string(alloc, class_name(naming.lattice, stop.label))?),
+        "counter": (string(alloc, class_name(naming.lattice, stop.counter))?)
     })
 }
 

@@ -5,9 +5,9 @@
 //!
 //! `monitored` runs a resolved program by one of these rules: its clause `ends` says that a run
 //! halts or is stopped as the rule says, and `typable` that a typable program is never stopped. The
-//! laws are in [`laws`]: a run that isn't stopped computes what the rules of evaluation give, two such
-//! runs from stores that agree below a class end in stores that agree there, and permissive upgrade
-//! stops fewer runs.
+//! laws are in [`laws`]: a run that isn't stopped computes what the rules of evaluation give, two
+//! such runs from stores that agree below a class end in stores that agree there, and permissive
+//! upgrade stops fewer runs.
 //!
 //! To be believed: all files of `specs/`.
 #![tactic(auto)]

@@ -1,9 +1,8 @@
-//! Values and labels of expressions, and the number of letvars of commands.
+//! Labels of expressions, and the number of letvars of commands.
 
 ghost use Rattle.std.specs.Prelude.{◌≡◌, ◌<◌, ℕ, length, min, slice_index};
 ghost use Rattle.vsi_lattice.specs.Order.{IsClass};
 ghost use Rattle.vsi_scope.specs.Language.{HasLocations, letvars};
-ghost use Rattle.vsi_scope.specs.Meaning.{value};
 ghost use Rattle.vsi_scope.specs.View.{command, sequence, expression};
 ghost use Rattle.vsi_monitor.specs.Labels.{HasLabel, labelling};
 ghost use Rattle.vsi_monitor.specs.Watched.{Guarded};
@@ -12,18 +11,6 @@ use crate::rule::{Rule, mark};
 use crate::stop::{Stop, Unfinished};
 use vsi_lattice::{Class, Classes};
 use vsi_scope::{Cmd, Ex};
-
-/// The value of an expression in a store.
-pub(crate) fn value(e: &Ex, words: &[i64]) -> i64
-    requires { HasLocations (length words.now) (expression e.now) }
-    ensures { result ≡ value (expression e.now) words.now }
-{
-    match e {
-        Ex::Num(n) => *n,
-        Ex::Loc(l, _) => words[*l as usize],
-        Ex::Op(op, a, b) => op.apply(value(a, words), value(b, words)),
-    }
-}
 
 /// The label of an expression: the join of the labels of the locations that it reads.
 pub(crate) fn label<C: Classes>(rule: Rule, lattice: &C, e: &Ex, labels: &[Class]) -> Class

@@ -34,11 +34,8 @@ impl Rule {
             (Below (labelling self (C.lattice lattice.now))) a b result }
     {
         let mark = mark(lattice);
-        if a == mark {
-            return a;
-        }
-        if b == mark {
-            return b;
+        if a == mark || b == mark {
+            return mark;
         }
         lattice.join(a, b)
     }
@@ -54,10 +51,7 @@ impl Rule {
         if present == mark {
             return counter == lattice.bottom();
         }
-        if counter == mark {
-            return false;
-        }
-        lattice.leq(counter, present)
+        counter != mark && lattice.leq(counter, present)
     }
 
     /// The label of a word that is stored under a counter, from the variable's present label, the

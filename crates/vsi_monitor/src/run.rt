@@ -1,19 +1,18 @@
 //! A run whose words have labels and whose program counter has a class.
 
-ghost use Rattle.std.specs.Prelude.{◌≡◌, ◌≤◌, ◌+◌, ◌<◌, ℕ, length, IfErr, OnOk};
+ghost use Rattle.std.specs.Prelude.{ℕ, length};
 ghost use Rattle.vsi_lattice.specs.Order.{IsClass};
-ghost use Rattle.vsi_scope.specs.Language.{Assign, If, While, Letvar, letvars, HasPlaces};
-ghost use Rattle.vsi_scope.specs.Limits.{max_declarations};
+ghost use Rattle.vsi_scope.specs.Language.{Assign, While, Letvar, HasPlaces};
 ghost use Rattle.vsi_scope.specs.View.{command, sequence, expression};
-ghost use Rattle.vsi_monitor.specs.declared.stop.Unfinished.TheVariants as ends;
 ghost use Rattle.vsi_monitor.specs.Labels.{labelling};
 ghost use Rattle.vsi_monitor.specs.Watched.{held, IsHeld, IsReady, Goes, Watched};
 
-use crate::measure::{guard_label, label, letvars, letvars_in, value};
+use crate::measure::{guard_label, label, letvars, letvars_in};
 use crate::rule::Rule;
 use crate::stop::{Stop, Unfinished};
 use vsi_lattice::{Class, Classes};
 use vsi_scope::{Cmd, Ex};
+use vsi_steps::value;
 use vsi_syntax::Span;
 
 /// The state of a run.
@@ -27,18 +26,6 @@ pub(crate) struct State {
     pub(crate) variables: Vec<Class>,
     /// The number of steps that the run may still take.
     pub(crate) left: u64,
-}
-
-/// Takes one of the steps that are left.
-fn take(left: &mut u64) -> Result<(), Unfinished>
-    ensures taken { OnOk result (left.new + 1 ≡ left.old) }
-    ensures limit { IfErr result (λ e. e ≡ ends.Limit) }
-{
-    if *left == 0 {
-        return Err(Unfinished::Limit);
-    }
-    *left -= 1;
-    Ok(())
 }
 
 /// Runs an assignment.
@@ -59,7 +46,7 @@ fn run_assign<C: Classes>(
         classes counter n (Assign location place (expression e.now)) (held state.old)
         (held state.new) result }
 {
-    take(&mut state.left)?;
+    state.left = state.left.checked_sub(1).ok_or(Unfinished::Limit)?;
     let at = location as usize;
     let present = state.labels[at];
     let read = label(rule, lattice, e, &state.labels);
@@ -75,48 +62,8 @@ fn run_assign<C: Classes>(
     Ok(())
 }
 
-/// Runs a choice. Its branch runs under the join of the counter and the label of the guard.
-#[cycle(watch)]
-fn run_if<C: Classes>(
-    rule: Rule,
-    lattice: &C,
-    classes: &[Class],
-    state: &mut State,
-    counter: Class,
-    next: u16,
-    yes: &[Cmd],
-    no: &[Cmd],
-    guard: &Ex,
-) -> Result<(), Unfinished>
-    requires ready { IsReady (labelling rule (C.lattice lattice.now)) classes.now counter next
-        (If (expression guard.now) (sequence yes.now) (sequence no.now)) (held state.old) }
-    requires few { next + letvars (If (expression guard.now) (sequence yes.now) (sequence no.now))
-        ≤ max_declarations }
-    ensures { Goes rule (C.lattice lattice.now) classes.now counter next
-        (If (expression guard.now) (sequence yes.now) (sequence no.now))
-        (held state.old) (held state.new) result }
-{
-    take(&mut state.left)?;
-    let read = guard_label(rule, lattice, guard, &state.labels, counter)?;
-    let inside = rule.join(lattice, counter, read);
-    let word = value(guard, &state.words);
-    if word != 0 {
-        run_all(rule, lattice, classes, state, inside, next, yes)
-    } else {
-        run_all(
-            rule,
-            lattice,
-            classes,
-            state,
-            inside,
-            next + letvars(yes),
-            no,
-        )
-    }
-}
-
-/// Runs a loop, turn by turn. Each turn, and all after it, run under the join of the counter and the
-/// label of the guard.
+/// Runs a loop, turn by turn. Each turn, and all after it, run under the join of the counter and
+/// the label of the guard.
 #[cycle(watch)]
 fn run_while<C: Classes>(
     rule: Rule,
@@ -126,21 +73,18 @@ fn run_while<C: Classes>(
     counter: Class,
     next: u16,
     body: &[Cmd],
-    guard: &Ex,
+    e: &Ex,
 ) -> Result<(), Unfinished>
-    requires ready { IsReady (labelling rule (C.lattice lattice.now)) classes.now counter next
-        (While (expression guard.now) (sequence body.now)) (held state.old) }
-    requires few { next + letvars (While (expression guard.now) (sequence body.now))
-        ≤ max_declarations }
+    requires { IsReady (labelling rule (C.lattice lattice.now)) classes.now counter next
+        (While (expression e.now) (sequence body.now)) (held state.old) }
     ensures { Goes rule (C.lattice lattice.now) classes.now counter next
-        (While (expression guard.now) (sequence body.now))
-        (held state.old) (held state.new) result }
+        (While (expression e.now) (sequence body.now)) (held state.old) (held state.new) result }
 {
     let mut inside = counter;
     loop {
-        let word = value(guard, &state.words);
-        take(&mut state.left)?;
-        let read = guard_label(rule, lattice, guard, &state.labels, inside)?;
+        let word = value(e, &state.words);
+        state.left = state.left.checked_sub(1).ok_or(Unfinished::Limit)?;
+        let read = guard_label(rule, lattice, e, &state.labels, inside)?;
         if word == 0 {
             return Ok(());
         }
@@ -161,15 +105,12 @@ fn run_letvar<C: Classes>(
     body: &[Cmd],
     e: &Ex,
 ) -> Result<(), Unfinished>
-    requires ready { IsReady (labelling rule (C.lattice lattice.now)) classes.now counter next
+    requires { IsReady (labelling rule (C.lattice lattice.now)) classes.now counter next
         (Letvar (expression e.now) (sequence body.now)) (held state.old) }
-    requires few { next + letvars (Letvar (expression e.now) (sequence body.now))
-        ≤ max_declarations }
     ensures { Goes rule (C.lattice lattice.now) classes.now counter next
-        (Letvar (expression e.now) (sequence body.now))
-        (held state.old) (held state.new) result }
+        (Letvar (expression e.now) (sequence body.now)) (held state.old) (held state.new) result }
 {
-    take(&mut state.left)?;
+    state.left = state.left.checked_sub(1).ok_or(Unfinished::Limit)?;
     let class = classes[next as usize];
     let word = value(e, &state.words);
     let first = rule.join(lattice, label(rule, lattice, e, &state.labels), class);
@@ -195,9 +136,8 @@ pub(crate) fn run_all<C: Classes>(
     first: u16,
     body: &[Cmd],
 ) -> Result<(), Unfinished>
-    requires ready { IsReady (labelling rule (C.lattice lattice.now)) classes.now counter first
+    requires { IsReady (labelling rule (C.lattice lattice.now)) classes.now counter first
         (sequence body.now) (held state.old) }
-    requires few { first + letvars (sequence body.now) ≤ max_declarations }
     ensures { Goes rule (C.lattice lattice.now) classes.now counter first
         (sequence body.now) (held state.old) (held state.new) result }
 {
@@ -220,9 +160,8 @@ fn run_one<C: Classes>(
     next: u16,
     c: &Cmd,
 ) -> Result<(), Unfinished>
-    requires ready { IsReady (labelling rule (C.lattice lattice.now)) classes.now counter next
+    requires { IsReady (labelling rule (C.lattice lattice.now)) classes.now counter next
         (command c.now) (held state.old) }
-    requires few { next + letvars (command c.now) ≤ max_declarations }
     ensures { Goes rule (C.lattice lattice.now) classes.now counter next (command c.now)
         (held state.old) (held state.new) result }
 {
@@ -230,8 +169,16 @@ fn run_one<C: Classes>(
         Cmd::Assign { loc, span, value } => run_assign(
             rule, lattice, state, counter, *loc, *span, value,
         ),
+        // The branch runs under the join of the counter and the label of the guard.
         Cmd::If { guard, yes, no } => {
-            run_if(rule, lattice, classes, state, counter, next, yes, no, guard)
+            state.left = state.left.checked_sub(1).ok_or(Unfinished::Limit)?;
+            let read = guard_label(rule, lattice, guard, &state.labels, counter)?;
+            let inside = rule.join(lattice, counter, read);
+            if value(guard, &state.words) != 0 {
+                return run_all(rule, lattice, classes, state, inside, next, yes);
+            }
+            let second = next + letvars(yes);
+            run_all(rule, lattice, classes, state, inside, second, no)
         }
         Cmd::While { guard, body } => {
             run_while(rule, lattice, classes, state, counter, next, body, guard)

@@ -62,15 +62,9 @@ pub fn monitored<C: Classes>(
         variables: Vec::from_slice(alloc, firsts)?,
         left: limit,
     };
-    run_all(
-        rule,
-        lattice,
-        classes,
-        &mut state,
-        lattice.bottom(),
-        globals as u16,
-        body,
-    )?;
+    let bottom = lattice.bottom();
+    let first = globals as u16;
+    run_all(rule, lattice, classes, &mut state, bottom, first, body)?;
     let State { words, labels, .. } = state;
     Ok(Watched { words, labels })
 }

@@ -1,7 +1,7 @@
 -- Combining the runs of the parts of a command into its run.
 use Rattle.std.proofs.Common.{◌≡◌, ◌≢◌, ℕ, ◌+◌, ◌<◌, ◌≤◌, List, [], ◌∷◌, ◌++◌, length, get_or, take, set, ℤ, pos, refl, sym, ap, ◌∙◌, subst, arith, append_assoc, length-set}
 use Rattle.std.specs.Prelude.{Bool, true, false, Some, None}
-use Rattle.std.proofs.lemmas.List.{length-append, length-take-le, append-nil}
+use Rattle.std.proofs.lemmas.List.{length-append, length_push, length-take-le, append-nil}
 use Rattle.vsi_syntax.specs.declared.token.Span.{Span}
 use Rattle.vsi_scope.specs.declared.program.Cmd.{Cmd}
 use Rattle.vsi_scope.specs.Language.{Expression, Command, Skip, Assign, Sequence, If, While, Letvar, HasPlaces}
@@ -116,6 +116,18 @@ ready_after n k e c x a b m places few table = record {
   few = few;
   table = subst (λ y. HasExtents y k c) (sym m.2.extents) table;
   within = m.3;
+}
+
+-- The body of a letvar can be run after its word was added.
+pub letvar_ready : (n : ℕ) (e : Expression) (c : Command) (x : ℤ) (a b b' : Past) → IsReady n (Letvar e c) a →
+    Met n e a b (Some x) → b'.words ≡ b.words ++ x ∷ [] → b'.steps ≡ b.steps → b'.limit ≡ b.limit →
+    b'.extents ≡ b.extents → IsReady (n + 1) c b'
+letvar_ready n e c x a b b' r m is steps limit table = record {
+  places = subst (λ k. HasPlaces k c) (sym (ap length (is ∙ ap (λ y. y ++ x ∷ []) m.1) ∙ length_push a.words x))
+      r.places.1;
+  few = omega (arith, r.few);
+  table = subst (λ y. HasExtents y (n + 1) c) (sym (table ∙ m.2.extents)) r.table.1;
+  within = omega (arith, ap length steps, limit, m.3);
 }
 
 -- A choice whose guard is true leads to its first branch.

@@ -19,7 +19,12 @@ pub length_extents : (n : ℕ) (c : Command) → length (extents n c) ≡ sites 
 length_extents n Skip = refl
 length_extents n (Assign l s e) = refl
 length_extents n (Sequence a b) =
-    omega (arith, length-append (extents n a) (extents (n + sites a) b), length_extents n a, length_extents (n + sites a) b)
+    omega (
+      arith,
+      length-append (extents n a) (extents (n + sites a) b),
+      length_extents n a,
+      length_extents (n + sites a) b,
+    )
 length_extents n (If e a b) =
     omega (
       arith,
@@ -175,7 +180,8 @@ in_table (Letvar e c) n t u v long is =
     )
 
 -- The extent of a command ends after its sites.
-after_extent : (t : List Extent) (n : ℕ) (c : Command) → IsStep c → HasExtents t n c → (k : ℕ) × HasExtent t n k (n + sites c)
+after_extent : (t : List Extent) (n : ℕ) (c : Command) → IsStep c → HasExtents t n c →
+    (k : ℕ) × HasExtent t n k (n + sites c)
 after_extent t n Skip is h = absurd is
 after_extent t n (Assign l s e) is h = (n + 1, h)
 after_extent t n (Sequence a b) is h = absurd is

@@ -8,7 +8,7 @@ use std::alloc::AllocError;
 use vsi_scope::Cmd;
 
 /// Where the parts of a site end, in numbers of sites.
-#[derive(Clone, Copy)]
+#[derive(Clone, Copy, Default)]
 pub(crate) struct Extent {
     /// The first site of the second branch; without one, that after the parts.
     pub(crate) second: usize,
@@ -23,10 +23,7 @@ pub(crate) fn put_all(extents: &mut Vec<Extent>, body: &[Cmd]) -> Result<(), All
 {
     for c in body {
         let site = extents.len();
-        extents.push(Extent {
-            second: 0,
-            after: 0,
-        })?;
+        extents.push(Extent::default())?;
         let second = put_parts(extents, c)?;
         let after = extents.len();
         extents[site] = Extent { second, after };

@@ -9,7 +9,7 @@ use std::alloc::{AllocError, Global};
 use vsi_lattice::{Class, Classes};
 
 /// A text as a string.
-fn string(alloc: Global, bytes: &[u8]) -> Result<Value, AllocError> {
+pub fn string(alloc: Global, bytes: &[u8]) -> Result<Value, AllocError> {
     Ok(Value::String(String::from_utf8_lossy(alloc, bytes)?))
 }
 
@@ -18,12 +18,10 @@ fn step_value(alloc: Global, listing: &Listing<'_>, step: Step) -> Result<Value,
     let Some(site) = listing.sites.get(step.site as usize) else {
         return Ok(Value::Null);
     };
-    let text = string(alloc, &site.text)?;
-    let name = string(alloc, site.name)?;
-    let class = string(alloc, class_name(listing.lattice, site.class))?;
     json!(in alloc; {
-        "line": (site.line), "column": (site.column), "text": text, "name": name,
-        "value": (step.value), "class": class
+        "line": (site.line), "column": (site.column), "text": (string(alloc, &site.text)?),
+        "name": (string(alloc, site.name)?), "value": (step.value),
+        "class": (string(alloc, class_name(listing.lattice, site.class))?)
     })
 }
 
@@ -31,8 +29,7 @@ fn step_value(alloc: Global, listing: &Listing<'_>, step: Step) -> Result<Value,
 fn store_value(alloc: Global, listing: &Listing<'_>, words: &[i64]) -> Result<Value, AllocError> {
     let mut store = Vec::new(alloc);
     for (global, word) in listing.globals.iter().zip(words.iter()) {
-        let name = string(alloc, global.name)?;
-        store.push(json!(in alloc; {"name": name, "word": (*word)})?)?;
+        store.push(json!(in alloc; {"name": (string(alloc, global.name)?), "word": (*word)})?)?;
     }
     Ok(Value::Array(store))
 }
@@ -90,13 +87,10 @@ pub fn together_json(
     second: &Trace,
 ) -> Result<Value, AllocError> {
     let rows = rows_of(alloc, listing, &first.steps, &second.steps)?;
-    let class = string(alloc, class_name(listing.lattice, class))?;
-    let seen = seen_value(alloc, listing, &rows)?;
-    let steps = rows_value(alloc, listing, &rows)?;
-    let first = store_value(alloc, listing, &first.words)?;
-    let second = store_value(alloc, listing, &second.words)?;
     json!(in alloc; {
-        "class": class, "same": is_same, "seen": seen, "steps": steps, "first": first,
-        "second": second
+        "class": (string(alloc, class_name(listing.lattice, class))?), "same": is_same,
+        "seen": (seen_value(alloc, listing, &rows)?), "steps": (rows_value(alloc, listing, &rows)?),
+        "first": (store_value(alloc, listing, &first.words)?),
+        "second": (store_value(alloc, listing, &second.words)?)
     })
 }

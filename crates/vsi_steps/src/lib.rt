@@ -18,8 +18,9 @@ mod run;
 mod text;
 mod trace;
 
-pub use json::{steps_json, together_json};
+pub use json::{steps_json, string, together_json};
 pub use listing::{Listing, Site, listing_of};
 pub use row::{Row, Side, first_seen, rows_of};
-pub use text::{steps_text, together_text};
+pub use run::value;
+pub use text::{class_name, put_parts, steps_text, together_text};
 pub use trace::{Step, Trace, trace_of};

@@ -8,8 +8,6 @@ use vsi_syntax::{Kind, Token, lex, line_column};
 /// A site of a text.
 #[derive(Drop)]
 pub struct Site<'a> {
-    /// The token that makes it one: `Assign`, `If`, `While` or `Letvar`.
-    pub kind: Kind,
     /// The line and the column of its first byte, counted from 1.
     pub line: usize,
     pub column: usize,
@@ -23,17 +21,15 @@ pub struct Site<'a> {
     pub end: usize,
 }
 
-/// The kind of the site that begins at the first of these tokens, if one does, and the name that it
-/// writes; `before` is the token before.
-fn site_at<'a>(before: Option<Kind>, tokens: &[Token<'a>]) -> Option<(Kind, &'a [u8])> {
+/// The name that the site at the first of these tokens writes, and nothing for a guard, if a site
+/// begins there; `before` is the token before.
+fn site_at<'a>(before: Option<Kind>, tokens: &[Token<'a>]) -> Option<&'a [u8]> {
     match tokens {
-        [first, second, ..] => match (first.kind, second.kind) {
-            (Kind::If | Kind::While, _) => Some((first.kind, b"")),
-            (Kind::Letvar, _) => Some((Kind::Letvar, second.text)),
-            (Kind::Name, Kind::Assign) => match before {
-                Some(Kind::Letvar | Kind::Colon) => None,
-                _ => Some((Kind::Assign, first.text)),
-            },
+        [first, second, ..] => match (before, first.kind, second.kind) {
+            (_, Kind::If | Kind::While, _) => Some(b""),
+            (_, Kind::Letvar, _) => Some(second.text),
+            (Some(Kind::Letvar | Kind::Colon), _, _) => None,
+            (_, Kind::Name, Kind::Assign) => Some(first.text),
             _ => None,
         },
         _ => None,
@@ -74,18 +70,14 @@ fn sites_of<'a>(
     let (mut at, mut line, mut column): (usize, usize, usize) = (0, 1, 1);
     for (i, token) in tokens.iter().enumerate() {
         let rest = &tokens[i..];
-        if let Some((kind, name)) = site_at(before, rest) {
+        if let Some(name) = site_at(before, rest) {
             let between = source.get(at..token.span.start).unwrap_or(b"");
             let (lines, columns) = line_column(between, between.len());
             line = line.saturating_add(lines - 1);
-            column = if lines == 1 {
-                column.saturating_add(columns - 1)
-            } else {
-                columns
-            };
+            let first = if lines == 1 { column } else { 1 };
+            column = first.saturating_add(columns - 1);
             at = token.span.start;
             sites.push(Site {
-                kind,
                 line,
                 column,
                 name,
@@ -113,26 +105,20 @@ pub struct Listing<'a> {
 #[derive(Drop)]
 struct Walk<'a, 'b> {
     lattice: &'a Lattice,
-    /// The class of each declaration.
+    /// The classes of the declarations that are still to come.
     classes: &'a [Class],
     /// The class of each location in scope.
     scope: Vec<Class>,
-    /// The numbers of declarations and of sites so far.
-    declared: usize,
+    /// The number of sites so far.
     next: usize,
     sites: Vec<Site<'b>>,
-}
-
-/// The class at a position of a list, or the bottom class after its end.
-fn class_at(lattice: &Lattice, classes: &[Class], at: usize) -> Class {
-    classes.get(at).copied().unwrap_or(lattice.bottom())
 }
 
 /// The class of what an expression reads.
 fn class_of(lattice: &Lattice, scope: &[Class], e: &Ex) -> Class {
     match e {
         Ex::Num(_) => lattice.bottom(),
-        Ex::Loc(l, _) => class_at(lattice, scope, *l as usize),
+        Ex::Loc(l, _) => scope.get(*l as usize).copied().unwrap_or(lattice.bottom()),
         Ex::Op(_, a, b) => {
             let (a, b) = (class_of(lattice, scope, a), class_of(lattice, scope, b));
             if a.index() < lattice.count() && b.index() < lattice.count() {
@@ -144,21 +130,15 @@ fn class_of(lattice: &Lattice, scope: &[Class], e: &Ex) -> Class {
     }
 }
 
-/// Enters the next declaration and returns its class.
-fn declare(walk: &mut Walk<'_, '_>) -> Result<Class, AllocError> {
-    let class = class_at(walk.lattice, walk.classes, walk.declared);
-    walk.declared = walk.declared.saturating_add(1);
-    walk.scope.push(class)?;
-    Ok(class)
-}
-
 /// Marks the sites of commands and of their parts.
 fn mark(body: &[Cmd], walk: &mut Walk<'_, '_>) -> Result<(), AllocError> {
     for c in body {
         let at = walk.next;
         walk.next = at.saturating_add(1);
         let class = match c {
-            Cmd::Assign { loc, .. } => class_at(walk.lattice, &walk.scope, *loc as usize),
+            Cmd::Assign { loc, span, .. } => {
+                class_of(walk.lattice, &walk.scope, &Ex::Loc(*loc, *span))
+            }
             Cmd::If { guard, yes, no } => {
                 mark(yes, walk)?;
                 mark(no, walk)?;
@@ -169,11 +149,15 @@ fn mark(body: &[Cmd], walk: &mut Walk<'_, '_>) -> Result<(), AllocError> {
                 class_of(walk.lattice, &walk.scope, guard)
             }
             Cmd::Letvar { body, .. } => {
+                let [class, rest @ ..] = walk.classes else {
+                    return Ok(());
+                };
                 let outside = walk.scope.len();
-                let class = declare(walk)?;
+                walk.classes = rest;
+                walk.scope.push(*class)?;
                 mark(body, walk)?;
                 walk.scope.truncate(outside);
-                class
+                *class
             }
         };
         if let Some(site) = walk.sites.get_mut(at) {
@@ -193,22 +177,20 @@ pub fn listing_of<'a>(
     program: &'a Resolved<'a>,
     classes: &'a [Class],
 ) -> Result<Listing<'a>, AllocError> {
+    let globals = program.globals();
+    let (scope, classes) = classes.split_at(globals.len().min(classes.len()));
     let mut walk = Walk {
         lattice,
         classes,
-        scope: Vec::new(alloc),
-        declared: 0,
+        scope: Vec::from_slice(alloc, scope)?,
         next: 0,
         sites: sites_of(alloc, lattice, text)?,
     };
-    for _global in program.globals() {
-        declare(&mut walk)?;
-    }
     mark(program.body(), &mut walk)?;
     let Walk { sites, .. } = walk;
     Ok(Listing {
         lattice,
-        globals: program.globals(),
+        globals,
         sites,
     })
 }

@@ -6,7 +6,6 @@ use crate::listing::{Listing, Site};
 use crate::trace::Step;
 use std::alloc::{AllocError, Global};
 use vsi_lattice::{Class, Classes, Lattice};
-use vsi_syntax::Kind;
 
 /// The runs that take a step.
 #[derive(Clone, Copy, Debug, PartialEq, Eq)]
@@ -50,16 +49,14 @@ fn put_side<'s>(
     Ok(&steps[steps.len()..])
 }
 
-/// The sites in which two runs differ after a step of both: those within a guard that is true in
-/// one of them. The guard of a loop is within it.
+/// The sites in which two runs differ after a step of both: those of a guard that is true in one of
+/// them, and of what it guards.
 fn apart(listing: &Listing<'_>, one: &Step, other: &Step) -> (usize, usize) {
     let at = one.site as usize;
     match listing.sites.get(at) {
-        Some(site) if (one.value != 0) != (other.value != 0) => match site.kind {
-            Kind::If => (at + 1, site.end),
-            Kind::While => (at, site.end),
-            _ => (0, 0),
-        },
+        Some(site) if site.name.is_empty() && (one.value != 0) != (other.value != 0) => {
+            (at, site.end)
+        }
         _ => (0, 0),
     }
 }

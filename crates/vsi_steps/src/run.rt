@@ -1,7 +1,7 @@
 //! A run that keeps its steps.
 
 ghost use Rattle.std.specs.Prelude.{◌≡◌, ◌≤◌, IfOk, length};
-ghost use Rattle.vsi_scope.specs.Language.{Assign, If, While, Letvar, HasLocations, HasPlaces};
+ghost use Rattle.vsi_scope.specs.Language.{While, HasLocations};
 ghost use Rattle.vsi_scope.specs.Limits.{max_size};
 ghost use Rattle.vsi_scope.specs.Meaning.{value};
 ghost use Rattle.vsi_scope.specs.View.{command, sequence, expression};
@@ -11,7 +11,6 @@ use crate::extent::Extent;
 use crate::trace::Step;
 use std::alloc::AllocError;
 use vsi_scope::{Cmd, Ex};
-use vsi_syntax::Span;
 
 /// A run so far.
 #[derive(Drop)]
@@ -27,7 +26,7 @@ pub(crate) struct Run {
 }
 
 /// The value of an expression in a store.
-fn value(e: &Ex, words: &[i64]) -> i64
+pub fn value(e: &Ex, words: &[i64]) -> i64
     requires { HasLocations (length words.now) (expression e.now) }
     ensures { result ≡ value (expression e.now) words.now }
 {
@@ -54,45 +53,6 @@ fn meet(run: &mut Run, site: usize, e: &Ex) -> Result<Option<i64>, AllocError>
     Ok(Some(value))
 }
 
-/// Runs an assignment.
-fn run_assign(
-    run: &mut Run,
-    site: usize,
-    location: u16,
-    place: Span,
-    e: &Ex,
-) -> Result<bool, AllocError>
-    requires { IsReady site (Assign location place (expression e.now)) (past run.old) }
-    ensures { IfOk result
-        (Ran site (Assign location place (expression e.now)) (past run.old) (past run.new)) }
-{
-    let Some(word) = meet(run, site, e)? else {
-        return Ok(false);
-    };
-    run.words[location as usize] = word;
-    Ok(true)
-}
-
-/// Runs a choice.
-#[cycle(run)]
-fn run_if(run: &mut Run, site: usize, yes: &[Cmd], no: &[Cmd], e: &Ex) -> Result<bool, AllocError>
-    requires { IsReady site (If (expression e.now) (sequence yes.now) (sequence no.now))
-        (past run.old) }
-    ensures { IfOk result
-        (Ran site (If (expression e.now) (sequence yes.now) (sequence no.now))
-        (past run.old) (past run.new)) }
-{
-    let Some(word) = meet(run, site, e)? else {
-        return Ok(false);
-    };
-    if word != 0 {
-        run_all(run, site + 1, yes)
-    } else {
-        let second = run.extents[site].second;
-        run_all(run, second, no)
-    }
-}
-
 /// Runs a loop, turn by turn.
 #[cycle(run)]
 fn run_while(run: &mut Run, site: usize, body: &[Cmd], e: &Ex) -> Result<bool, AllocError>
@@ -111,23 +71,6 @@ fn run_while(run: &mut Run, site: usize, body: &[Cmd], e: &Ex) -> Result<bool, A
             return Ok(false);
         }
     }
-}
-
-/// Runs a letvar.
-#[cycle(run)]
-fn run_letvar(run: &mut Run, site: usize, body: &[Cmd], e: &Ex) -> Result<bool, AllocError>
-    requires { IsReady site (Letvar (expression e.now) (sequence body.now)) (past run.old) }
-    ensures { IfOk result (Ran site (Letvar (expression e.now) (sequence body.now))
-        (past run.old) (past run.new)) }
-{
-    let Some(word) = meet(run, site, e)? else {
-        return Ok(false);
-    };
-    let outside = run.words.len();
-    run.words.push(word)?;
-    let is_done = run_all(run, site + 1, body)?;
-    run.words.truncate(outside);
-    Ok(is_done)
 }
 
 /// Runs commands, one after another.
@@ -153,9 +96,33 @@ fn run_one(run: &mut Run, site: usize, c: &Cmd) -> Result<bool, AllocError>
     ensures { IfOk result (Ran site (command c.now) (past run.old) (past run.new)) }
 {
     match c {
-        Cmd::Assign { loc, span, value } => run_assign(run, site, *loc, *span, value),
-        Cmd::If { guard, yes, no } => run_if(run, site, yes, no, guard),
+        Cmd::Assign { loc, value, .. } => {
+            let Some(word) = meet(run, site, value)? else {
+                return Ok(false);
+            };
+            run.words[*loc as usize] = word;
+            Ok(true)
+        }
+        Cmd::If { guard, yes, no } => {
+            let Some(word) = meet(run, site, guard)? else {
+                return Ok(false);
+            };
+            if word != 0 {
+                return run_all(run, site + 1, yes);
+            }
+            let second = run.extents[site].second;
+            run_all(run, second, no)
+        }
         Cmd::While { guard, body } => run_while(run, site, body, guard),
-        Cmd::Letvar { value, body } => run_letvar(run, site, body, value),
+        Cmd::Letvar { value, body } => {
+            let Some(word) = meet(run, site, value)? else {
+                return Ok(false);
+            };
+            let outside = run.words.len();
+            run.words.push(word)?;
+            let is_done = run_all(run, site + 1, body)?;
+            run.words.truncate(outside);
+            Ok(is_done)
+        }
     }
 }

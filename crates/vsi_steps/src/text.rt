@@ -16,12 +16,20 @@ fn pad(line: &mut Vec<u8>, width: usize) -> Result<(), AllocError> {
     line.resize(end, b' ')
 }
 
-/// The name of a class.
-pub(crate) fn class_name(lattice: &Lattice, class: Class) -> &[u8] {
+/// Adds some texts.
+pub fn put_parts(text: &mut Vec<u8>, parts: &[&[u8]]) -> Result<(), AllocError> {
+    for part in parts {
+        text.extend_from_slice(part)?;
+    }
+    Ok(())
+}
+
+/// The name of a class, or of the mark above all classes, by which a monitor labels words.
+pub fn class_name(lattice: &Lattice, class: Class) -> &[u8] {
     if class.index() < lattice.count() {
         lattice.name(class)
     } else {
-        b"?"
+        b"partly leaked"
     }
 }
 
@@ -58,15 +66,11 @@ fn put_step(
     let (Some(site), Some(head)) = (listing.sites.get(at), heads.get(at)) else {
         return Ok(());
     };
-    text.extend_from_slice(mark)?;
-    text.extend_from_slice(head)?;
-    text.extend_from_slice(site.name)?;
     let verb: &[u8] = if site.name.is_empty() { b"is " } else { b" = " };
-    text.extend_from_slice(verb)?;
+    put_parts(text, &[mark, head, site.name, verb])?;
     put_word(text, step.value)?;
-    text.extend_from_slice(b" : ")?;
-    text.extend_from_slice(class_name(listing.lattice, site.class))?;
-    text.extend_from_slice(b"\n")
+    let class = class_name(listing.lattice, site.class);
+    put_parts(text, &[b" : ", class, b"\n"])
 }
 
 /// Adds the lines of the globals, or that a run has more steps than the limit.
@@ -77,15 +81,12 @@ fn put_ending(
     trace: &Trace,
 ) -> Result<(), AllocError> {
     if !trace.halted {
-        text.extend_from_slice(mark)?;
-        text.extend_from_slice(b"limit of ")?;
+        put_parts(text, &[mark, b"limit of "])?;
         put_number(text, trace.steps.len())?;
         return text.extend_from_slice(b" steps\n");
     }
     for (global, word) in listing.globals.iter().zip(trace.words.iter()) {
-        text.extend_from_slice(mark)?;
-        text.extend_from_slice(global.name)?;
-        text.extend_from_slice(b" = ")?;
+        put_parts(text, &[mark, global.name, b" = "])?;
         put_word(text, *word)?;
         text.extend_from_slice(b"\n")?;
     }

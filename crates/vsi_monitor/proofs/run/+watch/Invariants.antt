@@ -1,4 +1,4 @@
-use Rattle.std.proofs.Common.{max, drop, length, ◌+◌, ◌*◌}
+use Rattle.std.proofs.Common.{drop, ◌+◌, ◌*◌}
 use denote.Param.Weighed.{most}
 use Rattle.vsi_scope.proofs.program.Cmd.TheLaws.{the_size}
 use Rattle.vsi_scope.specs.Language.{While}
@@ -18,15 +18,12 @@ invariant-run_all-loop-c g l =
 abbrev pub invariant-run_while-loop-state : goal.invariant-run_while-loop-state
 invariant-run_while-loop-state g l =
     let L = labelling l.rule (g.C.Classes.lattice l.lattice) in
-    let loop = While (expression l.guard) (sequence l.body) in
+    let loop = While (expression l.e) (sequence l.body) in
     Leads l.rule L (class_of L l.classes) l.classes l.fn.counter l.next loop
     (held l.initial.state) l.inside l.next loop (held l.state)
 
 abbrev pub decreases-run_while-loop-state : goal.decreases-run_while-loop-state
 decreases-run_while-loop-state g l = l.state.left
-
-abbrev pub decreases-run_if : goal.decreases-run_if
-decreases-run_if g l = 3 * max (most (λ x. the_size x) l.yes.now) (most (λ x. the_size x) l.no.now) + 2
 
 abbrev pub decreases-run_one : goal.decreases-run_one
 decreases-run_one g l = 3 * the_size l.c.now

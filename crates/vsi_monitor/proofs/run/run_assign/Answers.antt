@@ -1,12 +1,11 @@
 use Rattle.std.proofs.Common.{rules, arith, refl, ap, subst, ◌∙◌, set, w64, to_z, of_z}
 use Rattle.std.proofs.lemmas.Int.{to_z-of_z}
 use Rattle.std.proofs.lemmas.List.{get_or_read}
-use Rattle.vsi_scope.specs.Language.{Assign}
 use Rattle.vsi_scope.specs.Meaning.{value}
 use Rattle.vsi_scope.specs.View.{expression}
 use Rattle.vsi_monitor.specs.Labels.{HasLabel, labelling}
 use Rattle.vsi_monitor.specs.Watched.{Held, held}
-use Rattle.vsi_monitor.proofs.Watching.{limit_err, stopped_at, assigned_at}
+use Rattle.vsi_monitor.proofs.Watching.{taken, stopped_at, assigned_at}
 use Rattle.vsi_monitor.proofs.run.run_assign.Goals as goal
 
 pub returns-in_default : goal.returns-in_default
@@ -30,7 +29,7 @@ returns g c =
       words = set a.words c.args.location (to_z w64 (of_z w64 c.value.result));
       labels = set a.labels c.args.location c.in-Some.risen;
       variables = a.variables;
-      left = c.take.new.left;
+      left = c.in_ok-state.field-0;
     } in
     assigned_at c.args.rule L classes a b c.args.counter n c.args.location c.index-present.result.now
     c.label-read.result
@@ -42,4 +41,4 @@ returns g c =
     (subst (λ y. HasLabel L y e c.label-read.result) c.deref.ensures.value c.label-read.ensures.label)
     c.in-Some.ensures (c.value.ensures ∙ ap (value e) c.deref-2.ensures.value)
     (ap (set a.words c.args.location) (to_z-of_z w64 c.value.result (search rules))) refl refl
-    (omega (arith, c.in_ok-take.ensures.taken))
+    (taken _ _ _ _ c.checked_sub.ensures c.in_ok-state.ensures.value)

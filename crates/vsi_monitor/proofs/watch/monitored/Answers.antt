@@ -20,7 +20,7 @@ returns-in_err-run_all-clause-typable g c =
     c.args.words.now
     c.from_residual-in_err-run_all.result
     (whole_stop c.args.rule L laws c.args.classes.now c.args.program.now kept c.requires.classes c.requires.each
-    c.body-body.result.now c.body-body.ensures.value _ (ap length c.globals-globals.ensures) _ c.bottom.ensures
+    c.body-body.result.now c.body-body.ensures.value _ (ap length c.globals-globals.ensures) _ c.bottom-bottom.ensures
     c.args.words.now c.requires.words a (c.in_ok-to_vec.ensures.items_if_clones_equal (λ x y h. h)) (search rules)
     (search rules) (held c.run_all.new.state) c.from_residual-in_err-run_all.result _
     c.from_residual-in_err-run_all.ensures.1 c.in_err-run_all.ensures)
@@ -38,7 +38,7 @@ returns-in_err-run_all-clause-ends g c =
       left = c.args.limit;
     } in
     whole_stop c.args.rule L laws c.args.classes.now c.args.program.now kept c.requires.classes c.requires.each
-    c.body-body.result.now c.body-body.ensures.value _ (ap length c.globals-globals.ensures) _ c.bottom.ensures
+    c.body-body.result.now c.body-body.ensures.value _ (ap length c.globals-globals.ensures) _ c.bottom-bottom.ensures
     c.args.words.now c.requires.words a (c.in_ok-to_vec.ensures.items_if_clones_equal (λ x y h. h)) (search rules)
     (search rules) (held c.run_all.new.state) c.from_residual-in_err-run_all.result _
     c.from_residual-in_err-run_all.ensures.1 c.in_err-run_all.ensures
@@ -56,6 +56,6 @@ returns-clause-ends g c =
     } in
     let w : watch.Watched = record { words = c.run_all.new.state.words; labels = c.run_all.new.state.labels } in
     whole_halts c.args.rule L laws c.args.classes.now c.args.program.now kept c.requires.classes c.requires.each
-    c.body-body.result.now c.body-body.ensures.value _ (ap length c.globals-globals.ensures) _ c.bottom.ensures
+    c.body-body.result.now c.body-body.ensures.value _ (ap length c.globals-globals.ensures) _ c.bottom-bottom.ensures
     c.args.words.now c.requires.words a (c.in_ok-to_vec.ensures.items_if_clones_equal (λ x y h. h)) (search rules)
     (search rules) (held c.run_all.new.state) w tt refl refl c.in_ok-run_all.ensures

@@ -13,7 +13,7 @@ put_all-loop-c-preserved t c =
     let site = c.len-site.result in
     let second = c.in_ok-second.second in
     let after = c.len-after.result in
-    let one = put_filled (command c.c-item.result) before.items c.push.new.self.items parts.items (extent 0 0) site
+    let one = put_filled (command c.c-item.result) before.items c.push.new.self.items parts.items c.default.result site
     second after (own_step c.c-item.result) (omega (arith, c.len-site.ensures, before.ok.0)) c.in_ok-push.ensures.items
     c.in_ok-second.ensures (omega (arith, c.len-after.ensures, parts.ok.0)) in
     λ s f. c.loop-c.invariant s (subst (λ y. IsFilled y before.items s) (sym e)

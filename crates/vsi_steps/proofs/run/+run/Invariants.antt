@@ -1,4 +1,4 @@
-use Rattle.std.proofs.Common.{max, drop, length, ◌+◌, ◌*◌, ◌-◌}
+use Rattle.std.proofs.Common.{drop, length, ◌+◌, ◌*◌, ◌-◌}
 use denote.Param.Weighed.{most}
 use Rattle.vsi_scope.proofs.program.Cmd.TheLaws.{the_size}
 use Rattle.vsi_scope.specs.Language.{While}
@@ -19,9 +19,6 @@ invariant-run_while-loop-word l =
 abbrev pub decreases-run_while-loop-word : goal.decreases-run_while-loop-word
 decreases-run_while-loop-word l = l.run.limit - length l.run.steps.items
 
-abbrev pub decreases-run_if : goal.decreases-run_if
-decreases-run_if l = 3 * max (most (λ x. the_size x) l.yes.now) (most (λ x. the_size x) l.no.now) + 2
-
 abbrev pub decreases-run_one : goal.decreases-run_one
 decreases-run_one l = 3 * the_size l.c.now
 
@@ -30,6 +27,3 @@ decreases-run_all l = 3 * most (λ x. the_size x) l.body.now + 1
 
 abbrev pub decreases-run_while : goal.decreases-run_while
 decreases-run_while l = 3 * most (λ x. the_size x) l.body.now + 2
-
-abbrev pub decreases-run_letvar : goal.decreases-run_letvar
-decreases-run_letvar l = 3 * most (λ x. the_size x) l.body.now + 2
