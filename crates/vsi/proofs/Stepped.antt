@@ -1,6 +1,6 @@
 -- Runs of a source text in steps.
 use Rattle.std.proofs.Common.{◌≡◌, ◌∙◌, ◌++◌, ◌+◌, ℕ, ℤ, Bool, List, All, Result, Err, inl, inr, length, ap, sym, refl, subst, ◌∷◌, ◌<◌, [], Ok, Option, map}
-use Rattle.std.specs.Prelude.{◌≢◌, IfErr, Some, IfOk, IfSome}
+use Rattle.std.specs.Prelude.{◌≢◌, IfErr, Some, IfOk, IfSome, true}
 use Rattle.std.specs.Borrow.{Bor}
 use Rattle.std.proofs.lemmas.List.{length-append, length-map, get_or-map, map-append, take_more}
 use Rattle.std.proofs.lemmas.List.Elements.{All-append}
@@ -16,14 +16,16 @@ use Rattle.vsi_scope.specs.Language.{letvars}
 use Rattle.vsi_scope.specs.Program.{Resolved}
 use Rattle.vsi_scope.specs.Resolving.{global_of, shown}
 use Rattle.vsi_scope.specs.View.{sequence}
+use Rattle.vsi_types.specs.declared.rules.Profile.{Profile}
 use Rattle.vsi_types.specs.declared.rules.Profile.TheVariants.{Base}
+use Rattle.vsi_types.specs.Typing.{Locations}
 use Rattle.vsi_types.specs.Security.{IsTypable, IsWellFormed, Keeps, Program, program, IsChoice}
 use Rattle.vsi_types.proofs.Walking.{bad_walks_refute}
 use Rattle.vsi_infer.specs.Inference.{Refuses, AreClasses}
 use Rattle.vsi_infer.specs.declared.error.InferError.TheVariants as infer
 use Rattle.vsi_infer.specs.declared.walk.Walk.{Walk}
 use Rattle.vsi_image.specs.declared.instr.Image.{Image}
-use Rattle.vsi_image.specs.Fields.{global, globals}
+use Rattle.vsi_image.specs.Fields.{Global, global, globals}
 use Rattle.vsi_compiler.specs.Headline.{HasGlobals, declared_global}
 use Rattle.vsi_compiler.specs.SourceView.{IsSource, Source}
 use Rattle.vsi_compiler.proofs.Compiled.{lawful}
@@ -33,6 +35,10 @@ use Rattle.vsi_monitor.specs.declared.stop.Stop.{Stop}
 use Rattle.vsi_monitor.specs.declared.stop.Unfinished.{Unfinished}
 use Rattle.vsi_monitor.specs.declared.stop.Unfinished.TheVariants as ends
 use Rattle.vsi_monitor.specs.declared.watch.Watched.{Watched}
+use Rattle.vsi_monitor.specs.Watched.{RunEnds}
+use Rattle.vsi_store.specs.Compare.{agree_in}
+use Rattle.vsi_steps.specs.declared.trace.Trace.{Trace}
+use Rattle.vsi_steps.specs.Traced.{IsTraced}
 use Rattle.vsi_answers.specs.Answers.{Because}
 use Rattle.vsi_answers.specs.Judged.{IsProgramFault, IsStoreFault, TellsFault, TellsSource}
 use Rattle.vsi_answers.specs.declared.unanswered.Unanswered.{Unanswered}
@@ -42,7 +48,7 @@ use Rattle.vsi.specs.declared.failure.Failure.{Failure}
 use Rattle.vsi.specs.Files.{IsStoredAt, LooksAt}
 use Rattle.vsi.specs.Holding.{Holding, IsReadAt, IsStoreAt}
 use Rattle.vsi.specs.Refusals.{FailsBy, NoOther}
-use Rattle.vsi.specs.Stepping.{AreStepFiles, AreStepsCompared, AreWritten, Compared, ComparesSteps, EndsMonitored, EndsTraced, IsMonitored, IsStarted, IsStepped, IsTable, OfStepFiles, IsChosen}
+use Rattle.vsi.specs.Stepping.{AreStepFiles, AreStepsCompared, AreWritten, Compared, ComparesSteps, EndsMonitored, EndsTraced, EndsWatched, IsMonitored, IsStarted, IsStepped, IsStopped, IsTable, OfStepFiles, IsChosen}
 use Rattle.vsi.specs.Unstepped.{RefusesStepStore, RefusesWords, Spends, SpendsCompared, WhySteps}
 use Rattle.vsi.proofs.Reasons.{fails_by}
 
@@ -127,6 +133,77 @@ table_length L r table well is =
 pub unstopped : (answer : Result Watched Unfinished) (x : Stop) → answer ≡ Err (ends.Stopped x) →
     IfErr answer (λ e. (y : Stop) → e ≢ ends.Stopped y) → ⊥
 unstopped answer x is told = subst (λ r. IfErr r (λ e. (y : Stop) → e ≢ ends.Stopped y)) is told x refl
+
+-- ---- the monitored run of a program with its table of classes.
+
+module _ (s : Source) (l : Lattice) (r : Resolved) (table seen : List ℕ) (under : l ≡ s.lattice) (of : r ≡ s.resolved)
+    (told : seen ≡ table) (kept : IsSource s) (is : IsTable (order s.lattice) (program s.resolved) table) where
+  -- Each class of the table is one of the lattice.
+  pub seen_classes : All (classes.IsClass (order l)) seen
+  seen_classes =
+      subst (λ m. All (classes.IsClass (order m)) seen) (sym under)
+      (subst (All (classes.IsClass (order s.lattice))) (sym told)
+      (table_classes (order s.lattice) (program s.resolved) table (ready s kept) is))
+
+  -- The table has a class for each declaration.
+  pub seen_length : length seen ≡ length r.globals + letvars (sequence r.body)
+  seen_length =
+      subst (λ p. length seen ≡ length p.globals + letvars (sequence p.body)) (sym of)
+      (ap length told ∙ table_length (order s.lattice) s.resolved table (ready s kept) is)
+
+  -- The run ends as it does under the lattice and the table of the source.
+  ends_so : (R : Rule) (words : List ℤ) (answer : Result Watched Unfinished) → RunEnds R (order l) seen r words answer →
+      RunEnds R (order s.lattice) table s.resolved words answer
+  ends_so R words answer ends =
+      subst (λ t. RunEnds R (order s.lattice) t s.resolved words answer) told
+      (subst (λ m. RunEnds R (order m) seen s.resolved words answer) under
+      (subst (λ p. RunEnds R (order l) seen p words answer) of ends))
+
+  -- A run that ends is one of the program's.
+  pub ends_watched : (R : Rule) (words : List ℤ) (answer : Result Watched Unfinished) (w : Watched) → answer ≡ Ok w →
+      RunEnds R (order l) seen r words answer → EndsWatched R (order s.lattice) s.resolved words
+  ends_watched R words answer w so ends = record {
+    table = table;
+    is = is;
+    last = w;
+    ends = subst (RunEnds R (order s.lattice) table s.resolved words) so (ends_so R words answer ends);
+  }
+
+  -- So is one that is stopped, and then no choice of classes is typable.
+  pub is_stopped : (R : Rule) (words : List ℤ) (answer : Result Watched Unfinished) (x : Stop) →
+      answer ≡ Err (ends.Stopped x) → RunEnds R (order l) seen r words answer →
+      ((P : Profile) (t : Locations) → seen ≡ (program r).globals ++ t → IsTypable (order l) P (program r) t →
+      IfErr answer (λ e. (y : Stop) → e ≢ ends.Stopped y)) → IsStopped R (order s.lattice) s.resolved words
+  is_stopped R words answer x so ended passes = record {
+    table = table;
+    is = is;
+    stop = x;
+    ends = subst (RunEnds R (order s.lattice) table s.resolved words) so (ends_so R words answer ended);
+    refused = λ choice typable. unstopped answer x so
+        (passes Base is.choice (told ∙ is.is ∙ ap (λ p. (program p).globals ++ is.choice) (sym of))
+        (subst (λ m. IsTypable (order m) Base (program r) is.choice) (sym under)
+        (subst (λ p. IsTypable (order s.lattice) Base (program p) is.choice) (sym of)
+        (is.chosen.least choice typable).0)));
+  }
+
+-- The comparison of two runs of a program is that of the source's program under its lattice.
+pub compared : (l m : Lattice) (r p : Resolved) (class : ℕ) (gs hs : List Global) (first second ones others : List ℤ)
+    (budget : ℕ) (one other : Trace) (same : Bool) → m ≡ l → p ≡ r → hs ≡ gs → ones ≡ one.words.items →
+    others ≡ other.words.items → IsTraced p first budget one → IsTraced p second budget other → one.halted ≡ true →
+    other.halted ≡ true → same ≡ agree_in (class_named m) (order m) class hs ones others →
+    Compared l class r gs first second budget same
+compared l m r p class gs hs first second ones others budget one other same under of among is so t u e f seen = record {
+  one = one;
+  other = other;
+  traced_first = subst (λ x. IsTraced x first budget one) of t;
+  traced_second = subst (λ x. IsTraced x second budget other) of u;
+  halted_first = e;
+  halted_second = f;
+  seen = seen ∙ ap (λ x. agree_in (class_named x) (order x) class hs ones others) under
+      ∙ ap (λ g. agree_in (class_named l) (order l) class g ones others) among
+      ∙ ap (λ ws. agree_in (class_named l) (order l) class gs ws others) is
+      ∙ ap (agree_in (class_named l) (order l) class gs one.words.items) so;
+}
 
 -- ---- from the files to the answer.
 

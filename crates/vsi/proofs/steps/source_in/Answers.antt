@@ -6,8 +6,8 @@ use Rattle.vsi.proofs.Reasons.{fails_by}
 use Rattle.vsi.proofs.Refused.{tells_program}
 use Rattle.vsi.proofs.steps.source_in.Goals as goal
 
-pub returns-clause-failed : goal.returns-clause-failed
-returns-clause-failed c =
+pub returns-in-Err-clause-failed : goal.returns-in-Err-clause-failed
+returns-in-Err-clause-failed c =
     let l = c.args.lattice.now in
     let text = c.args.text.now in
     fails_by (Because (TellsSource (λ e. e ≡ c.in-Err.error) l text) ⊥)

@@ -6,9 +6,9 @@ use Rattle.vsi.proofs.steps.written_image.Goals as goal
 
 pub returns-clause-made : goal.returns-clause-made
 returns-clause-made c =
-    record { program = c.resolved-_program.ensures.kept.stands; image = c.in_ok-verified.ensures.image }
+    record { program = c.resolved-program.ensures.kept.stands; image = c.in_ok-verified.ensures.image }
 
 pub returns-clause-len : goal.returns-clause-len
 returns-clause-len c =
-    same_count c.args.source.now c.in_ok-verified.verified c.resolved-_program.ensures.kept
+    same_count c.args.source.now c.in_ok-verified.verified c.resolved-program.ensures.kept
     c.in_ok-verified.ensures.globals
