@@ -128,7 +128,8 @@ impl<'a> Reading<'a> {
 
     /// The text of a part.
     fn text_of(&self, span: Span) -> &[u8] {
-        self.document.text.get(span.start..span.stop).unwrap_or(b"")
+        let text = self.document.text.get(span.start..span.stop);
+        text.unwrap_or(b"")
     }
 
     /// The number of a variable among the letvars, if it is one.
