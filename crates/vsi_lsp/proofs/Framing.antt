@@ -7,7 +7,8 @@ use Rattle.std.proofs.lemmas.List.{append_assoc, append-nil}
 frames_joined : (a b : List (List ℕ)) → frames (a ++ b) ≡ frames a ++ frames b
 frames_joined [] b = refl
 frames_joined (body ∷ bodies) b =
-    ap (λ rest. frame body ++ rest) (frames_joined bodies b) ∙ sym (append_assoc (frame body) (frames bodies) (frames b))
+    ap (λ rest. frame body ++ rest) (frames_joined bodies b)
+    ∙ sym (append_assoc (frame body) (frames bodies) (frames b))
 
 -- No message.
 pub none_framed : AreFrames []

@@ -16,7 +16,7 @@ use vsi_recovery::{Cause, further_faults};
 use vsi_scope::{ScopeError, Var};
 use vsi_syntax::{LexError, ParseError, Span, put_number};
 use vsi_types::Step;
-use vsi_warnings::{put_message, warnings_of};
+use vsi_warnings::{Warning, put_message, warnings_of};
 
 /// The errors in a text, and then the other objects that an editor shows for it: the warnings about
 /// a text that has a program, or the further errors in one that has none. The text is read once.
@@ -88,10 +88,11 @@ fn judged_errors(
     let (from, to) = (first.source, last.target);
     let mut errors = Vec::new(document.alloc);
     for flow in &further_flows(document.alloc, document.profile, source, from, to)? {
-        if let Some(last) = flow.steps.last() {
-            let (from, to) = (flow.pair.source, flow.pair.target);
-            errors.push(text.flow(last.written, from, to, &flow.steps)?)?;
-        }
+        let Some(last) = flow.steps.last() else {
+            continue;
+        };
+        let (from, to) = (flow.pair.source, flow.pair.target);
+        errors.push(text.flow(last.written, from, to, &flow.steps)?)?;
     }
     errors.insert(0, text.flow(first.read, from, to, &walk.steps)?)?;
     Ok(errors)
@@ -120,14 +121,19 @@ pub(crate) fn error_list(
     ensures alone { IfOk result (λ errors. length errors.items ≡ 1) }
     ensures severe { IfOk result (λ errors. All IsError errors.items) }
 {
+    let error = error_object(document, span, code, message)?;
+    Ok(vec![in document.alloc; error]?)
+}
+
+/// The object of an error at a part of a document.
+fn error_object(document: DocumentText<'_>, span: Span, code: usize, message: &[u8]) -> Made<Value>
+    ensures { IfOk result IsError }
+{
     let range = document.range(span)?;
     let message = text_value(document.alloc, message)?;
-    let error = json!(in document.alloc; {
+    json!(in document.alloc; {
         "range": range, "severity": 1, "code": code, "source": "vsi", "message": message
-    })?;
-    let mut errors = Vec::new(document.alloc);
-    errors.push(error)?;
-    Ok(errors)
+    })
 }
 
 /// The number of a refusal, and its line without its position.
@@ -152,10 +158,8 @@ fn character_at(text: &[u8], at: usize) -> Span {
     let more = rest
         .take_while(|byte| **byte >= 128 && **byte < 192)
         .count();
-    Span {
-        start: at,
-        stop: next.saturating_add(more),
-    }
+    let stop = next.saturating_add(more);
+    Span { start: at, stop }
 }
 
 /// The part to which a refusal points; for a flow, where its first step reads.
@@ -203,6 +207,17 @@ fn further_errors(
 /// The most warnings that are published for a text.
 const MAX_WARNINGS: usize = 100;
 
+/// The object of a warning: its part and its message.
+fn warning_object(document: DocumentText<'_>, warning: Warning) -> Made<Value>
+    ensures { IfOk result IsWarning }
+{
+    let mut message = Vec::new(document.alloc);
+    put_message(&mut message, document.text, warning)?;
+    let message = text_value(document.alloc, &message)?;
+    let range = document.range(warning.span)?;
+    json!(in document.alloc; {"range": range, "severity": 2, "source": "vsi", "message": message})
+}
+
 /// The warnings about a source text, up to the first 100.
 fn source_warnings(document: DocumentText<'_>, source: &Source<'_>) -> Made<Vec<Value>>
     ensures { IfOk result (λ objects. All IsWarning objects.items) }
@@ -210,13 +225,7 @@ fn source_warnings(document: DocumentText<'_>, source: &Source<'_>) -> Made<Vec<
     let alloc = document.alloc;
     let mut objects = Vec::new(alloc);
     for warning in warnings_of(alloc, source)?.iter().take(MAX_WARNINGS) {
-        let mut message = Vec::new(alloc);
-        put_message(&mut message, document.text, *warning)?;
-        let message = text_value(alloc, &message)?;
-        let range = document.range(warning.span)?;
-        objects.push(json!(in alloc; {
-            "range": range, "severity": 2, "source": "vsi", "message": message
-        })?)?;
+        objects.push(warning_object(document, *warning)?)?;
     }
     Ok(objects)
 }
@@ -245,18 +254,21 @@ impl RefusedText<'_, '_, '_> {
         Ok(Value::Array(objects))
     }
 
-    /// The object of a refused flow: the line of the text with the classes of the flow's ends, and
-    /// the steps of its walk.
+    /// The message of a refused flow: the line of the text, and the classes of the flow's ends.
+    fn message(&self, from: Var, to: Var) -> Made<Value> {
+        let alloc = self.document.alloc;
+        let ends = ends_text(alloc, self.source, from, to)?;
+        text_value(alloc, &joined(alloc, &[&self.line, b"\n", &ends])?)
+    }
+
+    /// The object of a refused flow: its message, and the steps of its walk.
     fn flow(&self, span: Span, from: Var, to: Var, steps: &[Step]) -> Made<Value>
         ensures { IfOk result IsError }
     {
-        let alloc = self.document.alloc;
-        let ends = ends_text(alloc, self.source, from, to)?;
-        let message = joined(alloc, &[&self.line, b"\n", &ends])?;
-        let message = text_value(alloc, &message)?;
+        let message = self.message(from, to)?;
         let related = self.steps(steps)?;
         let range = self.document.range(span)?;
-        json!(in alloc; {
+        json!(in self.document.alloc; {
             "range": range, "severity": 1, "code": self.code, "source": "vsi", "message": message,
             "relatedInformation": related
         })

@@ -194,38 +194,38 @@ pub(crate) fn interface_path(alloc: Global, uri: &[u8], text: &[u8]) -> Made<Opt
 /// The errors of an interface file that is open, with the lattice file that was read for it.
 /// Without such a file only the interface itself is judged.
 fn interface_errors(document: DocumentText<'_>, policy: &Policy) -> Made<Vec<Value>> {
-    let span = line_span(document.text, 0);
     let asked = match read_interface(document.alloc, document.text) {
         Ok(asked) => asked,
-        Err(error) => return refused_interface(document, span, &error),
+        Err(error) => return refused_interface(document, &error),
     };
-    let bytes = match (&asked.policy, policy) {
-        (Place::Tables(text), _) => text,
-        (Place::File(_), Policy::File(bytes)) => bytes,
-        (Place::File(_), Policy::Lost(path)) => return lost_errors(document, span, path),
-        (Place::File(_), Policy::Two) => return Ok(Vec::new(document.alloc)),
-    };
+    let span = line_span(document.text, 0);
+    match (&asked.policy, policy) {
+        (Place::Tables(text), _) => errors_by(document, &asked, text),
+        (Place::File(_), Policy::File(bytes)) => errors_by(document, &asked, bytes),
+        (Place::File(_), Policy::Lost(path)) => lost_errors(document, span, path),
+        (Place::File(_), Policy::Two) => Ok(Vec::new(document.alloc)),
+    }
+}
+
+/// The errors of an interface under a lattice file.
+fn errors_by(document: DocumentText<'_>, asked: &InterfaceFile, bytes: &[u8]) -> Made<Vec<Value>> {
     match read_lattice(document.alloc, bytes) {
-        Ok(lattice) => match unknown_name(document.alloc, &lattice, &asked)? {
-            Some(error) => refused_interface(document, span, &error),
+        Ok(lattice) => match unknown_name(document.alloc, &lattice, asked)? {
+            Some(error) => refused_interface(document, &error),
             None => Ok(Vec::new(document.alloc)),
         },
-        Err(error) => refused_errors(document, span, error),
+        Err(error) => refused_errors(document, line_span(document.text, 0), error),
     }
 }
 
 /// The error of an interface that is refused.
-fn refused_interface(
-    document: DocumentText<'_>,
-    span: Span,
-    error: &InterfaceError,
-) -> Made<Vec<Value>> {
+fn refused_interface(document: DocumentText<'_>, error: &InterfaceError) -> Made<Vec<Value>> {
     if let InterfaceError::Memory = error {
         return Err(AllocError);
     }
     let text = interface_text(document.alloc, error)?;
     let line = text.strip_suffix(b"\n").unwrap_or(&text);
-    error_list(document, span, 0, line)
+    error_list(document, line_span(document.text, 0), 0, line)
 }
 
 /// The first global whose class isn't in the lattice, or else the first such boundary.

@@ -128,7 +128,10 @@ impl<'a> Reading<'a> {
 
     /// The text of a part.
     fn text_of(&self, span: Span) -> &[u8] {
-        self.document.text.get(span.start..span.stop).unwrap_or(b"")
+        match self.document.text.get(span.start..span.stop) {
+            Some(text) => text,
+            None => b"",
+        }
     }
 
     /// The number of a variable among the letvars, if it is one.

@@ -153,8 +153,8 @@ impl<'a> Repairs<'a> {
     }
 
     /// Adds the repair of an `if` whose `else` is missing at a byte, if `else` may come there and
-    /// the text is read on with the repair. The branch assigns to a variable of the other branch its
-    /// own value, so nothing flows by it that doesn't flow without it.
+    /// the text is read on with the repair. The branch assigns to a variable of the other branch
+    /// its own value, so nothing flows by it that doesn't flow without it.
     fn put_branch(&mut self, at: usize) -> Made<()> {
         let (alloc, text) = (self.document.alloc, self.document.text);
         let Some(tokens) = tokens_of(alloc, text)? else {
@@ -236,8 +236,8 @@ fn title_of(
     Ok(title)
 }
 
-/// The title of the fix that makes all raises of a source: none if no raise makes it accepted, or it
-/// is accepted as it is.
+/// The title of the fix that makes all raises of a source: none if no raise makes it accepted, or
+/// it is accepted as it is.
 fn raising_title(document: DocumentText<'_>, source: &Source<'_>) -> Made<Option<Vec<u8>>>
     ensures title { IfOk result (λ found. IfSome found (λ title. spec.IsTitle
         source.now.lattice document.entry.profile source.now.text title.items)) }

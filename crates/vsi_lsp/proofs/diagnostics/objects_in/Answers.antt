@@ -10,8 +10,9 @@ returns-in-Ok c =
 
 pub returns-in-Err : goal.returns-in-Err
 returns-in-Err c =
+    let d = c.args.document in
     record {
-      exact = refused_shown c.args.lattice.now c.args.document.profile c.args.document.text.now (c.in-Err.error ≢ Memory)
-          (λ v. v.items) c.refused_objects.result c.refused_objects.ensures.begins c.refused_objects.ensures.judged
+      exact = refused_shown c.args.lattice.now d.profile d.text.now (c.in-Err.error ≢ Memory) (λ v. v.items)
+          c.refused_objects.result c.refused_objects.ensures.begins c.refused_objects.ensures.judged
           (λ n p. n (c.in-Err.ensures.exact p.tree p.commands p.reads p.resolution));
     }

@@ -16,18 +16,18 @@ returns-in-Ok c =
       };
     }
 
-pub returns-in-Err : goal.returns-in-Err
-returns-in-Err c =
+pub returns-in_ok-append-in-Err : goal.returns-in_ok-append-in-Err
+returns-in_ok-append-in-Err c =
     record {
       exact = record {
-        errors = c.in_ok-errors.errors.items;
+        errors = c.in_ok-errors-in-Err.errors.items;
         others = c.in_ok-warnings.warnings.items;
-        listed = c.in_ok-append.ensures.items;
+        listed = c.in_ok-append-in-Err.ensures.items;
         exact = (
-          (λ e. absurd (c.in_ok-errors.ensures.some e)),
-          (λ a. absurd (c.in_ok-errors.ensures.judged (c.in-Err.ensures.exact a))),
+          (λ e. absurd (c.in_ok-errors-in-Err.ensures.some e)),
+          (λ a. absurd (c.in_ok-errors-in-Err.ensures.judged (c.in-Err.ensures.exact a))),
         );
-        severe = c.in_ok-errors.ensures.severe;
+        severe = c.in_ok-errors-in-Err.ensures.severe;
         warned = λ p. c.in_ok-warnings.ensures;
       };
     }
