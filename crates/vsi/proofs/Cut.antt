@@ -275,7 +275,8 @@ at_byte bytes i within =
 
 -- ---- the input.
 
--- Some bytes of the input have been read, the lines that end in them have been driven, and so many of these aren't saved.
+-- Some bytes of the input have been read, the lines that end in them have been driven, and so many of these aren't
+-- saved.
 pub record DrivesBytes (save : Option (Bor (List ℕ))) (im : Image) (c : Control) (m words : List ℤ) (line : List ℕ)
     (unsaved : ℕ) (first rest old new : Option (List ℕ)) (h g : Holding) : Type 0 where
   pub bytes : List ℕ

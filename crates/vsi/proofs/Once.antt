@@ -11,7 +11,7 @@ use Rattle.vsi_arguments.specs.declared.request.InitialStore.{InitialStore}
 use Rattle.vsi_arguments.specs.declared.request.Request.{Request}
 use Rattle.vsi_arguments.specs.declared.request.Viewing.{Viewing}
 use Rattle.vsi_arguments.specs.declared.request.Document.TheVariants as document
-use Rattle.vsi_arguments.specs.declared.request.Request.TheVariants.{Build, Document, Drive, Explain, Layout, Mend, View, ViewWithin}
+use Rattle.vsi_arguments.specs.declared.request.Request.TheVariants.{Build, Document, Drive, Explain, Layout, Mend, Monitor, View, ViewWithin}
 use Rattle.vsi_arguments.specs.Asked.{AsksFor, Spells, given, interface_of, is_bounding, lists_of, name_of}
 use Rattle.vsi_arguments.specs.Words.{has_flag, operands_in, shown, texts, values_in}
 
@@ -108,6 +108,9 @@ one_build words c i asks (Mend mending) asked =
     asks.spelled.named asked.spelled.asks.named refl refl)
 one_build words c i asks (Drive driving) asked =
     absurd (other_name (texts words) (codes "build") (codes "drive") asks.spelled.rest asked.spelled.asks.rest
+    asks.spelled.named asked.spelled.asks.named refl refl)
+one_build words c i asks (Monitor stepping rule is_json) asked =
+    absurd (other_name (texts words) (codes "build") (codes "monitor") asks.spelled.rest asked.spelled.asks.rest
     asks.spelled.named asked.spelled.asks.named refl refl)
 one_build words c i asks request asked =
     absurd (other_name (texts words) (codes "build") (name_of request) asks.spelled.rest asked.spelled.rest
@@ -236,6 +239,9 @@ one_view words l x e o asks (Mend mending) asked =
     asks.spelled.named asked.spelled.asks.named refl refl)
 one_view words l x e o asks (Drive driving) asked =
     absurd (other_name (texts words) (codes "view") (codes "drive") asks.spelled.rest asked.spelled.asks.rest
+    asks.spelled.named asked.spelled.asks.named refl refl)
+one_view words l x e o asks (Monitor stepping rule is_json) asked =
+    absurd (other_name (texts words) (codes "view") (codes "monitor") asks.spelled.rest asked.spelled.asks.rest
     asks.spelled.named asked.spelled.asks.named refl refl)
 one_view words l x e o asks request asked =
     absurd (other_name (texts words) (codes "view") (name_of request) asks.spelled.rest asked.spelled.rest

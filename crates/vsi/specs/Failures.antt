@@ -60,7 +60,8 @@ Gets contents old new text =
     faults_of old < 2 ^ 64 - 1 → faults_of new ≡ faults_of old →
     Appends (contents (device_of old)) (contents (device_of new)) text
 
--- The meaning of a failure of the run without arguments: why there is no answer, a fault at this path, or lack of memory.
+-- The meaning of a failure of the run without arguments: why there is no answer, a fault at this path, or lack of
+-- memory.
 abbrev pub FailsFor : (Unanswered → Type 0) → (List ℕ → Type 0) → Failure → Type 0
 FailsFor why faulted (Refused text (Some cause)) = why (unanswered.Refused text cause)
 FailsFor why faulted (Refused text None) = ⊥

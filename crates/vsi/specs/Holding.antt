@@ -27,8 +27,8 @@ pub record IsImageAt (holds : Holding) (path : List ℕ) (image : Image) : Type 
   pub read : IsReadAt holds path bytes
   pub are : AreImage bytes image
 
--- These are the bytes of a store file, which is whole: its first line, if it is a checksum, is that of the rest. Without
--- a path there are none.
+-- These are the bytes of a store file, which is whole: its first line, if it is a checksum, is that of the rest.
+-- Without a path there are none.
 abbrev pub IsStoreAt : Holding → Option (Bor (List ℕ)) → List ℕ → Type 0
 IsStoreAt holds None bytes = bytes ≡ []
 IsStoreAt holds (Some path) bytes = IsReadAt holds path.now bytes × (is_whole bytes ≡ true)

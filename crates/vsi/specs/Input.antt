@@ -60,8 +60,8 @@ RefusesRun remaining told =
 abbrev pub SpendsRun : Option (List ℕ) → (List ℕ → Type 0) → Type 0
 SpendsRun remaining told = FailsRun remaining OutOfBudget × told (codes "out of budget\n")
 
--- A writer has got the text of a failure with this status, followed by a note of which no byte controls a terminal except
--- for its colours, unless a call of it failed. The two have this property.
+-- A writer has got the text of a failure with this status, followed by a note of which no byte controls a terminal
+-- except for its colours, unless a call of it failed. The two have this property.
 pub record TellsFailure {E : Type 0} (So : Failure → List ℕ → Type 0) (status : ℕ) (contents : E → Option (List ℕ))
     (old new : Counted E) : Type 0 where
   pub failure : Failure

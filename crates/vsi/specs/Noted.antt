@@ -163,8 +163,8 @@ NotesOf holds words note =
     (AsksHelp words × (note ≡ []))
     ⊎ ((asked : Request) × AsksFor words asked × IsNote holds (noting asked) note)
 
--- The lines after the text of a failed request, as they are written: those of its kind, and then the one about a file that
--- isn't used.
+-- The lines after the text of a failed request, as they are written: those of its kind, and then the one about a file
+-- that isn't used.
 pub record IsFailureNote (holds : Holding) (asked : Request) (failure : Failure) (note : List ℕ) : Type 0 where
   pub before : List ℕ
   pub is : IsNoteBefore holds (noting asked) failure before

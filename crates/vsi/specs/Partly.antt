@@ -84,8 +84,8 @@ pub record DrivenText (c : Control) (m : List ℤ) (remaining : Option (List ℕ
   pub whole : IfSome remaining (λ all. bytes ≡ all)
   pub is : text ≡ text_of c m (lines_of bytes)
 
--- `drive`: the text that the cycles of all lines of the input write, from a store that is full if it has to be, within a
--- boundary without a fault.
+-- `drive`: the text that the cycles of all lines of the input write, from a store that is full if it has to be, within
+-- a boundary without a fault.
 pub record AnswersDrive (holds : Holding) (d : Driving) (given : Option (List ℕ)) (text : List ℕ) : Type 0 where
   pub lattice : Lattice
   pub driver : ℕ

@@ -164,8 +164,8 @@ pub record ViewsFiles (holds : Holding) (path class : List ℕ) (e : Execution) 
   pub within : IsBudgetOf e.budget image budget
   pub views : ViewsTo lattice viewer image words budget (Ok text)
 
--- The files of a comparison have this lattice and its class, this image and these words of two store files. The budget is
--- enough or `--unbounded` is given.
+-- The files of a comparison have this lattice and its class, this image and these words of two store files. The budget
+-- is enough or `--unbounded` is given.
 pub record AreCompared (holds : Holding) (c : Comparison) (l : Lattice) (viewer : ℕ) (im : Image)
     (first second : List ℤ) (budget : ℕ) : Type 0 where
   pub looks : LooksAt holds c.lattice.now c.class.now l viewer
@@ -372,8 +372,8 @@ abbrev pub IsRequestedC : Bool → Bool → Image → Origin → List ℕ → Li
 IsRequestedC true = IsBoundedC
 IsRequestedC false = IsWrittenInC
 
--- The C of the requested image, or its header. It says that it comes from this program, from the image's bytes and, with a
--- lattice, from the bytes of the lattice file.
+-- The C of the requested image, or its header. It says that it comes from this program, from the image's bytes and,
+-- with a lattice, from the bytes of the lattice file.
 pub record EmitsFile (holds : Holding) (asked : Emission) (text : Vec ℕ) : Type 0 where
   pub image : Image
   pub origin : Origin
@@ -579,8 +579,8 @@ abbrev pub Alone : (Option (List ℕ) → Option (List ℕ) → Type 0) → Hold
     Option (List ℕ) → Type 0
 Alone Does holds left old new = (left ≡ holds) × Does old new
 
--- The effect of a request that ends well and is carried out so: its output and the files afterwards, given its files and
--- the input.
+-- The effect of a request that ends well and is carried out so: its output and the files afterwards, given its files
+-- and the input.
 abbrev pub PerformsWork : Work → Holding → Option (List ℕ) → Request → Holding → Option (List ℕ) → Option (List ℕ) → Type 0
 PerformsWork (Lists c has_walks) holds given asked left =
     Alone (Writes (OfFiles holds c (ToldFlows has_walks c.is_strict))) holds left

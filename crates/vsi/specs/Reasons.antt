@@ -66,8 +66,8 @@ use Rattle.vsi.specs.Undriven.{FallsShort, IsUnusable, LacksDrive, LacksView, Re
 
 -- ---- why each subcommand has failed.
 
--- `check` and `mend`: the lattice or the text is refused; with `--json` only the lattice, since a refusal of the text is
--- an answer.
+-- `check` and `mend`: the lattice or the text is refused; with `--json` only the lattice, since a refusal of the text
+-- is an answer.
 abbrev pub RefusesJudged : Bool → Holding → Compilation → (Lattice → List ℕ → Answer → Type 0) → Unanswered → Type 0
 RefusesJudged true holds c Ask = RefusesLattice holds c.lattice.now
 RefusesJudged false holds c Ask = RefusesFiles holds c Ask
@@ -272,8 +272,8 @@ WhyVisible holds interface None reason = RefusesAsked holds interface reason
 WhyVisible holds interface (Some old) reason =
     RefusesAsked holds interface reason ⊎ RefusesAsked holds old.now reason
 
--- `view` within a boundary: the lattice lacks the class of a global, the boundary has a fault, the run is out of budget,
--- or by an interface a setting sets what is no input.
+-- `view` within a boundary: the lattice lacks the class of a global, the boundary has a fault, the run is out of
+-- budget, or by an interface a setting sets what is no input.
 pub record RefusesViewWithin (holds : Holding) (asked : Viewing) (reason : Unanswered) : Type 0 where
   pub lattice : Lattice
   pub viewer : ℕ

@@ -32,8 +32,8 @@ use Rattle.vsi.specs.Performed.{profile_of}
 -- ---- the meaning of a failure.
 
 -- The first property holds for the reason of a refused file or text and of a run out of budget, the second holds for
--- the other failures of status 1 and for a missing class, and nothing is claimed about mistaken arguments, file faults and
--- lack of memory.
+-- the other failures of status 1 and for a missing class, and nothing is claimed about mistaken arguments, file faults
+-- and lack of memory.
 abbrev pub FailsBy : (Unanswered → Type 0) → (Failure → Type 0) → Failure → Type 0
 FailsBy why other (fails.Refused text (Some cause)) = why (unanswered.Refused text cause)
 FailsBy why other (fails.Refused text None) = other (fails.Refused text None)
@@ -138,8 +138,8 @@ pub record RefusesStore (holds : Holding) (path : List ℕ) (store : Option (Bor
   pub read : IsStoreAt holds store file
   pub is : Because (TellsFault (IsStoreFault image file)) ⊥ reason
 
--- The words that a drive of the image in a file begins with are refused: the store file, or that it leaves out a global,
--- if that is required.
+-- The words that a drive of the image in a file begins with are refused: the store file, or that it leaves out a
+-- global, if that is required.
 pub record RefusesFirst (holds : Holding) (path : List ℕ) (store : Option (Bor (List ℕ))) (is_full : Bool)
     (reason : Unanswered) : Type 0 where
   pub image : Image

@@ -107,7 +107,8 @@ pub record LeavesState (holds : Holding) (d : Driving) (given : Option (List ℕ
   pub touches : Touches d.save holds left
   pub state : (StaysAt d.save holds left × Keeps old new) ⊎ SavesDrive holds d given left old new
 
--- A request that fails and is carried out so leaves the files so: a drive leaves its store's file in one of these states;
+-- A request that fails and is carried out so leaves the files so: a drive leaves its store's file in one of these
+-- states;
 -- `run` and `fmt` leave each file as it was but the one that is filled beside theirs; an answer stays out of its place.
 abbrev pub KeepsStateWork : Work → Holding → Option (List ℕ) → Request → Holding → Option (List ℕ) → Option (List ℕ) →
     Type 0

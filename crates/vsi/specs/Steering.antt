@@ -48,7 +48,8 @@ pub record IsListed (holds : Holding) (path class : List ℕ) (listed : Boundary
   pub looks : LooksAt holds path class l driver
   pub same : b ≡ listed
 
--- By a policy, with `--unbounded` or without, the class of this name, under a lattice and with an image, and its boundary.
+-- By a policy, with `--unbounded` or without, the class of this name, under a lattice and with an image, and its
+-- boundary.
 abbrev pub IsSteeredBy : Holding → List ℕ → DrivePolicy → Bool → Lattice → ℕ → Image → Boundary → Type 0
 IsSteeredBy holds class (policy.Lattice path lists) is_unbounded l driver im b =
     IsListed holds path.now class (requested lists) l driver b

@@ -16,7 +16,8 @@ abbrev pub begins_image : List ℕ → Bool
 begins_image (v ∷ s ∷ i ∷ version ∷ rest) = v == 86 && s == 83 && i == 73 && nat_lt version 9
 begins_image _ = false
 
--- How an answer about the image of the file at a path is written: as lines, as a line of JSON or as a document of SARIF.
+-- How an answer about the image of the file at a path is written: as lines, as a line of JSON or as a document of
+-- SARIF.
 abbrev pub IsSuppliedAs : AnswerForm → List ℕ → Lattice → Image → Interface → Answer → List ℕ → Type 0
 IsSuppliedAs Lines path l image i answer out = IsConformText l image i answer out
 IsSuppliedAs Json path l image i answer out = IsConformJson l image i answer out

@@ -86,8 +86,8 @@ fn function_name<'a>(name: Option<&'a str>, path: &'a str) -> &'a [u8]
 }
 
 impl<F: Files> Subject<'_, F> {
-    /// The bytes of the image of a source text, and the image, read from these bytes as if they were in
-    /// a file.
+    /// The bytes of the image of a source text, and the image, read from these bytes as if they
+    /// were in a file.
     fn built_image<'a>(
         &self,
         lattice: &'a str,
@@ -111,7 +111,8 @@ impl<F: Files> Subject<'_, F> {
         }
     }
 
-    /// The bytes of the image of the file and the image, or with a lattice those of the source text.
+    /// The bytes of the image of the file and the image, or with a lattice those of the source
+    /// text.
     fn emitted_image<'a>(
         &self,
         lattice: Option<&'a str>,

@@ -56,7 +56,8 @@ pub(crate) fn unusable<'a>(alloc: Global, error: InterfaceError) -> Failure<'a>
 }
 
 impl<F: Files> Subject<'_, F> {
-    /// The bytes of a lattice file that an interface or a source text names. It must be a regular file.
+    /// The bytes of a lattice file that an interface or a source text names. It must be a regular
+    /// file.
     pub(crate) fn named_bytes<'a>(&self, interface: &str, path: &[u8]) -> Fallible<'a, Vec<u8>>
         ensures read { IfOk result (λ bytes. IsReadAt (F.holds self.now.files.now)
             (utf8_lossy (beside interface.now path.now)) bytes.items) }
@@ -123,7 +124,8 @@ impl<F: Files> Subject<'_, F> {
         path: &'a str,
         budget: Option<u64>,
     ) -> Fallible<'a, (InterfaceFile, Lattice)>
-        ensures asked { IfOk result (λ pair. IsAskedAt (F.holds self.now.files.now) path.now pair.0) }
+        ensures asked { IfOk result
+            (λ pair. IsAskedAt (F.holds self.now.files.now) path.now pair.0) }
         ensures declared { IfOk result
             (λ pair. IsPolicyAt (F.holds self.now.files.now) path.now pair.0.policy pair.1) }
         ensures within { IfOk result
@@ -135,8 +137,8 @@ impl<F: Files> Subject<'_, F> {
         Ok((asked.found, asked.lattice))
     }
 
-    /// Whether the source text or the image conforms to the interface, and where it differs. The note
-    /// gets the warning about the image of a text.
+    /// Whether the source text or the image conforms to the interface, and where it differs. The
+    /// note gets the warning about the image of a text.
     pub(crate) fn conform<'a>(
         &self,
         asked: Conformance<'a>,

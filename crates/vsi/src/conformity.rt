@@ -290,7 +290,8 @@ impl<F: Files> Subject<'_, F> {
         }
     }
 
-    /// Whether a source text or an image agrees with the reference at a path, and the line about it.
+    /// Whether a source text or an image agrees with the reference at a path, and the line about
+    /// it.
     fn told_of<'a>(
         &self,
         asked: Conformance<'a>,

@@ -110,8 +110,8 @@ impl<F: Files> Subject<'_, F> {
         Ok(reply)
     }
 
-    /// The document that answers a request. The note gets a line if the budget of a comparison isn't
-    /// enough and is taken all the same.
+    /// The document that answers a request. The note gets a line if the budget of a comparison
+    /// isn't enough and is taken all the same.
     pub(crate) fn document<'a>(
         &self,
         asked: Document<'a>,
@@ -290,7 +290,8 @@ impl<F: Files> Subject<'_, F> {
         }
     }
 
-    /// The graph of the lattice, or with a source text that of its flows, alone or beside the lattice.
+    /// The graph of the lattice, or with a source text that of its flows, alone or beside the
+    /// lattice.
     fn graph_for<'a>(
         &self,
         classes: &Lattice,
@@ -353,8 +354,8 @@ impl<F: Files> Subject<'_, F> {
         })
     }
 
-    /// Searches a source text for a leak, which is reported as a refusal. If none is found the line has
-    /// the number of pairs.
+    /// Searches a source text for a leak, which is reported as a refusal. If none is found the line
+    /// has the number of pairs.
     pub(crate) fn leak<'a>(&self, search: Search<'a>) -> Fallible<'a, Vec<u8>>
         ensures told { IfOk result (SearchesFiles (F.holds self.now.files.now) search.entry) }
         ensures failed { IfErr result (FailsBy (RefusesSearch (F.holds self.now.files.now)

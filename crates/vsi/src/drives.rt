@@ -127,7 +127,8 @@ impl<F: Files> Subject<'_, F> {
         verified: &Verified,
         path: Option<&'a str>,
     ) -> Fallible<'a, Vec<i64>>
-        ensures len { IfOk result (λ words. length words.items ≡ length verified.now.globals.items) }
+        ensures len { IfOk result
+            (λ words. length words.items ≡ length verified.now.globals.items) }
         ensures stored { IfOk result (λ words.
             IsStoredAt (F.holds self.now.files.now) path.entry verified.now words.items) }
         ensures failed { IfErr result (FailsBy (λ reason.

@@ -389,7 +389,8 @@ pub(crate) fn tell_refusal<'a, W: Write>(
     ensures late { 3 < status_of failure.entry → result ≡ failure.entry }
     ensures early { status_of result < 4 → result ≡ failure.entry }
     ensures told { faultyFiles_spec.TellsRefusal (faultyFiles_spec.has_line is_json failure.entry)
-        failure.entry (W.contents (device_of output.old)) (W.contents (device_of output.new)) result }
+        failure.entry (W.contents (device_of output.old)) (W.contents (device_of output.new))
+        result }
 {
     if !is_refusal(&failure) {
         return failure;

@@ -207,8 +207,8 @@ impl<F: Files> Subject<'_, F> {
         }
     }
 
-    /// The globals that each class sees, sets, reads and releases under the interface of a file, or the
-    /// differences from an older one. The note gets the warnings about the interface.
+    /// The globals that each class sees, sets, reads and releases under the interface of a file, or
+    /// the differences from an older one. The note gets the warnings about the interface.
     pub(crate) fn visible<'a>(
         &self,
         asked: Visibility<'a>,

@@ -67,8 +67,8 @@ pub(crate) fn words_in<'a>(
 }
 
 impl<F: Files> Subject<'_, F> {
-    /// The image to run and the words that it begins with. The store file is read before the image and
-    /// judged after it.
+    /// The image to run and the words that it begins with. The store file is read before the image
+    /// and judged after it.
     pub(crate) fn image_and_words<'a>(
         &self,
         execution: Execution<'a>,
@@ -113,8 +113,8 @@ impl<F: Files> Subject<'_, F> {
         Ok(vsi_answers::view(self.alloc, &classes, &verified, viewer, &words, budget)?)
     }
 
-    /// Reads the files of a comparison. The note gets a line if the budget isn't enough and is taken
-    /// all the same.
+    /// Reads the files of a comparison. The note gets a line if the budget isn't enough and is
+    /// taken all the same.
     fn runs_in<'a>(&self, asked: Comparison<'a>, note: &mut Vec<u8>) -> Fallible<'a, TwoRuns>
         ensures first { IfOk result
             (λ read. length read.first.items ≡ length read.verified.globals.items) }
@@ -156,8 +156,9 @@ impl<F: Files> Subject<'_, F> {
         })
     }
 
-    /// The comparison that a class makes of the runs of an image file from two store files, as lines or
-    /// as a line of JSON. The note gets a line if the budget isn't enough and is taken all the same.
+    /// The comparison that a class makes of the runs of an image file from two store files, as
+    /// lines or as a line of JSON. The note gets a line if the budget isn't enough and is taken all
+    /// the same.
     pub(crate) fn compare<'a>(
         &self,
         asked: Comparison<'a>,

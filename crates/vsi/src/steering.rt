@@ -227,8 +227,8 @@ impl<F: Files> Subject<'_, F> {
         }
     }
 
-    /// The lines of the final store of a run of an image file that are written within its boundary. The
-    /// note gets a line if the budget isn't enough and is taken all the same.
+    /// The lines of the final store of a run of an image file that are written within its boundary.
+    /// The note gets a line if the budget isn't enough and is taken all the same.
     pub(crate) fn view_within<'a>(
         &self,
         asked: &Viewing<'a>,

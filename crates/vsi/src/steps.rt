@@ -76,8 +76,8 @@ impl<F: Files> Subject<'_, F> {
         Ok(reply)
     }
 
-    /// A monitored run of a source text, as lines or as a line of JSON, and whether the run has ended
-    /// or was stopped.
+    /// A monitored run of a source text, as lines or as a line of JSON, and whether the run has
+    /// ended or was stopped.
     pub(crate) fn monitor<'a>(
         &self,
         asked: &Stepping<'a>,
@@ -102,8 +102,8 @@ impl<F: Files> Subject<'_, F> {
         )
     }
 
-    /// The comparison that a class makes of two runs of a source text in step, from two store files,
-    /// as lines or as a line of JSON.
+    /// The comparison that a class makes of two runs of a source text in step, from two store
+    /// files, as lines or as a line of JSON.
     pub(crate) fn compare_steps<'a>(
         &self,
         asked: StepComparison<'a>,

@@ -120,8 +120,8 @@ pub(crate) fn whole_in<'a, F: Files>(
 }
 
 impl<F: Files> Subject<'_, F> {
-    /// The bytes of a file of this kind. A file as long as `READ_LIMIT` is a file fault if only a whole
-    /// file is useful.
+    /// The bytes of a file of this kind. A file as long as `READ_LIMIT` is a file fault if only a
+    /// whole file is useful.
     pub(crate) fn bytes_in<'a>(&self, kind: InputKind, path: &'a str) -> Fallible<'a, Vec<u8>>
         ensures read { IfOk result
             (λ bytes. IsReadAt (F.holds self.now.files.now) path.now bytes.items) }
@@ -135,8 +135,8 @@ impl<F: Files> Subject<'_, F> {
         Ok(bytes)
     }
 
-    /// The bytes of a store file; without one there are none. A file that begins with another checksum
-    /// than that of the rest is a file fault.
+    /// The bytes of a store file; without one there are none. A file that begins with another
+    /// checksum than that of the rest is a file fault.
     pub(crate) fn store_in<'a>(&self, path: Option<&'a str>) -> Fallible<'a, Vec<u8>>
         ensures read { IfOk result
             (λ bytes. IsStoreAt (F.holds self.now.files.now) path.entry bytes.items) }
@@ -198,7 +198,8 @@ impl<F: Files> Subject<'_, F> {
     ) -> Fallible<'a, (Lattice, Class, Verified)>
         ensures looks { IfOk result
             (λ seen. LooksAt (F.holds self.now.files.now) lattice.now class.now seen.0 seen.1) }
-        ensures held { IfOk result (λ seen. IsImageAt (F.holds self.now.files.now) image.now seen.2) }
+        ensures held { IfOk result
+            (λ seen. IsImageAt (F.holds self.now.files.now) image.now seen.2) }
         ensures failed { IfErr result (FailsBy (λ reason.
             RefusesLattice (F.holds self.now.files.now) lattice.now reason
             ⊎ RefusesImage (F.holds self.now.files.now) image.now reason)

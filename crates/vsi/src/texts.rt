@@ -51,8 +51,8 @@ impl<F: Files> Subject<'_, F> {
         Ok((classes, text))
     }
 
-    /// `accepted`, if the source text is accepted as requested, or a line of JSON that says whether it
-    /// is. The note gets the warnings about the text.
+    /// `accepted`, if the source text is accepted as requested, or a line of JSON that says whether
+    /// it is. The note gets the warnings about the text.
     pub(crate) fn check<'a>(&self, asked: Judging<'a>, note: &mut Vec<u8>) -> Fallible<'a, Reply>
         ensures told { IfOk result (λ reply. TellsCheck asked.entry.is_json (F.holds
             self.now.files.now) asked.entry reply.is_good reply.text) }

@@ -102,8 +102,8 @@ impl<'a> Disk<'a> {
     }
 
     /// Whether the file at the path is left as it is: because another drive keeps it, because this
-    /// request has read it, under whatever name, and may not replace it, or because it is of another
-    /// kind. A file that the request has filled itself is only the first.
+    /// request has read it, under whatever name, and may not replace it, or because it is of
+    /// another kind. A file that the request has filled itself is only the first.
     fn spares(&mut self, path: &str) -> bool {
         if matches!(self.claim, Claim::Taken) {
             self.objection = Some(Objection::Kept);
@@ -120,8 +120,8 @@ impl<'a> Disk<'a> {
         !self.is_forced && self.keeps(path)
     }
 
-    /// Whether the file at the path has bytes and isn't known to be of the kind that is written, or is
-    /// another store than the one with which a drive began. If it is known to be so, there is an
+    /// Whether the file at the path has bytes and isn't known to be of the kind that is written, or
+    /// is another store than the one with which a drive began. If it is known to be so, there is an
     /// objection.
     fn keeps(&mut self, path: &str) -> bool {
         if !self.has_bytes(path) {
@@ -138,8 +138,8 @@ impl<'a> Disk<'a> {
         true
     }
 
-    /// Whether the path is that of a file with bytes. A link to one is one only for an image, since no
-    /// other file is written through a link.
+    /// Whether the path is that of a file with bytes. A link to one is one only for an image, since
+    /// no other file is written through a link.
     fn has_bytes(&self, path: &str) -> bool {
         let found = match self.kind {
             OutputKind::Image => fs::metadata(self.rt, path),
@@ -171,8 +171,8 @@ impl<'a> Disk<'a> {
         None
     }
 
-    /// The new file with these bytes, in the place of the one at the path. Before the first time it is
-    /// known that the folder can be synced, and leftovers are removed.
+    /// The new file with these bytes, in the place of the one at the path. Before the first time it
+    /// is known that the folder can be synced, and leftovers are removed.
     fn replaced(&self, path: &str, fresh: &str, bytes: &[u8]) -> Result<File, Trouble> {
         let is_store = matches!(self.kind, OutputKind::Store | OutputKind::State);
         let making = Making {

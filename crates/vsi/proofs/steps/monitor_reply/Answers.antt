@@ -1,4 +1,4 @@
-use Rattle.std.proofs.Common.{ap, ◌∙◌, Err}
+use Rattle.std.proofs.Common.{◌≡◌, Err, subst}
 use Rattle.vsi.proofs.Stepped.{seen_classes, seen_length, ends_watched, is_stopped}
 use Rattle.vsi.proofs.steps.monitor_reply.Goals as goal
 
@@ -27,5 +27,5 @@ returns-in-Err-Stopped-clause-told c =
     c.in_ok-classes.classes.items c.deref.result.now c.lattice-lattice.ensures c.resolved-program.ensures.value
     c.deref.ensures.value c.resolved-program.ensures.kept c.in_ok-classes.ensures c.args.rule c.args.words.now
     c.monitored-run.result c.in-Err-Stopped.field-0-0
-    (c.in-Err-Stopped.is ∙ ap Err c.in-Err-Stopped.field-0-is) c.monitored-run.ensures.ends
-    c.monitored-run.ensures.typable
+    (subst (λ e. c.monitored-run.result ≡ Err e) c.in-Err-Stopped.field-0-is c.in-Err-Stopped.is)
+    c.monitored-run.ensures.ends c.monitored-run.ensures.typable
