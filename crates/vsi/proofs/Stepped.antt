@@ -1,6 +1,6 @@
 -- Runs of a source text in steps.
 use Rattle.std.proofs.Common.{◌≡◌, ◌∙◌, ◌++◌, ◌+◌, ℕ, ℤ, Bool, List, All, Result, Err, inl, inr, length, ap, sym, refl, subst, ◌∷◌, ◌<◌, [], Ok, Option, map}
-use Rattle.std.specs.Prelude.{◌≢◌, IfErr, Some, IfOk, IfSome, true}
+use Rattle.std.specs.Prelude.{◌≢◌, IfErr, Some, IfOk, IfSome, true, false}
 use Rattle.std.specs.Borrow.{Bor}
 use Rattle.std.proofs.lemmas.List.{length-append, length-map, get_or-map, map-append, take_more}
 use Rattle.std.proofs.lemmas.List.Elements.{All-append}
@@ -160,7 +160,7 @@ module _ (s : Source) (l : Lattice) (r : Resolved) (table seen : List ℕ) (unde
       (subst (λ p. RunEnds R (order l) seen p words answer) of ends))
 
   -- A run that ends is one of the program's.
-  pub ends_watched : (R : Rule) (words : List ℤ) (answer : Result Watched Unfinished) (w : Watched) → answer ≡ Ok w →
+  ends_watched : (R : Rule) (words : List ℤ) (answer : Result Watched Unfinished) (w : Watched) → answer ≡ Ok w →
       RunEnds R (order l) seen r words answer → EndsWatched R (order s.lattice) s.resolved words
   ends_watched R words answer w so ends = record {
     table = table;
@@ -170,7 +170,7 @@ module _ (s : Source) (l : Lattice) (r : Resolved) (table seen : List ℕ) (unde
   }
 
   -- So is one that is stopped, and then no choice of classes is typable.
-  pub is_stopped : (R : Rule) (words : List ℤ) (answer : Result Watched Unfinished) (x : Stop) →
+  is_stopped : (R : Rule) (words : List ℤ) (answer : Result Watched Unfinished) (x : Stop) →
       answer ≡ Err (ends.Stopped x) → RunEnds R (order l) seen r words answer →
       ((P : Profile) (t : Locations) → seen ≡ (program r).globals ++ t → IsTypable (order l) P (program r) t →
       IfErr answer (λ e. (y : Stop) → e ≢ ends.Stopped y)) → IsStopped R (order s.lattice) s.resolved words
@@ -185,6 +185,24 @@ module _ (s : Source) (l : Lattice) (r : Resolved) (table seen : List ℕ) (unde
         (subst (λ p. IsTypable (order s.lattice) Base (program p) is.choice) (sym of)
         (is.chosen.least choice typable).0)));
   }
+
+  -- So is one of which an answer says whether it ends or is stopped.
+  pub monitors : (R : Rule) (words : List ℤ) (answer : Result Watched Unfinished) (good : Bool) →
+      RunEnds R (order l) seen r words answer →
+      ((P : Profile) (t : Locations) → seen ≡ (program r).globals ++ t → IsTypable (order l) P (program r) t →
+      IfErr answer (λ e. (y : Stop) → e ≢ ends.Stopped y)) → (good ≡ true → (w : Watched) × (answer ≡ Ok w)) →
+      (good ≡ false → (x : Stop) × (answer ≡ Err (ends.Stopped x))) →
+      EndsMonitored R good (order s.lattice) s.resolved words
+  monitors R words answer true ended passes so stops =
+      let last = so refl in ends_watched R words answer last.0 last.1 ended
+  monitors R words answer false ended passes so stops =
+      let stop = stops refl in is_stopped R words answer stop.0 stop.1 ended passes
+
+-- What two facts about an answer lead to is a fact about it.
+pub both_ok : {A E : Type 0} (told : Result A E) (P Q S : A → Type 0) → ((a : A) → P a → Q a → S a) → IfOk told P →
+    IfOk told Q → IfOk told S
+both_ok (Ok a) P Q S f p q = f a p q
+both_ok (Err e) P Q S f p q = tt
 
 -- The comparison of two runs of a program is that of the source's program under its lattice.
 pub compared : (l m : Lattice) (r p : Resolved) (class : ℕ) (gs hs : List Global) (first second ones others : List ℤ)

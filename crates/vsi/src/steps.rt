@@ -1,6 +1,6 @@
 //! Runs of a source text in steps, accepted or not, under a monitor or without one.
 
-ghost use Rattle.std.specs.Prelude.{◌≡◌, length, IfOk, IfErr};
+ghost use Rattle.std.specs.Prelude.{◌≡◌, true, false, length, Ok, Err, IfOk, IfErr};
 ghost use Rattle.vsi_answers.specs.Answers.{Because};
 ghost use Rattle.vsi_answers.specs.declared.unanswered.Unanswered.TheVariants as unanswered;
 ghost use Rattle.vsi_answers.specs.Judged.{IsProgramFault, TellsSource};
@@ -8,6 +8,9 @@ ghost use Rattle.vsi_compiler.specs.SourceView.{IsSource};
 ghost use Rattle.vsi_image.specs.Fields.{global, globals};
 ghost use Rattle.vsi_lattice.specs.LatticeView.{class_named, order};
 ghost use Rattle.vsi_lattice.specs.Order.{IsClass};
+ghost use Rattle.vsi_monitor.specs.declared.stop.Stop.{Stop};
+ghost use Rattle.vsi_monitor.specs.declared.stop.Unfinished.TheVariants as ends;
+ghost use Rattle.vsi_monitor.specs.declared.watch.Watched.{Watched};
 ghost use Rattle.vsi_store.specs.Compare as views;
 ghost use Rattle.vsi.specs.Refusals.{FailsBy, LacksClassAt, NoOther, RefusesLattice};
 ghost use Rattle.vsi.specs.Stepping.{AreStepFiles, AreWritten, Compared, ComparesSteps, EndsMonitored, EndsTraced, IsMonitored, IsStarted, IsStepped, OfStepFiles};
@@ -260,6 +263,39 @@ fn rule_of(rule: MonitorRule) -> Rule
     }
 }
 
+/// The answer of a monitored run that doesn't come to its end: only one that is stopped has a text.
+fn unfinished_reply<'a>(text: Vec<u8>, unfinished: Unfinished) -> Fallible<'a, Reply>
+    ensures stopped { IfOk result (λ reply. (reply.is_good ≡ false)
+        × ((stop : Stop) × (unfinished ≡ ends.Stopped stop))) }
+    ensures failed { IfErr result (FailsBy (λ reason. reason ≡ unanswered.OutOfBudget) NoOther) }
+{
+    match unfinished {
+        Unfinished::Stopped(_) => Ok(Reply {
+            text,
+            is_good: false,
+        }),
+        Unfinished::Limit => Err(Failure::OutOfBudget),
+        Unfinished::Memory => Err(Failure::Memory),
+    }
+}
+
+/// The answer of a monitored run, and whether it has ended.
+fn ended_reply<'a>(text: Vec<u8>, run: Result<Watched, Unfinished>) -> Fallible<'a, Reply>
+    ensures ended { IfOk result (λ reply. reply.is_good ≡ true
+        → (last : Watched) × (run ≡ Ok last)) }
+    ensures stopped { IfOk result (λ reply. reply.is_good ≡ false
+        → (stop : Stop) × (run ≡ Err (ends.Stopped stop))) }
+    ensures failed { IfErr result (FailsBy (λ reason. reason ≡ unanswered.OutOfBudget) NoOther) }
+{
+    match run {
+        Ok(_last) => Ok(Reply {
+            text,
+            is_good: true,
+        }),
+        Err(unfinished) => unfinished_reply(text, unfinished),
+    }
+}
+
 /// A monitored run of a program from these words, and whether the run has ended.
 fn monitor_reply<'a>(
     alloc: Global,
@@ -283,18 +319,7 @@ fn monitor_reply<'a>(
         globals: program.globals(),
     };
     let text = monitor_bytes(alloc, &naming, &run, is_json)?;
-    match run {
-        Ok(_) => Ok(Reply {
-            text,
-            is_good: true,
-        }),
-        Err(Unfinished::Stopped(_)) => Ok(Reply {
-            text,
-            is_good: false,
-        }),
-        Err(Unfinished::Limit) => Err(Failure::OutOfBudget),
-        Err(Unfinished::Memory) => Err(Failure::Memory),
-    }
+    ended_reply(text, run)
 }
 
 /// Whether a class sees no difference between two words of a global.
