@@ -198,7 +198,7 @@ module _ (s : Source) (l : Lattice) (r : Resolved) (table seen : List ℕ) (unde
   monitors R words answer false ended passes so stops =
       let stop = stops refl in is_stopped R words answer stop.0 stop.1 ended passes
 
--- What two facts about an answer lead to is a fact about it.
+-- Two facts about an answer give a third one.
 pub both_ok : {A E : Type 0} (told : Result A E) (P Q S : A → Type 0) → ((a : A) → P a → Q a → S a) → IfOk told P →
     IfOk told Q → IfOk told S
 both_ok (Ok a) P Q S f p q = f a p q
