@@ -9,10 +9,10 @@ use Rattle.vsi_arguments.specs.declared.request.Request.{Request}
 use Rattle.vsi_arguments.specs.declared.request.Request.TheVariants.{Check}
 use Rattle.vsi_arguments.specs.Laws.{IsPlainCheck}
 use Rattle.vsi_arguments.proofs.Plain.{check_is_asked}
-use Rattle.vsi.specs.Holding.{Holding, IsReadAt}
+use Rattle.vsi_subject.specs.Holding.{Holding, IsReadAt}
 use Rattle.vsi.specs.Laws.{CheckedIsAccepted, IsAcceptedAt}
-use Rattle.vsi.specs.Files.{OfFiles}
-use Rattle.vsi.specs.Performed.{Performs, PutsAnswer, TellsCheck, ToldAccepted}
+use Rattle.vsi_subject.specs.Files.{OfFiles}
+use Rattle.vsi_subject.specs.Performed.{Performs, PutsAnswer, TellsCheck, ToldAccepted}
 
 -- Where a judgement of two files by the base profile has been performed, the source text is accepted.
 pub accepted_at : (holds : Holding) (judging : Judging) (lattice source : List ℕ) (text : Vec ℕ) →

@@ -4,17 +4,17 @@ use Rattle.std.specs.Prelude.{◌≢◌, if◌then◌else◌}
 use Rattle.std.proofs.lemmas.Bool.{cases_lt}
 use Rattle.vsi_arguments.specs.declared.request.Request.{Request}
 use Rattle.vsi_arguments.specs.declared.request.Request.TheVariants as request
-use Rattle.vsi.specs.declared.failure.Failure.{Failure}
-use Rattle.vsi.specs.declared.failure.Failure.TheVariants.{Refused, Interface, Audit, Unsteady, Differs, Usage, NoClass, OutOfBudget, FileFault, LostFile, Memory}
-use Rattle.vsi.specs.Done.{EndsEarly, IsFailureOf}
-use Rattle.vsi.specs.FaultyFiles.{TellsRefusal, answers_json, has_line, is_refusal}
-use Rattle.vsi.specs.Failures.{status_of}
-use Rattle.vsi.specs.Holding.{Holding}
-use Rattle.vsi.specs.Partly.{Answers, Partly}
-use Rattle.vsi.specs.Saved.{KeepsState, LeavesState}
-use Rattle.vsi.specs.Works.{cut_from, cut_of, document_spends}
-use Rattle.vsi.proofs.CarriedOut.{memory_why}
-use Rattle.vsi.proofs.Leaving.{leaves_memory}
+use Rattle.vsi_subject.specs.declared.failure.Failure.{Failure}
+use Rattle.vsi_subject.specs.declared.failure.Failure.TheVariants.{Refused, Interface, Audit, Unsteady, Differs, Usage, NoClass, OutOfBudget, FileFault, LostFile, Memory}
+use Rattle.vsi_subject.specs.Done.{EndsEarly, IsFailureOf}
+use Rattle.vsi_subject.specs.FaultyFiles.{TellsRefusal, answers_json, has_line, is_refusal}
+use Rattle.vsi_subject.specs.Failures.{status_of}
+use Rattle.vsi_subject.specs.Holding.{Holding}
+use Rattle.vsi_subject.specs.Partly.{Answers, Partly}
+use Rattle.vsi_subject.specs.Saved.{KeepsState, LeavesState}
+use Rattle.vsi_subject.specs.Works.{cut_from, cut_of, document_spends}
+use Rattle.vsi_subject.proofs.CarriedOut.{memory_why}
+use Rattle.vsi_subject.proofs.Leaving.{leaves_memory}
 
 -- ---- which failures have a line.
 

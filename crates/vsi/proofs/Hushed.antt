@@ -8,15 +8,15 @@ use Rattle.vsi_arguments.specs.declared.request.Document.TheVariants as document
 use Rattle.vsi_arguments.specs.declared.request.Request.{Request}
 use Rattle.vsi_arguments.specs.declared.request.Request.TheVariants as request
 use Rattle.vsi_arguments.specs.Asked.{AsksFor}
-use Rattle.vsi.specs.declared.failure.Failure.{Failure}
-use Rattle.vsi.specs.declared.failure.Failure.TheVariants.{Refused, Interface, Audit, Unsteady, Differs, Usage, NoClass, OutOfBudget, FileFault, LostFile, Memory}
-use Rattle.vsi.specs.FaultyFiles.{TellsRefusal, answers_json, has_line}
-use Rattle.vsi.specs.Failures.{status_of}
-use Rattle.vsi.specs.Holding.{Holding}
-use Rattle.vsi.specs.Noted.{CompareBudget, Count, DriveBudget, IsFailureNote, IsNoteBefore, Nothing, NotesDrive, NotesFailure, NotesStop, Noting, Sentences, ViewBudget, Warning, document_noting, noting}
-use Rattle.vsi.specs.Objections.{MayObject}
-use Rattle.vsi.specs.Screen.{tamed}
-use Rattle.vsi.specs.Words.{has_explain}
+use Rattle.vsi_subject.specs.declared.failure.Failure.{Failure}
+use Rattle.vsi_subject.specs.declared.failure.Failure.TheVariants.{Refused, Interface, Audit, Unsteady, Differs, Usage, NoClass, OutOfBudget, FileFault, LostFile, Memory}
+use Rattle.vsi_subject.specs.FaultyFiles.{TellsRefusal, answers_json, has_line}
+use Rattle.vsi_subject.specs.Failures.{status_of}
+use Rattle.vsi_subject.specs.Holding.{Holding}
+use Rattle.vsi_subject.specs.Noted.{CompareBudget, Count, DriveBudget, IsFailureNote, IsNoteBefore, Nothing, NotesDrive, NotesFailure, NotesStop, Noting, Sentences, ViewBudget, Warning, document_noting, noting}
+use Rattle.vsi_subject.specs.Objections.{MayObject}
+use Rattle.vsi_subject.specs.Screen.{tamed}
+use Rattle.vsi_subject.specs.Words.{has_explain}
 use Rattle.vsi.proofs.Faulted.{has_early}
 
 -- ---- the line about a file that isn't used.

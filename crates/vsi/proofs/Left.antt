@@ -31,11 +31,11 @@ use Rattle.vsi_arguments.specs.declared.request.Request.{Request}
 use Rattle.vsi_arguments.specs.declared.request.Request.TheVariants.{Build, View}
 use Rattle.vsi_arguments.specs.Asked.{AsksFor, given}
 use Rattle.vsi_arguments.specs.Help.{AsksHelp}
-use Rattle.vsi.specs.Done.{Done}
-use Rattle.vsi.specs.Holding.{Delivers, Holding, HoldsAt, IsImageAt, IsLatticeAt, IsReadAt, IsStoreAt, KeepsOthers}
+use Rattle.vsi_subject.specs.Done.{Done}
+use Rattle.vsi_subject.specs.Holding.{Delivers, Holding, HoldsAt, IsImageAt, IsLatticeAt, IsReadAt, IsStoreAt, KeepsOthers}
 use Rattle.vsi.specs.Laws.{BeginAlike, LeftIsSeenAlike, Shows}
-use Rattle.vsi.specs.Files.{BeginsAt, LooksAt, shown}
-use Rattle.vsi.specs.Performed.{Performs, PutsAnswer, profile_of}
+use Rattle.vsi_subject.specs.Files.{BeginsAt, LooksAt, shown}
+use Rattle.vsi_subject.specs.Performed.{Performs, PutsAnswer, profile_of}
 use Rattle.vsi.proofs.Declared.{AreAlike, declared_alike}
 use Rattle.vsi.proofs.Once.{SameBuild, SameView, one_build, one_view}
 use Rattle.vsi.proofs.Short.{built_short, read_again, read_whole}

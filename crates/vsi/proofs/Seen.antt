@@ -11,7 +11,7 @@ use Rattle.vsi_answers.specs.Judged.{AreImage}
 use Rattle.vsi_answers.specs.Requests.{BuildsTo, ViewsTo}
 use Rattle.vsi_answers.proofs.Agreement.{same_view}
 use Rattle.vsi.specs.Laws.{BuiltIsSeenAlike}
-use Rattle.vsi.specs.Performed.{profile_of}
+use Rattle.vsi_subject.specs.Performed.{profile_of}
 
 -- Two views under one lattice, of one image whose bytes are built, are the same where the stores agree.
 same_seen : (l m₁ m₂ : Lattice) (strict : Bool) (source : List ℕ) (bytes : Vec ℕ) (i₁ i₂ : Image) (a₁ a₂ : ℕ)

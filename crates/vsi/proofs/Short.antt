@@ -13,7 +13,7 @@ use Rattle.vsi_lattice.specs.Order.{Lattice}
 use Rattle.vsi_lattice.specs.Known.{Known}
 use Rattle.vsi_types.specs.declared.rules.Profile.{Profile}
 use Rattle.vsi_devices.specs.Building.{IsBuilt}
-use Rattle.vsi.specs.Holding.{Holding, HoldsAt, IsReadAt}
+use Rattle.vsi_subject.specs.Holding.{Holding, HoldsAt, IsReadAt}
 
 -- An instruction has nine bytes at most.
 instr_short : (i : Instr) → length (instr_bytes i) ≤ 9

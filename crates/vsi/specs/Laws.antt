@@ -19,10 +19,10 @@ use Rattle.vsi_arguments.specs.declared.request.Request.TheVariants.{Build, View
 use Rattle.vsi_arguments.specs.Asked.{AsksFor}
 use Rattle.vsi_arguments.specs.Help.{AsksHelp}
 use Rattle.vsi_arguments.specs.Laws.{ArePlainCheck}
-use Rattle.vsi.specs.Done.{Done}
-use Rattle.vsi.specs.Holding.{Delivers, Holding, IsReadAt}
-use Rattle.vsi.specs.Files.{BeginsAt, LooksAt, OfFiles, shown}
-use Rattle.vsi.specs.Performed.{ToldImage, ViewsFiles}
+use Rattle.vsi_subject.specs.Done.{Done}
+use Rattle.vsi_subject.specs.Holding.{Delivers, Holding, IsReadAt}
+use Rattle.vsi_subject.specs.Files.{BeginsAt, LooksAt, OfFiles, shown}
+use Rattle.vsi_subject.specs.Performed.{ToldImage, ViewsFiles}
 
 -- The file at one path declares a lattice, and the source text at the other is accepted under it.
 pub record IsAcceptedAt (holds : Holding) (lattice source : List ℕ) : Type 0 where

@@ -2,27 +2,25 @@
 
 ghost use Rattle.std.specs.Prelude.{◌≡◌, ◌≢◌, ◌<◌, ◌≤◌, ◌⊎◌, ◌++◌, [], false, Ok, Err, IfOk, IfErr, OnOk, codes, IsOkAnd};
 ghost use Rattle.std.specs.Io.KnownBytes.{Keeps};
-ghost use Rattle.vsi.specs.Done.{Done, Failed, FailsAt};
-ghost use Rattle.vsi.specs.Input.{AnswersInput, RefusesRun, SpendsRun, FailsRun, TellsFailure, WritesRun, WritesRunOf};
-ghost use Rattle.vsi.specs.Noted.{NotesFailure, NotesOf, TellsNote};
-ghost use Rattle.vsi.specs.Partly.{BytesOf, Partly};
-ghost use Rattle.vsi.specs.Saved.{KeepsStateOf};
-ghost use Rattle.vsi.specs.Screen.{tamed, tamed as tamed_text};
-ghost use Rattle.vsi.specs.Failures.{note_after, status_of, text_of_failure, Gets, IsStreamFault, FailsFor, TellsFault};
+ghost use Rattle.vsi_subject.specs.Done.{Done, Failed, FailsAt};
+ghost use Rattle.vsi_subject.specs.Input.{AnswersInput, RefusesRun, SpendsRun, FailsRun, TellsFailure, WritesRun, WritesRunOf};
+ghost use Rattle.vsi_subject.specs.Noted.{NotesFailure, NotesOf, TellsNote};
+ghost use Rattle.vsi_subject.specs.Partly.{BytesOf, Partly};
+ghost use Rattle.vsi_subject.specs.Saved.{KeepsStateOf};
+ghost use Rattle.vsi_subject.specs.Screen.{tamed, tamed as tamed_text};
+ghost use Rattle.vsi_subject.specs.Failures.{note_after, status_of, text_of_failure, Gets, IsStreamFault, FailsFor, TellsFault};
 ghost use Rattle.vsi_answers.specs.Requests.{RunsSourceTo};
 ghost use Rattle.vsi_devices.specs.Counted.{device_of, faults_of};
-ghost use Rattle.vsi.specs.Words as spec;
-ghost use Rattle.vsi_caret.specs.Safe as safe;
-ghost use Rattle.vsi.specs.Screen as screen_spec;
+ghost use Rattle.vsi_subject.specs.Screen as screen_spec;
+ghost use Rattle.vsi_subject.specs.Words as spec;
+ghost use Rattle.vsi_telling.specs.Safe as safe;
 
-use crate::failure::{Failure, Fallible, STREAM, write};
-use crate::files::Files;
 use crate::requests::carry_out;
-use crate::subject::{answered, device_failure, two_classes};
 use std::alloc::{AllocError, Global};
 use std::io::{Read, Write};
 use vsi_devices::{Counted, read_all, write_out};
 use vsi_lattice::Lattice;
+use vsi_subject::{Failure, Fallible, Files, STREAM, answered, device_failure, two_classes, write};
 
 /// The budget of a run without arguments, in instructions.
 const DEFAULT_BUDGET: u64 = 1_000_000;
@@ -315,7 +313,7 @@ impl ErrorText {
 }
 
 /// Writes a text to standard error, whose faults change nothing.
-pub(crate) fn say<E: Write>(text: &[u8], error: &mut Counted<E>)
+fn say<E: Write>(text: &[u8], error: &mut Counted<E>)
     ensures count { faults_of error.old ≤ faults_of error.new }
     ensures told { Gets E.contents error.old error.new text.now }
 {
@@ -325,7 +323,7 @@ pub(crate) fn say<E: Write>(text: &[u8], error: &mut Counted<E>)
 }
 
 /// Writes the text of a failure to standard error, whose faults change nothing.
-pub(crate) fn tell_failure<E: Write>(failure: &Failure<'_>, error: &mut Counted<E>)
+fn tell_failure<E: Write>(failure: &Failure<'_>, error: &mut Counted<E>)
     ensures count { faults_of error.old ≤ faults_of error.new }
     ensures told { Gets E.contents error.old error.new (text_of_failure failure.now) }
 {
@@ -374,7 +372,7 @@ fn is_tame(bytes: &[u8]) -> bool
 }
 
 /// The bytes if none of them controls a terminal except for its colours, and none otherwise.
-pub(crate) fn tamed(bytes: &[u8]) -> &[u8]
+fn tamed(bytes: &[u8]) -> &[u8]
     ensures { result.now ≡ screen_spec.tamed bytes.now }
 {
     if is_tame(bytes) { bytes } else { b"" }

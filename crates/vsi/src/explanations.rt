@@ -1,19 +1,14 @@
 //! Explanations of failures, made from the files that were read, and why a file can't be used.
 
-ghost use Rattle.std.specs.Prelude.{◌≡◌, ◌⊎◌, ◌++◌, Contains, IfOk, IfSome, OnOk};
-ghost use Rattle.vsi.specs.Objections as spec;
-ghost use Rattle.vsi.specs.Objections.{MayObject, OBJECTIONS, objection_line};
+ghost use Rattle.std.specs.Prelude.{◌≡◌, ◌⊎◌, Contains, IfOk, IfSome};
+ghost use Rattle.vsi_subject.specs.Objections.{MayObject, OBJECTIONS, objection_line};
+ghost use Rattle.vsi_subject.specs.Objections as spec;
 
-use crate::failure::{Failure, STREAM, cause_diagnostic, failure_diagnostic};
-use crate::files::Files;
-use crate::inputs::{InputKind, Inputs, Kept};
-use crate::subject::TWO_CLASSES;
-use crate::texts::profile;
+use crate::refusals::{cause_diagnostic, failure_diagnostic};
 use std::alloc::{AllocError, Global};
 use vsi_advice::advice;
 use vsi_answers::Cause;
 use vsi_arguments::{Colour, Document, Request};
-use vsi_caret::{ColourMode, put_safe};
 use vsi_compiler::{CompileError, read_source};
 use vsi_conform::{
     InterfaceError, InterfaceFile, Judgement, Policy, flows_profile, judged, read_interface,
@@ -24,8 +19,11 @@ use vsi_image::{Image, decode};
 use vsi_lattice::{Lattice, read_lattice};
 use vsi_steady::{SteadyError, UnsteadyError};
 use vsi_store::StoreError;
+use vsi_subject::{
+    Failure, Files, InputKind, Inputs, Kept, STREAM, TWO_CLASSES, profile, source_of,
+};
 use vsi_syntax::put_number;
-use vsi_telling::{RefusedFile, class_list, explanation, flows_explanation};
+use vsi_telling::{ColourMode, RefusedFile, class_list, explanation, flows_explanation, put_safe};
 use vsi_types::Profile;
 
 /// The advice for a run that is out of budget.
@@ -103,14 +101,6 @@ pub(crate) fn explained<F: Files>(
         put_page(&mut lines, &diagnostic)?;
     }
     Ok(lines)
-}
-
-/// The source text that was read, or an empty one if none was.
-pub(crate) fn source_of(inputs: &Inputs) -> &[u8] {
-    match inputs.last(InputKind::Source) {
-        Some(kept) => kept.bytes.as_slice(),
-        None => b"",
-    }
 }
 
 impl Explaining {
@@ -421,11 +411,7 @@ const BROKEN: &str = "the file was changed or cut short: its first line isn't th
 rest. To use it all the same, delete that line.";
 
 /// The reason why a file can't be used.
-pub(crate) fn of_fault<F: Files>(
-    inputs: &Inputs,
-    files: &F,
-    path: &str,
-) -> Result<Vec<u8>, AllocError> {
+fn of_fault<F: Files>(inputs: &Inputs, files: &F, path: &str) -> Result<Vec<u8>, AllocError> {
     if path == STREAM {
         return Vec::from_slice(
             inputs.alloc,

@@ -7,49 +7,23 @@
 //! a file is refused. `command` carries out the arguments of a command line. The types inside
 //! errors, such as `LexError` or a `Walk` of `Step`s, are exported here too.
 //!
-//! To be believed: of `specs/` `Words`, `Holding`, `Loading`, `Driven`, `State`, `Tried`,
-//! `Shaping`, `Seeing`, `Laying`, `Raises`, `Documents`, `Admitted`, `Served`, `Files`,
-//! `Interfaces`, `Filed`, `Visible`, `Boundaries`, `Steering`, `Feeding`, `Viewing`, `Performed`,
-//! `Refusals`, `Undriven`, `Reasons`, `Partly`, `FaultyFiles`, `Diagnosing`, `Done`, `Screen`,
-//! `Objections`, `Works`, `Input` and `Laws`, of `Failures` all but `FailsFor`, of `Noted` all but
-//! `Notes` and `NotesAnswer`, and of `Saved` its second part; its first part and `Walked` are
-//! stepping stones of proofs.
+//! To be believed: `specs/Laws`, and of `specs/` of `vsi_subject` `Words`, `Holding`, `Loading`,
+//! `Driven`, `State`, `Tried`, `Shaping`, `Seeing`, `Laying`, `Raises`, `Documents`, `Admitted`,
+//! `Served`, `Files`, `Interfaces`, `Filed`, `Visible`, `Boundaries`, `Steering`, `Feeding`,
+//! `Viewing`, `Performed`, `Refusals`, `Undriven`, `Reasons`, `Partly`, `FaultyFiles`, `Diagnosing`,
+//! `Done`, `Screen`, `Objections`, `Works` and `Input`, of `Failures` all but `FailsFor`, of `Noted`
+//! all but `Notes` and `NotesAnswer`, and of `Saved` its second part; its first part and `Walked`
+//! are stepping stones of proofs.
 #![tactic(auto)]
 
-mod boundaries;
-mod c_code;
-mod choices;
+mod answers;
 mod command_line;
-mod conformance;
-mod conformity;
-mod documents;
-mod drives;
 mod explanations;
-mod failure;
-mod files;
-mod images;
-mod inputs;
 pub mod laws;
-mod layouts;
-mod loaded;
-mod policies;
-mod replies;
+mod refusals;
 mod requests;
-mod runs;
-mod steering;
-mod steps;
-mod subject;
-mod texts;
-mod trials;
 
 pub use command_line::command;
-pub use files::Files;
-pub use files::OutputKind;
-pub use files::Writing;
-pub use loaded::Loaded;
-pub use loaded::Opened;
-pub use loaded::Shared;
-pub use loaded::load;
 pub use vsi_audit::AuditError;
 pub use vsi_audit::audit_in;
 pub use vsi_audit::audit_text;
@@ -166,6 +140,13 @@ pub use vsi_store::named_globals;
 pub use vsi_store::read_store;
 pub use vsi_store::store_text;
 pub use vsi_store::view;
+pub use vsi_subject::Files;
+pub use vsi_subject::Loaded;
+pub use vsi_subject::Opened;
+pub use vsi_subject::OutputKind;
+pub use vsi_subject::Shared;
+pub use vsi_subject::Writing;
+pub use vsi_subject::load;
 pub use vsi_syntax::LexError;
 pub use vsi_syntax::ParseError;
 pub use vsi_syntax::Span;

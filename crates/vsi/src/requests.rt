@@ -1,36 +1,32 @@
 //! Carries out arguments.
 
 ghost use Rattle.std.specs.Prelude.{◌≡◌, ◌<◌, ◌⊎◌, ◌++◌, ℕ, List, [], false, None, IfErr, IfOk, OnOk};
-ghost use Rattle.vsi.specs.Done.{Done, EndsEarly, IsMistake, Failed, Unread};
-ghost use Rattle.vsi.specs.Noted.{IsFailureNote, IsNote, NotesFailure, NotesOf, noting, Notes};
-ghost use Rattle.vsi.specs.Objections.{MayObject};
-ghost use Rattle.vsi.specs.Performed.{Performs};
-ghost use Rattle.vsi.specs.Saved.{KeepsState, KeepsStateOf};
-ghost use Rattle.vsi.specs.Screen.{tamed};
-ghost use Rattle.vsi.specs.Failures.{TellsFault, status_of};
-ghost use Rattle.vsi.specs.declared.failure.Failure.TheVariants.{Memory};
+ghost use Rattle.vsi_subject.specs.Done.{Done, EndsEarly, IsMistake, Failed, Unread};
+ghost use Rattle.vsi_subject.specs.Noted.{IsFailureNote, IsNote, NotesFailure, NotesOf, noting, Notes};
+ghost use Rattle.vsi_subject.specs.Objections.{MayObject};
+ghost use Rattle.vsi_subject.specs.Performed.{Performs};
+ghost use Rattle.vsi_subject.specs.Saved.{KeepsState, KeepsStateOf};
+ghost use Rattle.vsi_subject.specs.Screen.{tamed};
+ghost use Rattle.vsi_subject.specs.Failures.{TellsFault, status_of};
+ghost use Rattle.vsi_subject.specs.declared.failure.Failure.TheVariants.{Memory};
 ghost use Rattle.vsi_arguments.specs.Help.{AsksHelp};
 ghost use Rattle.vsi_devices.specs.Counted.{device_of, faults_of};
-ghost use Rattle.vsi.specs.Partly.{Answers, Leaves};
-ghost use Rattle.vsi.specs.Works.{cut_from};
-ghost use Rattle.vsi.specs.Reasons.{Why};
-ghost use Rattle.vsi.specs.Words as words_spec;
+ghost use Rattle.vsi_subject.specs.Partly.{Answers, Leaves};
+ghost use Rattle.vsi_subject.specs.Works.{cut_from};
+ghost use Rattle.vsi_subject.specs.Reasons.{Why};
+ghost use Rattle.vsi_subject.specs.Words as words_spec;
 
+use crate::answers::put_answer;
 use crate::command_line::ErrorText;
-use crate::drives::drive;
 use crate::explanations::{Explaining, explained, objection};
-use crate::failure::{Failure, Fallible, answers_json, tell_refusal, write};
-use crate::files::Files;
-use crate::inputs::{InputCache, Inputs};
-use crate::layouts::lay_out;
-use crate::replies::put_answer;
-use crate::runs::{Running, run};
-use crate::subject::Subject;
-use crate::trials::serve;
+use crate::refusals::{answers_json, tell_refusal};
 use std::alloc::{AllocError, Global};
 use std::io::{Read, Write};
 use vsi_arguments::{ArgumentsError, Manner, Reporting, Request, asks_help, manner_of, request_of};
 use vsi_devices::Counted;
+use vsi_requests::{lay_out, put_flows};
+use vsi_runs::{Running, drive, run, serve};
+use vsi_subject::{Failure, Fallible, Files, InputCache, Inputs, Subject, write};
 
 /// The message if the arguments spell no request, or don't ask for the help that the parser has.
 const MISUNDERSTOOD: &str = "error: these words are not understood\n";
@@ -244,7 +240,7 @@ fn answer_arguments<'a, W: Write>(
 }
 
 /// Does one subcommand.
-pub(crate) fn perform<'a, F: Files, R: Read, W: Write>(
+fn perform<'a, F: Files, R: Read, W: Write>(
     cache: &InputCache,
     request: Request<'a>,
     files: &mut F,
@@ -284,7 +280,7 @@ pub(crate) fn perform<'a, F: Files, R: Read, W: Write>(
                 cache,
                 files,
             };
-            subject.put_flows(compilation, has_walks, output)
+            put_flows(&subject, compilation, has_walks, output)
         }
         Request::Run {
             execution,

@@ -1,22 +1,20 @@
 //! The explanation of a refused interface file.
 
-use crate::interface_cycles::of_cycle;
-use crate::interface_places::{pair_in, pair_named, pair_place, pairs_in, text_in};
-use crate::interface_runs::of_run;
 use crate::interface_tables::RUN_KEYS;
 use std::alloc::{AllocError, Global};
 use toml::{Table, Value};
-use vsi_caret::Part;
 use vsi_conform::InterfaceError;
 use vsi_lattice::Lattice;
-use vsi_telling::finding::{key_place, quoted_place};
-use vsi_telling::names::class_names;
-use vsi_telling::tables::{put_syntax, table_in, value_in};
-use vsi_telling::{Tail, Telling, Told};
+use vsi_syntax::Span;
+use vsi_telling::{
+    Part, Telling, Told, array_in, class_names, key_place, part_of, quoted_place, table_classes,
+};
 
 /// An example of the head of an interface.
-const SHAPE: &str = "An interface begins like this:\n  lattice = \"two.toml\"\n  \
-    profile = \"base\"\n  globals = [[\"key\", \"H\"], [\"out\", \"L\"]]\n";
+const SHAPE: Part<'static> = Part::Text(
+    b"An interface begins like this:\n  lattice = \"two.toml\"\n  profile = \"base\"\n  \
+    globals = [[\"key\", \"H\"], [\"out\", \"L\"]]\n",
+);
 
 /// The keys of an interface.
 const KEYS: [&[u8]; 10] = [
@@ -41,303 +39,336 @@ const ORDERS: [&[u8]; 2] = [b"exact", b"set"];
 /// The most globals of a program.
 const MOST_GLOBALS: usize = 256;
 
-/// The most classes of a lattice.
-const MOST_CLASSES: usize = 64;
+/// A refused interface file that is a table, and the lattice of the file that it names.
+#[derive(Clone, Copy)]
+pub(crate) struct Interface<'t> {
+    pub(crate) bytes: &'t [u8],
+    pub(crate) table: &'t Table,
+    lattice: Option<&'t Lattice>,
+}
 
-/// Whether a value is an array of more globals than a program has.
-fn is_long(value: &Value) -> bool {
-    match value.as_array() {
-        Some(array) => array.len() > MOST_GLOBALS,
-        None => false,
+/// A part of a file, found after this many bytes.
+pub(crate) fn behind(from: usize, span: Span) -> Span {
+    Span {
+        start: from.saturating_add(span.start),
+        stop: from.saturating_add(span.stop),
     }
 }
 
-/// The classes of the lattice that an interface names, or those that it has of its own.
-pub(crate) fn classes_of<'t>(
-    alloc: Global,
-    table: &'t Table,
-    lattice: Option<&'t Lattice>,
-) -> Result<Vec<&'t [u8]>, AllocError> {
-    if let Some(lattice) = lattice {
-        return class_names(alloc, lattice);
-    }
-    let mut names = Vec::new(alloc);
-    for place in 0..MOST_CLASSES {
-        let Some(value) = value_in(table, "classes", place) else {
-            break;
-        };
-        if let Some(name) = value.as_str() {
-            names.push(name.as_bytes())?;
-        }
-    }
-    Ok(names)
+/// The text at one side of a pair of `globals`.
+fn side_of(pair: &Value, side: usize) -> Option<&[u8]> {
+    let text = pair.as_array()?.as_slice().get(side)?.as_str()?;
+    Some(text.as_bytes())
 }
 
 /// Whether an entry of `globals` is a pair of texts.
-fn is_pair(table: &Table, number: usize) -> bool {
-    let Some(pair) = pair_in(table, number) else {
-        return false;
-    };
-    if pair.len() != 2 || text_in(table, number, 0).is_none() {
-        return false;
-    }
-    text_in(table, number, 1).is_some()
-}
-
-/// The first entry of `globals` that isn't a pair of texts.
-fn faulty_pair(table: &Table) -> usize {
-    for number in 0..pairs_in(table) {
-        if !is_pair(table, number) {
-            return number;
-        }
-    }
-    0
-}
-
-/// The text at a key.
-fn text_at<'t>(table: &'t Table, key: &str) -> Option<&'t str> {
-    table.get(key)?.as_str()
+fn is_pair(entry: &Value) -> bool {
+    let has_two = entry.as_array().is_some_and(|array| array.len() == 2);
+    has_two && side_of(entry, 0).is_some() && side_of(entry, 1).is_some()
 }
 
 /// Adds the explanation if the file isn't TOML, and returns the position of the fault.
-fn not_toml(telling: &mut Telling<'_>) -> Told {
-    let place = put_syntax(telling.alloc, &mut telling.words, telling.bytes)?;
+fn not_toml(telling: &mut Telling<'_>, error: &toml::de::Error) -> Told {
+    // An error of memory has no position.
+    let Some(range) = error.span() else {
+        return Err(AllocError);
+    };
+    let why = Part::Text(error.message().as_bytes());
+    telling.say("The file isn't a TOML document: %.\n", &[why])?;
     let start = telling.bytes.trim_ascii_start();
-    let hint = if start.starts_with(b"VSI") {
-        "Hint: this is an image. The interface comes first.\n"
+    let sentence = if start.starts_with(b"VSI") {
+        "Hint: this is an image. The interface comes first.\n%"
     } else if start.starts_with(b"var") || start.starts_with(b"letvar") {
         "Hint: this looks like a source text. The interface comes first, and the source text after \
-        it: `vsi conform INTERFACE SOURCE`.\n"
+        it: `vsi conform INTERFACE SOURCE`.\n%"
     } else {
-        ""
+        "%"
     };
-    telling.tell(hint, &[], Tail::Text(SHAPE), place)
-}
-
-/// Explains a key that no interface has.
-fn unknown_key(telling: &mut Telling<'_>, key: &[u8]) -> Told {
-    let place = key_place(telling.bytes, key);
-    let quoted = Part::Quoted(key);
-    if RUN_KEYS.contains(&key) {
-        return telling.tell(
-            "An interface has no key % of its own. Hint: it is a key of a run, and goes after a \
-            line `[[runs]]`.\n",
-            &[quoted],
-            Tail::Nothing,
-            place,
-        );
-    }
-    telling.tell(
-        "An interface has no key %: its keys are %, %.\n",
-        &[quoted, Part::Names(&KEYS[..5]), Part::Names(&KEYS[5..])],
-        Tail::Nearest(key, &KEYS, "Hint: remove the line.\n"),
-        place,
-    )
-}
-
-/// The sentence about a lattice that is missing, named twice, not a text or outside the folder.
-fn lattice_sentence(table: &Table) -> &'static str {
-    let has_classes = table.get("classes").is_some() || table.get("below").is_some();
-    if table.get("lattice").is_none() {
-        "The interface has no lattice. Hint: name a lattice file in the same folder, as in \
-        `lattice = \"two.toml\"`, or write `classes` and `below` as in such a file.\n"
-    } else if has_classes {
-        "The interface names a lattice file and also has classes of its own. Hint: leave out \
-        `lattice`, or leave out `classes` and `below`.\n"
-    } else if text_at(table, "lattice").is_some() {
-        "The path of the lattice file leads out of the folder of the interface. Hint: put the \
-        lattice file into that folder, or into one in it, and write its path without `..` and \
-        without `/` at the beginning.\n"
-    } else {
-        "The value of `lattice` isn't a text. Hint: write the path of a lattice file between \
-        quotes, as in `lattice = \"two.toml\"`.\n"
-    }
-}
-
-/// The sentence about a reference that isn't accepted, isn't a text or is outside the folder.
-fn reference_sentence(table: &Table, error: &InterfaceError) -> &'static str {
-    if let InterfaceError::RefusedReference(_) = error {
-        "The reference of the interface isn't accepted under its lattice and its profile. Hint: \
-        `vsi check --explain` says more about it.\n"
-    } else if text_at(table, "reference").is_some() {
-        "The path of the reference leads out of the folder of the interface. Hint: put the \
-        reference into that folder, or into one in it, and write its path without `..` and without \
-        `/` at the beginning.\n"
-    } else {
-        "The value of `reference` isn't a text. Hint: write the path of a source text between \
-        quotes, as in `reference = \"lock.vsi\"`.\n"
-    }
-}
-
-/// Explains a key whose value isn't one of the choices; the sentence is about a text that isn't
-/// one.
-fn choice(
-    telling: &mut Telling<'_>,
-    table: &Table,
-    key: &str,
-    sentence: &str,
-    choices: &[&[u8]],
-) -> Told {
-    let bytes = telling.bytes;
-    if let Some(text) = text_at(table, key) {
-        let text = text.as_bytes();
-        return telling.tell(
-            sentence,
-            &[Part::Quoted(text), Part::Names(choices)],
-            Tail::Nearest(text, choices, ""),
-            quoted_place(bytes, text, 0),
-        );
-    }
-    let fault = match table.get(key) {
-        Some(_) => "The key `%` must be one of %, between quotes.\n",
-        None => "The key `%` is missing. It must be one of %, between quotes.\n",
+    let place = Span {
+        start: range.start,
+        stop: range.end,
     };
-    let key = key.as_bytes();
-    telling.tell(
-        fault,
-        &[Part::Text(key), Part::Names(choices)],
-        Tail::Text(SHAPE),
-        key_place(bytes, key),
-    )
+    telling.tell(Some(place), sentence, &[SHAPE])
 }
 
-/// Explains `globals` that aren't an array of at most 256 pairs of texts.
-fn globals(telling: &mut Telling<'_>, table: &Table) -> Told {
-    let mut place = key_place(telling.bytes, b"globals");
-    let number = Part::Number(faulty_pair(table).saturating_add(1));
-    if table.get("globals").is_none() {
-        place = None;
-    }
-    let (sentence, tail) = match table.get("globals") {
-        None => (
-            "The key `globals` is missing. Hint: name each global with its class, in the order in \
-            which a text must declare them.\n",
-            Tail::Text(SHAPE),
-        ),
-        Some(value) if is_long(value) => (
-            "`globals` has more than 256 entries. Hint: no program has more globals.\n",
-            Tail::Nothing,
-        ),
-        Some(value) if value.as_array().is_some() => (
-            "Entry % of `globals` isn't a pair of a name and a class. Hint: write `[\"x\", \"L\"]` \
-            for each global `var x : L`.\n",
-            Tail::Text(SHAPE),
-        ),
-        Some(_) => (
-            "The value of `globals` isn't an array. Hint: write `[\"x\", \"L\"]` for each global \
-            `var x : L`.\n",
-            Tail::Text(SHAPE),
-        ),
-    };
-    telling.tell(sentence, &[number], tail, place)
-}
-
-/// Explains a name of a global, after this many others of the same name.
-fn bad_name(
-    telling: &mut Telling<'_>,
-    table: &Table,
-    name: &[u8],
-    others: usize,
-    sentence: &str,
-) -> Told {
-    let place = match pair_named(table, name, others) {
-        Some(number) => pair_place(telling.bytes, table, number, 0),
-        None => None,
-    };
-    telling.tell(sentence, &[Part::Quoted(name)], Tail::Nothing, place)
-}
-
-/// Explains the class of a global that isn't a class of the lattice.
-fn unknown_class<'x>(
-    telling: &mut Telling<'_>,
-    table: &'x Table,
-    lattice: Option<&'x Lattice>,
-    name: &'x [u8],
-) -> Told {
-    let Some(number) = pair_named(table, name, 0) else {
-        return Ok(None);
-    };
-    let Some(class) = text_in(table, number, 1) else {
-        return Ok(None);
-    };
-    let classes = classes_of(telling.alloc, table, lattice)?;
-    let otherwise = "Hint: give the global one of these, or declare the class in the lattice.\n";
-    let place = pair_place(telling.bytes, table, number, 1);
-    telling.tell(
-        "The class % of the global % isn't in the lattice. Its classes are %.\n",
-        &[
-            Part::Quoted(class),
-            Part::Quoted(name),
-            Part::Names(&classes),
-        ],
-        Tail::Nearest(class, &classes, otherwise),
-        place,
-    )
-}
-
-/// Explains a fault of a key of the whole interface, other than that of a global, or else of a run.
-fn of_key(telling: &mut Telling<'_>, table: &Table, error: &InterfaceError) -> Told {
-    let bytes = telling.bytes;
-    match error {
-        InterfaceError::UnknownKey(key) => unknown_key(telling, key),
-        InterfaceError::BadLattice => {
-            let (tail, place) = match table.get("lattice") {
-                Some(_) => (Tail::Nothing, key_place(bytes, b"lattice")),
-                None => (Tail::Text(SHAPE), None),
-            };
-            telling.tell(lattice_sentence(table), &[], tail, place)
-        }
-        InterfaceError::BadProfile => {
-            let sentence = "% isn't a profile: the profiles are %.\n";
-            choice(telling, table, "profile", sentence, &PROFILES)
-        }
-        InterfaceError::BadOrder => {
-            let sentence = "% isn't an order: the orders are %.\n";
-            choice(telling, table, "order", sentence, &ORDERS)
-        }
-        InterfaceError::BadBounded => telling.tell(
-            "The value of `bounded` must be `true`, `false` or a number of at least 1, without \
-            quotes. Hint: write `bounded = true` if `vsi bound` must find a number of \
-            instructions within which every run halts, `bounded = 200` if the number must be at \
-            most 200, or leave out the key.\n",
-            &[],
-            Tail::Nothing,
-            key_place(bytes, b"bounded"),
-        ),
-        InterfaceError::BadReference | InterfaceError::RefusedReference(_) => {
-            let place = key_place(bytes, b"reference");
-            telling.tell(reference_sentence(table, error), &[], Tail::Nothing, place)
-        }
-        other => of_run(telling, table, other),
-    }
-}
-
-/// Adds the explanation of a fault in an interface that is a table, and returns its position.
-fn of_table(
-    telling: &mut Telling<'_>,
-    table: &Table,
-    lattice: Option<&Lattice>,
-    error: &InterfaceError,
-) -> Told {
-    match error {
-        InterfaceError::BadGlobals => globals(telling, table),
-        InterfaceError::BadName(name) => bad_name(
-            telling,
+impl<'t> Interface<'t> {
+    /// The interface with these bytes and this table.
+    fn new(bytes: &'t [u8], table: &'t Table, lattice: Option<&'t Lattice>) -> Interface<'t> {
+        Interface {
+            bytes,
             table,
-            name,
-            0,
-            "% isn't a valid name. Hint: a name begins with a letter, continues with letters, \
-            digits and `_`, has at most 32 of them, and isn't a keyword.\n",
-        ),
-        InterfaceError::RepeatedGlobal(name) => {
-            let sentence = "% is in `globals` twice. Hint: leave one out.\n";
-            bad_name(telling, table, name, 1, sentence)
+            lattice,
         }
-        InterfaceError::UnknownClass(name) => unknown_class(telling, table, lattice, name),
-        InterfaceError::BadCycle(_) | InterfaceError::UnknownInCycle(_, _) => {
-            of_cycle(telling, table, lattice, error)
+    }
+
+    /// The text at a key.
+    fn text(self, key: &str) -> Option<&'t [u8]> {
+        let text = self.table.get(key)?.as_str()?;
+        Some(text.as_bytes())
+    }
+
+    /// The classes of the lattice that the interface names, or those that it has of its own.
+    pub(crate) fn classes(self, alloc: Global) -> Result<Vec<&'t [u8]>, AllocError> {
+        match self.lattice {
+            Some(lattice) => class_names(alloc, lattice),
+            None => table_classes(alloc, self.table),
         }
-        other => of_key(telling, table, other),
+    }
+
+    /// The names of the globals.
+    pub(crate) fn names(self, alloc: Global) -> Result<Vec<&'t [u8]>, AllocError> {
+        let mut names = Vec::new(alloc);
+        for pair in array_in(self.table, "globals") {
+            if let Some(name) = side_of(pair, 0) {
+                names.push(name)?;
+            }
+        }
+        Ok(names)
+    }
+
+    /// The pair with a name, after this many others.
+    pub(crate) fn pair_named(self, name: &[u8], others: usize) -> Option<usize> {
+        let mut left = others;
+        for (number, pair) in array_in(self.table, "globals").iter().enumerate() {
+            if side_of(pair, 0) == Some(name) {
+                if left == 0 {
+                    return Some(number);
+                }
+                left -= 1;
+            }
+        }
+        None
+    }
+
+    /// The number of occurrences of a text in `globals` before one side of a pair.
+    fn times_before(self, number: usize, side: usize, text: &[u8]) -> usize {
+        let mut times: usize = 0;
+        for (at, pair) in array_in(self.table, "globals").iter().enumerate() {
+            for place in 0..2 {
+                let is_before = at < number || at == number && place < side;
+                if is_before && side_of(pair, place) == Some(text) {
+                    times = times.saturating_add(1);
+                }
+            }
+        }
+        times
+    }
+
+    /// The position of the text at one side of a pair of `globals`.
+    fn pair_place(self, number: usize, side: usize) -> Option<Span> {
+        let start = key_place(self.bytes, b"globals")?.stop;
+        let text = side_of(array_in(self.table, "globals").get(number)?, side)?;
+        let stop = self.bytes.len();
+        let rest = part_of(self.bytes, Span { start, stop });
+        let found = quoted_place(rest, text, self.times_before(number, side, text))?;
+        Some(behind(start, found))
+    }
+
+    /// Explains a key that no interface has.
+    fn unknown_key(self, telling: &mut Telling<'_>, key: &[u8]) -> Told {
+        let place = key_place(self.bytes, key);
+        let quoted = Part::Quoted(key);
+        if RUN_KEYS.contains(&key) {
+            return telling.tell(
+                place,
+                "An interface has no key % of its own. Hint: it is a key of a run, and goes after \
+                a line `[[runs]]`.\n",
+                &[quoted],
+            );
+        }
+        let (some, others) = (Part::Names(&KEYS[..5]), Part::Names(&KEYS[5..]));
+        let nearest = Part::Nearest(key, &KEYS, "Hint: remove the line.\n");
+        let sentence = "An interface has no key %: its keys are %, %.\n%";
+        telling.tell(place, sentence, &[quoted, some, others, nearest])
+    }
+
+    /// Explains a lattice that is missing, named twice, not a text or outside the folder.
+    fn bad_lattice(self, telling: &mut Telling<'_>) -> Told {
+        if self.table.get("lattice").is_none() {
+            return telling.tell(
+                None,
+                "The interface has no lattice. Hint: name a lattice file in the same folder, as in \
+                `lattice = \"two.toml\"`, or write `classes` and `below` as in such a file.\n%",
+                &[SHAPE],
+            );
+        }
+        let has_classes = self.table.get("classes").is_some() || self.table.get("below").is_some();
+        let sentence = if has_classes {
+            "The interface names a lattice file and also has classes of its own. Hint: leave out \
+            `lattice`, or leave out `classes` and `below`.\n"
+        } else if self.text("lattice").is_some() {
+            "The path of the lattice file leads out of the folder of the interface. Hint: put the \
+            lattice file into that folder, or into one in it, and write its path without `..` and \
+            without `/` at the beginning.\n"
+        } else {
+            "The value of `lattice` isn't a text. Hint: write the path of a lattice file between \
+            quotes, as in `lattice = \"two.toml\"`.\n"
+        };
+        telling.tell(key_place(self.bytes, b"lattice"), sentence, &[])
+    }
+
+    /// Explains a reference that isn't accepted, isn't a text or is outside the folder.
+    fn bad_reference(self, telling: &mut Telling<'_>, error: &InterfaceError) -> Told {
+        let sentence = if let InterfaceError::RefusedReference(_) = error {
+            "The reference of the interface isn't accepted under its lattice and its profile. \
+            Hint: `vsi check --explain` says more about it.\n"
+        } else if self.text("reference").is_some() {
+            "The path of the reference leads out of the folder of the interface. Hint: put the \
+            reference into that folder, or into one in it, and write its path without `..` and \
+            without `/` at the beginning.\n"
+        } else {
+            "The value of `reference` isn't a text. Hint: write the path of a source text between \
+            quotes, as in `reference = \"lock.vsi\"`.\n"
+        };
+        telling.tell(key_place(self.bytes, b"reference"), sentence, &[])
+    }
+
+    /// Explains a key whose value isn't one of the choices; the sentence is about a text that isn't
+    /// one.
+    fn bad_choice(
+        self,
+        telling: &mut Telling<'_>,
+        key: &'t str,
+        sentence: &str,
+        choices: &'t [&'t [u8]],
+    ) -> Told {
+        let names = Part::Names(choices);
+        if let Some(text) = self.text(key) {
+            let nearest = Part::Nearest(text, choices, "");
+            let place = quoted_place(self.bytes, text, 0);
+            return telling.tell(place, sentence, &[Part::Quoted(text), names, nearest]);
+        }
+        let fault = match self.table.get(key) {
+            Some(_) => "The key `%` must be one of %, between quotes.\n%",
+            None => "The key `%` is missing. It must be one of %, between quotes.\n%",
+        };
+        let key = key.as_bytes();
+        telling.tell(
+            key_place(self.bytes, key),
+            fault,
+            &[Part::Text(key), names, SHAPE],
+        )
+    }
+
+    /// Explains `globals` that aren't an array of at most 256 pairs of texts.
+    fn bad_globals(self, telling: &mut Telling<'_>) -> Told {
+        let place = key_place(self.bytes, b"globals");
+        let Some(value) = self.table.get("globals") else {
+            return telling.tell(
+                None,
+                "The key `globals` is missing. Hint: name each global with its class, in the order \
+                in which a text must declare them.\n%",
+                &[SHAPE],
+            );
+        };
+        if value.as_array().is_none() {
+            return telling.tell(
+                place,
+                "The value of `globals` isn't an array. Hint: write `[\"x\", \"L\"]` for each \
+                global `var x : L`.\n%",
+                &[SHAPE],
+            );
+        }
+        let pairs = array_in(self.table, "globals");
+        if pairs.len() > MOST_GLOBALS {
+            let sentence = "`globals` has more than 256 entries. Hint: no program has more \
+                globals.\n";
+            return telling.tell(place, sentence, &[]);
+        }
+        let faulty = pairs.iter().position(|pair| !is_pair(pair)).unwrap_or(0);
+        telling.tell(
+            place,
+            "Entry % of `globals` isn't a pair of a name and a class. Hint: write `[\"x\", \"L\"]` \
+            for each global `var x : L`.\n%",
+            &[Part::Number(faulty.saturating_add(1)), SHAPE],
+        )
+    }
+
+    /// Explains a name of a global, after this many others of the same name.
+    fn bad_name(
+        self,
+        telling: &mut Telling<'_>,
+        name: &[u8],
+        others: usize,
+        sentence: &str,
+    ) -> Told {
+        let number = self.pair_named(name, others);
+        let place = number.and_then(|number| self.pair_place(number, 0));
+        telling.tell(place, sentence, &[Part::Quoted(name)])
+    }
+
+    /// Explains the class of a global that isn't a class of the lattice.
+    fn unknown_class(self, telling: &mut Telling<'_>, name: &'t [u8]) -> Told {
+        let Some(number) = self.pair_named(name, 0) else {
+            return Ok(None);
+        };
+        let pair = array_in(self.table, "globals").get(number);
+        let Some(class) = pair.and_then(|pair| side_of(pair, 1)) else {
+            return Ok(None);
+        };
+        let classes = self.classes(telling.alloc)?;
+        let otherwise =
+            "Hint: give the global one of these, or declare the class in the lattice.\n";
+        let nearest = Part::Nearest(class, &classes, otherwise);
+        telling.tell(
+            self.pair_place(number, 1),
+            "The class % of the global % isn't in the lattice. Its classes are %.\n%",
+            &[
+                Part::Quoted(class),
+                Part::Quoted(name),
+                Part::Names(&classes),
+                nearest,
+            ],
+        )
+    }
+
+    /// Explains a fault of a key of the whole interface, other than that of a global, or else of a
+    /// run or of a boundary.
+    fn of_key(self, telling: &mut Telling<'_>, error: &'t InterfaceError) -> Told {
+        match error {
+            InterfaceError::UnknownKey(key) => self.unknown_key(telling, key),
+            InterfaceError::BadLattice => self.bad_lattice(telling),
+            InterfaceError::BadProfile => {
+                let sentence = "% isn't a profile: the profiles are %.\n%";
+                self.bad_choice(telling, "profile", sentence, &PROFILES)
+            }
+            InterfaceError::BadOrder => {
+                let sentence = "% isn't an order: the orders are %.\n%";
+                self.bad_choice(telling, "order", sentence, &ORDERS)
+            }
+            InterfaceError::BadBounded => telling.tell(
+                key_place(self.bytes, b"bounded"),
+                "The value of `bounded` must be `true`, `false` or a number of at least 1, without \
+                quotes. Hint: write `bounded = true` if `vsi bound` must find a number of \
+                instructions within which every run halts, `bounded = 200` if the number must be \
+                at most 200, or leave out the key.\n",
+                &[],
+            ),
+            InterfaceError::BadReference | InterfaceError::RefusedReference(_) => {
+                self.bad_reference(telling, error)
+            }
+            other => self.of_table(telling, other),
+        }
+    }
+
+    /// Adds the explanation of a fault, and returns its position.
+    fn explain(self, telling: &mut Telling<'_>, error: &'t InterfaceError) -> Told {
+        match error {
+            InterfaceError::BadGlobals => self.bad_globals(telling),
+            InterfaceError::BadName(name) => self.bad_name(
+                telling,
+                name,
+                0,
+                "% isn't a valid name. Hint: a name begins with a letter, continues with letters, \
+                digits and `_`, has at most 32 of them, and isn't a keyword.\n",
+            ),
+            InterfaceError::RepeatedGlobal(name) => {
+                let sentence = "% is in `globals` twice. Hint: leave one out.\n";
+                self.bad_name(telling, name, 1, sentence)
+            }
+            InterfaceError::UnknownClass(name) => self.unknown_class(telling, name),
+            other => self.of_key(telling, other),
+        }
     }
 }
 
@@ -351,8 +382,9 @@ pub(crate) fn of_interface(
     if let InterfaceError::Memory = error {
         return Err(AllocError);
     }
-    match table_in(telling.alloc, telling.bytes)? {
-        None => not_toml(telling),
-        Some(table) => of_table(telling, &table, lattice, error),
+    let bytes = telling.bytes;
+    match toml::table_from_slice(telling.alloc, bytes) {
+        Ok(table) => Interface::new(bytes, &table, lattice).explain(telling, error),
+        Err(fault) => not_toml(telling, &fault),
     }
 }

@@ -6,32 +6,27 @@
 #![tactic(auto)]
 
 ghost use Rattle.std.specs.Prelude.{◌≡◌, IfOk, true};
-ghost use Rattle.vsi_caret.specs.declared.colour_mode.ColourMode.TheVariants.{Plain};
-ghost use Rattle.vsi_caret.specs.Safe.{all_plain};
+ghost use Rattle.vsi_telling.specs.declared.colour_mode.ColourMode.TheVariants.{Plain};
+ghost use Rattle.vsi_telling.specs.Safe.{all_plain};
 
 mod audits;
-mod boundaries;
-mod interface_cycles;
-mod interface_places;
-mod interface_runs;
 mod interface_tables;
 mod interfaces;
-mod settings;
 mod shared;
+mod starts;
 
 use audits::Judged;
 use interfaces::of_interface;
-use settings::of_start;
 use shared::of_shared;
+use starts::of_start;
 use std::alloc::{AllocError, Global};
 use vsi_audit::AuditError;
-use vsi_caret::ColourMode;
 use vsi_conform::InterfaceError;
 use vsi_drive::StartFault;
 use vsi_image::Image;
 use vsi_lattice::Lattice;
 use vsi_steady::SteadyError;
-use vsi_telling::{Telling, Told, shown};
+use vsi_telling::{ColourMode, Telling, Told, shown};
 
 /// A refusal: the refused file or image, and the reason.
 #[derive(Clone, Copy)]
@@ -79,18 +74,12 @@ fn put_refusal(telling: &mut Telling<'_>, refused: RefusedInput) -> Told {
             lattice,
             image,
             error,
-        } => {
-            Judged::new(telling.alloc, lattice, image).put_audit(&mut telling.words, error)?;
-            Ok(None)
-        }
+        } => { Judged { lattice, image }.of_audit(telling, error) }
         RefusedInput::Steady {
             lattice,
             image,
             error,
-        } => {
-            Judged::new(telling.alloc, lattice, image).put_steady(&mut telling.words, error)?;
-            Ok(None)
-        }
+        } => { Judged { lattice, image }.of_steady(telling, error) }
     }
 }
 

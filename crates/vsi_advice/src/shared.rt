@@ -2,7 +2,6 @@
 //! variables have the same slot of the image.
 
 use std::alloc::{AllocError, Global};
-use vsi_caret::Part;
 use vsi_compiler::{CompileError, Source, image_of, read_source};
 use vsi_image::Instr;
 use vsi_lattice::Lattice;
@@ -10,8 +9,7 @@ use vsi_opt::optimise;
 use vsi_scope::{Cmd, Ex, Resolved};
 use vsi_steady::{SteadyError, chain_source};
 use vsi_syntax::{Span, line_column};
-use vsi_telling::names::part_of;
-use vsi_telling::{Tail, Telling, Told};
+use vsi_telling::{Part, Telling, Told, part_of};
 
 /// A flow from a variable to another one, or to a jump. Variables have numbers, globals first.
 #[derive(Clone, Copy)]
@@ -139,8 +137,7 @@ fn follow(flows: &Flows, reached: &mut [Reached], target: Option<usize>) -> Opti
                 return Some(step.from);
             }
             if let Some(to) = step.to {
-                let is_new = mark(flows, reached, to, (step.from, false));
-                has_changed = has_changed | is_new;
+                has_changed = mark(flows, reached, to, (step.from, false)) || has_changed;
             }
         }
         if !has_changed {
@@ -159,8 +156,7 @@ fn share(flows: &Flows, reached: &mut [Reached]) -> bool {
         }
         for other in flows.globals..flows.slots.len() {
             if flows.slots.get(other) == flows.slots.get(variable) {
-                let is_new = mark(flows, reached, other, (variable, true));
-                has_changed = has_changed | is_new;
+                has_changed = mark(flows, reached, other, (variable, true)) || has_changed;
             }
         }
     }
@@ -250,6 +246,7 @@ pub(crate) fn of_shared(telling: &mut Telling<'_>, lattice: &Lattice, error: &St
         return Ok(None);
     };
     telling.tell(
+        Some(second),
         "The flows of the text are allowed, but its image isn't steady: % (line %) and % (line %) \
         have the same slot of the image, one after the other, and a slot has one class for the \
         whole code.\nHint: nest one `letvar` in the other, and each has a slot of its own.\n",
@@ -259,7 +256,5 @@ pub(crate) fn of_shared(telling: &mut Telling<'_>, lattice: &Lattice, error: &St
             Part::Quoted(part_of(text, second)),
             Part::Number(line_column(text, second.start).0),
         ],
-        Tail::Nothing,
-        Some(second),
     )
 }

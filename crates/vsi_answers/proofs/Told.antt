@@ -24,7 +24,8 @@ use Rattle.vsi_compiler.specs.Source.{Reads}
 use Rattle.vsi_compiler.proofs.Held.{program_refused}
 use Rattle.vsi_steady.specs.Source.{RefusesSteady}
 use Rattle.vsi_steady.specs.declared.unsteady.UnsteadyError.TheVariants as unsteady
-use Rattle.vsi_answers.specs.Judged.{IsCompileFault, TellsFault, TellsRaised, TellsSource, TellsSteady}
+use Rattle.vsi_diagnostics.specs.Texts.{IsRefusalText}
+use Rattle.vsi_answers.specs.Judged.{IsCompileFault, IsSteadyText, TellsFault, TellsRaised, TellsSource}
 use Rattle.vsi_answers.specs.Requests.{Answer, RunsSourceTo, RunsTo, zeros}
 
 -- The refusal of a source text for an error is a refusal for each kind to which the error belongs.
@@ -64,23 +65,15 @@ steadily_told known L text (compiler.Parse e) other h = h
 steadily_told known L text (compiler.Scope e) other h = h
 steadily_told known L text (compiler.Flow walk) other h = absurd h
 
--- A text that has no program is refused when a steady image is required.
-pub unread_steady : (l : Lattice) (source : List ℕ) (error : CompileError) → error ≢ compiler.Memory →
-    RefusesProgram (class_named l) source error → (u : Unanswered) →
-    Because (TellsSteady (λ e. e ≡ unsteady.Compile error) l source) ⊥ u →
-    Because (TellsSteady (RefusesSteady (class_named l) (order l) source) l source) ⊥ u
-unread_steady l source error other h (Refused text (Source e)) told = absurd told
-unread_steady l source error other h (Refused text (File f)) told = absurd told
-unread_steady l source error other h (Refused text (Start f)) told = absurd told
-unread_steady l source error other h (Refused text (Steady e)) told = (
-  told.0,
-  subst (RefusesSteady (class_named l) (order l) source) (sym told.1)
-      (steadily_told (class_named l) (order l) source error other h),
-  told.2,
-)
-unread_steady l source error other h (Refused text (Raised e)) told = absurd told
-unread_steady l source error other h OutOfBudget told = absurd told
-unread_steady l source error other h Memory told = tt
+-- The refusal of the program is the text of the steady judgement.
+pub unread_steady : (l : Lattice) (source : List ℕ) (e : CompileError) (text : List ℕ) → e ≢ compiler.Memory →
+    RefusesProgram (class_named l) source e → IsRefusalText l source e text →
+    IsSteadyText l source (unsteady.Compile e) text
+unread_steady l source compiler.Memory text other h is = absurd (other refl)
+unread_steady l source (compiler.Lex e) text other h is = is
+unread_steady l source (compiler.Parse e) text other h is = is
+unread_steady l source (compiler.Scope e) text other h is = is
+unread_steady l source (compiler.Flow walk) text other h is = absurd h
 
 -- The refusal of a file for a fault is a refusal for each kind to which the fault belongs.
 pub fault_told : (Kind : Fault → Type 0) (fault : Fault) → Kind fault → (spent : Type 0) → (u : Unanswered) →

@@ -50,10 +50,6 @@ bound_line place (Endless test reason) = endless_line place test reason
 bound_line place (Unstructured at) = unstructured_line at
 bound_line place TooLarge = large_line
 
--- The text is the line of an answer. The place of a loop in a source text may be any.
-abbrev pub IsBoundLine : Bound → List ℕ → Type 0
-IsBoundLine answer text = (place : Option Place) × (text ≡ bound_line place answer)
-
 -- The answer has a number of instructions.
 abbrev pub is_bounded : Bound → Bool
 is_bounded (Halts least most) = true
@@ -69,6 +65,7 @@ pub record TellsBound (image : Image) (told : BoundAnswer) : Type 0 where
   pub place : Option Place
   pub line : told.text.items ≡ bound_line place answer
   pub bounded : told.is_bounded ≡ is_bounded answer
+  pub found : told.found ≡ answer
 
 -- The text says a number of instructions, and with a budget of at least so many the run from every store halts.
 pub record HaltsWithin (image : Image) (text : List ℕ) : Type 0 where

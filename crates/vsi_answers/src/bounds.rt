@@ -15,11 +15,12 @@ use vsi_machine::{Bound, Reason, bound_of};
 use vsi_scope::{Cmd, Ex};
 use vsi_syntax::{Kind, LexError, lex, line_column, put_line_column, put_number};
 
-/// The answer about the bound of an image: its line, and whether there is a bound.
+/// The answer about the bound of an image: its line, whether there is a bound, and what was found.
 #[derive(Debug, Drop)]
 pub struct BoundAnswer {
     pub text: Vec<u8>,
     pub is_bounded: bool,
+    pub found: Bound,
 }
 
 /// Why a loop has no bound.
@@ -49,91 +50,58 @@ fn put_loop(text: &mut Vec<u8>, place: Option<Place>, test: usize) -> Result<(),
     }
 }
 
-/// The line of a bound.
-fn halts_line(alloc: Global, most: u64) -> Result<Vec<u8>, AllocError>
-    ensures { IfOk result (λ text. text.items ≡ spec.halts_line most) }
-{
-    let mut text = Vec::new(alloc);
-    text.extend_from_slice(b"halts within ")?;
-    put_number(&mut text, most as usize)?;
-    text.extend_from_slice(b" instructions\n")?;
-    Ok(text)
-}
-
-/// The line of a loop that has no bound.
-fn endless_line(
-    alloc: Global,
-    place: Option<Place>,
-    test: usize,
-    reason: Reason,
-) -> Result<Vec<u8>, AllocError>
-    ensures { IfOk result (λ text. text.items ≡ spec.endless_line place test reason) }
-{
-    let mut text = Vec::new(alloc);
-    text.extend_from_slice(b"no bound: ")?;
-    put_loop(&mut text, place, test)?;
-    text.extend_from_slice(b": ")?;
-    text.extend_from_slice(reason_text(reason))?;
-    text.extend_from_slice(b"\n")?;
-    Ok(text)
-}
-
-/// The line of a code that isn't made of loops and conditionals at this instruction.
-fn unstructured_line(alloc: Global, at: usize) -> Result<Vec<u8>, AllocError>
-    ensures { IfOk result (λ text. text.items ≡ spec.unstructured_line at) }
-{
-    let mut text = Vec::new(alloc);
-    text.extend_from_slice(b"no bound: instruction ")?;
-    put_number(&mut text, at)?;
-    text.extend_from_slice(b": the code isn't made of loops and conditionals\n")?;
-    Ok(text)
-}
-
-/// The line of a number of instructions that is too large.
-fn large_line(alloc: Global) -> Result<Vec<u8>, AllocError>
-    ensures { IfOk result (λ text. text.items ≡ spec.large_line) }
-{
-    Vec::from_slice(
-        alloc,
-        b"no bound: the number of instructions is above 18446744073709551615\n",
-    )
-}
-
 /// The line of an answer, where a loop that it names is at a place of a source text, if one is
 /// given.
 fn bound_line(alloc: Global, place: Option<Place>, found: Bound) -> Result<Vec<u8>, AllocError>
     ensures { IfOk result (λ text. text.items ≡ spec.bound_line place found) }
 {
+    let mut text = Vec::new(alloc);
     match found {
-        Bound::Halts { least: _, most } => halts_line(alloc, most),
-        Bound::Endless { test, reason } => endless_line(alloc, place, test, reason),
-        Bound::Unstructured(at) => unstructured_line(alloc, at),
-        Bound::TooLarge => large_line(alloc),
+        Bound::Halts { least: _, most } => {
+            text.extend_from_slice(b"halts within ")?;
+            put_number(&mut text, most as usize)?;
+            text.extend_from_slice(b" instructions\n")?;
+            Ok(text)
+        }
+        Bound::Endless { test, reason } => {
+            text.extend_from_slice(b"no bound: ")?;
+            put_loop(&mut text, place, test)?;
+            text.extend_from_slice(b": ")?;
+            text.extend_from_slice(reason_text(reason))?;
+            text.extend_from_slice(b"\n")?;
+            Ok(text)
+        }
+        Bound::Unstructured(at) => {
+            text.extend_from_slice(b"no bound: instruction ")?;
+            put_number(&mut text, at)?;
+            text.extend_from_slice(b": the code isn't made of loops and conditionals\n")?;
+            Ok(text)
+        }
+        Bound::TooLarge => Vec::from_slice(
+            alloc,
+            b"no bound: the number of instructions is above 18446744073709551615\n",
+        ),
     }
-}
-
-/// The line of an answer about an image. A loop without a bound is named by the number of the
-/// instruction that tests its guard.
-///
-/// # Errors
-///
-/// There was no memory.
-pub fn bound_text(alloc: Global, found: Bound) -> Result<Vec<u8>, AllocError>
-    ensures text { IfOk result (λ text. text.items ≡ spec.bound_line None found) }
-{
-    bound_line(alloc, None, found)
 }
 
 /// Whether an answer has a number of instructions.
 fn is_bounded(found: Bound) -> bool
     ensures { result ≡ spec.is_bounded found }
 {
-    match found {
-        Bound::Halts { .. } => true,
-        Bound::Endless { .. } => false,
-        Bound::Unstructured(_) => false,
-        Bound::TooLarge => false,
-    }
+    matches!(found, Bound::Halts { .. })
+}
+
+/// The answer with this bound and this place of a loop.
+fn answer_of(alloc: Global, place: Option<Place>, found: Bound) -> Result<BoundAnswer, AllocError>
+    ensures { IfOk result (λ told. (told.text.items ≡ spec.bound_line place found)
+        × (told.is_bounded ≡ spec.is_bounded found) × (told.found ≡ found)) }
+{
+    let text = bound_line(alloc, place, found)?;
+    Ok(BoundAnswer {
+        text,
+        is_bounded: is_bounded(found),
+        found,
+    })
 }
 
 /// The answer about the bound of an image. A loop without a bound is named by the number of the
@@ -146,46 +114,8 @@ pub fn bound(alloc: Global, verified: &Verified) -> Result<BoundAnswer, AllocErr
     ensures bound { IfOk result (spec.TellsBound verified.now) }
 {
     let found = bound_of(alloc, verified)?;
-    let text = bound_text(alloc, found)?;
-    Ok(BoundAnswer {
-        text,
-        is_bounded: is_bounded(found),
-    })
-}
-
-/// The place in a source text of the loop that an answer names.
-fn place_in(
-    alloc: Global,
-    lattice: &Lattice,
-    source: &[u8],
-    verified: &Verified,
-    found: Bound,
-) -> Result<Option<Place>, AllocError> {
-    match found {
-        Bound::Endless { test, reason: _ } => {
-            loop_place(alloc, lattice, source, &verified.image().code, test)
-        }
-        _ => Ok(None),
-    }
-}
-
-/// The line of an answer about the image of a source text. A loop without a bound is named by the
-/// line and the column of its `while`; no clause says that they are right.
-///
-/// # Errors
-///
-/// There was no memory.
-pub fn bound_text_in(
-    alloc: Global,
-    lattice: &Lattice,
-    source: &[u8],
-    verified: &Verified,
-    found: Bound,
-) -> Result<Vec<u8>, AllocError>
-    ensures text { IfOk result (λ text. spec.IsBoundLine found text.items) }
-{
-    let place = place_in(alloc, lattice, source, verified, found)?;
-    bound_line(alloc, place, found)
+    let answer = answer_of(alloc, None, found)?;
+    Ok(answer)
 }
 
 /// The answer about the bound of the image of a source text. A loop without a bound is named by the
@@ -203,11 +133,9 @@ pub fn bound_in(
     ensures bound { IfOk result (spec.TellsBound verified.now) }
 {
     let found = bound_of(alloc, verified)?;
-    let text = bound_text_in(alloc, lattice, source, verified, found)?;
-    Ok(BoundAnswer {
-        text,
-        is_bounded: is_bounded(found),
-    })
+    let place = loop_place(alloc, lattice, source, verified, found)?;
+    let answer = answer_of(alloc, place, found)?;
+    Ok(answer)
 }
 
 /// A number of instructions within which an image halts from every store, or the line that says why
@@ -224,7 +152,7 @@ pub fn enough_budget(alloc: Global, verified: &Verified) -> Result<Result<u64, V
     match found {
         Bound::Halts { least: _, most } => Ok(Ok(most)),
         _ => {
-            let line = bound_text(alloc, found)?;
+            let line = bound_line(alloc, None, found)?;
             Ok(Err(line))
         }
     }
@@ -273,13 +201,7 @@ fn constant(e: &Ex) -> Option<i64> {
     match e {
         Ex::Num(n) => Some(*n),
         Ex::Loc(_, _) => None,
-        Ex::Op(op, left, right) => match constant(left) {
-            Some(left) => match constant(right) {
-                Some(right) => Some(op.apply(left, right)),
-                None => None,
-            },
-            None => None,
-        },
+        Ex::Op(op, left, right) => Some(op.apply(constant(left)?, constant(right)?)),
     }
 }
 
@@ -359,20 +281,24 @@ fn loops_before(code: &[Instr], end: usize) -> usize {
     count
 }
 
-/// The place of the loop with this test, where an image has this code and was made from a text.
-/// Loops and tests have the same order. There is none for a text that has no program.
-pub(crate) fn loop_place(
+/// The place in a source text of the loop that an answer about its image names. Loops and tests
+/// have the same order. There is none for a text that has no program.
+fn loop_place(
     alloc: Global,
     lattice: &Lattice,
     source: &[u8],
-    code: &[Instr],
-    test: usize,
+    verified: &Verified,
+    found: Bound,
 ) -> Result<Option<Place>, AllocError> {
+    let Bound::Endless { test, reason: _ } = found else {
+        return Ok(None);
+    };
     let starts = match loop_starts(alloc, lattice, source) {
         Ok(starts) => starts,
         Err(CompileError::Memory) => return Err(AllocError),
         Err(_) => return Ok(None),
     };
+    let code = verified.image().code.as_slice();
     let number = loops_before(code, test);
     if starts.len() != loops_before(code, code.len()) || number >= starts.len() {
         return Ok(None);

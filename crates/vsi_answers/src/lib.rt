@@ -10,17 +10,17 @@
 mod bounds;
 pub mod laws;
 mod runs;
-mod steady;
 mod texts;
 mod unanswered;
 
 pub use bounds::{
-    BoundAnswer, Place, bound, bound_in, bound_text, bound_text_in, declared_lattice,
-    enough_budget, judged_image, list,
+    BoundAnswer, Place, bound, bound_in, declared_lattice, enough_budget, judged_image, list,
 };
 pub use runs::{compare, run, run_source, start_words, view};
-pub use steady::{check_steady, image_text, image_text_of, looped_text, looped_text_of};
-pub use texts::{apply, build, check, classes, flows, format, mend};
+pub use texts::{
+    apply, build, check, check_steady, classes, flows, format, image_text, image_text_of,
+    looped_text, looped_text_of, mend,
+};
 pub use unanswered::{
     Cause, Observer, Unanswered, Unobserved, refused_file, refused_source, refused_start,
 };

@@ -1,23 +1,34 @@
 //! The answers for a source text under a lattice.
 
-ghost use Rattle.vsi_answers.specs.Requests.{BuildsTo, ChecksTo, ClassesTo, FlowsTo, FormatsTo, AppliesTo, MendsTo, TellsUnraised};
-ghost use Rattle.std.specs.Prelude.{◌≡◌, IfOk};
-ghost use Rattle.vsi_answers.specs.Answers.{Because};
-ghost use Rattle.vsi_answers.specs.Judged.{IsRaisedRefusal, TellsRaised};
-ghost use Rattle.vsi_flows.specs.Answers.{RefusesRaisedText};
+ghost use Rattle.std.specs.Prelude.{◌≡◌, ◌≢◌, IfOk};
+ghost use Rattle.vsi_lattice.specs.LatticeView.{class_named, order};
 ghost use Rattle.vsi_types.specs.declared.rules.Profile.{Profile};
+ghost use Rattle.vsi_compiler.specs.Refusal.{RefusesProgram};
+ghost use Rattle.vsi_compiler.specs.declared.error.CompileError.TheVariants.{Memory};
+ghost use Rattle.vsi_steady.specs.Source.{RefusesSteady};
+ghost use Rattle.vsi_flows.specs.Answers.{RefusesRaisedText};
+ghost use Rattle.vsi_answers.specs.Answers.{Because};
+ghost use Rattle.vsi_answers.specs.Judged.{IsImageText, IsLoopedText, IsRaisedRefusal, IsSteadyText, TellsRaised, TellsSteady};
+ghost use Rattle.vsi_answers.specs.Requests.{AppliesTo, BuildsTo, ChecksSteadyTo, ChecksTo, ClassesTo, FlowsTo, FormatsTo, MendsTo, TellsUnraised};
 
 use crate::unanswered::{Cause, Observer, Unanswered, refused_judged, refused_source};
 use std::alloc::{AllocError, Global};
-use vsi_compiler::{CompileError, Source, classes_text_of, format_text, judge, read_source};
+use vsi_compiler::{
+    CompileError, Source, classes_text_of, format_text, image_of, judge, read_source,
+};
 use vsi_devices::{EngineError, image_bytes_of};
-use vsi_diagnostics::refusal_text;
+use vsi_diagnostics::{refusal_text, refusal_text_of};
 use vsi_flows::{RaisedError, flows_text_in, raise_lines_in, raised_text_in};
+use vsi_infer::Walk;
 use vsi_lattice::Lattice;
+use vsi_steady::{
+    SteadyError, UnsteadyError, steady_explanation, steady_explanation_of, steady_image_of,
+    steady_text,
+};
 use vsi_types::Profile;
 
 /// The answer for an accepted text.
-pub(crate) const ACCEPTED: &[u8] = b"accepted\n";
+const ACCEPTED: &[u8] = b"accepted\n";
 
 /// `accepted` and a line feed, if the text is accepted under a profile. The observer gets the text as
 /// it was read, and again if it is refused for a flow.
@@ -217,5 +228,148 @@ pub fn apply(
     match raised_text_in(alloc, profile, lattice, source) {
         Ok(raised) => Ok(raised),
         Err(error) => Err(unraised(alloc, lattice, source, error)),
+    }
+}
+
+/// The text of the refusal of a flow when a steady image is required: its walk has a loop in place of
+/// each choice.
+pub fn looped_text(
+    alloc: Global,
+    lattice: &Lattice,
+    source: &[u8],
+    walk: &Walk,
+) -> Result<Vec<u8>, AllocError>
+    ensures { IfOk result
+        (λ text. IsLoopedText lattice.now source.now walk.now.steps.items text.items) }
+{
+    let mut text = Vec::from_slice(alloc, b"refused: 25 Refused\n")?;
+    let lines = steady_explanation(alloc, lattice, source, walk)?;
+    text.extend_from_slice(&lines)?;
+    Ok(text)
+}
+
+/// The same for a source text that was read.
+pub fn looped_text_of(
+    alloc: Global,
+    source: &Source<'_>,
+    walk: &Walk,
+) -> Result<Vec<u8>, AllocError>
+    ensures { IfOk result (λ text. IsLoopedText source.now.lattice source.now.text
+        walk.now.steps.items text.items) }
+{
+    let mut text = Vec::from_slice(alloc, b"refused: 25 Refused\n")?;
+    let lines = steady_explanation_of(alloc, source, walk)?;
+    text.extend_from_slice(&lines)?;
+    Ok(text)
+}
+
+/// The text of the refusal of a text's image.
+pub fn image_text(
+    alloc: Global,
+    lattice: &Lattice,
+    source: &[u8],
+    error: &SteadyError,
+) -> Result<Vec<u8>, AllocError>
+    ensures { IfOk result (λ text. IsImageText lattice.now source.now error.now text.items) }
+{
+    match read_source(alloc, lattice, source) {
+        Ok(read) => image_text_of(alloc, &read, error),
+        Err(_) => Err(AllocError),
+    }
+}
+
+/// The same for a source text that was read.
+pub fn image_text_of(
+    alloc: Global,
+    source: &Source<'_>,
+    error: &SteadyError,
+) -> Result<Vec<u8>, AllocError>
+    ensures { IfOk result (λ text. IsImageText source.now.lattice source.now.text error.now
+        text.items) }
+{
+    // The contract of `resolved` says that the source is one; the proofs need that.
+    let _program = source.resolved();
+    let verified = image_of(alloc, source)?;
+    let lattice = source.lattice();
+    let text = steady_text(alloc, lattice, verified.image(), error)?;
+    Ok(text)
+}
+
+/// The text of a refusal when a steady image is required.
+fn unsteady_text(
+    alloc: Global,
+    source: &Source<'_>,
+    error: &UnsteadyError,
+) -> Result<Vec<u8>, AllocError>
+    ensures { IfOk result (λ text. IsSteadyText source.now.lattice source.now.text error.now
+        text.items) }
+{
+    match error {
+        UnsteadyError::Compile(CompileError::Flow(walk)) => looped_text_of(alloc, source, walk),
+        UnsteadyError::Compile(error) => refusal_text_of(alloc, source, error),
+        UnsteadyError::Image(error) => image_text_of(alloc, source, error),
+        UnsteadyError::Memory => Err(AllocError),
+    }
+}
+
+/// Why there is no answer for a source text that was read, when a steady image is required.
+fn refused_steady(alloc: Global, source: &Source<'_>, error: UnsteadyError) -> Unanswered
+    ensures { Because (TellsSteady (λ e. e ≡ error) source.now.lattice source.now.text) ⊥ result }
+{
+    if let UnsteadyError::Memory = &error {
+        return Unanswered::Memory;
+    }
+    match unsteady_text(alloc, source, &error) {
+        Ok(text) => Unanswered::Refused(text, Cause::Steady(error)),
+        Err(_) => Unanswered::Memory,
+    }
+}
+
+/// Why there is no answer for a text that has no program, when a steady image is required.
+fn refused_unread(
+    alloc: Global,
+    lattice: &Lattice,
+    source: &[u8],
+    error: CompileError,
+) -> Unanswered
+    ensures { error ≢ Memory → RefusesProgram (class_named lattice.now) source.now error
+        → Because (TellsSteady (RefusesSteady (class_named lattice.now) (order lattice.now)
+        source.now) lattice.now source.now) ⊥ result }
+{
+    match refusal_text(alloc, lattice, source, &error) {
+        Ok(text) => Unanswered::Refused(text, Cause::Steady(UnsteadyError::Compile(error))),
+        Err(_) => Unanswered::Memory,
+    }
+}
+
+/// `accepted` and a line feed, if the text is accepted under the strict profile and the number of
+/// executed instructions of its image reveals nothing. The observer gets the text as it was read.
+pub fn check_steady<O: Observer>(
+    alloc: Global,
+    lattice: &Lattice,
+    source: &[u8],
+    observer: &mut O,
+) -> Result<Vec<u8>, Unanswered>
+    ensures checks { ChecksSteadyTo lattice.now source.now result }
+{
+    match read_source(alloc, lattice, source) {
+        Ok(read) => check_steady_source(alloc, &read, observer),
+        Err(CompileError::Memory) => Err(Unanswered::Memory),
+        Err(error) => Err(refused_unread(alloc, lattice, source, error)),
+    }
+}
+
+/// `check_steady` for a source text that was read.
+fn check_steady_source<O: Observer>(
+    alloc: Global,
+    source: &Source<'_>,
+    observer: &mut O,
+) -> Result<Vec<u8>, Unanswered>
+    ensures { ChecksSteadyTo source.now.lattice source.now.text result }
+{
+    observer.read(source)?;
+    match steady_image_of(alloc, source) {
+        Ok(_verified) => Ok(Vec::from_slice(alloc, ACCEPTED)?),
+        Err(error) => Err(refused_steady(alloc, source, error)),
     }
 }

@@ -1,4 +1,5 @@
 pub mod Changes
+pub mod Frames
 pub mod Names
 pub mod Pieces
 pub mod Places

@@ -20,7 +20,6 @@
 mod changes;
 mod marks;
 mod mentions;
-mod paths;
 mod pieces;
 mod places;
 mod renaming;
@@ -28,7 +27,6 @@ mod renaming;
 pub use changes::{Change, changed_by};
 pub use marks::Marked;
 pub use mentions::{Mention, mentions_of};
-pub use paths::path_beside;
-pub use pieces::{Piece, next_piece};
+pub use pieces::{Piece, next_piece, path_beside};
 pub use places::{Encoding, Place, Range, offset_of, place_of, range_of};
 pub use renaming::rename;

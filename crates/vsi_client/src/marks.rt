@@ -1,32 +1,32 @@
 //! Positions of many places of one text. Each is counted from the last mark before it, and marks are
 //! close together.
 
-use crate::places::{Encoding, Place, Range, range_of};
+use crate::places::{Encoding, Place, Range, units};
 use std::alloc::{AllocError, Global};
-use vsi_syntax::{Span, line_column};
+use vsi_syntax::Span;
 
 /// The distance between two marks of a text.
-const SPACE: usize = 128;
+const SPACE: usize = 32;
 
-/// The beginning of a text.
-const ORIGIN: Place = Place {
-    line: 0,
-    character: 0,
-};
-
-/// A place of a text, the client's position for it, and its line and column, both from 0.
+/// A place of a text: the byte before it, the client's position for it, and its line and column, both
+/// from 1.
 #[derive(Clone, Copy)]
 struct Mark {
     at: usize,
+    last: u8,
     place: Place,
-    written: Place,
+    written: (usize, usize),
 }
 
 /// The mark of the beginning of a text.
 const START: Mark = Mark {
     at: 0,
-    place: ORIGIN,
-    written: ORIGIN,
+    last: 0,
+    place: Place {
+        line: 0,
+        character: 0,
+    },
+    written: (1, 1),
 };
 
 /// A text with marks.
@@ -37,20 +37,8 @@ pub struct Marked<'p> {
     marks: Vec<Mark>,
 }
 
-/// The position after a part of a text, from the position before the part and the one in it.
-fn joined(before: Place, inside: Place) -> Place {
-    let character = match inside.line {
-        0 => before.character.saturating_add(inside.character),
-        _ => inside.character,
-    };
-    Place {
-        line: before.line.saturating_add(inside.line),
-        character,
-    }
-}
-
 impl<'p> Marked<'p> {
-    /// A text with its marks, none of which is inside of a line's end.
+    /// A text with its marks.
     pub fn of(alloc: Global, encoding: Encoding, text: &'p [u8]) -> Result<Self, AllocError> {
         let marks = Vec::new(alloc);
         let mut marked = Marked {
@@ -61,31 +49,37 @@ impl<'p> Marked<'p> {
         let mut mark = START;
         marked.marks.push(mark)?;
         for number in 0..text.len() / SPACE {
-            let mut at = number.saturating_add(1).saturating_mul(SPACE);
-            let around = text.get(at.saturating_sub(1)..at.saturating_add(1));
-            if let Some([b'\r', b'\n']) = around {
-                at = at.saturating_add(1);
-            }
-            mark = marked.moved(mark, at);
+            mark = marked.moved(mark, number.saturating_add(1).saturating_mul(SPACE));
             marked.marks.push(mark)?;
         }
         Ok(marked)
     }
 
-    /// The mark of a place after a mark.
+    /// The mark of a place after a mark. A line feed after a carriage return is one end of a line
+    /// with it for the client.
     fn moved(&self, mark: Mark, at: usize) -> Mark {
+        let (mut last, mut place) = (mark.last, mark.place);
+        let (mut line, mut column) = mark.written;
         let part = self.text.get(mark.at..at).unwrap_or(b"");
-        let size = part.len();
-        let place = range_of(self.encoding, part, 0, size).stop;
-        let (line, column) = line_column(part, size);
-        let written = Place {
-            line: line.saturating_sub(1),
-            character: column.saturating_sub(1),
-        };
+        for byte in part {
+            column = column.saturating_add(1);
+            if *byte == b'\n' {
+                line = line.saturating_add(1);
+                column = 1;
+            }
+            if *byte == b'\r' || *byte == b'\n' && last != b'\r' {
+                place.line = place.line.saturating_add(1);
+                place.character = 0;
+            } else if *byte != b'\n' {
+                place.character = place.character.saturating_add(units(self.encoding, *byte));
+            }
+            last = *byte;
+        }
         Mark {
-            at: mark.at.saturating_add(size),
-            place: joined(mark.place, place),
-            written: joined(mark.written, written),
+            at: mark.at.saturating_add(part.len()),
+            last,
+            place,
+            written: (line, column),
         }
     }
 
@@ -105,10 +99,6 @@ impl<'p> Marked<'p> {
 
     /// The line and the column of a place, both from 1, as `line_column` counts them.
     pub fn line_column(&self, at: usize) -> (usize, usize) {
-        let place = self.mark(at).written;
-        (
-            place.line.saturating_add(1),
-            place.character.saturating_add(1),
-        )
+        self.mark(at).written
     }
 }

@@ -2,8 +2,11 @@
 
 use std::alloc::{AllocError, Global};
 use vsi_compiler::Source;
-use vsi_scope::{Cmd, Entry, Ex};
+use vsi_scope::{Cmd, Ex};
 use vsi_syntax::Span;
+
+/// Nothing, unless memory runs out.
+type Made = Result<(), AllocError>;
 
 /// A name of a variable: its part of the text, the number of the variable, with the globals first,
 /// and whether the variable is declared there.
@@ -14,41 +17,47 @@ pub struct Mention {
     pub is_declaration: bool,
 }
 
-/// The state of a walk over a program: the names so far, the variables in scope, the number of
-/// letvars so far, and the number of globals.
+/// A walk over a program: where each variable is declared, the names and the number of declarations
+/// so far, and the variables in scope.
 #[derive(Drop)]
 struct Tour {
+    declared: Vec<Span>,
     mentions: Vec<Mention>,
+    next: usize,
     scope: Vec<usize>,
-    letvars: usize,
-    globals: usize,
 }
 
 impl Tour {
     /// Notes a name of a variable.
-    fn note(
-        &mut self,
-        span: Span,
-        variable: usize,
-        is_declaration: bool,
-    ) -> Result<(), AllocError> {
-        let mention = Mention {
-            span,
-            variable,
-            is_declaration,
-        };
-        Ok(self.mentions.push(mention)?)
+    fn note(&mut self, span: Span, variable: usize, is_declaration: bool) -> Made {
+        Ok(
+            self.mentions.push(Mention {
+                span,
+                variable,
+                is_declaration,
+            })?,
+        )
     }
 
     /// Notes a name of the variable at a location.
-    fn note_location(&mut self, location: u16, span: Span) -> Result<(), AllocError> {
+    fn note_location(&mut self, location: u16, span: Span) -> Made {
         let variable = self.scope.get(usize::from(location)).copied();
         self.note(span, variable.unwrap_or(usize::MAX), false)
+    }
+
+    /// Notes the declaration of the next variable, which is in scope from then on.
+    fn declare(&mut self) -> Made {
+        let variable = self.next;
+        self.next = variable.saturating_add(1);
+        if let Some(span) = self.declared.get(variable).copied() {
+            self.note(span, variable, true)?;
+        }
+        Ok(self.scope.push(variable)?)
     }
 }
 
 /// Notes the names of an expression.
-fn read(tour: &mut Tour, e: &Ex) -> Result<(), AllocError> {
+fn read(tour: &mut Tour, e: &Ex) -> Made {
     match e {
         Ex::Num(_) => Ok(()),
         Ex::Loc(location, span) => tour.note_location(*location, *span),
@@ -61,16 +70,16 @@ fn read(tour: &mut Tour, e: &Ex) -> Result<(), AllocError> {
 
 /// Walks over a list of commands.
 #[cycle(tour)]
-fn walk_commands(entries: &[Entry<'_>], tour: &mut Tour, body: &[Cmd]) -> Result<(), AllocError> {
+fn walk_commands(tour: &mut Tour, body: &[Cmd]) -> Made {
     for c in body {
-        walk_command(entries, tour, c)?;
+        walk_command(tour, c)?;
     }
     Ok(())
 }
 
 /// Walks over a command.
 #[cycle(tour)]
-fn walk_command(entries: &[Entry<'_>], tour: &mut Tour, c: &Cmd) -> Result<(), AllocError> {
+fn walk_command(tour: &mut Tour, c: &Cmd) -> Made {
     match c {
         Cmd::Assign { loc, span, value } => {
             tour.note_location(*loc, *span)?;
@@ -78,43 +87,39 @@ fn walk_command(entries: &[Entry<'_>], tour: &mut Tour, c: &Cmd) -> Result<(), A
         }
         Cmd::If { guard, yes, no } => {
             read(tour, guard)?;
-            walk_commands(entries, tour, yes)?;
-            walk_commands(entries, tour, no)
+            walk_commands(tour, yes)?;
+            walk_commands(tour, no)
         }
         Cmd::While { guard, body } => {
             read(tour, guard)?;
-            walk_commands(entries, tour, body)
+            walk_commands(tour, body)
         }
         Cmd::Letvar { value, body } => {
-            let variable = tour.globals.saturating_add(tour.letvars);
-            if let Some(entry) = entries.get(tour.letvars) {
-                tour.note(entry.span, variable, true)?;
-            }
-            read(tour, value)?;
             let outside = tour.scope.len();
-            tour.scope.push(variable)?;
-            tour.letvars = tour.letvars.saturating_add(1);
-            walk_commands(entries, tour, body)?;
+            tour.declare()?;
+            read(tour, value)?;
+            walk_commands(tour, body)?;
             tour.scope.truncate(outside);
             Ok(())
         }
     }
 }
 
-/// The names of the variables of a program, in the order of a walk over it.
+/// The names of the variables of a program, in the order of its text.
 pub fn mentions_of(alloc: Global, source: &Source<'_>) -> Result<Vec<Mention>, AllocError> {
-    let globals = source.globals();
-    let mut tour = Tour {
-        mentions: Vec::new(alloc),
-        scope: Vec::new(alloc),
-        letvars: 0,
-        globals: globals.len(),
-    };
-    for (variable, global) in globals.iter().enumerate() {
-        tour.note(global.name.span, variable, true)?;
-        tour.scope.push(variable)?;
-    }
     let program = source.resolved();
-    walk_commands(program.letvars(), &mut tour, program.body())?;
+    let globals = source.globals().iter().map(|global| global.name.span);
+    let mut declared: Vec<Span> = globals.collect(alloc)?;
+    declared.extend(program.letvars().iter().map(|entry| entry.span))?;
+    let mut tour = Tour {
+        declared,
+        mentions: Vec::new(alloc),
+        next: 0,
+        scope: Vec::new(alloc),
+    };
+    for _ in source.globals() {
+        tour.declare()?;
+    }
+    walk_commands(&mut tour, program.body())?;
     Ok(tour.mentions)
 }

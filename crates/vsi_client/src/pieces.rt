@@ -1,7 +1,11 @@
-//! Messages in a stream of a client, each after a header with its length.
+//! Messages in a stream of a client, each after a header with its length, and paths of files beside
+//! its documents.
 
 ghost use Rattle.std.specs.Prelude.{◌≤◌, length, IfSome};
 ghost use Rattle.vsi_client.specs.Pieces as spec;
+
+use percent_encoding::percent_decode;
+use std::alloc::{AllocError, Global};
 
 /// A piece at the beginning of a stream of messages.
 #[derive(Clone, Copy, Debug, PartialEq, Eq)]
@@ -36,12 +40,8 @@ fn header_size(bytes: &[u8]) -> Option<usize>
 fn number_in(digits: &[u8]) -> Option<usize> {
     let mut number: usize = 0;
     for digit in digits {
-        if !digit.is_ascii_digit() || number > LONGEST_MESSAGE {
-            return None;
-        }
-        number = number
-            .wrapping_mul(10)
-            .wrapping_add(usize::from(*digit - b'0'));
+        let digit = char::from(*digit).to_digit(10)?;
+        number = number.checked_mul(10)?.checked_add(digit as usize)?;
     }
     if digits.is_empty() || number > LONGEST_MESSAGE {
         return None;
@@ -78,4 +78,19 @@ pub fn next_piece(bytes: &[u8]) -> Piece
         Some(_) => Piece::Unfinished,
         None => Piece::Faulty,
     }
+}
+
+/// The path of a file beside a document, whose name spells a path after `file:` and a host.
+pub fn path_beside(alloc: Global, uri: &[u8], name: &[u8]) -> Result<String, AllocError> {
+    if name.starts_with(b"/") {
+        return String::from_utf8_lossy(alloc, name);
+    }
+    let named = uri.strip_prefix(b"file://").unwrap_or(b"");
+    let host = named.iter().take_while(|byte| **byte != b'/').count();
+    let mut path = Vec::new(alloc);
+    percent_decode(named.get(host..).unwrap_or(b"")).append_to(&mut path)?;
+    let last = path.iter().rev().take_while(|byte| **byte != b'/').count();
+    path.truncate(path.len().saturating_sub(last));
+    path.extend_from_slice(name)?;
+    String::from_utf8_lossy(alloc, &path)
 }

@@ -18,7 +18,7 @@ pub struct Place {
 }
 
 /// The code units that a byte adds: those of its character at the first byte.
-fn units(encoding: Encoding, byte: u8) -> usize
+pub(crate) fn units(encoding: Encoding, byte: u8) -> usize
     ensures { result ≡ spec.units encoding byte }
 {
     match encoding {

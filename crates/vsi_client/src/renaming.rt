@@ -161,13 +161,11 @@ fn keeps_program(
 fn parts_of(alloc: Global, variable: usize, mentions: &[Mention]) -> Result<Vec<Span>, AllocError>
     ensures { IfOk result (λ parts. parts.items ≡ parts_of variable mentions.now) }
 {
-    let mut parts = Vec::new(alloc);
-    for mention in mentions {
-        if mention.variable == variable {
-            parts.push(mention.span)?;
-        }
-    }
-    Ok(parts)
+    mentions
+        .iter()
+        .filter(|mention| mention.variable == variable)
+        .map(|mention| mention.span)
+        .collect(alloc)
 }
 
 /// The text with a name in place of each part: nothing unless the parts follow one another in it.

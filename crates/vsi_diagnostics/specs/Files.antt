@@ -1,5 +1,5 @@
 -- The refusals of images, store files and views.
-use Rattle.std.specs.Prelude.{codes, Option, Some, None}
+use Rattle.std.specs.Prelude.{codes, Option, None}
 use Rattle.vsi_image.specs.declared.decoder.DecodeError.{DecodeError}
 use Rattle.vsi_image.specs.declared.decoder.DecodeError.TheVariants as decoder
 use Rattle.vsi_image.specs.declared.limits.Limit.{Limit}
@@ -12,7 +12,7 @@ use Rattle.vsi_store.specs.declared.views.ViewError.{ViewError}
 use Rattle.vsi_store.specs.declared.views.ViewError.TheVariants as views
 use Rattle.vsi_diagnostics.specs.declared.diagnostic.Fault.{Fault}
 use Rattle.vsi_diagnostics.specs.declared.diagnostic.Fault.TheVariants as fault
-use Rattle.vsi_diagnostics.specs.Diagnostic.{Field, nothing, number, word, numbered, Diagnostic, refusal}
+use Rattle.vsi_diagnostics.specs.Diagnostic.{Field, nothing, number, word, numbered, Diagnostic}
 use Rattle.vsi_diagnostics.specs.Lattice.{lattice_diagnostic}
 use Rattle.vsi_diagnostics.specs.Source.{refused}
 
@@ -36,14 +36,14 @@ limit_field (limits.Name i) = numbered (codes "Name") i
 limit_field (limits.Class i) = numbered (codes "Class") i
 
 -- The refusal of an image that isn't valid.
-abbrev pub verify_diagnostic : VerifyError → Diagnostic
-verify_diagnostic (verifier.Unencodable limit) = refusal 26 (codes "Unencodable") (limit_field limit)
-verify_diagnostic (verifier.BadSlot pc) = refusal 33 (codes "BadSlot") (number pc)
-verify_diagnostic (verifier.BadTarget pc) = refusal 34 (codes "BadTarget") (number pc)
-verify_diagnostic (verifier.Underflow pc) = refusal 35 (codes "Underflow") (number pc)
-verify_diagnostic (verifier.Overflow pc) = refusal 36 (codes "Overflow") (number pc)
-verify_diagnostic (verifier.NotEmpty pc) = refusal 37 (codes "NotEmpty") (number pc)
-verify_diagnostic verifier.RunsOff = refusal 38 (codes "RunsOff") nothing
+abbrev pub verify_diagnostic : VerifyError → Option Diagnostic
+verify_diagnostic (verifier.Unencodable limit) = refused 26 (codes "Unencodable") (limit_field limit)
+verify_diagnostic (verifier.BadSlot pc) = refused 33 (codes "BadSlot") (number pc)
+verify_diagnostic (verifier.BadTarget pc) = refused 34 (codes "BadTarget") (number pc)
+verify_diagnostic (verifier.Underflow pc) = refused 35 (codes "Underflow") (number pc)
+verify_diagnostic (verifier.Overflow pc) = refused 36 (codes "Overflow") (number pc)
+verify_diagnostic (verifier.NotEmpty pc) = refused 37 (codes "NotEmpty") (number pc)
+verify_diagnostic verifier.RunsOff = refused 38 (codes "RunsOff") nothing
 
 -- The refusal of a store file.
 abbrev pub store_diagnostic : StoreError → Option Diagnostic
@@ -62,6 +62,6 @@ view_diagnostic (views.ClassNotInLattice i) = refused 43 (codes "ClassNotInLatti
 abbrev pub fault_diagnostic : Fault → Option Diagnostic
 fault_diagnostic (fault.Lattice e) = lattice_diagnostic e
 fault_diagnostic (fault.Decode e) = decode_diagnostic e
-fault_diagnostic (fault.Verify e) = Some (verify_diagnostic e)
+fault_diagnostic (fault.Verify e) = verify_diagnostic e
 fault_diagnostic (fault.Store e) = store_diagnostic e
 fault_diagnostic (fault.View e) = view_diagnostic e

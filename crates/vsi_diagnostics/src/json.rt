@@ -8,9 +8,8 @@ ghost use Rattle.vsi_diagnostics.specs.Members as members_spec;
 
 use crate::diagnostic::{Diagnostic, Field};
 use crate::object::{Object, Objects};
-use crate::refusals::wants_memory;
 use std::alloc::{AllocError, Global};
-use vsi_compiler::{Source, read_source};
+use vsi_compiler::{CompileError, Source, read_source};
 use vsi_infer::{rule_text, variable_name};
 use vsi_lattice::Lattice;
 use vsi_scope::Resolved;
@@ -75,12 +74,8 @@ fn walk_objects(
 {
     match read_source(alloc, lattice, text) {
         Ok(source) => source_objects(alloc, &source, steps),
-        Err(error) => {
-            if wants_memory(&error) {
-                return Err(AllocError);
-            }
-            Ok(Objects::new(alloc))
-        }
+        Err(CompileError::Memory) => Err(AllocError),
+        Err(_error) => Ok(Objects::new(alloc)),
     }
 }
 

@@ -19,5 +19,5 @@ mod texts;
 pub use diagnostic::{Diagnostic, Fault, Field, line_text};
 pub use json::{accepted_json, refusal_json, refusal_json_of, refusal_object, without_end};
 pub use object::{Object, Objects};
-pub use refusals::{fault_diagnostic, refusal_diagnostic, wants_memory};
+pub use refusals::{fault_diagnostic, refusal_diagnostic};
 pub use texts::{fault_text, refusal_text, refusal_text_of};

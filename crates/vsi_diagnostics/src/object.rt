@@ -139,15 +139,6 @@ impl Object {
         self.with(key, Value::String(text))
     }
 
-    /// The object with a text at a key.
-    pub fn string(self, key: &str, text: &str) -> Result<Object, AllocError>
-        ensures string { IfOk result (λ made.
-            members_view made ≡ with key.now (string text.now) (members_view self)) }
-    {
-        let text = String::from_str(self.alloc, text)?;
-        self.with(key, Value::String(text))
-    }
-
     /// The object with a number at a key, such as the number of a line or of a run.
     pub fn natural(self, key: &str, number: usize) -> Result<Object, AllocError>
         ensures number { IfOk result (λ made.

@@ -1,9 +1,8 @@
 //! The refusals of source texts, lattice files, images, store files and views.
 
-ghost use Rattle.std.specs.Prelude.{◌≡◌, ◌≢◌, false, option_map, true};
-ghost use Rattle.vsi_compiler.specs.declared.error.CompileError.TheVariants.{Memory};
+ghost use Rattle.std.specs.Prelude.{◌≡◌, option_map};
 ghost use Rattle.vsi_diagnostics.specs.View.{diagnostic_of, field_of};
-ghost use Rattle.vsi_diagnostics.specs.Diagnostic.{refusal, nothing, pair, number};
+ghost use Rattle.vsi_diagnostics.specs.Diagnostic.{pair};
 ghost use Rattle.vsi_diagnostics.specs.Source as spec;
 ghost use Rattle.vsi_diagnostics.specs.Lattice as lattice_spec;
 ghost use Rattle.vsi_diagnostics.specs.Files as files_spec;
@@ -14,14 +13,13 @@ use vsi_image::{DecodeError, Limit, VerifyError};
 use vsi_lattice::{Class, LatticeError};
 use vsi_scope::ScopeError;
 use vsi_store::{StoreError, ViewError};
-use vsi_syntax::{LexError, ParseError, line_column};
+use vsi_syntax::{LexError, ParseError, Span, line_column};
 
-/// Whether the error is lack of memory, which refuses no text.
-pub fn wants_memory(error: &CompileError) -> bool
-    ensures memory { result ≡ true → error.now ≡ Memory }
-    ensures refusal { result ≡ false → error.now ≢ Memory }
+/// The refusal with this number, name and field.
+fn refused<'a>(code: usize, name: &'static [u8], field: Field<'a>) -> Option<Diagnostic<'a>>
+    ensures { option_map diagnostic_of result ≡ spec.refused code name.now (field_of field.entry) }
 {
-    matches!(error, CompileError::Memory)
+    Some(Diagnostic::new(code, name, field))
 }
 
 /// The line and the column of a position in the text.
@@ -32,35 +30,12 @@ fn place_in(text: &[u8], at: usize) -> Field<'static>
     Field::Place(line, column)
 }
 
-/// The refusal at a position in the text.
-fn refusal_at(code: usize, name: &'static [u8], text: &[u8], at: usize) -> Diagnostic<'static>
-    ensures { diagnostic_of result ≡ refusal code name.now (spec.place_in text.now at) }
+/// The refusal at the beginning of a part of the text.
+fn located(code: usize, name: &'static [u8], text: &[u8], span: Span) -> Option<Diagnostic<'static>>
+    ensures { option_map diagnostic_of result
+        ≡ spec.refused code name.now (spec.place_in text.now span.start) }
 {
-    Diagnostic::new(code, name, place_in(text, at))
-}
-
-/// The refusal for a fault of the tokens, or none if memory ran out.
-fn lexical_diagnostic(text: &[u8], error: LexError) -> Option<Diagnostic<'static>>
-    ensures { option_map diagnostic_of result ≡ spec.lexical_diagnostic text.now error }
-{
-    match error {
-        LexError::Memory => None,
-        LexError::TooLong => Some(Diagnostic::new(11, b"TooLong", Field::Nothing)),
-        LexError::BadByte(at) => Some(refusal_at(12, b"BadByte", text, at)),
-        LexError::BadWord(span) => Some(refusal_at(13, b"BadWord", text, span.start)),
-        LexError::BadNumber(span) => Some(refusal_at(14, b"BadNumber", text, span.start)),
-    }
-}
-
-/// The refusal for a fault of the tree, or none if memory ran out.
-fn syntactic_diagnostic(text: &[u8], error: &ParseError) -> Option<Diagnostic<'static>>
-    ensures { option_map diagnostic_of result ≡ spec.syntactic_diagnostic text.now error.now }
-{
-    match error {
-        ParseError::Memory => None,
-        ParseError::Unexpected(span) => Some(refusal_at(15, b"Unexpected", text, span.start)),
-        ParseError::TooDeep(span) => Some(refusal_at(16, b"TooDeep", text, span.start)),
-    }
+    refused(code, name, place_in(text, span.start))
 }
 
 /// The refusal for a fault of the scopes, or none if memory ran out.
@@ -69,16 +44,12 @@ fn scoping_diagnostic(text: &[u8], error: ScopeError) -> Option<Diagnostic<'stat
 {
     match error {
         ScopeError::Memory => None,
-        ScopeError::Duplicate(span) => Some(refusal_at(17, b"Duplicate", text, span.start)),
-        ScopeError::UnknownClass(span) => Some(refusal_at(18, b"UnknownClass", text, span.start)),
-        ScopeError::Unbound(span) => Some(refusal_at(19, b"Unbound", text, span.start)),
-        ScopeError::TooManyGlobals(span) => {
-            Some(refusal_at(20, b"TooManyGlobals", text, span.start))
-        }
-        ScopeError::TooManyDeclarations(span) => {
-            Some(refusal_at(21, b"TooManyDeclarations", text, span.start))
-        }
-        ScopeError::TooLarge => Some(Diagnostic::new(22, b"TooLarge", Field::Nothing)),
+        ScopeError::Duplicate(span) => located(17, b"Duplicate", text, span),
+        ScopeError::UnknownClass(span) => located(18, b"UnknownClass", text, span),
+        ScopeError::Unbound(span) => located(19, b"Unbound", text, span),
+        ScopeError::TooManyGlobals(span) => located(20, b"TooManyGlobals", text, span),
+        ScopeError::TooManyDeclarations(span) => located(21, b"TooManyDeclarations", text, span),
+        ScopeError::TooLarge => refused(22, b"TooLarge", Field::Nothing),
     }
 }
 
@@ -89,8 +60,14 @@ pub fn refusal_diagnostic<'a>(source: &[u8], error: &'a CompileError) -> Option<
         ≡ spec.refusal_diagnostic source.now error.now }
 {
     match error {
-        CompileError::Lex(inner) => lexical_diagnostic(source, *inner),
-        CompileError::Parse(inner) => syntactic_diagnostic(source, inner),
+        CompileError::Lex(LexError::Memory) => None,
+        CompileError::Lex(LexError::TooLong) => refused(11, b"TooLong", Field::Nothing),
+        CompileError::Lex(LexError::BadByte(at)) => refused(12, b"BadByte", place_in(source, *at)),
+        CompileError::Lex(LexError::BadWord(at)) => located(13, b"BadWord", source, *at),
+        CompileError::Lex(LexError::BadNumber(at)) => located(14, b"BadNumber", source, *at),
+        CompileError::Parse(ParseError::Memory) => None,
+        CompileError::Parse(ParseError::Unexpected(at)) => located(15, b"Unexpected", source, *at),
+        CompileError::Parse(ParseError::TooDeep(at)) => located(16, b"TooDeep", source, *at),
         CompileError::Scope(inner) => scoping_diagnostic(source, *inner),
         CompileError::Flow(walk) => Some(Diagnostic {
             code: 25,
@@ -102,60 +79,29 @@ pub fn refusal_diagnostic<'a>(source: &[u8], error: &'a CompileError) -> Option<
     }
 }
 
-/// The refusal with two classes as its field.
-fn of_classes(code: usize, name: &'static [u8], a: Class, b: Class) -> Diagnostic<'static>
-    ensures { diagnostic_of result ≡ refusal code name.now (pair a b) }
+/// The numbers of two classes.
+fn classes(a: Class, b: Class) -> Field<'static>
+    ensures { field_of result ≡ pair a b }
 {
-    Diagnostic::new(code, name, Field::Pair(a.index(), b.index()))
-}
-
-/// The refusal without a field.
-fn bare(code: usize, name: &'static [u8]) -> Diagnostic<'static>
-    ensures { diagnostic_of result ≡ refusal code name.now nothing }
-{
-    Diagnostic::new(code, name, Field::Nothing)
+    Field::Pair(a.index(), b.index())
 }
 
 /// The refusal of a lattice file, or none if memory ran out.
-pub(crate) fn lattice_diagnostic(error: LatticeError) -> Option<Diagnostic<'static>>
+fn lattice_diagnostic(error: LatticeError) -> Option<Diagnostic<'static>>
     ensures { option_map diagnostic_of result ≡ lattice_spec.lattice_diagnostic error }
 {
     match error {
         LatticeError::Memory => None,
-        LatticeError::NotToml => Some(bare(1, b"NotToml")),
-        LatticeError::BadShape => Some(bare(2, b"BadShape")),
-        LatticeError::NoClass => Some(bare(3, b"NoClass")),
-        LatticeError::TooManyClasses => Some(bare(4, b"TooManyClasses")),
-        LatticeError::BadName(i) => Some(Diagnostic::new(5, b"BadName", Field::Number(i))),
-        LatticeError::DuplicateName(i) => {
-            Some(Diagnostic::new(6, b"DuplicateName", Field::Number(i)))
-        }
-        LatticeError::UnknownName(i) => Some(Diagnostic::new(7, b"UnknownName", Field::Number(i))),
-        LatticeError::Cycle(a, b) => Some(of_classes(8, b"Cycle", a, b)),
-        LatticeError::NoJoin(a, b) => Some(of_classes(9, b"NoJoin", a, b)),
-        LatticeError::NoMeet(a, b) => Some(of_classes(10, b"NoMeet", a, b)),
-    }
-}
-
-/// The refusal with a number as its field.
-fn numbered(code: usize, name: &'static [u8], n: usize) -> Diagnostic<'static>
-    ensures { diagnostic_of result ≡ refusal code name.now (number n) }
-{
-    Diagnostic::new(code, name, Field::Number(n))
-}
-
-/// The refusal of bytes that aren't an image, or none if memory ran out.
-fn decode_diagnostic(error: DecodeError) -> Option<Diagnostic<'static>>
-    ensures { option_map diagnostic_of result ≡ files_spec.decode_diagnostic error }
-{
-    match error {
-        DecodeError::Memory => None,
-        DecodeError::BadMagic => Some(Diagnostic::new(27, b"BadMagic", Field::Nothing)),
-        DecodeError::BadVersion => Some(Diagnostic::new(28, b"BadVersion", Field::Nothing)),
-        DecodeError::BadField(at) => Some(numbered(29, b"BadField", at)),
-        DecodeError::BadOpcode(at) => Some(numbered(30, b"BadOpcode", at)),
-        DecodeError::Truncated(at) => Some(numbered(31, b"Truncated", at)),
-        DecodeError::Trailing(at) => Some(numbered(32, b"Trailing", at)),
+        LatticeError::NotToml => refused(1, b"NotToml", Field::Nothing),
+        LatticeError::BadShape => refused(2, b"BadShape", Field::Nothing),
+        LatticeError::NoClass => refused(3, b"NoClass", Field::Nothing),
+        LatticeError::TooManyClasses => refused(4, b"TooManyClasses", Field::Nothing),
+        LatticeError::BadName(i) => refused(5, b"BadName", Field::Number(i)),
+        LatticeError::DuplicateName(i) => refused(6, b"DuplicateName", Field::Number(i)),
+        LatticeError::UnknownName(i) => refused(7, b"UnknownName", Field::Number(i)),
+        LatticeError::Cycle(a, b) => refused(8, b"Cycle", classes(a, b)),
+        LatticeError::NoJoin(a, b) => refused(9, b"NoJoin", classes(a, b)),
+        LatticeError::NoMeet(a, b) => refused(10, b"NoMeet", classes(a, b)),
     }
 }
 
@@ -174,42 +120,32 @@ fn limit_field(limit: Limit) -> Field<'static>
 }
 
 /// The refusal of an image that isn't valid.
-fn verify_diagnostic(error: VerifyError) -> Diagnostic<'static>
-    ensures { diagnostic_of result ≡ files_spec.verify_diagnostic error }
+fn verify_diagnostic(error: VerifyError) -> Option<Diagnostic<'static>>
+    ensures { option_map diagnostic_of result ≡ files_spec.verify_diagnostic error }
 {
     match error {
-        VerifyError::Unencodable(limit) => Diagnostic::new(26, b"Unencodable", limit_field(limit)),
-        VerifyError::BadSlot(pc) => numbered(33, b"BadSlot", pc),
-        VerifyError::BadTarget(pc) => numbered(34, b"BadTarget", pc),
-        VerifyError::Underflow(pc) => numbered(35, b"Underflow", pc),
-        VerifyError::Overflow(pc) => numbered(36, b"Overflow", pc),
-        VerifyError::NotEmpty(pc) => numbered(37, b"NotEmpty", pc),
-        VerifyError::RunsOff => Diagnostic::new(38, b"RunsOff", Field::Nothing),
+        VerifyError::Unencodable(limit) => refused(26, b"Unencodable", limit_field(limit)),
+        VerifyError::BadSlot(pc) => refused(33, b"BadSlot", Field::Number(pc)),
+        VerifyError::BadTarget(pc) => refused(34, b"BadTarget", Field::Number(pc)),
+        VerifyError::Underflow(pc) => refused(35, b"Underflow", Field::Number(pc)),
+        VerifyError::Overflow(pc) => refused(36, b"Overflow", Field::Number(pc)),
+        VerifyError::NotEmpty(pc) => refused(37, b"NotEmpty", Field::Number(pc)),
+        VerifyError::RunsOff => refused(38, b"RunsOff", Field::Nothing),
     }
 }
 
-/// The refusal of a store file, or none if memory ran out.
-fn store_diagnostic(error: &StoreError) -> Option<Diagnostic>
-    ensures { option_map diagnostic_of result ≡ files_spec.store_diagnostic error.now }
+/// The refusal of bytes that aren't an image, or none if memory ran out.
+fn decode_diagnostic(error: DecodeError) -> Option<Diagnostic<'static>>
+    ensures { option_map diagnostic_of result ≡ files_spec.decode_diagnostic error }
 {
     match error {
-        StoreError::Memory => None,
-        StoreError::NotToml => Some(Diagnostic::new(40, b"NotToml", Field::Nothing)),
-        StoreError::NotANumber(key) => Some(Diagnostic::new(41, b"NotANumber", Field::Word(key))),
-        StoreError::UnknownGlobal(key) => {
-            Some(Diagnostic::new(42, b"UnknownGlobal", Field::Word(key)))
-        }
-    }
-}
-
-/// The refusal of a view, or none if memory ran out.
-fn view_diagnostic(error: &ViewError) -> Option<Diagnostic<'static>>
-    ensures { option_map diagnostic_of result ≡ files_spec.view_diagnostic error.now }
-{
-    match error {
-        ViewError::Memory => None,
-        ViewError::WrongStore(count) => Some(numbered(39, b"WrongStore", *count)),
-        ViewError::ClassNotInLattice(i) => Some(numbered(43, b"ClassNotInLattice", *i)),
+        DecodeError::Memory => None,
+        DecodeError::BadMagic => refused(27, b"BadMagic", Field::Nothing),
+        DecodeError::BadVersion => refused(28, b"BadVersion", Field::Nothing),
+        DecodeError::BadField(at) => refused(29, b"BadField", Field::Number(at)),
+        DecodeError::BadOpcode(at) => refused(30, b"BadOpcode", Field::Number(at)),
+        DecodeError::Truncated(at) => refused(31, b"Truncated", Field::Number(at)),
+        DecodeError::Trailing(at) => refused(32, b"Trailing", Field::Number(at)),
     }
 }
 
@@ -220,8 +156,17 @@ pub fn fault_diagnostic(fault: &Fault) -> Option<Diagnostic>
     match fault {
         Fault::Lattice(error) => lattice_diagnostic(*error),
         Fault::Decode(error) => decode_diagnostic(*error),
-        Fault::Verify(error) => Some(verify_diagnostic(*error)),
-        Fault::Store(error) => store_diagnostic(error),
-        Fault::View(error) => view_diagnostic(error),
+        Fault::Verify(error) => verify_diagnostic(*error),
+        Fault::Store(StoreError::Memory) => None,
+        Fault::Store(StoreError::NotToml) => refused(40, b"NotToml", Field::Nothing),
+        Fault::Store(StoreError::NotANumber(key)) => refused(41, b"NotANumber", Field::Word(key)),
+        Fault::Store(StoreError::UnknownGlobal(key)) => {
+            refused(42, b"UnknownGlobal", Field::Word(key))
+        }
+        Fault::View(ViewError::Memory) => None,
+        Fault::View(ViewError::WrongStore(n)) => refused(39, b"WrongStore", Field::Number(*n)),
+        Fault::View(ViewError::ClassNotInLattice(i)) => {
+            refused(43, b"ClassNotInLattice", Field::Number(*i))
+        }
     }
 }

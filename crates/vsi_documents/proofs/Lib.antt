@@ -1,4 +1,3 @@
-pub mod Made
 pub mod Worded
 pub mod Lines
 pub mod Kept

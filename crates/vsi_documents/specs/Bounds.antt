@@ -17,10 +17,10 @@ with_bound (Unstructured at) ms = with_natural (codes "instruction") at ms
 with_bound TooLarge ms = ms
 
 -- The members of the object of an answer with this text.
-abbrev pub bound_members : Bound → List ℕ → Members
-bound_members answer text =
+abbrev pub bound_members : Bool → Bound → List ℕ → Members
+bound_members bounded answer text =
     with_text (codes "text") (without_end text) (with_bound answer
-    (put (codes "bounded") (boolean (is_bounded answer)) no_members))
+    (put (codes "bounded") (boolean bounded) no_members))
 
 -- The line has the numbers and the line of one answer that is right for the image. The place of a loop may be any.
 pub record IsBoundJson (image : Image) (bounded : Bool) (out : List ℕ) : Type 0 where
@@ -28,4 +28,4 @@ pub record IsBoundJson (image : Image) (bounded : Bool) (out : List ℕ) : Type 
   pub is : Answers image answer
   pub says : bounded ≡ is_bounded answer
   pub place : Option Place
-  pub line : out ≡ object_line (bound_members answer (bound_line place answer))
+  pub line : out ≡ object_line (bound_members bounded answer (bound_line place answer))

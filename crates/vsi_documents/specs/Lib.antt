@@ -1,3 +1,4 @@
+pub mod Objects
 pub mod Classes
 pub mod Flows
 pub mod Bounds
@@ -9,7 +10,6 @@ pub mod Leaks
 pub mod Refused
 pub mod Json
 pub mod Answers
-pub mod Objects
 pub mod Location
 pub mod Steps
 pub mod Document

@@ -4,7 +4,7 @@ use Rattle.percent_encoding.specs.Percent.{percent_encode}
 use Rattle.serde_json.specs.Data.{Members, no_members}
 use Rattle.vsi_diagnostics.specs.Members.{with_natural}
 use Rattle.vsi_documents.specs.Objects.{with_object, text_members}
-use Rattle.vsi_documents.specs.declared.location.TheConstants.{ESCAPED}
+use Rattle.vsi_documents.specs.declared.refusal.TheConstants.{ESCAPED}
 
 -- The path of a file as a URI: letters, digits and `-._~/` stay, and any other byte becomes `%` and its two digits.
 abbrev pub uri_of : List ℕ → List ℕ

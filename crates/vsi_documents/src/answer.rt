@@ -6,6 +6,7 @@ ghost use Rattle.vsi_diagnostics.specs.View.{diagnostic_of};
 ghost use Rattle.vsi_image.specs.Fields.{globals};
 ghost use Rattle.vsi_lattice.specs.LatticeView.{class_named, order};
 ghost use Rattle.vsi_lattice.specs.Order.{IsClass};
+ghost use Rattle.vsi_documents.specs.Objects.{verdict_line as verdict_line_of};
 ghost use Rattle.vsi_documents.specs.Refused as spec;
 ghost use Rattle.vsi_documents.specs.Words as words_spec;
 
@@ -40,6 +41,22 @@ pub(crate) fn refused(checked: Checked) -> Result<Documented, AllocError>
     })
 }
 
+/// The line of a verdict and of an array of objects at a key.
+pub(crate) fn verdict_line(
+    alloc: Global,
+    is_accepted: bool,
+    key: &str,
+    objects: Objects,
+) -> Result<Vec<u8>, AllocError>
+    ensures { IfOk result
+        (λ line. line.items ≡ verdict_line_of is_accepted key.now (map view objects)) }
+{
+    Object::new(alloc)
+        .flag("accepted", is_accepted)?
+        .array(key, objects)?
+        .line()
+}
+
 /// A refusal as a line of JSON: an object with `accepted`, `number`, `name`, `text`, these lines
 /// without the last line feed, and `line` and `column` if the refusal has a position. It has no
 /// `steps`. An error means that memory ran out.
@@ -71,13 +88,6 @@ pub fn refused_interface_json(
         .line()
 }
 
-/// The object of a global.
-fn word_object(alloc: Global, name: &[u8], word: i64) -> Result<Object, AllocError>
-    ensures { IfOk result (λ made. members_view made ≡ words_spec.word_members name.now word) }
-{
-    Object::new(alloc).text("name", name)?.word("word", word)
-}
-
 /// An object for each global, in order.
 pub(crate) fn word_objects(
     alloc: Global,
@@ -90,12 +100,13 @@ pub(crate) fn word_objects(
 {
     let mut found = Objects::new(alloc);
     for (i, variable) in variables.iter().enumerate() {
-        found.push(word_object(alloc, variable.0.as_slice(), words[i])?)?;
+        let made = Object::new(alloc).text("name", variable.0.as_slice())?;
+        found.push(made.word("word", words[i])?)?;
     }
     Ok(found)
 }
 
-/// The object of a global in two runs.
+/// The object of a global with its words in two runs.
 fn pair_object(alloc: Global, name: &[u8], words: (i64, i64)) -> Result<Object, AllocError>
     ensures { IfOk result
         (λ made. members_view made ≡ words_spec.pair_members name.now words.0 words.1) }

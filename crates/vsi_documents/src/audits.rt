@@ -2,20 +2,19 @@
 
 ghost use Rattle.std.specs.Prelude.{◌≡◌, IfOk};
 ghost use Rattle.serde_json.specs.View.{members_view};
-ghost use Rattle.vsi_answers.specs.Bounds.{IsBoundLine, is_bounded as is_bounded_of};
-ghost use Rattle.vsi_machine.specs.Bound.{Answers};
+ghost use Rattle.vsi_answers.specs.Bounds.{TellsBound};
 ghost use Rattle.vsi_documents.specs.Audits as spec;
 ghost use Rattle.vsi_documents.specs.Bounds as bounds_spec;
 ghost use Rattle.vsi_diagnostics.specs.Members as lines;
 
 use crate::answer::Documented;
 use std::alloc::{AllocError, Global};
-use vsi_answers::{bound_text, bound_text_in};
+use vsi_answers::{BoundAnswer, bound, bound_in};
 use vsi_conform::{Judgement, judgement_by, refused_image};
 use vsi_diagnostics::{Object, accepted_json, refusal_json, without_end};
 use vsi_image::Verified;
 use vsi_lattice::Lattice;
-use vsi_machine::{Bound, bound_of};
+use vsi_machine::Bound;
 use vsi_types::Profile;
 
 /// The answer about an image and a profile.
@@ -31,17 +30,13 @@ fn judged_json(
     match refused_image(alloc, judgement, lattice, image)? {
         None => {
             let line = accepted_json(alloc)?;
-            Ok(Documented {
-                is_good: true,
-                line,
-            })
+            let is_good = true;
+            Ok(Documented { is_good, line })
         }
         Some((diagnostic, lines)) => {
             let line = refusal_json(alloc, lattice, &[], &diagnostic, &lines)?;
-            Ok(Documented {
-                is_good: false,
-                line,
-            })
+            let is_good = false;
+            Ok(Documented { is_good, line })
         }
     }
 }
@@ -73,18 +68,6 @@ pub fn steady_json(
     judged_json(alloc, Judgement::Steady, lattice, image)
 }
 
-/// Whether an answer has a number of instructions.
-fn is_bounded(found: Bound) -> bool
-    ensures { result ≡ is_bounded_of found }
-{
-    match found {
-        Bound::Halts { .. } => true,
-        Bound::Endless { .. } => false,
-        Bound::Unstructured(_) => false,
-        Bound::TooLarge => false,
-    }
-}
-
 /// The object with the numbers of a bound.
 fn with_bound(made: Object, found: Bound) -> Result<Object, AllocError>
     ensures { IfOk result
@@ -102,11 +85,16 @@ fn with_bound(made: Object, found: Bound) -> Result<Object, AllocError>
 }
 
 /// The line of an answer with this text.
-fn bound_line(alloc: Global, found: Bound, text: &[u8]) -> Result<Vec<u8>, AllocError>
-    ensures { IfOk result
-        (λ line. line.items ≡ lines.object_line (bounds_spec.bound_members found text.now)) }
+fn bound_line(
+    alloc: Global,
+    is_bounded: bool,
+    found: Bound,
+    text: &[u8],
+) -> Result<Vec<u8>, AllocError>
+    ensures { IfOk result (λ line. line.items
+        ≡ lines.object_line (bounds_spec.bound_members is_bounded found text.now)) }
 {
-    let made = Object::new(alloc).flag("bounded", is_bounded(found))?;
+    let made = Object::new(alloc).flag("bounded", is_bounded)?;
     with_bound(made, found)?
         .text("text", without_end(text))?
         .line()
@@ -116,19 +104,15 @@ fn bound_line(alloc: Global, found: Bound, text: &[u8]) -> Result<Vec<u8>, Alloc
 fn document_of(
     alloc: Global,
     verified: &Verified,
-    found: Bound,
-    text: &[u8],
+    answer: BoundAnswer,
 ) -> Result<Documented, AllocError>
-    requires right { Answers verified.now found }
-    requires line { IsBoundLine found text.now }
+    requires { TellsBound verified.now answer }
     ensures { IfOk result
-        (λ answer. bounds_spec.IsBoundJson verified.now answer.is_good answer.line.items) }
+        (λ told. bounds_spec.IsBoundJson verified.now told.is_good told.line.items) }
 {
-    let line = bound_line(alloc, found, text)?;
-    Ok(Documented {
-        is_good: is_bounded(found),
-        line,
-    })
+    let is_good = answer.is_bounded;
+    let line = bound_line(alloc, is_good, answer.found, &answer.text)?;
+    Ok(Documented { is_good, line })
 }
 
 /// The answer of `vsi bound` to an image as a line of JSON: an object with `bounded`, whether a
@@ -139,9 +123,8 @@ pub fn bound_json(alloc: Global, verified: &Verified) -> Result<Documented, Allo
     ensures answer { IfOk result
         (λ answer. bounds_spec.IsBoundJson verified.now answer.is_good answer.line.items) }
 {
-    let found = bound_of(alloc, verified)?;
-    let text = bound_text(alloc, found)?;
-    document_of(alloc, verified, found, &text)
+    let answer = bound(alloc, verified)?;
+    document_of(alloc, verified, answer)
 }
 
 /// The same for the image of a source text, whose line has the position of a loop.
@@ -154,7 +137,6 @@ pub fn bound_json_in(
     ensures answer { IfOk result
         (λ answer. bounds_spec.IsBoundJson verified.now answer.is_good answer.line.items) }
 {
-    let found = bound_of(alloc, verified)?;
-    let text = bound_text_in(alloc, lattice, source, verified, found)?;
-    document_of(alloc, verified, found, &text)
+    let answer = bound_in(alloc, lattice, source, verified)?;
+    document_of(alloc, verified, answer)
 }

@@ -5,8 +5,7 @@ ghost use Rattle.serde_json.specs.View.{members_view, view};
 ghost use Rattle.vsi_conform.specs.Rows.{row};
 ghost use Rattle.vsi_documents.specs.Findings as spec;
 
-use crate::location::{location, uri_of};
-use crate::refusal::result_object;
+use crate::refusal::{location, result_object, uri_of};
 use crate::sarif::document;
 use std::alloc::{AllocError, Global};
 use vsi_conform::{Answer, Interface, Kind, Row, image_rows, images, put_row, text_rows};
@@ -42,20 +41,13 @@ fn index_of(kind: Kind) -> usize
     }
 }
 
-/// The object of a kind's rule.
-fn rule(alloc: Global, kind: Kind) -> Result<Object, AllocError>
-    ensures { IfOk result (λ made. members_view made ≡ spec.rule_members kind) }
-{
-    Object::new(alloc).text("id", kind.word())
-}
-
 /// The objects of the rules of kinds.
 fn rules(alloc: Global, kinds: &[Kind]) -> Result<Objects, AllocError>
     ensures { IfOk result (λ found. map view found ≡ spec.rules_of kinds.now) }
 {
     let mut found = Objects::new(alloc);
     for kind in kinds {
-        found.push(rule(alloc, *kind)?)?;
+        found.push(Object::new(alloc).text("id", (*kind).word())?)?;
     }
     Ok(found)
 }

@@ -25,22 +25,15 @@
 
 mod answer;
 mod audits;
-mod classes;
 mod findings;
-mod flows;
-mod leaks;
-mod location;
-mod mending;
 mod refusal;
 mod runs;
 mod sarif;
+mod texts;
 
 pub use answer::{Documented, refused_interface_json, refused_json};
 pub use audits::{audit_json, bound_json, bound_json_in, steady_json};
-pub use classes::classes_json;
 pub use findings::{image_sarif, points_sarif};
-pub use flows::flows_json;
-pub use leaks::leak_json;
-pub use mending::mend_json;
-pub use runs::{compare_json, run_json};
+pub use runs::{compare_json, leak_json, run_json};
 pub use sarif::{audit_sarif, check_sarif, steady_sarif};
+pub use texts::{classes_json, flows_json, mend_json};

@@ -1,31 +1,131 @@
-//! The document of a refusal.
+//! The document of a refusal, its locations and the steps of a flow.
 
-ghost use Rattle.std.specs.Prelude.{◌≡◌, decimal, map, option_map, IfOk};
+ghost use Rattle.std.specs.Prelude.{◌≡◌, decimal, map, option_map, string_bytes, IfOk};
 ghost use Rattle.serde_json.specs.View.{members_view, view};
 ghost use Rattle.vsi_lattice.specs.declared.lattice.Lattice.{Lattice as Named};
 ghost use Rattle.vsi_diagnostics.specs.View.{diagnostic_of};
+ghost use Rattle.vsi_documents.specs.Location as location_spec;
 ghost use Rattle.vsi_documents.specs.Refusals as spec;
-ghost use Rattle.vsi_documents.specs.Steps.{LocatesFlow};
+ghost use Rattle.vsi_documents.specs.Steps as steps_spec;
 
-use crate::location::{flow_objects, location};
 use crate::sarif::document;
+use percent_encoding::{AsciiSet, NON_ALPHANUMERIC, ascii_set, percent_encode};
 use std::alloc::{AllocError, Global};
 use vsi_compiler::Source;
 use vsi_diagnostics::{Diagnostic, Field, Object, Objects, without_end};
+use vsi_infer::{rule_text, variable_name};
+use vsi_scope::Resolved;
 use vsi_syntax::{line_column, put_number};
 use vsi_types::Step;
 
-/// The position at which the last of these steps writes, if there is one.
-fn last_place(source: &[u8], steps: &[Step]) -> Option<(usize, usize)>
-    ensures { result ≡ spec.last_place source.now steps.now }
+/// The ASCII bytes that are escaped in a path: all but letters, digits and `-._~/`.
+pub(crate) const ESCAPED: AsciiSet = ascii_set!(
+    NON_ALPHANUMERIC
+        .remove(b'-')
+        .remove(b'.')
+        .remove(b'_')
+        .remove(b'~')
+        .remove(b'/')
+);
+
+/// The path of a file as a URI.
+pub(crate) fn uri_of(alloc: Global, path: &str) -> Result<String, AllocError>
+    ensures { IfOk result (λ uri. string_bytes uri ≡ location_spec.uri_of path.now) }
 {
-    match steps.last() {
-        Some(step) => {
-            let (line, column) = line_column(source, step.written.start);
-            Some((line, column))
+    let mut uri = String::new(alloc);
+    percent_encode(path.as_bytes(), ESCAPED).append_to(&mut uri)?;
+    Ok(uri)
+}
+
+/// The object of a location: the URI of its file and, if it is known, its position.
+pub(crate) fn location(
+    alloc: Global,
+    uri: &[u8],
+    place: Option<(usize, usize)>,
+) -> Result<Object, AllocError>
+    ensures { IfOk result
+        (λ made. members_view made ≡ location_spec.location_members uri.now place) }
+{
+    let file = Object::new(alloc).text("uri", uri)?;
+    let physical = Object::new(alloc).object("artifactLocation", file)?;
+    let physical = match place {
+        Some((line, column)) => {
+            let region = Object::new(alloc)
+                .natural("startColumn", column)?
+                .natural("startLine", line)?;
+            physical.object("region", region)?
         }
-        None => None,
+        None => physical,
+    };
+    Object::new(alloc).object("physicalLocation", physical)
+}
+
+/// The message of a step: its two variables and its rule.
+fn step_text(alloc: Global, program: &Resolved<'_>, step: &Step) -> Result<Vec<u8>, AllocError>
+    ensures { IfOk result (λ text. text.items ≡ steps_spec.step_text program.now step.now) }
+{
+    let mut text = Vec::from_slice(alloc, variable_name(program, step.source))?;
+    text.extend_from_slice(b" flows to ")?;
+    text.extend_from_slice(variable_name(program, step.target))?;
+    text.extend_from_slice(b" by ")?;
+    text.extend_from_slice(rule_text(step.rule))?;
+    Ok(text)
+}
+
+/// The object of a step: its message, and the position where its source is read.
+fn step_object(
+    alloc: Global,
+    uri: &[u8],
+    source: &[u8],
+    program: &Resolved<'_>,
+    step: &Step,
+) -> Result<Object, AllocError>
+    ensures { IfOk result (λ made. members_view made
+        ≡ steps_spec.step_members uri.now source.now program.now step.now) }
+{
+    let text = step_text(alloc, program, step)?;
+    let (line, column) = line_column(source, step.read.start);
+    let message = Object::new(alloc).text("text", &text)?;
+    let inner = location(alloc, uri, Some((line, column)))?.object("message", message)?;
+    Object::new(alloc).object("location", inner)
+}
+
+/// The objects of steps, in their order.
+fn step_objects(
+    alloc: Global,
+    uri: &[u8],
+    source: &[u8],
+    program: &Resolved<'_>,
+    steps: &[Step],
+) -> Result<Objects, AllocError>
+    ensures { IfOk result (λ found. map view found
+        ≡ steps_spec.step_objects uri.now source.now program.now steps.now) }
+{
+    let mut found = Objects::new(alloc);
+    for step in steps {
+        let made = step_object(alloc, uri, source, program, step)?;
+        found.push(made)?;
     }
+    Ok(found)
+}
+
+/// The objects of the steps of a flow of a source text, or none for any other refusal.
+fn flow_objects(
+    alloc: Global,
+    uri: &[u8],
+    source: &Source<'_>,
+    steps: Option<&[Step]>,
+) -> Result<Option<Objects>, AllocError>
+    ensures { IfOk result (λ found. steps_spec.LocatesFlow
+        source.now.lattice uri.now source.now.text (option_map (λ s. s.now) steps.entry)
+        (option_map (map view) found)) }
+{
+    let Some(steps) = steps else {
+        return Ok(None);
+    };
+    let program = source.resolved();
+    let found = step_objects(alloc, uri, source.text(), program, steps)?;
+    Ok(Some(found))
 }
 
 /// The position at which the last step of a flow writes, if there is one.
@@ -33,7 +133,13 @@ fn written_place(source: &[u8], steps: Option<&[Step]>) -> Option<(usize, usize)
     ensures { result ≡ spec.written_place source.now (option_map (λ s. s.now) steps.entry) }
 {
     match steps {
-        Some(steps) => last_place(source, steps),
+        Some(steps) => match steps.last() {
+            Some(step) => {
+                let (line, column) = line_column(source, step.written.start);
+                Some((line, column))
+            }
+            None => None,
+        },
         None => None,
     }
 }
@@ -114,7 +220,7 @@ fn identified(
     id: &[u8],
 ) -> Result<Vec<u8>, AllocError>
     ensures { IfOk result (λ out. (l : Named) → id.now ≡ decimal (diagnostic_of diagnostic.now).code
-        → LocatesFlow l uri.now text.now (diagnostic_of diagnostic.now).steps
+        → steps_spec.LocatesFlow l uri.now text.now (diagnostic_of diagnostic.now).steps
         (option_map (map view) steps)
         → spec.IsRefusalDocument l uri.now text.now
         (diagnostic_of diagnostic.now) lines.now out.items) }

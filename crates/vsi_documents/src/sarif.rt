@@ -9,8 +9,7 @@ ghost use Rattle.vsi_documents.specs.Auditing as auditing_spec;
 ghost use Rattle.vsi_documents.specs.Checking as checking_spec;
 
 use crate::answer::Documented;
-use crate::location::uri_of;
-use crate::refusal::{refusal_document, source_document};
+use crate::refusal::{refusal_document, source_document, uri_of};
 use std::alloc::{AllocError, Global};
 use vsi_compiler::{CompileError, Source, read_source};
 use vsi_conform::{
@@ -22,13 +21,6 @@ use vsi_image::Verified;
 use vsi_lattice::Lattice;
 use vsi_steady::UnsteadyError;
 use vsi_types::Profile;
-
-/// The URI of the schema of SARIF 2.1.0.
-fn schema() -> &'static [u8]
-    ensures { result.now ≡ spec.schema }
-{
-    b"https://json.schemastore.org/sarif-2.1.0.json"
-}
 
 /// The object of a run of the tool, with its rules.
 fn run(alloc: Global, rules: Objects, results: Objects) -> Result<Object, AllocError>
@@ -58,7 +50,7 @@ pub(crate) fn document(
     let runs = Objects::of(alloc, run(alloc, rules, results)?)?;
     Object::new(alloc)
         .array("runs", runs)?
-        .text("$schema", schema())?
+        .text("$schema", b"https://json.schemastore.org/sarif-2.1.0.json")?
         .text("version", b"2.1.0")?
         .line()
 }
@@ -77,18 +69,14 @@ fn judged_sarif(
     match refused_image(alloc, judgement, lattice, image)? {
         None => {
             let line = accepted(alloc)?;
-            Ok(Documented {
-                is_good: true,
-                line,
-            })
+            let is_good = true;
+            Ok(Documented { is_good, line })
         }
         Some((diagnostic, lines)) => {
             let uri = uri_of(alloc, path)?;
             let line = refusal_document(alloc, uri.as_bytes(), &[], &diagnostic, &lines)?;
-            Ok(Documented {
-                is_good: false,
-                line,
-            })
+            let is_good = false;
+            Ok(Documented { is_good, line })
         }
     }
 }
@@ -122,17 +110,14 @@ pub fn steady_sarif(
 }
 
 /// Whether a judgement demands a steady image.
-pub(crate) fn is_steady(judgement: Judgement) -> bool
+fn is_steady(judgement: Judgement) -> bool
     ensures { result ≡ is_steady_of judgement }
 {
-    match judgement {
-        Judgement::Base | Judgement::Strict => false,
-        Judgement::Steady => true,
-    }
+    matches!(judgement, Judgement::Steady)
 }
 
 /// The document of an accepted text or image, which has no result.
-pub(crate) fn accepted(alloc: Global) -> Result<Vec<u8>, AllocError>
+fn accepted(alloc: Global) -> Result<Vec<u8>, AllocError>
     ensures { IfOk result (λ out. out.items ≡ document_text [] []) }
 {
     document(alloc, Objects::new(alloc), Objects::new(alloc))
@@ -190,17 +175,13 @@ fn source_sarif(
     match judged_of(alloc, judgement, source)? {
         Ok(_verified) => {
             let line = accepted(alloc)?;
-            Ok(Documented {
-                is_good: true,
-                line,
-            })
+            let is_good = true;
+            Ok(Documented { is_good, line })
         }
         Err(error) => {
             let line = source_refused(alloc, judgement, path, source, &error)?;
-            Ok(Documented {
-                is_good: false,
-                line,
-            })
+            let is_good = false;
+            Ok(Documented { is_good, line })
         }
     }
 }
@@ -223,10 +204,8 @@ pub fn check_sarif(
         Err(error) => {
             let error = UnsteadyError::Compile(error);
             let line = refused(alloc, judgement, lattice, path, text, &error)?;
-            Ok(Documented {
-                is_good: false,
-                line,
-            })
+            let is_good = false;
+            Ok(Documented { is_good, line })
         }
     }
 }

@@ -1,37 +1,8 @@
 //! The pages of the refusals of an image.
 
-ghost use Rattle.std.specs.Prelude.{◌≡◌, ◌↔◌, IfSome, IsSome, Some, true};
-ghost use Rattle.vsi_explain.specs.Numbers as spec;
-ghost use Rattle.vsi_explain.specs.Pages.{page_of};
-
-/// The page of such a refusal, or none for any other number.
-pub(crate) fn image_page(number: u64) -> Option<&'static str>
-    ensures known { IsSome result ↔ (spec.is_image_refusal number ≡ true) }
-    ensures page { IfSome result (λ page. page_of number ≡ Some page.now) }
-{
-    match number {
-        26 => Some(UNENCODABLE),
-        27 => Some(BAD_MAGIC),
-        28 => Some(BAD_VERSION),
-        29 => Some(BAD_FIELD),
-        30 => Some(BAD_OPCODE),
-        31 => Some(TRUNCATED),
-        32 => Some(TRAILING),
-        33 => Some(BAD_SLOT),
-        34 => Some(BAD_TARGET),
-        35 => Some(UNDERFLOW),
-        36 => Some(OVERFLOW),
-        37 => Some(NOT_EMPTY),
-        38 => Some(RUNS_OFF),
-        49 => Some(NO_COMMANDS),
-        50 => Some(WRONG_FIELDS),
-        51 => Some(NO_TEXT),
-        _ => None,
-    }
-}
-
-/// The page of Unencodable.
-const UNENCODABLE: &str = "\
+/// The pages of the refusals from 26 on, and then of those from 49 on.
+pub(crate) const IMAGE: [&str; 16] = [
+    "\
 26 Unencodable FIELD
 
 A caller of the library has built an image that no file can hold: it has too
@@ -41,10 +12,8 @@ prints this, since the images that it reads come from files.
 
 What to do: keep to 256 globals, 512 slots, 256 operands and 65535
 instructions, and to names that the language allows.
-";
-
-/// The page of BadMagic.
-const BAD_MAGIC: &str = "\
+",
+    "\
 27 BadMagic
 
 The file doesn't begin with the three bytes `VSI`, so it isn't an image.
@@ -56,10 +25,8 @@ source text was given in its place, or the files are in the wrong order.
   $ vsi list text.vsi
   refused: 27 BadMagic
   [1]
-";
-
-/// The page of BadVersion.
-const BAD_VERSION: &str = "\
+",
+    "\
 28 BadVersion
 
 The byte after `VSI` isn't a version that this program knows: 1 or 2.
@@ -71,10 +38,8 @@ program that made it.
   $ vsi list new.image
   refused: 28 BadVersion
   [1]
-";
-
-/// The page of BadField.
-const BAD_FIELD: &str = "\
+",
+    "\
 29 BadField PLACE
 
 The field of the image at byte PLACE, counted from 0, has a value above its
@@ -87,10 +52,8 @@ another program with other limits.
   $ vsi list field.image
   refused: 29 BadField 4
   [1]
-";
-
-/// The page of BadOpcode.
-const BAD_OPCODE: &str = "\
+",
+    "\
 30 BadOpcode PLACE
 
 No instruction begins with the byte at PLACE, counted from 0. The byte 11, MUL,
@@ -102,10 +65,8 @@ What to do: build the image again; bytes were changed.
   $ vsi list code.image
   refused: 30 BadOpcode 14
   [1]
-";
-
-/// The page of Truncated.
-const TRUNCATED: &str = "\
+",
+    "\
 31 Truncated PLACE
 
 The image ends in the middle of the field that begins at byte PLACE, counted
@@ -117,10 +78,8 @@ What to do: copy the image again, or build it again; a part is missing.
   $ vsi list short.image
   refused: 31 Truncated 4
   [1]
-";
-
-/// The page of Trailing.
-const TRAILING: &str = "\
+",
+    "\
 32 Trailing PLACE
 
 There are bytes after the last instruction, the first of them at PLACE, counted
@@ -134,10 +93,8 @@ was added.
   $ vsi list long.image
   refused: 32 Trailing 15
   [1]
-";
-
-/// The page of BadSlot.
-const BAD_SLOT: &str = "\
+",
+    "\
 33 BadSlot NUMBER
 
 The instruction with this number, counted from 0, reads or writes a slot that
@@ -151,10 +108,8 @@ What to do: build the image again. If it came from someone else, don't trust it.
   $ vsi list slot.image
   refused: 33 BadSlot 0
   [1]
-";
-
-/// The page of BadTarget.
-const BAD_TARGET: &str = "\
+",
+    "\
 34 BadTarget NUMBER
 
 The instruction with this number, counted from 0, jumps to a place where there
@@ -167,10 +122,8 @@ What to do: build the image again. If it came from someone else, don't trust it.
   $ vsi list jump.image
   refused: 34 BadTarget 0
   [1]
-";
-
-/// The page of Underflow.
-const UNDERFLOW: &str = "\
+",
+    "\
 35 Underflow NUMBER
 
 The instruction with this number, counted from 0, takes more operands than are
@@ -183,10 +136,8 @@ What to do: build the image again. If it came from someone else, don't trust it.
   $ vsi list under.image
   refused: 35 Underflow 0
   [1]
-";
-
-/// The page of Overflow.
-const OVERFLOW: &str = "\
+",
+    "\
 36 Overflow NUMBER
 
 After the instruction with this number, counted from 0, there are more operands
@@ -200,10 +151,8 @@ What to do: build the image again. If it came from someone else, don't trust it.
   $ vsi list over.image
   refused: 36 Overflow 0
   [1]
-";
-
-/// The page of NotEmpty.
-const NOT_EMPTY: &str = "\
+",
+    "\
 37 NotEmpty NUMBER
 
 Operands are left on the stack at the jump or the HALT with this number, counted
@@ -217,10 +166,8 @@ What to do: build the image again. If it came from someone else, don't trust it.
   $ vsi list left.image
   refused: 37 NotEmpty 1
   [1]
-";
-
-/// The page of RunsOff.
-const RUNS_OFF: &str = "\
+",
+    "\
 38 RunsOff
 
 The image has no instruction, or a run could go on past its last one, which is
@@ -232,10 +179,8 @@ What to do: build the image again. If it came from someone else, don't trust it.
   $ vsi list none.image
   refused: 38 RunsOff
   [1]
-";
-
-/// The page of NoCommands.
-const NO_COMMANDS: &str = "\
+",
+    "\
 49 NoCommands NUMBER
 
 The image is valid, but no commands of the language can be read back from its
@@ -250,10 +195,8 @@ source text. `vsi audit --steady` judges the code itself.
   $ vsi source loop.image
   refused: 49 NoCommands 0
   [1]
-";
-
-/// The page of WrongFields.
-const WRONG_FIELDS: &str = "\
+",
+    "\
 50 WrongFields
 
 The image is valid and its commands were read back, but its number of slots or
@@ -267,10 +210,8 @@ What to do: ask for an image as a compiler of this language makes it.
   $ vsi audit two.toml wide.image
   refused: 50 WrongFields
   [1]
-";
-
-/// The page of NoText.
-const NO_TEXT: &str = "\
+",
+    "\
 51 NoText
 
 The commands of the image have no source text within the limits on texts: it
@@ -278,4 +219,5 @@ would be too long, too deep or too large.
 
 What to do: `vsi list IMAGE` prints the instructions, and `vsi audit` judges the
 image all the same.
-";
+",
+];

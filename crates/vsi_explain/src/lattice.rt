@@ -1,31 +1,8 @@
 //! The pages of the refusals of a lattice file.
 
-ghost use Rattle.std.specs.Prelude.{◌≡◌, ◌↔◌, IfSome, IsSome, Some, true};
-ghost use Rattle.vsi_explain.specs.Numbers as spec;
-ghost use Rattle.vsi_explain.specs.Pages.{page_of};
-
-/// The page of such a refusal, or none for any other number.
-pub(crate) fn lattice_page(number: u64) -> Option<&'static str>
-    ensures known { IsSome result ↔ (spec.is_lattice_refusal number ≡ true) }
-    ensures page { IfSome result (λ page. page_of number ≡ Some page.now) }
-{
-    match number {
-        1 => Some(NOT_TOML),
-        2 => Some(BAD_SHAPE),
-        3 => Some(NO_CLASS),
-        4 => Some(TOO_MANY_CLASSES),
-        5 => Some(BAD_NAME),
-        6 => Some(DUPLICATE_NAME),
-        7 => Some(UNKNOWN_NAME),
-        8 => Some(CYCLE),
-        9 => Some(NO_JOIN),
-        10 => Some(NO_MEET),
-        _ => None,
-    }
-}
-
-/// The page of NotToml.
-const NOT_TOML: &str = "\
+/// The pages of the refusals from 1 on.
+pub(crate) const LATTICE: [&str; 10] = [
+    "\
 1 NotToml
 
 The lattice file isn't a TOML document: a quote or a bracket isn't closed, a key
@@ -40,10 +17,8 @@ the source text.
   refused: 1 NotToml
   [1]
   $ printf 'classes = [\"L\", \"H\"]\\nbelow = [[\"L\", \"H\"]]\\n' > two.toml
-";
-
-/// The page of BadShape.
-const BAD_SHAPE: &str = "\
+",
+    "\
 2 BadShape
 
 The lattice file is a TOML document, but it doesn't have exactly the two keys
@@ -57,10 +32,8 @@ a lattice file is also refused with this number.
   $ vsi check shape.toml text.vsi
   refused: 2 BadShape
   [1]
-";
-
-/// The page of NoClass.
-const NO_CLASS: &str = "\
+",
+    "\
 3 NoClass
 
 The list of classes is empty. Each variable has a class, so there must be at
@@ -72,10 +45,8 @@ What to do: name the classes of your policy in `classes`.
   $ vsi check empty.toml text.vsi
   refused: 3 NoClass
   [1]
-";
-
-/// The page of TooManyClasses.
-const TOO_MANY_CLASSES: &str = "\
+",
+    "\
 4 TooManyClasses
 
 There are more than 64 classes.
@@ -88,10 +59,8 @@ classes that the policy treats alike.
   $ vsi check many.toml text.vsi
   refused: 4 TooManyClasses
   [1]
-";
-
-/// The page of BadName.
-const BAD_NAME: &str = "\
+",
+    "\
 5 BadName NUMBER
 
 A class has a name that isn't valid. NUMBER counts the classes from 0.
@@ -104,10 +73,8 @@ letvar, in, if, then, else, while, do).
   $ vsi check name.toml text.vsi
   refused: 5 BadName 1
   [1]
-";
-
-/// The page of DuplicateName.
-const DUPLICATE_NAME: &str = "\
+",
+    "\
 6 DuplicateName NUMBER
 
 A class has the name of an earlier class in the list. NUMBER is that of the
@@ -120,10 +87,8 @@ lower case differ: `l` and `L` are two names.
   $ vsi check twice.toml text.vsi
   refused: 6 DuplicateName 1
   [1]
-";
-
-/// The page of UnknownName.
-const UNKNOWN_NAME: &str = "\
+",
+    "\
 7 UnknownName NUMBER
 
 A pair of `below` names a class that isn't in `classes`. NUMBER counts the
@@ -135,10 +100,8 @@ What to do: add the class to `classes`, or fix its spelling in the pair.
   $ vsi check pair.toml text.vsi
   refused: 7 UnknownName 0
   [1]
-";
-
-/// The page of Cycle.
-const CYCLE: &str = "\
+",
+    "\
 8 Cycle NUMBER NUMBER
 
 Two different classes are each below the other, by one pair or by several. The
@@ -153,10 +116,8 @@ class in place of the two.
   $ vsi check round.toml text.vsi
   refused: 8 Cycle 0 1
   [1]
-";
-
-/// The page of NoJoin.
-const NO_JOIN: &str = "\
+",
+    "\
 9 NoJoin NUMBER NUMBER
 
 Two classes have no least class above both, so there is no class for a value
@@ -170,10 +131,8 @@ enough.
   $ vsi check apart.toml text.vsi
   refused: 9 NoJoin 0 1
   [1]
-";
-
-/// The page of NoMeet.
-const NO_MEET: &str = "\
+",
+    "\
 10 NoMeet NUMBER NUMBER
 
 Two classes have no greatest class below both, so there is no class for a
@@ -188,4 +147,5 @@ is enough.
   $ vsi check roof.toml text.vsi
   refused: 10 NoMeet 0 1
   [1]
-";
+",
+];

@@ -7,9 +7,9 @@
 //! To be believed: `specs/Numbers`, `specs/Pages`, `specs/Subjects`.
 #![tactic(auto)]
 
-ghost use Rattle.std.specs.Prelude.{◌≡◌, ◌↔◌, IsSome, option_map, true};
+ghost use Rattle.std.specs.Prelude.{◌≡◌, ◌↔◌, ◌<◌, IsSome, length, map, option_map, slice_get, true};
 ghost use Rattle.vsi_explain.specs.Numbers as spec;
-ghost use Rattle.vsi_explain.specs.Pages.{page_of};
+ghost use Rattle.vsi_explain.specs.Pages as pages_spec;
 
 mod image;
 mod lattice;
@@ -17,23 +17,39 @@ mod store;
 mod subjects;
 mod text;
 
-use image::image_page;
-use lattice::lattice_page;
-use store::store_page;
+use image::IMAGE;
+use lattice::LATTICE;
+use store::STORE;
 pub use subjects::subject_page;
-use text::text_page;
+use text::TEXT;
+
+/// The page at a place, counted from 0, if there are as many pages.
+fn page_at(pages: &[&'static str], place: u64) -> Option<&'static str>
+    ensures known { IsSome result ↔ place < length pages.now }
+    ensures exact { option_map (λ page. page.now) result ≡ slice_get (map (λ page. page.now) pages.now) place }
+{
+    match pages.get(place as usize) {
+        Some(page) => Some(*page),
+        None => None,
+    }
+}
 
 /// The page of a refusal, by its number: a line with its number, its name and its fields, then
 /// their meaning, what to do, and a transcript that shows it. Each line ends with a line feed and
 /// has at most 80 bytes of ASCII.
 pub fn page(number: u64) -> Option<&'static str>
     ensures known { IsSome result ↔ (spec.is_refusal number ≡ true) }
-    ensures exact { option_map (λ page. page.now) result ≡ page_of number }
+    ensures exact { option_map (λ page. page.now) result ≡ pages_spec.page_of number }
 {
     match number {
-        1..=10 => lattice_page(number),
-        11..=25 => text_page(number),
-        26..=38 | 49..=51 => image_page(number),
-        _ => store_page(number),
+        1..=10 => page_at(&LATTICE, number - 1),
+        11..=22 => page_at(&TEXT, number - 11),
+        25 => page_at(&TEXT, 12),
+        26..=38 => page_at(&IMAGE, number - 26),
+        39..=48 => page_at(&STORE, number - 39),
+        49..=51 => page_at(&IMAGE, number - 36),
+        56 => page_at(&STORE, 10),
+        60..=65 => page_at(&STORE, number - 49),
+        _ => None,
     }
 }

@@ -1,39 +1,9 @@
 //! The pages of the refusals of a store, of the lines and arguments that set globals, and of a
 //! controller's inputs, outputs and released names.
 
-ghost use Rattle.std.specs.Prelude.{◌≡◌, ◌↔◌, IfSome, IsSome, Some, true};
-ghost use Rattle.vsi_explain.specs.Numbers as spec;
-ghost use Rattle.vsi_explain.specs.Pages.{page_of};
-
-/// The page of such a refusal, or none for any other number.
-pub(crate) fn store_page(number: u64) -> Option<&'static str>
-    ensures known { IsSome result ↔ (spec.is_store_refusal number ≡ true) }
-    ensures page { IfSome result (λ page. page_of number ≡ Some page.now) }
-{
-    match number {
-        39 => Some(WRONG_STORE),
-        40 => Some(NOT_TOML),
-        41 => Some(NOT_A_NUMBER),
-        42 => Some(UNKNOWN_GLOBAL),
-        43 => Some(CLASS_NOT_IN_LATTICE),
-        44 => Some(LINE_TOO_LONG),
-        45 => Some(BAD_SETTING),
-        46 => Some(NO_GLOBAL),
-        47 => Some(ABOVE_CLASS),
-        48 => Some(NO_NUMBER),
-        56 => Some(GLOBAL_NOT_NAMED),
-        60 => Some(NOT_AN_INPUT),
-        61 => Some(UNKNOWN_INPUT),
-        62 => Some(INPUT_ABOVE_CLASS),
-        63 => Some(UNKNOWN_OUTPUT),
-        64 => Some(OUTPUT_ABOVE_CLASS),
-        65 => Some(NOT_AN_OUTPUT),
-        _ => None,
-    }
-}
-
-/// The page of WrongStore.
-const WRONG_STORE: &str = "\
+/// The pages of the refusals from 39 on, that of 56, and then of those from 60 on.
+pub(crate) const STORE: [&str; 17] = [
+    "\
 39 WrongStore NUMBER
 
 A caller of the library has started an image with a store of NUMBER words, and
@@ -41,10 +11,8 @@ the image doesn't have that many globals. The program never prints this: it
 gives each global a word.
 
 What to do: pass one word for each global, in the order of declarations.
-";
-
-/// The page of NotToml.
-const NOT_TOML: &str = "\
+",
+    "\
 40 NotToml
 
 The store file isn't a TOML document.
@@ -59,10 +27,8 @@ What to do: write a line `NAME = NUMBER` for each global that doesn't begin as
   $ vsi run add.image --budget 9 --store store.toml
   refused: 40 NotToml
   [1]
-";
-
-/// The page of NotANumber.
-const NOT_A_NUMBER: &str = "\
+",
+    "\
 41 NotANumber KEY
 
 The value of this key of the store file isn't a whole number.
@@ -77,10 +43,8 @@ and without a decimal point.
   $ vsi run add.image --budget 9 --store store.toml
   refused: 41 NotANumber x
   [1]
-";
-
-/// The page of UnknownGlobal.
-const UNKNOWN_GLOBAL: &str = "\
+",
+    "\
 42 UnknownGlobal KEY
 
 The image has no global of this name.
@@ -95,10 +59,8 @@ them. Upper and lower case differ.
   $ vsi run add.image --budget 9 --store store.toml
   refused: 42 UnknownGlobal y
   [1]
-";
-
-/// The page of ClassNotInLattice.
-const CLASS_NOT_IN_LATTICE: &str = "\
+",
+    "\
 43 ClassNotInLattice NUMBER
 
 A global of the image has a class that the lattice file lacks. NUMBER counts
@@ -114,10 +76,8 @@ IMAGE` shows each global with its class.
   $ vsi view one.toml add.image --class L --budget 9
   refused: 43 ClassNotInLattice 1
   [1]
-";
-
-/// The page of LineTooLong.
-const LINE_TOO_LONG: &str = "\
+",
+    "\
 44 LineTooLong
 
 A line of `vsi drive` has more than 65536 bytes. The image wasn't run for it,
@@ -131,10 +91,8 @@ once.
   $ vsi build two.toml add.vsi add.image
   $ printf '%065537d\\n' 0 | vsi drive two.toml add.image --class L --budget 9
   refused: 44 LineTooLong
-";
-
-/// The page of BadSetting.
-const BAD_SETTING: &str = "\
+",
+    "\
 45 BadSetting NUMBER
 
 A setting isn't of the form `NAME = NUMBER`. NUMBER counts the settings of the
@@ -149,10 +107,8 @@ matter. Separate two settings by a blank alone.
   $ vsi run add.image --budget 9 --set x:5
   refused: 45 BadSetting 0
   [1]
-";
-
-/// The page of NoGlobal.
-const NO_GLOBAL: &str = "\
+",
+    "\
 46 NoGlobal NUMBER
 
 A setting doesn't name a global of the image. NUMBER counts the settings of the
@@ -166,10 +122,8 @@ What to do: see `vsi list IMAGE` for its globals. Upper and lower case differ.
   $ vsi run add.image --budget 9 --set y=5
   refused: 46 NoGlobal 0
   [1]
-";
-
-/// The page of AboveClass.
-const ABOVE_CLASS: &str = "\
+",
+    "\
 47 AboveClass NUMBER
 
 A line of `vsi drive` sets a global that the class of --class can't see. NUMBER
@@ -184,10 +138,8 @@ into the store file, once, before the drive begins.
   $ printf 'h = 1\\n' > lines
   $ vsi drive two.toml add.image --class L --budget 9 < lines
   refused: 47 AboveClass 0
-";
-
-/// The page of NoNumber.
-const NO_NUMBER: &str = "\
+",
+    "\
 48 NoNumber NUMBER
 
 The text after the `=` of a setting isn't a number. NUMBER counts the settings
@@ -202,10 +154,8 @@ What to do: write digits, after a `-` if the number is below 0. A number is from
   $ vsi run add.image --budget 9 --set x=1.5
   refused: 48 NoNumber 0
   [1]
-";
-
-/// The page of GlobalNotNamed.
-const GLOBAL_NOT_NAMED: &str = "\
+",
+    "\
 56 GlobalNotNamed NUMBER
 
 Under --full-store each global needs a value, and the one with this number,
@@ -220,10 +170,8 @@ begins as 0.
   $ vsi run add.image --budget 9 --set x=5 --full-store
   refused: 56 GlobalNotNamed 1
   [1]
-";
-
-/// The page of NotAnInput.
-const NOT_AN_INPUT: &str = "\
+",
+    "\
 60 NotAnInput NUMBER
 
 A line of `vsi drive` sets a global that isn't named under --inputs. NUMBER
@@ -239,10 +187,8 @@ What to do: set only the inputs. If this global is one too, add its name to
   $ vsi drive two.toml sum.image --class L --inputs y < lines
   x = 1 y = 1
   refused: 60 NotAnInput 0
-";
-
-/// The page of UnknownInput.
-const UNKNOWN_INPUT: &str = "\
+",
+    "\
 61 UnknownInput NUMBER
 
 A name under --inputs isn't that of a global of the image. NUMBER counts the
@@ -257,10 +203,8 @@ and nothing else. Upper and lower case differ.
   $ vsi drive two.toml sum.image --class L --inputs y,z < sum.vsi
   refused: 61 UnknownInput 1
   [1]
-";
-
-/// The page of InputAboveClass.
-const INPUT_ABOVE_CLASS: &str = "\
+",
+    "\
 62 InputAboveClass NUMBER
 
 The class of an input isn't at or below the class of --class. NUMBER counts the
@@ -275,10 +219,8 @@ may set this global.
   $ vsi drive two.toml sum.image --class L --inputs h,y < sum.vsi
   refused: 62 InputAboveClass 0
   [1]
-";
-
-/// The page of UnknownOutput.
-const UNKNOWN_OUTPUT: &str = "\
+",
+    "\
 63 UnknownOutput NUMBER
 
 A name under --outputs isn't that of a global of the image. NUMBER counts the
@@ -293,10 +235,8 @@ and nothing else. Upper and lower case differ.
   $ vsi drive two.toml sum.image --class L --outputs X < sum.vsi
   refused: 63 UnknownOutput 0
   [1]
-";
-
-/// The page of OutputAboveClass.
-const OUTPUT_ABOVE_CLASS: &str = "\
+",
+    "\
 64 OutputAboveClass NUMBER
 
 The class of an output isn't at or below the class of --class, and the output
@@ -311,10 +251,8 @@ whoever reads the output may learn its value, and all that follows from it.
   $ vsi drive two.toml sum.image --class L --outputs x,h < sum.vsi
   refused: 64 OutputAboveClass 1
   [1]
-";
-
-/// The page of NotAnOutput.
-const NOT_AN_OUTPUT: &str = "\
+",
+    "\
 65 NotAnOutput NUMBER
 
 A name under --release isn't named under --outputs, or isn't that of a global of
@@ -329,4 +267,5 @@ it out of --release.
   $ vsi drive two.toml sum.image --class L --outputs x --release h < sum.vsi
   refused: 65 NotAnOutput 0
   [1]
-";
+",
+];

@@ -1,35 +1,9 @@
 //! The pages of the refusals of a text for its tokens and its tree, and of a program for its names,
 //! its size and its flows.
 
-ghost use Rattle.std.specs.Prelude.{◌≡◌, ◌↔◌, IfSome, IsSome, Some, true};
-ghost use Rattle.vsi_explain.specs.Numbers as spec;
-ghost use Rattle.vsi_explain.specs.Pages.{page_of};
-
-/// The page of such a refusal, or none for any other number.
-pub(crate) fn text_page(number: u64) -> Option<&'static str>
-    ensures known { IsSome result ↔ (spec.is_text_refusal number ≡ true) }
-    ensures page { IfSome result (λ page. page_of number ≡ Some page.now) }
-{
-    match number {
-        11 => Some(TOO_LONG),
-        12 => Some(BAD_BYTE),
-        13 => Some(BAD_WORD),
-        14 => Some(BAD_NUMBER),
-        15 => Some(UNEXPECTED),
-        16 => Some(TOO_DEEP),
-        17 => Some(DUPLICATE),
-        18 => Some(UNKNOWN_CLASS),
-        19 => Some(UNBOUND),
-        20 => Some(TOO_MANY_GLOBALS),
-        21 => Some(TOO_MANY_DECLARATIONS),
-        22 => Some(TOO_LARGE),
-        25 => Some(REFUSED),
-        _ => None,
-    }
-}
-
-/// The page of TooLong.
-const TOO_LONG: &str = "\
+/// The pages of the refusals from 11 on, and that of 25.
+pub(crate) const TEXT: [&str; 13] = [
+    "\
 11 TooLong
 
 The source text has more than 1048576 bytes. Nothing else in it was checked.
@@ -40,10 +14,8 @@ can come in through globals of a store file.
   $ head -c 1048577 /dev/zero | vsi
   refused: 11 TooLong
   [1]
-";
-
-/// The page of BadByte.
-const BAD_BYTE: &str = "\
+",
+    "\
 12 BadByte LINE:COLUMN
 
 No token, blank or comment begins with the byte at LINE:COLUMN. Columns count
@@ -58,10 +30,8 @@ accent or a byte order mark may have come in by copying.
   $ printf 'var x : L; x := x > 1' | vsi
   refused: 12 BadByte 1:19
   [1]
-";
-
-/// The page of BadWord.
-const BAD_WORD: &str = "\
+",
+    "\
 13 BadWord LINE:COLUMN
 
 The token at LINE:COLUMN isn't a name, a keyword or a number.
@@ -72,10 +42,8 @@ and has at most 32 of them. A number is digits alone: no `1_000`, no `0x1F`.
   $ printf 'var x : L; x := 1_000' | vsi
   refused: 13 BadWord 1:17
   [1]
-";
-
-/// The page of BadNumber.
-const BAD_NUMBER: &str = "\
+",
+    "\
 14 BadNumber LINE:COLUMN
 
 The number at LINE:COLUMN is above 9223372036854775807, the largest one.
@@ -86,10 +54,8 @@ What to do: use a smaller number. Numbers are from -9223372036854775808 to
   $ printf 'var x : L; x := 9223372036854775808' | vsi
   refused: 14 BadNumber 1:17
   [1]
-";
-
-/// The page of Unexpected.
-const UNEXPECTED: &str = "\
+",
+    "\
 15 Unexpected LINE:COLUMN
 
 The token at LINE:COLUMN can't be there, or the text ends there before the
@@ -115,10 +81,8 @@ brackets; a program without a command.
   $ printf 'var x : L; x := -1' | vsi
   refused: 15 Unexpected 1:17
   [1]
-";
-
-/// The page of TooDeep.
-const TOO_DEEP: &str = "\
+",
+    "\
 16 TooDeep LINE:COLUMN
 
 At LINE:COLUMN the program is nested more than 200 deep: in brackets, blocks,
@@ -131,10 +95,8 @@ than 200 parts needs two assignments.
   $ printf 'var x : L; x := %s' $(printf '%0201d' 0 | tr 0 '(') | vsi
   refused: 16 TooDeep 1:217
   [1]
-";
-
-/// The page of Duplicate.
-const DUPLICATE: &str = "\
+",
+    "\
 17 Duplicate LINE:COLUMN
 
 The global at LINE:COLUMN has the name of an earlier global.
@@ -145,10 +107,8 @@ name of a global, which isn't visible inside the `letvar`.
   $ printf 'var x : L; var x : H; x := 1' | vsi
   refused: 17 Duplicate 1:16
   [1]
-";
-
-/// The page of UnknownClass.
-const UNKNOWN_CLASS: &str = "\
+",
+    "\
 18 UnknownClass LINE:COLUMN
 
 The class at LINE:COLUMN isn't in the lattice.
@@ -160,10 +120,8 @@ differ.
   $ printf 'var x : Low; x := 1' | vsi
   refused: 18 UnknownClass 1:9
   [1]
-";
-
-/// The page of Unbound.
-const UNBOUND: &str = "\
+",
+    "\
 19 Unbound LINE:COLUMN
 
 The name at LINE:COLUMN isn't declared there.
@@ -176,10 +134,8 @@ not in `e`, and not after a `;` that follows. If `c` is several commands, write
   $ printf 'var x : L; letvar y := 1 in x := y; x := y' | vsi
   refused: 19 Unbound 1:42
   [1]
-";
-
-/// The page of TooManyGlobals.
-const TOO_MANY_GLOBALS: &str = "\
+",
+    "\
 20 TooManyGlobals LINE:COLUMN
 
 The global at LINE:COLUMN is the 257th.
@@ -189,10 +145,8 @@ What to do: use `letvar` for values that aren't needed at the end of the run.
   $ (seq -f 'var x%g : L;' 257; printf 'x1 := 1') | vsi
   refused: 20 TooManyGlobals 257:5
   [1]
-";
-
-/// The page of TooManyDeclarations.
-const TOO_MANY_DECLARATIONS: &str = "\
+",
+    "\
 21 TooManyDeclarations LINE:COLUMN
 
 The declaration at LINE:COLUMN is the 1025th, globals and `letvar`s together.
@@ -203,10 +157,8 @@ What to do: reuse a local variable whose earlier value isn't needed any more.
   $ (printf 'var x : L;\\n'; cat lines; printf 'x := 1') | vsi
   refused: 21 TooManyDeclarations 1025:8
   [1]
-";
-
-/// The page of TooLarge.
-const TOO_LARGE: &str = "\
+",
+    "\
 22 TooLarge
 
 The size of the program is above 65534. A number, a name that is read, an
@@ -217,10 +169,8 @@ What to do: put repeated commands into a loop, or split the program in two.
   $ (printf 'var x : L;\\n'; seq -f 'x := %g;' 32767; printf 'x := 1') | vsi
   refused: 22 TooLarge
   [1]
-";
-
-/// The page of Refused.
-const REFUSED: &str = "\
+",
+    "\
 25 Refused
 
 Information could flow from a variable to one whose class isn't at or above
@@ -249,4 +199,5 @@ overwrites.
   1:26 h flows to l by IF at 1:33
   h : H may not flow to l : L
   [1]
-";
+",
+];

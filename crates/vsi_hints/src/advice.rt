@@ -7,8 +7,7 @@ use crate::expression::{FALSE, TRUE};
 use crate::found::{Found, Sense, Shape, say};
 use crate::names::{declaration, local, named};
 use crate::offers::{hint_of, offer};
-use crate::pieces::is_one_of;
-use crate::scan::Scan;
+use crate::scan::{Scan, is_one_of};
 use crate::signs::sign;
 use crate::structure::{COUNTED, halved_at, loop_at, structure_at};
 use crate::wording::{Hint, put_sentence};
@@ -34,10 +33,8 @@ fn shape_at(scan: &Scan, at: usize) -> Option<Found> {
             body C and the guard E.";
         return say(at, at.saturating_add(1), "no loop begins with ", rest);
     }
-    if !scan.is_name(at) {
-        return sign(scan, at);
-    }
-    named(scan, at).or_else(|| sign(scan, at))
+    let found = scan.is_name(at).then(|| named(scan, at)).flatten();
+    found.or_else(|| sign(scan, at))
 }
 
 /// The constructs of other languages in order; none begins inside another one. A loop is one with
@@ -97,13 +94,8 @@ impl<'s> Advice<'s> {
 
     /// The last construct that the refused piece belongs to or directly follows.
     fn covering(&self) -> Option<Found> {
-        let mut last = None;
-        for found in &self.shapes {
-            if found.covers(self.piece) {
-                last = Some(*found);
-            }
-        }
-        last
+        let covers = |found: &&Found| found.covers(self.piece);
+        self.shapes.iter().rev().find(covers).copied()
     }
 
     /// Whether a piece is within a construct that commands are offered for.
@@ -121,11 +113,10 @@ impl<'s> Advice<'s> {
             if self.is_replaced(at) {
                 continue;
             }
-            if let Some(found) = structure_at(&self.scan, at) {
-                all.push(found)?;
-            }
-            if let Some(found) = halved_at(&self.scan, at) {
-                all.push(found)?;
+            for found in [structure_at(&self.scan, at), halved_at(&self.scan, at)] {
+                if let Some(found) = found {
+                    all.push(found)?;
+                }
             }
         }
         Ok(())

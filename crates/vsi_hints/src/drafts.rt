@@ -8,8 +8,7 @@
 
 use crate::expression::rewritten;
 use crate::found::Found;
-use crate::pieces::number_of;
-use crate::scan::Scan;
+use crate::scan::{Scan, number_of};
 use crate::structure::counting_at;
 use std::alloc::AllocError;
 use vsi_syntax::put_number;
@@ -17,10 +16,30 @@ use vsi_syntax::put_number;
 /// A text that is made from the pieces of a construct. Each method that adds to it returns whether
 /// what it adds could be written.
 #[derive(Drop)]
-pub(crate) struct Draft<'s, 't> {
-    pub(crate) scan: &'t Scan<'s>,
-    pub(crate) found: Found,
-    pub(crate) words: Vec<u8>,
+struct Draft<'s, 't> {
+    scan: &'t Scan<'s>,
+    found: Found,
+    words: Vec<u8>,
+}
+
+/// The text of an offer for pieces, if it can be written.
+pub(crate) fn text_of(
+    scan: &Scan,
+    found: &Found,
+    letters: &[u8],
+) -> Result<Option<Vec<u8>>, AllocError> {
+    let mut draft = Draft {
+        scan,
+        found: *found,
+        words: Vec::new(scan.alloc),
+    };
+    for letter in letters {
+        if !draft.put_letter(*letter)? {
+            return Ok(None);
+        }
+    }
+    let Draft { words, .. } = draft;
+    Ok(Some(words))
 }
 
 impl<'s, 't> Draft<'s, 't> {
@@ -30,21 +49,12 @@ impl<'s, 't> Draft<'s, 't> {
         Ok(true)
     }
 
-    /// Adds a piece, counted from the first one.
-    fn put_piece(&mut self, number: usize) -> Result<bool, AllocError> {
-        let text = self.scan.text(self.found.first.saturating_add(number));
-        self.put(text)
-    }
-
     /// Adds the first of some names that occurs in no piece.
     fn put_fresh(&mut self, names: &'static [u8]) -> Result<bool, AllocError> {
         let pieces = &self.scan.pieces;
-        for name in names.split(|byte| *byte == b' ') {
-            if pieces.iter().all(|piece| piece.text != name) {
-                return self.put(name);
-            }
-        }
-        self.put(b"a_name_of_its_own")
+        let is_fresh = |name: &&[u8]| pieces.iter().all(|piece| piece.text != *name);
+        let fresh = names.split(|byte| *byte == b' ').find(is_fresh);
+        self.put(fresh.unwrap_or(b"a_name_of_its_own"))
     }
 
     /// Adds the expression for a letter, written in this language.
@@ -155,21 +165,18 @@ impl<'s, 't> Draft<'s, 't> {
     }
 
     /// Adds what a letter of an offer stands for.
-    pub(crate) fn put_letter(&mut self, letter: u8) -> Result<bool, AllocError> {
+    fn put_letter(&mut self, letter: u8) -> Result<bool, AllocError> {
+        let scan = self.scan;
+        let first = self.found.first;
+        if let Some(number) = b"NAPCQ".iter().position(|other| *other == letter) {
+            return self.put(scan.text(first.saturating_add(number)));
+        }
         match letter {
-            b'N' => self.put_piece(0),
-            b'A' => self.put_piece(1),
-            b'P' => self.put_piece(2),
-            b'C' => self.put_piece(3),
-            b'Q' => self.put_piece(4),
             b'K' => self.put_fresh(b"t old kept former"),
             b'R' => self.put_fresh(b"r left rest remainder"),
             b'T' => self.put_fresh(b"q times count quotient"),
             b'E' | b'V' | b'W' | b'X' | b'Y' => self.put_value(letter),
-            b'D' => {
-                let text = self.scan.text(self.found.first);
-                self.put_number(text, 0)
-            }
+            b'D' => self.put_number(scan.text(first), 0),
             b'L' => self.put_declarations(),
             b'B' => self.put_body(),
             b'F' | b'G' | b'I' => self.put_counting(letter),

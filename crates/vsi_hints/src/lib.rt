@@ -4,8 +4,8 @@
 //! text. A text that a hint offers has been read by the reader of the language (`OffersRead`), and
 //! `put_hint` writes exactly the line of a hint (`hint_line`). Which hint is chosen is only tested.
 //!
-//! `pieces` cuts a text, `names`, `signs` and `structure` find the constructs, `drafts` and
-//! `expression` write them in this language, and `offered` lets through only texts that the reader
+//! `scan` cuts a text, `names`, `signs` and `structure` find the constructs, `drafts` and
+//! `expression` write them in this language, and `offers` lets through only texts that the reader
 //! of the language has read.
 //!
 //! To be believed: `specs/Hints` and `specs/Offered`.
@@ -14,12 +14,9 @@
 mod advice;
 mod drafts;
 mod expression;
-mod forms;
 mod found;
 mod names;
-mod offered;
 mod offers;
-mod pieces;
 mod sayings;
 mod scan;
 mod signs;

@@ -1,11 +1,9 @@
 //! The constructs of other languages that begin with a name, and declarations.
 
-use crate::expression::{FALSE, TRUE};
-use crate::forms::is_operator;
+use crate::expression::{FALSE, TRUE, is_operator};
 use crate::found::{Found, Letters, Sense, Shape, commands, offered, put, say, shaped};
-use crate::pieces::{Sort, is_one_of};
 use crate::sayings::{CALLS, COMMANDS, NONE, Saying, said, saying_in};
-use crate::scan::{Scan, after};
+use crate::scan::{Scan, Sort, after, is_one_of};
 use crate::signs::is_beyond;
 
 /// Names that declare a variable.
@@ -136,19 +134,17 @@ pub(crate) fn local_value(scan: &Scan, at: usize) -> (usize, usize) {
 
 /// A declaration by `letvar` that isn't valid here.
 pub(crate) fn local(scan: &Scan, at: usize) -> Option<Found> {
-    if let Some(found) = bad_name(scan, at.saturating_add(1)) {
-        return Some(found);
-    }
+    let found = bad_name(scan, at.saturating_add(1));
     let (sign, _) = local_value(scan, at);
-    if !scan.is(sign, b"=") {
-        return None;
+    if found.is_some() || !scan.is(sign, b"=") {
+        return found;
     }
     let rest = ": `=` compares, as in `letvar y := x + 1 in z := y`.";
     put(sign, ":=", rest)
 }
 
 /// Names for an `if` in an `else`.
-const ELSE_IF: &[u8] = b"elif elsif elseif";
+pub(crate) const ELSE_IF: &[u8] = b"elif elsif elseif";
 
 /// The signs that assign, or declare, after a name.
 const ASSIGNING: &[u8] = b":= = : , += -= *= /= %= ++ -- |= &= ^= <<= >>=";
@@ -211,11 +207,6 @@ const ASSIGNMENTS: [(&[u8], Letters); 9] = [
     (b"--", (b"N := N - 1", ONE_SIGN, "")),
 ];
 
-/// Whether a name is one for an `if` in an `else`.
-pub fn is_else_if(word: &[u8]) -> bool {
-    is_one_of(ELSE_IF, word)
-}
-
 /// The piece after the arguments of a call that begin with a piece, or after a command.
 fn call_stop(scan: &Scan, at: usize) -> usize {
     let next = at.saturating_add(1);
@@ -226,21 +217,22 @@ fn call_stop(scan: &Scan, at: usize) -> usize {
     }
 }
 
+/// The sentence for a call of a function of the text.
+const CALL: Saying = (
+    b"",
+    NONE,
+    ": you can't call functions, so write its commands in its place, as in `y := x * x`.",
+);
+
 /// A call, whose name is the piece with this number.
 fn call(scan: &Scan, at: usize) -> Option<Found> {
     let next = at.saturating_add(1);
     let has_bracket = scan.is(next, b"(");
-    if has_bracket || scan.is_command_start(at) {
-        if let Some(saying) = saying_in(&CALLS, scan.text(at)) {
-            return said(at, call_stop(scan, at), saying);
-        }
-    }
-    if !has_bracket || !scan.touches(next) {
-        return None;
-    }
-    let rest =
-        ": you can't call functions, so write its commands in its place, as in `y := x * x`.";
-    say(at, call_stop(scan, at), NONE, rest)
+    let is_call = has_bracket || scan.is_command_start(at);
+    let saying = saying_in(&CALLS, scan.text(at)).filter(|_| is_call);
+    let is_other = has_bracket && scan.touches(next);
+    let saying = saying.or(is_other.then_some(CALL))?;
+    said(at, call_stop(scan, at), saying)
 }
 
 /// The piece after a name that begins or ends a command, with what belongs to it.
@@ -278,11 +270,9 @@ fn word(scan: &Scan, at: usize) -> Option<Found> {
 
 /// A name that begins or ends a command.
 fn command_word(scan: &Scan, at: usize) -> Option<Found> {
-    if !scan.is_after_operand(at) && !scan.is_command_start(at) {
-        return None;
-    }
     let saying = saying_in(&COMMANDS, scan.text(at))?;
-    said(at, command_next(scan, at, saying), saying)
+    let is_apart = scan.is_after_operand(at) || scan.is_command_start(at);
+    is_apart.then(|| said(at, command_next(scan, at, saying), saying))?
 }
 
 /// Commands in place of pieces with a value up to a piece; in place of those before the value, if it
@@ -325,22 +315,12 @@ fn twice(scan: &Scan, at: usize) -> Option<Found> {
     if scan.is_any(next, b":= ,") || scan.is(end, b"=") {
         return shaped(at, next, Shape::Tell(plain));
     }
-    let text = if at == 0 || scan.is_after(at, b"; { }") {
-        b"P := V; N := P".as_slice()
+    let text: &'static [u8] = if at == 0 || scan.is_after(at, b"; { }") {
+        b"P := V; N := P"
     } else {
-        b"{ P := V; N := P }".as_slice()
+        b"{ P := V; N := P }"
     };
     rewriting(scan, at, value, next, (text, ONE_VARIABLE, plain))
-}
-
-/// A command that begins with a name and isn't valid here.
-fn assignment(scan: &Scan, at: usize) -> Option<Found> {
-    if !scan.is_command_start(at) {
-        return None;
-    }
-    twice(scan, at)
-        .or_else(|| division(scan, at))
-        .or_else(|| assigned(scan, at))
 }
 
 /// A command that assigns by another sign, or to several names, or declares.
@@ -373,7 +353,11 @@ fn assigned(scan: &Scan, at: usize) -> Option<Found> {
 
 /// The construct that a name begins.
 pub(crate) fn named(scan: &Scan, at: usize) -> Option<Found> {
-    word(scan, at)
-        .or_else(|| hyphen(scan, at))
-        .or_else(|| assignment(scan, at))
+    let found = word(scan, at).or_else(|| hyphen(scan, at));
+    if found.is_some() || !scan.is_command_start(at) {
+        return found;
+    }
+    twice(scan, at)
+        .or_else(|| division(scan, at))
+        .or_else(|| assigned(scan, at))
 }

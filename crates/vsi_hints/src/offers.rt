@@ -1,33 +1,103 @@
 //! The hint for a construct of another language: a text that may replace it, if the reader of the
 //! language has read one, or else a fixed sentence.
 
-ghost use Rattle.std.specs.Prelude.{◌≡◌, ◌++◌, IfOk, IfSome, codes, true};
+ghost use Rattle.std.specs.Prelude.{◌≡◌, ◌++◌, ℕ, IfOk, IfSome, List, codes, true};
+ghost use Rattle.vsi_syntax.specs.ProgramView.{whole};
+ghost use Rattle.vsi_syntax.specs.CommandView.{body_of, command};
+ghost use Rattle.vsi_syntax.specs.Tree.{Assign, Done, Named, Then, Tree};
 ghost use Rattle.vsi_hints.specs.Hints.{IsRead, OffersRead};
-ghost use Rattle.vsi_hints.specs.Offered.{IsProgramText};
+ghost use Rattle.vsi_hints.specs.Offered.{IsExpression, IsProgramText, IsTreeOf, assigning};
 
-use crate::drafts::Draft;
-use crate::forms::operator_text;
+use crate::drafts::text_of;
+use crate::expression::operator_text;
 use crate::found::{Found, Sense, Shape};
-use crate::offered::{is_expression, is_program};
 use crate::sayings::narrow;
 use crate::scan::Scan;
 use crate::wording::{Hint, LONGEST, Reason};
 use std::alloc::{AllocError, Global};
+use vsi_syntax::{LexError, ParseError, Program, Stmt, lex, parse};
 
-/// The text of an offer for pieces, if it can be written.
-fn text_of(scan: &Scan, found: &Found, letters: &[u8]) -> Result<Option<Vec<u8>>, AllocError> {
-    let mut draft = Draft {
-        scan,
-        found: *found,
-        words: Vec::new(scan.alloc),
+/// The program of a text, if it is one.
+fn program_of<'a>(alloc: Global, text: &'a [u8]) -> Result<Option<Program<'a>>, AllocError>
+    ensures { IfOk result (λ found. IfSome found (λ p. IsTreeOf text.now (whole p))) }
+{
+    let tokens = match lex(alloc, text) {
+        Ok(tokens) => tokens,
+        Err(LexError::Memory) => return Err(AllocError),
+        Err(_) => return Ok(None),
     };
-    for letter in letters {
-        if !draft.put_letter(*letter)? {
-            return Ok(None);
-        }
+    match parse(alloc, &tokens) {
+        Ok(program) => Ok(Some(program)),
+        Err(ParseError::Memory) => Err(AllocError),
+        Err(_) => Ok(None),
     }
-    let Draft { words, .. } = draft;
-    Ok(Some(words))
+}
+
+/// Whether a text is a program.
+fn is_program(alloc: Global, text: &[u8]) -> Result<bool, AllocError>
+    ensures { IfOk result (λ is. is ≡ true → IsProgramText text.now) }
+{
+    match program_of(alloc, text)? {
+        Some(_program) => Ok(true),
+        None => Ok(false),
+    }
+}
+
+/// Whether a command is an assignment.
+fn is_assignment<'a>(written: &Stmt<'a>) -> bool
+    ensures { result ≡ true → (name : Named) × ((value : Tree) × (command written.now
+        ≡ Assign name value)) }
+{
+    let Stmt::Assign(_name, _value) = written else {
+        return false;
+    };
+    true
+}
+
+/// Whether commands are one assignment.
+fn is_one_assignment<'a>(body: &[Stmt<'a>]) -> bool
+    ensures { result ≡ true → (name : Named) × ((value : Tree) × (body_of body.now
+        ≡ Then (Assign name value) Done)) }
+{
+    let [only] = body else {
+        return false;
+    };
+    is_assignment(only)
+}
+
+/// Whether a program consists of one assignment.
+fn is_alone<'a>(program: &Program<'a>) -> bool
+    ensures { result ≡ true → (name : Named) × ((value : Tree) × (whole program.now
+        ≡ assigning name value)) }
+{
+    let globals = program.globals();
+    let body = program.body();
+    if globals.is_empty() {
+        is_one_assignment(body)
+    } else {
+        false
+    }
+}
+
+/// Whether a text is a program that consists of one assignment.
+fn assigns(alloc: Global, text: &[u8]) -> Result<bool, AllocError>
+    ensures { IfOk result (λ is. is ≡ true →
+        (name : Named) × ((value : Tree) × IsTreeOf text.now (assigning name value))) }
+{
+    match program_of(alloc, text)? {
+        Some(program) => Ok(is_alone(&program)),
+        None => Ok(false),
+    }
+}
+
+/// Whether a text is an expression.
+fn is_expression(alloc: Global, text: &[u8]) -> Result<bool, AllocError>
+    ensures { IfOk result (λ is. is ≡ true → IsExpression text.now) }
+{
+    let mut assignment = Vec::new(alloc);
+    assignment.extend_from_slice(b"x := ")?;
+    assignment.extend_from_slice(text)?;
+    assigns(alloc, &assignment)
 }
 
 /// Whether a text declares variables.
@@ -86,31 +156,9 @@ fn reason<'s>(scan: &Scan<'s>, shape: Shape) -> Reason<'s> {
     }
 }
 
-/// The hint for a comment.
-fn comment_hint<'s>(text: &'s [u8]) -> Hint<'s>
-    ensures { OffersRead result }
-{
-    if text.starts_with(b"/*") {
-        return Hint::Plain(
-            "begin each line of a comment with `#`, as in `# count`: it ends with its line, and \
-            there is no `/*`.",
-        );
-    }
-    let mark = &text[..text.len().min(2)];
-    let rest = ": a comment ends with its line, as in `# count`.";
-    Hint::Put("#", mark, rest)
-}
-
-/// The hint for an operator whose operands aren't rewritten, if there is one.
-fn operator_hint<'s>(sign: &'s [u8]) -> Option<Hint<'s>>
-    ensures { IfSome result OffersRead }
-{
-    let text = operator_text(sign)?;
-    if matches!(sign, [b'<' | b'=']) {
-        return None;
-    }
-    Some(Hint::Operator(text, sign))
-}
+/// The sentence for a comment of several lines.
+const BLOCK: &str = "begin each line of a comment with `#`, as in `# count`: it ends with its \
+    line, and there is no `/*`.";
 
 /// The hint for pieces for which no text is offered, if there is one.
 fn fixed_hint<'s>(scan: &Scan<'s>, found: &Found, replaced: &'s [u8]) -> Option<Hint<'s>>
@@ -118,14 +166,19 @@ fn fixed_hint<'s>(scan: &Scan<'s>, found: &Found, replaced: &'s [u8]) -> Option<
 {
     let text = scan.text(found.first);
     match found.shape {
-        Shape::Say(before, after) if before == "remove " => {
-            Some(Hint::Piece(before, replaced, after))
-        }
+        Shape::Say("remove ", after) => Some(Hint::Piece("remove ", replaced, after)),
         Shape::Say(before, after) => Some(Hint::Piece(before, narrow(text), after)),
         Shape::Tell(sentence) => Some(Hint::Plain(sentence)),
         Shape::Put(new, rest) => Some(Hint::Put(new, text, rest)),
-        Shape::Comment => Some(comment_hint(text)),
-        Shape::Value(cause) => operator_hint(scan.text(cause)),
+        Shape::Comment if text.starts_with(b"/*") => Some(Hint::Plain(BLOCK)),
+        Shape::Comment => {
+            let rest = ": a comment ends with its line, as in `# count`.";
+            Some(Hint::Put("#", &text[..text.len().min(2)], rest))
+        }
+        Shape::Value(cause) => match scan.text(cause) {
+            [b'<' | b'='] => None,
+            sign => Some(Hint::Operator(operator_text(sign)?, sign)),
+        },
         Shape::Offer(_, _, _, "") => None,
         Shape::Offer(_, _, _, plain) => Some(Hint::Plain(plain)),
     }

@@ -1,7 +1,7 @@
 //! Names and signs of other languages without a replacement, and what to do instead.
 
 use crate::found::{Found, say};
-use crate::pieces::{is_one_of, up_to};
+use crate::scan::is_one_of;
 
 /// Names or signs of other languages with blanks between them, and the two parts of a sentence
 /// around one of them.
@@ -93,14 +93,10 @@ pub(crate) const BITS: Saying = (
 pub(crate) fn saying_in(sayings: &[&'static str], word: &[u8]) -> Option<Saying> {
     for saying in sayings {
         let saying: &'static str = *saying;
-        let bytes = saying.as_bytes();
-        let words = bytes.get(..up_to(bytes, b'\n')).unwrap_or(b"");
-        if is_one_of(words, word) {
-            let (_, rest) = saying.split_once("\n")?;
-            return Some(match rest.split_once("\n") {
-                Some((before, after)) => (words, before, after),
-                None => (words, NONE, rest),
-            });
+        let (words, rest) = saying.split_once("\n")?;
+        if is_one_of(words.as_bytes(), word) {
+            let (before, after) = rest.split_once("\n").unwrap_or((NONE, rest));
+            return Some((words.as_bytes(), before, after));
         }
     }
     None

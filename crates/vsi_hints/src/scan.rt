@@ -1,10 +1,187 @@
-//! The pieces around a position in a text.
+//! A text of another language, cut into pieces: words, numbers, signs, texts and comments.
 
-use crate::expression::NO_OPERANDS;
-use crate::forms::is_operator;
-use crate::pieces::{Piece, Sort, is_one_of, pieces_of};
+use crate::expression::{NO_OPERANDS, is_operator};
 use crate::sayings::narrow;
 use std::alloc::{AllocError, Global};
+
+/// The largest number of pieces of a text that is examined; the rest of a longer text is not.
+const MOST: usize = 4096;
+
+/// The sort of a piece.
+#[derive(Clone, Copy, PartialEq, Eq)]
+pub(crate) enum Sort {
+    /// Letters, digits and `_`, beginning with a letter or `_`.
+    Word,
+    /// The same and `.`, beginning with a digit.
+    Number,
+    /// A sign of ASCII.
+    Sign,
+    /// A text between quotes.
+    Quoted,
+    /// A comment of another language.
+    Comment,
+    /// A character outside of ASCII.
+    Strange,
+}
+
+/// A piece of a text, and its position.
+#[derive(Clone, Copy)]
+pub(crate) struct Piece<'a> {
+    pub sort: Sort,
+    pub text: &'a [u8],
+    pub at: usize,
+    /// Whether it is the first piece of its line.
+    pub is_first: bool,
+}
+
+/// The signs of more than one byte, longer ones first.
+const SIGNS: &[u8] = b">>>= === !== **= //= <<= >>= >>> << >> |= &= ^= := == != <> ~= <= >= =< => \
+    && || ** ++ -- += -= *= /= %= ->";
+
+/// Whether a word is one of these, which have blanks between them.
+pub(crate) fn is_one_of(words: &[u8], word: &[u8]) -> bool {
+    words.split(|byte| *byte == b' ').any(|one| one == word)
+}
+
+/// The number of bytes of a text before the first of these, or of all.
+fn up_to(text: &[u8], stop: u8) -> usize {
+    let found = text.iter().position(|byte| *byte == stop);
+    found.unwrap_or(text.len())
+}
+
+/// The number of bytes of a text up to the end of a part of it that begins before `from`.
+fn up_to_end(text: &[u8], from: usize, end: &[u8]) -> usize {
+    let is_end = |at: &usize| text.get(*at..).unwrap_or(b"").starts_with(end);
+    let found = (from..text.len()).find(is_end);
+    found.map_or(text.len(), |at| at.saturating_add(end.len()))
+}
+
+/// The number of bytes of the name or the number at the beginning of a text. A point belongs to a
+/// number if a digit follows.
+fn word_length(rest: &[u8], is_number: bool) -> usize {
+    for (at, byte) in rest.iter().enumerate() {
+        let next = rest.get(at.saturating_add(1));
+        let is_point = is_number && *byte == b'.' && matches!(next, Some(b'0'..=b'9'));
+        if !byte.is_ascii_alphanumeric() && *byte != b'_' && !is_point {
+            return at;
+        }
+    }
+    rest.len()
+}
+
+/// The number of bytes of a text between quotes. It ends with its line at the latest.
+fn quoted_length(rest: &[u8], quote: u8) -> usize {
+    let line = &rest[..up_to(rest, b'\n').min(rest.len())];
+    up_to_end(line, 1, &[quote])
+}
+
+/// The number of bytes of a character outside of ASCII.
+fn strange_length(rest: &[u8]) -> usize {
+    let further = rest.iter().skip(1).take(3);
+    further
+        .take_while(|byte| matches!(**byte, 128..=191))
+        .count()
+        .saturating_add(1)
+}
+
+/// The number of bytes of the sign at the beginning of a text.
+fn sign_length(rest: &[u8]) -> usize {
+    let mut signs = SIGNS.split(|byte| *byte == b' ');
+    signs
+        .find(|sign| rest.starts_with(*sign))
+        .map_or(1, |sign| sign.len())
+}
+
+/// Whether a text begins with a comment that ends with its line. In Python `//` divides by the
+/// number after it.
+fn is_line_comment(rest: &[u8], is_begun: bool) -> bool {
+    if !rest.starts_with(b"//") {
+        return is_begun && rest.starts_with(b"-- ");
+    }
+    let after = rest.get(2..).unwrap_or(b"");
+    !matches!(after.trim_ascii_start().first(), Some(b'0'..=b'9'))
+}
+
+/// The sort and the length of the piece at the beginning of a text.
+fn measured(rest: &[u8], is_begun: bool) -> (Sort, usize) {
+    if is_line_comment(rest, is_begun) {
+        return (Sort::Comment, up_to(rest, b'\n'));
+    }
+    match rest {
+        [b'/', b'*', ..] => (Sort::Comment, up_to_end(rest, 2, b"*/")),
+        [b'a'..=b'z' | b'A'..=b'Z' | b'_', ..] => (Sort::Word, word_length(rest, false)),
+        [b'0'..=b'9', ..] => (Sort::Number, word_length(rest, true)),
+        [b'"', ..] => (Sort::Quoted, quoted_length(rest, b'"')),
+        [b'\'', ..] => (Sort::Quoted, quoted_length(rest, b'\'')),
+        [128..=255, ..] => (Sort::Strange, strange_length(rest)),
+        _ => (Sort::Sign, sign_length(rest)),
+    }
+}
+
+/// The pieces of a text, without the blanks and the comments of the language.
+fn pieces_of<'a>(alloc: Global, source: &'a [u8]) -> Result<Vec<Piece<'a>>, AllocError> {
+    let mut pieces = Vec::new(alloc);
+    let mut at: usize = 0;
+    let mut is_first = true;
+    let mut is_begun = true;
+    for _ in 0..source.len() {
+        let rest = &source[at.min(source.len())..];
+        let [byte, ..] = rest else {
+            return Ok(pieces);
+        };
+        if pieces.len() >= MOST {
+            return Ok(pieces);
+        }
+        if *byte == b'#' {
+            at = at.saturating_add(up_to(rest, b'\n'));
+        } else if matches!(*byte, b' ' | b'\t' | b'\r' | b'\n') {
+            is_first = is_first || *byte == b'\n';
+            at = at.saturating_add(1);
+        } else {
+            let (sort, length) = measured(rest, is_first || is_begun);
+            let text = &rest[..length.min(rest.len())];
+            pieces.push(Piece {
+                sort,
+                text,
+                at,
+                is_first,
+            })?;
+            is_first = false;
+            is_begun = matches!(text, [b';' | b'{' | b'}']);
+            at = at.saturating_add(length.max(1));
+        }
+    }
+    Ok(pieces)
+}
+
+/// The digits of a number, and their base.
+fn digits_of(text: &[u8]) -> (&[u8], u64) {
+    match text {
+        [b'0', b'x' | b'X', digits @ ..] => (digits, 16),
+        [b'0', b'b' | b'B', digits @ ..] => (digits, 2),
+        [b'0', b'o' | b'O', digits @ ..] => (digits, 8),
+        [digits @ .., b'l' | b'L' | b'u' | b'U'] => (digits, 10),
+        other => (other, 10),
+    }
+}
+
+/// The value of a whole number of another language, if this language can write it.
+pub(crate) fn number_of(text: &[u8]) -> Option<u64> {
+    let (digits, base) = digits_of(text);
+    let mut value: u64 = 0;
+    for byte in digits {
+        if *byte == b'_' {
+            continue;
+        }
+        let digit = char::from(*byte).to_digit(16)? as u64;
+        if digit >= base {
+            return None;
+        }
+        value = value.checked_mul(base)?.checked_add(digit)?;
+    }
+    let is_number = !digits.is_empty() && value <= 9_223_372_036_854_775_807;
+    is_number.then_some(value)
+}
 
 /// A text and its pieces.
 #[derive(Drop)]
@@ -139,38 +316,28 @@ impl<'s> Scan<'s> {
 
     /// Whether a name is declared somewhere in the text.
     pub(crate) fn is_declared(&self, name: &[u8]) -> bool {
-        for at in 1..self.pieces.len() {
-            if self.is(at, name) && self.is_after(at, DECLARING) {
-                return true;
-            }
-        }
-        false
+        (1..self.pieces.len()).any(|at| self.is(at, name) && self.is_after(at, DECLARING))
     }
 
     /// Whether a sign comes after a name with which a command begins.
     pub(crate) fn is_assignment(&self, at: usize) -> bool {
-        match at.checked_sub(1) {
-            Some(name) => self.is_name(name) && self.is_command_start(name),
-            None => false,
-        }
+        let is_begun = |name| self.is_name(name) && self.is_command_start(name);
+        at.checked_sub(1).is_some_and(is_begun)
     }
 
     /// The piece with which the expression around a piece begins.
     pub(crate) fn value_start(&self, at: usize) -> usize {
-        let mut start = at;
-        for _ in 0..self.pieces.len() {
-            let Some(before) = start.checked_sub(1) else {
-                return start;
-            };
-            let begins = self.is_any(before, VALUE_STARTS)
+        for start in (1..at.saturating_add(1)).rev() {
+            let before = start.saturating_sub(1);
+            if self.is_any(before, VALUE_STARTS)
                 || self.piece(before).sort == Sort::Comment
-                || self.is(before, b"=") && self.is_assignment(before);
-            if begins || (self.piece(start).is_first && self.is_command_start(start)) {
+                || self.is(before, b"=") && self.is_assignment(before)
+                || self.piece(start).is_first && self.is_command_start(start)
+            {
                 return start;
             }
-            start = before;
         }
-        start
+        0
     }
 
     /// Whether a piece is an operand, or begins a call.
@@ -264,11 +431,8 @@ impl<'s> Scan<'s> {
 
     /// The piece at which the command around a piece has ended.
     pub(crate) fn command_stop(&self, at: usize) -> usize {
-        for place in at.saturating_add(1)..self.pieces.len() {
-            if self.piece(place).is_first || self.is_any(place, b"; { } :") {
-                return place;
-            }
-        }
-        self.pieces.len()
+        let count = self.pieces.len();
+        let ends = |place: &usize| self.piece(*place).is_first || self.is_any(*place, b"; { } :");
+        (at.saturating_add(1)..count).find(ends).unwrap_or(count)
     }
 }

@@ -1,10 +1,9 @@
 //! The constructs of other languages that begin with a sign, a number, a text or a comment.
 
-use crate::forms::is_operator;
-use crate::found::{Found, Sense, Shape, offered, say, shaped};
-use crate::pieces::{Sort, number_of};
+use crate::expression::is_operator;
+use crate::found::{Found, Letters, Sense, Shape, offered, say, shaped};
 use crate::sayings::{BITS, SIGNS, Saying, character_saying, narrow, said, saying_in};
-use crate::scan::Scan;
+use crate::scan::{Scan, Sort, number_of};
 
 /// The signs and names that compare.
 const COMPARING: &[u8] = b"= == === < > <= =< >= != !== <> ~= not !";
@@ -12,27 +11,22 @@ const COMPARING: &[u8] = b"= == === < > <= =< >= != !== <> ~= not !";
 /// Whether a sign joins the bits of two numbers: a number follows it, or nothing around it
 /// compares.
 fn joins_bits(scan: &Scan, at: usize) -> bool {
-    if !scan.is_any(at, b"& |") {
-        return false;
-    }
-    if scan.piece(at.saturating_add(1)).sort == Sort::Number {
-        return true;
-    }
-    let start = scan.value_start(at);
-    !(start..scan.value_stop(start)).any(|place| scan.is_any(place, COMPARING))
+    let compares = || {
+        let start = scan.value_start(at);
+        (start..scan.value_stop(start)).any(|place| scan.is_any(place, COMPARING))
+    };
+    let is_before_number = scan.piece(at.saturating_add(1)).sort == Sort::Number;
+    scan.is_any(at, b"& |") && (is_before_number || !compares())
 }
 
 /// The sentence for an operator that no expression replaces, if it is one: it joins bits, or is a
 /// power whose exponent is no small number.
 fn unwritten(scan: &Scan, at: usize) -> Option<Saying> {
-    if joins_bits(scan, at) {
-        return Some(BITS);
-    }
     let has_exponent = matches!(scan.text(at.saturating_add(1)), [b'2'..=b'4']);
     if scan.is_any(at, b"^ **") && !has_exponent {
         return saying_in(&SIGNS, scan.text(at));
     }
-    None
+    joins_bits(scan, at).then_some(BITS)
 }
 
 /// Whether a piece is an operator without a translation, or begins a call.
@@ -104,6 +98,9 @@ fn quoted(scan: &Scan, at: usize) -> Option<Found> {
     say(at, next, "there are no strings such as ", rest)
 }
 
+/// A number in the digits of this language.
+const DIGITS: Letters = (b"D", ": a number has only digits.", "");
+
 /// A number that a command assigns to, or that the language writes differently or can't write.
 fn number(scan: &Scan, at: usize) -> Option<Found> {
     let text = scan.text(at);
@@ -119,12 +116,7 @@ fn number(scan: &Scan, at: usize) -> Option<Found> {
     if text.iter().all(|byte| byte.is_ascii_digit()) || number_of(text).is_none() {
         return None;
     }
-    offered(
-        at,
-        next,
-        Sense::Expression,
-        (b"D", ": a number has only digits.", ""),
-    )
+    offered(at, next, Sense::Expression, DIGITS)
 }
 
 /// A character outside of ASCII. A wide `=` after the name that a command assigns to is half of a

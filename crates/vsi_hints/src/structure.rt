@@ -2,7 +2,7 @@
 //! languages.
 
 use crate::found::{Found, commands, put, say};
-use crate::names::{is_else_if, local_value};
+use crate::names::{ELSE_IF, local_value};
 use crate::sayings::{COMMANDS, NONE, saying_in};
 use crate::scan::{DECLARING, Scan};
 use crate::wording::LONGEST;
@@ -54,14 +54,8 @@ fn is_command(scan: &Scan, at: usize) -> bool {
 
 /// Whether the line before a piece begins with a keyword that takes a guard or a branch.
 fn is_after_guard(scan: &Scan, at: usize) -> bool {
-    let mut place = at;
-    for _ in 0..at {
-        place = place.saturating_sub(1);
-        if scan.piece(place).is_first {
-            return scan.is_any(place, b"if while }") || scan.is_any(place, ELSE);
-        }
-    }
-    false
+    let first = (0..at).rev().find(|place| scan.piece(*place).is_first);
+    first.is_some_and(|place| scan.is_any(place, b"if while }") || scan.is_any(place, ELSE))
 }
 
 /// A command on a line of its own, after one that has no `;`.
@@ -86,26 +80,19 @@ fn unended(scan: &Scan, at: usize) -> Option<Found> {
 fn branch_stop(scan: &Scan, at: usize) -> Option<usize> {
     if scan.is(at, b"{") {
         let stop = scan.after_closing(at, b'{', b'}');
-        let is_closed = scan.is(stop.saturating_sub(1), b"}");
-        return if is_closed { Some(stop) } else { None };
+        return scan.is(stop.saturating_sub(1), b"}").then_some(stop);
     }
-    if !is_command(scan, at) || scan.is_keyword(at) {
-        return None;
-    }
-    Some(scan.value_stop(at.saturating_add(2)))
+    let is_assignment = is_command(scan, at) && !scan.is_keyword(at);
+    is_assignment.then(|| scan.value_stop(at.saturating_add(2)))
 }
 
 /// Whether an `else` comes after more than one command.
 fn has_late_else(scan: &Scan, stop: usize) -> bool {
-    if !scan.is(stop, b";") || scan.is(stop.saturating_add(1), b"else") {
-        return false;
-    }
-    for at in stop..scan.pieces.len() {
-        if scan.is_any(at, b"else if { }") {
-            return scan.is(at, b"else");
-        }
-    }
-    false
+    let is_end = |at: &usize| scan.is_any(*at, b"else if { }");
+    let mut rest = stop..scan.pieces.len();
+    scan.is(stop, b";")
+        && !scan.is(stop.saturating_add(1), b"else")
+        && rest.find(is_end).is_some_and(|at| scan.is(at, b"else"))
 }
 
 /// A `letvar` without its `in`.
@@ -117,24 +104,6 @@ fn unbound(scan: &Scan, at: usize) -> Option<Found> {
     let rest =
         ", and { } around the commands that use it, as in `letvar y := 1 in { x := y; z := y }`.";
     say(at, stop, "put `in` after the value of this ", rest)
-}
-
-/// An `if` without an `else`.
-fn halved(scan: &Scan, at: usize) -> Option<Found> {
-    let guard = scan.value_stop(at.saturating_add(1));
-    let branch = guard.saturating_add(usize::from(scan.is_any(guard, b"then :")));
-    let stop = branch_stop(scan, branch)?;
-    if has_late_else(scan, stop) {
-        let before = "put { } around several commands in a branch of this ";
-        let rest = ", as in `if x < 1 then { y := 1; z := 2 } else y := 2`.";
-        return say(at, stop, before, rest);
-    }
-    let is_closed = scan.is(stop, b";") || scan.is(stop, b"}") && !scan.is(branch, b"{");
-    if scan.is_any(stop.saturating_add(usize::from(is_closed)), ELSE) {
-        return None;
-    }
-    let rest = " an `else`, which may do nothing, as in `if x < 1 then x := 1 else x := x`.";
-    say(at, stop, "give this ", rest)
 }
 
 /// An `if` after a value that is assigned, as other languages choose between two values.
@@ -170,11 +139,10 @@ pub(crate) fn structure_at(scan: &Scan, at: usize) -> Option<Found> {
     if scan.is_after(at, DECLARING) {
         return None;
     }
-    conditional(scan, at).or_else(|| missing(scan, at))
-}
-
-/// A keyword or a sign that a construct of the language lacks at a piece, or has too much.
-fn missing(scan: &Scan, at: usize) -> Option<Found> {
+    let found = conditional(scan, at);
+    if found.is_some() {
+        return found;
+    }
     let next = at.saturating_add(1);
     match scan.text(at) {
         [b'l', b'e', b't', b'v', b'a', b'r'] => unbound(scan, at),
@@ -196,17 +164,32 @@ fn missing(scan: &Scan, at: usize) -> Option<Found> {
 
 /// An `if` without an `else` at a piece.
 pub(crate) fn halved_at(scan: &Scan, at: usize) -> Option<Found> {
-    let is_if = scan.is(at, b"if") || is_else_if(scan.text(at));
-    if is_if && conditional(scan, at).is_none() {
-        halved(scan, at)
-    } else {
-        None
+    let is_if = scan.is(at, b"if") || scan.is_any(at, ELSE_IF);
+    if !is_if || conditional(scan, at).is_some() {
+        return None;
     }
+    let guard = scan.value_stop(at.saturating_add(1));
+    let branch = guard.saturating_add(usize::from(scan.is_any(guard, b"then :")));
+    let stop = branch_stop(scan, branch)?;
+    if has_late_else(scan, stop) {
+        let before = "put { } around several commands in a branch of this ";
+        let rest = ", as in `if x < 1 then { y := 1; z := 2 } else y := 2`.";
+        return say(at, stop, before, rest);
+    }
+    let is_closed = scan.is(stop, b";") || scan.is(stop, b"}") && !scan.is(branch, b"{");
+    if scan.is_any(stop.saturating_add(usize::from(is_closed)), ELSE) {
+        return None;
+    }
+    let rest = " an `else`, which may do nothing, as in `if x < 1 then x := 1 else x := x`.";
+    say(at, stop, "give this ", rest)
 }
 
 /// How a counting loop goes on after its counter, and how far from there its first number, its limit
 /// and its body are. It counts from 0 if that is the first number.
-const COUNTING: [(&[u8], usize, usize, usize); 6] = [
+type Counting = (&'static [u8], usize, usize, usize);
+
+/// The counting loops of other languages.
+const COUNTING: [Counting; 6] = [
     (b":= * to * do", 2, 4, 6),
     (b"= * to * do", 2, 4, 6),
     (b"in range ( * ) :", 0, 4, 7),
@@ -228,14 +211,10 @@ pub(crate) fn counting_at(scan: &Scan, start: usize) -> Option<(usize, usize, us
         let is_before = scan.is_any(counter, b"( int let var");
         counter = counter.saturating_add(usize::from(is_before));
     }
-    for (beginning, first, limit, body) in COUNTING.as_slice() {
-        if scan.begins(counter.saturating_add(1), *beginning) {
-            let first = counter.saturating_add(*first);
-            let limit = counter.saturating_add(*limit);
-            return Some((counter, first, limit, counter.saturating_add(*body)));
-        }
-    }
-    None
+    let is_begun = |form: &&Counting| scan.begins(counter.saturating_add(1), form.0);
+    let (_, first, limit, body) = *COUNTING.as_slice().iter().find(is_begun)?;
+    let place = |number: usize| counter.saturating_add(number);
+    Some((counter, place(first), place(limit), place(body)))
 }
 
 /// A loop that counts, if its body assigns neither to the counter nor to the limit.
@@ -251,31 +230,24 @@ fn counting(scan: &Scan, start: usize) -> Option<Found> {
             return None;
         }
     }
-    let text = if scan.is_declared(scan.text(counter)) {
-        b"{ I := F; while I < G do { B; I := I + 1 } }".as_slice()
+    let text: &'static [u8] = if scan.is_declared(scan.text(counter)) {
+        b"{ I := F; while I < G do { B; I := I + 1 } }"
     } else {
-        b"letvar I := F in while I < G do { B; I := I + 1 }".as_slice()
+        b"letvar I := F in while I < G do { B; I := I + 1 }"
     };
     commands(start, body, next, (text, COUNTED, ""))
 }
 
 /// A loop with its test after its body.
 fn tested(scan: &Scan, start: usize) -> Option<Found> {
-    let (word, text) = if scan.is(start, b"do") {
-        (b"while".as_slice(), b"{ B; while V do { B } }".as_slice())
+    let (word, text): (&[u8], &'static [u8]) = if scan.is(start, b"do") {
+        (b"while", b"{ B; while V do { B } }")
     } else {
-        (
-            b"until".as_slice(),
-            b"{ B; while X = 0 do { B } }".as_slice(),
-        )
+        (b"until", b"{ B; while X = 0 do { B } }")
     };
-    for at in start..scan.pieces.len() {
-        if scan.is(at, word) {
-            let value = at.saturating_add(1);
-            let next = scan.value_stop(value);
-            if !scan.is_any(next, b"do {") {
-                return commands(start, value, next, (text, TESTED, ""));
-            }
+    for value in start.saturating_add(1)..scan.pieces.len().saturating_add(1) {
+        if scan.is_after(value, word) && !scan.is_any(scan.value_stop(value), b"do {") {
+            return commands(start, value, scan.value_stop(value), (text, TESTED, ""));
         }
     }
     None
@@ -291,10 +263,7 @@ pub(crate) fn loop_at(scan: &Scan, start: usize) -> Option<Found> {
         return None;
     };
     let longest = scan.piece(start).at.saturating_add(LONGEST);
-    for at in start.saturating_add(1)..found.next {
-        if scan.piece(at).is_first || scan.stop(at) > longest {
-            return None;
-        }
-    }
-    Some(found)
+    let is_long = |at| scan.piece(at).is_first || scan.stop(at) > longest;
+    let is_short = !(start.saturating_add(1)..found.next).any(is_long);
+    is_short.then_some(found)
 }

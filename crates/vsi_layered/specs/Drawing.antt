@@ -19,11 +19,6 @@ pub record IsWithin (inner outer : Place) : Type 0 where
   pub top : outer.top ≤ inner.top
   pub foot : inner.top + inner.high ≤ outer.top + outer.high
 
--- The box is within a picture of that width and height.
-pub record IsInside (wide high : ℕ) (place : Place) : Type 0 where
-  pub right : place.left + place.wide ≤ wide
-  pub foot : place.top + place.high ≤ high
-
 -- Two boxes have no point in common: one is at the left of the other, or above it.
 abbrev pub AreApart : Place → Place → Type 0
 AreApart a b =
@@ -41,10 +36,9 @@ abbrev pub AllSized : List Node → List Place → Type 0
 AllSized nodes places =
     (k : ℕ) (n : Node) (d : Place) → k < length nodes → HasSize (slice_index_or nodes k n) (slice_index_or places k d)
 
--- Each box of the list is within a picture of that width and height.
-abbrev pub AllInside : ℕ → ℕ → List Place → Type 0
-AllInside wide high places =
-    (k : ℕ) (d : Place) → k < length places → IsInside wide high (slice_index_or places k d)
+-- Each box of the list is within the frame.
+abbrev pub AllInside : Place → List Place → Type 0
+AllInside frame places = (k : ℕ) (d : Place) → k < length places → IsWithin (slice_index_or places k d) frame
 
 -- The box of each node is within the box of its group.
 abbrev pub AllWithin : List Node → List Place → List Place → Type 0
@@ -52,13 +46,17 @@ AllWithin nodes places groups =
     (k : ℕ) (n : Node) (d : Place) → k < length nodes
     → IsWithin (slice_index_or places k d) (slice_index_or groups (slice_index_or nodes k n).group d)
 
+-- The frame of a drawing with that width and height.
+abbrev pub frame : ℕ → ℕ → Place
+frame wide high = record { left = 0; top = 0; wide = wide; high = high }
+
 -- The drawing has a box for each node, of the size that it asks for and within the box of its group; no two boxes of
 -- nodes or of groups overlap, and all are within the width and the height of the drawing.
 pub record IsSound (nodes : List Node) (drawing : Drawing) : Type 0 where
   pub count : length drawing.places.items ≡ length nodes
   pub sized : AllSized nodes drawing.places.items
-  pub inside : AllInside drawing.wide drawing.high drawing.places.items
-  pub framed : AllInside drawing.wide drawing.high drawing.groups.items
+  pub inside : AllInside (frame drawing.wide drawing.high) drawing.places.items
+  pub framed : AllInside (frame drawing.wide drawing.high) drawing.groups.items
   pub within : AllWithin nodes drawing.places.items drawing.groups.items
   pub apart : AllApart drawing.places.items
   pub groups : AllApart drawing.groups.items

@@ -2,14 +2,13 @@
 
 ghost use Rattle.std.specs.Prelude.{◌≡◌, ◌≤◌, ◌<◌, ◌+◌, ℕ, length, IsTrue, IfOk, IfSome};
 ghost use Rattle.std.specs.List.{slice_index_or};
-ghost use Rattle.vsi_layered.specs.Drawing.{HasSize, IsWithin, IsInside, AreApart, AllApart};
+ghost use Rattle.vsi_layered.specs.Drawing.{HasSize, IsWithin, AreApart, AllApart};
 ghost use Rattle.vsi_layered.specs.Drawing.{AllSized, AllWithin, AllInside, IsSound};
 ghost use Rattle.vsi_layered.specs.declared.graph.Place.{Place as Box};
 
-use crate::columns::groups_of;
-use crate::frame::{frame_of, layers_of};
-use crate::graph::{Drawing, Graph, Made, Node, Place, at};
-use crate::rows::{Placed, middles_of};
+use crate::graph::{Drawing, Graph, Made, Node, Place, Point, at};
+use crate::groups::{frame_of, groups_of};
+use crate::rows::{Placed, placed_in};
 use std::alloc::{AllocError, Global};
 
 /// Whether a stretch is within another one.
@@ -39,52 +38,25 @@ fn ends_before(from: usize, length: usize, other: usize) -> bool
 fn has_size(node: Node, place: Place) -> bool
     ensures { IsTrue result → HasSize node place }
 {
-    if place.wide != node.wide {
-        return false;
-    }
-    if place.high != node.high {
-        return false;
-    }
-    if place.wide == 0 {
-        return false;
-    }
-    place.high > 0
-}
-
-/// Whether a box is within a picture of a width and a height.
-fn is_inside(place: Place, wide: usize, high: usize) -> bool
-    ensures { IsTrue result → IsInside wide high place }
-{
-    if !ends_before(place.left, place.wide, wide) {
-        return false;
-    }
-    ends_before(place.top, place.high, high)
+    place.wide == node.wide && place.high == node.high && place.wide > 0 && place.high > 0
 }
 
 /// Whether a box is within another one.
 fn is_within(inner: Place, outer: Place) -> bool
     ensures { IsTrue result → IsWithin inner outer }
 {
-    if !stretch_within(inner.left, inner.wide, outer.left, outer.wide) {
-        return false;
-    }
-    stretch_within(inner.top, inner.high, outer.top, outer.high)
+    stretch_within(inner.left, inner.wide, outer.left, outer.wide)
+        && stretch_within(inner.top, inner.high, outer.top, outer.high)
 }
 
 /// Whether two boxes have no point in common.
 fn are_apart(one: Place, other: Place) -> bool
     ensures { IsTrue result → AreApart one other }
 {
-    if ends_before(one.left, one.wide, other.left) {
-        return true;
-    }
-    if ends_before(other.left, other.wide, one.left) {
-        return true;
-    }
-    if ends_before(one.top, one.high, other.top) {
-        return true;
-    }
-    ends_before(other.top, other.high, one.top)
+    ends_before(one.left, one.wide, other.left)
+        || ends_before(other.left, other.wide, one.left)
+        || ends_before(one.top, one.high, other.top)
+        || ends_before(other.top, other.high, one.top)
 }
 
 /// Whether a box and each one before it have no point in common.
@@ -101,11 +73,15 @@ fn is_apart_from_first(places: &[Place], place: usize) -> bool
     true
 }
 
-/// Whether no two boxes have a point in common.
-fn are_all_apart(places: &[Place]) -> bool
-    ensures { IsTrue result → AllApart places.now }
+/// Whether each box is within a frame, and no two boxes have a point in common.
+fn are_laid_out(places: &[Place], frame: Place) -> bool
+    ensures inside { IsTrue result → AllInside frame places.now }
+    ensures apart { IsTrue result → AllApart places.now }
 {
     for place in 0..places.len() {
+        if !is_within(places[place], frame) {
+            return false;
+        }
         if !is_apart_from_first(places, place) {
             return false;
         }
@@ -142,18 +118,6 @@ fn are_all_sized(nodes: &[Node], places: &[Place]) -> bool
     true
 }
 
-/// Whether each box is within a picture of a width and a height.
-fn are_all_inside(places: &[Place], wide: usize, high: usize) -> bool
-    ensures { IsTrue result → AllInside wide high places.now }
-{
-    for place in 0..places.len() {
-        if !is_inside(places[place], wide, high) {
-            return false;
-        }
-    }
-    true
-}
-
 /// Whether a drawing has a box for each node, of the size that it asks for and within the box of
 /// its group, and no two boxes of nodes or of groups overlap or reach out of the picture.
 pub(crate) fn is_sound(nodes: &[Node], drawing: &Drawing) -> bool
@@ -168,27 +132,27 @@ pub(crate) fn is_sound(nodes: &[Node], drawing: &Drawing) -> bool
     if !are_all_within(nodes, &drawing.places, &drawing.groups) {
         return false;
     }
-    if !are_all_inside(&drawing.places, drawing.wide, drawing.high) {
+    let frame = Place {
+        left: 0,
+        top: 0,
+        wide: drawing.wide,
+        high: drawing.high,
+    };
+    if !are_laid_out(&drawing.places, frame) {
         return false;
     }
-    if !are_all_inside(&drawing.groups, drawing.wide, drawing.high) {
-        return false;
-    }
-    if !are_all_apart(&drawing.places) {
-        return false;
-    }
-    are_all_apart(&drawing.groups)
+    are_laid_out(&drawing.groups, frame)
 }
 
 impl Placed<'_> {
     /// The boxes of the nodes.
-    fn places(self, alloc: Global) -> Made<Vec<Place>> {
-        let mut places = Vec::new(alloc);
+    fn places(&self) -> Made<Vec<Place>> {
+        let mut places = Vec::new(self.alloc);
         let nodes = self.graph.nodes;
         for (index, node) in nodes.iter().enumerate() {
-            let height = at(&self.frame.heights, at(&self.frame.rows, index));
+            let height = at(&self.frame.heights, self.row_of(index));
             places.push(Place {
-                left: at(self.middles, index).saturating_sub(node.wide / 2),
+                left: at(&self.middles, index).saturating_sub(node.wide / 2),
                 top: height.saturating_sub(node.high / 2),
                 wide: node.wide,
                 high: node.high,
@@ -198,19 +162,17 @@ impl Placed<'_> {
     }
 }
 
+/// The boxes of the nodes, and the lines of the arrows.
+fn lines_of(placed: &Placed<'_>) -> Made<(Vec<Place>, Vec<Vec<Point>>)> {
+    let places = placed.places()?;
+    Ok((places, placed.ways()?))
+}
+
 /// The drawing that the search finds.
 fn proposed(alloc: Global, graph: Graph<'_>) -> Made<Drawing> {
-    let groups = groups_of(alloc, graph)?;
-    let layers = layers_of(alloc, graph, &groups)?;
-    let frame = frame_of(alloc, graph, &groups, &layers)?;
-    let middles = middles_of(alloc, graph, &frame)?;
-    let placed = Placed {
-        graph,
-        frame: &frame,
-        middles: &middles,
-    };
-    let places = placed.places(alloc)?;
-    let ways = placed.ways(alloc)?;
+    let mut groups = groups_of(alloc, graph)?;
+    let frame = frame_of(&mut groups)?;
+    let (places, ways) = lines_of(&placed_in(alloc, graph, &frame)?)?;
     Ok(Drawing {
         places,
         groups: frame.boxes,

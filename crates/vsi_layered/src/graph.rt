@@ -37,12 +37,12 @@ pub(crate) fn raise_at(list: &mut Vec<usize>, place: usize, least: usize) {
 }
 
 /// The distance between two numbers.
-pub fn apart(one: usize, other: usize) -> usize {
+pub(crate) fn apart(one: usize, other: usize) -> usize {
     one.max(other).saturating_sub(one.min(other))
 }
 
 /// The number that is `part` of `whole` on the way from a number to another.
-pub fn between(from: usize, to: usize, part: usize, whole: usize) -> usize {
+pub(crate) fn between(from: usize, to: usize, part: usize, whole: usize) -> usize {
     if whole == 0 {
         return from;
     }
@@ -115,6 +115,21 @@ impl Graph<'_> {
 pub struct Point {
     pub x: usize,
     pub y: usize,
+}
+
+impl Point {
+    /// The greater of the distances to another point across and down.
+    pub fn distance(self, other: Point) -> usize {
+        apart(self.x, other.x).max(apart(self.y, other.y))
+    }
+
+    /// The point that is `part` of `whole` on the way to another one.
+    pub fn towards(self, other: Point, part: usize, whole: usize) -> Point {
+        Point {
+            x: between(self.x, other.x, part, whole),
+            y: between(self.y, other.y, part, whole),
+        }
+    }
 }
 
 /// A box: its left edge, its upper edge, its width and its height.

@@ -10,13 +10,12 @@
 //! To be believed: `specs/Drawing`.
 #![tactic(auto)]
 
-mod columns;
 mod drawing;
-mod frame;
 mod graph;
+mod groups;
 mod rows;
 mod ways;
 
 pub use drawing::drawing_of;
-pub use graph::{Drawing, Graph, Node, Place, Point, apart, between};
+pub use graph::{Drawing, Graph, Node, Place, Point};
 pub use ways::badges_of;

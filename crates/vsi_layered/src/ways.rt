@@ -1,8 +1,8 @@
 //! The lines of the arrows, which avoid the boxes of the rows between their ends, and the points on
 //! them for the numbers of arrows.
 
-use crate::frame::HALF;
 use crate::graph::{Drawing, Made, Place, Point, apart, at, between};
+use crate::groups::HALF;
 use crate::rows::Placed;
 use std::alloc::{AllocError, Global};
 
@@ -13,12 +13,13 @@ const CLEAR: usize = 8;
 /// The space between the end of a line and the box of its target.
 const TIP: usize = 5;
 
-/// The end of an arrow: its node, the node at the other end, and whether it is at the upper side.
-#[derive(Clone, Copy)]
-struct End {
-    node: usize,
-    other: usize,
-    is_above: bool,
+/// A number moved by a distance, up or down.
+fn moved(number: usize, distance: usize, is_more: bool) -> usize {
+    if is_more {
+        number.saturating_add(distance)
+    } else {
+        number.saturating_sub(distance)
+    }
 }
 
 /// The position at a height of the straight line between two points.
@@ -35,33 +36,23 @@ fn flat(alloc: Global, from: Point, to: Point) -> Made<Vec<Point>> {
 }
 
 impl Placed<'_> {
-    /// The row of a node.
-    fn row_of(self, node: usize) -> usize {
-        at(&self.frame.rows, node)
+    /// Whether an arrow has its end at a node at the upper side of the box.
+    fn is_above(&self, node: usize, other: usize) -> bool {
+        self.row_of(node) <= self.row_of(other)
     }
 
-    /// The end of an arrow at a node, with the node at the other end.
-    fn end(self, node: usize, other: usize) -> End {
-        let is_above = self.row_of(node) <= self.row_of(other);
-        End {
-            node,
-            other,
-            is_above,
-        }
-    }
-
-    /// The position of an end of an arrow: those at one side of a box are ordered by the nodes at
-    /// their other ends, and then by their places in the list of all ends.
-    fn port(self, end: End, place: usize) -> usize {
-        let own = at(self.middles, end.other);
+    /// The position of the end of an arrow at a node: those at one side of a box are ordered by the
+    /// nodes at their other ends, and then by their places in the list of all ends.
+    fn port(&self, node: usize, other: usize, place: usize) -> usize {
+        let own = at(&self.middles, other);
+        let is_above = self.is_above(node, other);
         let mut count: usize = 0;
         let mut before: usize = 0;
         let arrows = self.graph.arrows;
         for (index, arrow) in arrows.iter().enumerate() {
             for (number, from, to) in [(0, arrow.0, arrow.1), (1, arrow.1, arrow.0)] {
-                let other = self.end(from, to);
-                if from != to && from == end.node && other.is_above == end.is_above {
-                    let key = at(self.middles, to);
+                if from != to && from == node && self.is_above(from, to) == is_above {
+                    let key = at(&self.middles, to);
                     let number = index.saturating_mul(2).saturating_add(number);
                     count = count.saturating_add(1);
                     if key < own || (key == own && number < place) {
@@ -70,11 +61,11 @@ impl Placed<'_> {
                 }
             }
         }
-        let middle = at(self.middles, end.node);
+        let middle = at(&self.middles, node);
         if count == 0 {
             return middle;
         }
-        let step = (self.graph.width_of(end.node).saturating_sub(24) / count).min(STEP);
+        let step = (self.graph.width_of(node).saturating_sub(24) / count).min(STEP);
         let half = count.saturating_sub(1).saturating_mul(step) / 2;
         middle
             .saturating_sub(half)
@@ -82,12 +73,12 @@ impl Placed<'_> {
     }
 
     /// Whether no box of a row is near the positions from one to another.
-    fn is_free(self, row: usize, from: usize, to: usize) -> bool {
+    fn is_free(&self, row: usize, from: usize, to: usize) -> bool {
         let (low, high) = (from.min(to), from.max(to));
         for node in 0..self.middles.len() {
             if self.row_of(node) == row {
                 let half = (self.graph.width_of(node) / 2).saturating_add(CLEAR);
-                let middle = at(self.middles, node);
+                let middle = at(&self.middles, node);
                 if low < middle.saturating_add(half) && middle < high.saturating_add(half) {
                     return false;
                 }
@@ -97,7 +88,7 @@ impl Placed<'_> {
     }
 
     /// The free position of a row nearest to another position: that one, or one beside a box.
-    fn free_near(self, row: usize, x: usize) -> usize {
+    fn free_near(&self, row: usize, x: usize) -> usize {
         if self.is_free(row, x, x) {
             return x;
         }
@@ -108,7 +99,7 @@ impl Placed<'_> {
                 continue;
             }
             let half = (self.graph.width_of(node) / 2).saturating_add(CLEAR + 3);
-            let middle = at(self.middles, node);
+            let middle = at(&self.middles, node);
             for beside in [middle.saturating_sub(half), middle.saturating_add(half)] {
                 if apart(beside, x) < nearest && beside > 0 && self.is_free(row, beside, beside) {
                     nearest = apart(beside, x);
@@ -120,15 +111,11 @@ impl Placed<'_> {
     }
 
     /// Adds the points at which a line passes a row, unless it is straight there.
-    fn pass(self, line: &mut Vec<Point>, last: Point, to: Point, row: usize) -> Made<Point> {
+    fn pass(&self, line: &mut Vec<Point>, last: Point, to: Point, row: usize) -> Made<Point> {
         let middle = at(&self.frame.heights, row);
-        let upper = middle.saturating_sub(HALF + 4);
-        let lower = middle.saturating_add(HALF + 4);
-        let (near, far) = if last.y > to.y {
-            (lower, upper)
-        } else {
-            (upper, lower)
-        };
+        let is_upwards = last.y > to.y;
+        let near = moved(middle, HALF + 4, is_upwards);
+        let far = moved(middle, HALF + 4, !is_upwards);
         if self.is_free(row, position(last, to, near), position(last, to, far)) {
             return Ok(last);
         }
@@ -140,64 +127,50 @@ impl Placed<'_> {
     }
 
     /// The line between two points in different rows.
-    fn steep(self, alloc: Global, ends: (Point, Point), rows: (usize, usize)) -> Made<Vec<Point>> {
+    fn steep(&self, ends: (Point, Point), rows: (usize, usize)) -> Made<Vec<Point>> {
         let (mut end, to) = ends;
-        let mut line = Vec::new(alloc);
+        let mut line = Vec::new(self.alloc);
         line.push(end)?;
         for step in 1..apart(rows.0, rows.1) {
-            let row = if rows.0 < rows.1 {
-                rows.0.saturating_add(step)
-            } else {
-                rows.0.saturating_sub(step)
-            };
-            end = self.pass(&mut line, end, to, row)?;
+            end = self.pass(&mut line, end, to, moved(rows.0, step, rows.0 < rows.1))?;
         }
         line.push(to)?;
         Ok(line)
     }
 
     /// The line of an arrow with an index.
-    fn way_of(self, alloc: Global, arrow: (usize, usize), index: usize) -> Made<Vec<Point>> {
+    fn way_of(&self, arrow: (usize, usize), index: usize) -> Made<Vec<Point>> {
         if arrow.0 == arrow.1 {
-            return Ok(Vec::new(alloc));
+            return Ok(Vec::new(self.alloc));
         }
+        let rows = (self.row_of(arrow.0), self.row_of(arrow.1));
+        let (source, target) = (
+            at(&self.frame.heights, rows.0),
+            at(&self.frame.heights, rows.1),
+        );
+        let is_downwards = source < target;
+        let is_flat = rows.0 == rows.1;
         let place = index.saturating_mul(2);
-        let mut from = Point {
-            x: self.port(self.end(arrow.0, arrow.1), place),
-            y: at(&self.frame.heights, self.row_of(arrow.0)),
+        let from = Point {
+            x: self.port(arrow.0, arrow.1, place),
+            y: moved(source, HALF, is_downwards),
         };
-        let mut to = Point {
-            x: self.port(self.end(arrow.1, arrow.0), place.saturating_add(1)),
-            y: at(&self.frame.heights, self.row_of(arrow.1)),
+        let to = Point {
+            x: self.port(arrow.1, arrow.0, place.saturating_add(1)),
+            y: moved(target, HALF + TIP, !is_downwards && !is_flat),
         };
-        let is_downwards = from.y < to.y;
-        from.y = if is_downwards {
-            from.y.saturating_add(HALF)
-        } else {
-            from.y.saturating_sub(HALF)
-        };
-        if self.row_of(arrow.0) == self.row_of(arrow.1) {
-            to.y = to.y.saturating_sub(HALF + TIP);
-            return flat(alloc, from, to);
+        if is_flat {
+            return flat(self.alloc, from, to);
         }
-        to.y = if is_downwards {
-            to.y.saturating_sub(HALF + TIP)
-        } else {
-            to.y.saturating_add(HALF + TIP)
-        };
-        self.steep(
-            alloc,
-            (from, to),
-            (self.row_of(arrow.0), self.row_of(arrow.1)),
-        )
+        self.steep((from, to), rows)
     }
 
     /// The lines of the arrows.
-    pub(crate) fn ways(self, alloc: Global) -> Made<Vec<Vec<Point>>> {
-        let mut ways = Vec::new(alloc);
+    pub(crate) fn ways(&self) -> Made<Vec<Vec<Point>>> {
+        let mut ways = Vec::new(self.alloc);
         let arrows = self.graph.arrows;
         for (index, arrow) in arrows.iter().enumerate() {
-            ways.push(self.way_of(alloc, *arrow, index)?)?;
+            ways.push(self.way_of(*arrow, index)?)?;
         }
         Ok(ways)
     }
@@ -208,22 +181,14 @@ const STRIDE: usize = 8;
 /// The distance beyond which a point is free.
 const ENOUGH: usize = 24;
 
-/// The greater of the distances between two points across and down.
-fn length_of(from: Point, to: Point) -> usize {
-    apart(from.x, to.x).max(apart(from.y, to.y))
-}
-
 /// Points of a line from its beginning to its end, a stride apart.
 fn points_of(alloc: Global, line: &[Point]) -> Made<Vec<Point>> {
     let mut points = Vec::new(alloc);
     for (index, from) in line.iter().enumerate() {
         let to = line.get(index.saturating_add(1)).copied().unwrap_or(*from);
-        let length = length_of(*from, to);
+        let length = from.distance(to);
         for step in 0..(length / STRIDE).saturating_add(1) {
-            let part = step.saturating_mul(STRIDE);
-            let x = between(from.x, to.x, part, length);
-            let y = between(from.y, to.y, part, length);
-            points.push(Point { x, y })?;
+            points.push(from.towards(to, step.saturating_mul(STRIDE), length))?;
         }
     }
     Ok(points)
@@ -245,7 +210,7 @@ fn distance_from_box(point: Point, place: Place) -> usize {
 fn distance_from(point: Point, others: &[Point]) -> usize {
     let mut found = ENOUGH;
     for other in others {
-        found = found.min(length_of(point, *other));
+        found = found.min(point.distance(*other));
     }
     found
 }
@@ -279,12 +244,11 @@ fn badge_of(places: &[Place], lines: &[Vec<Point>], own: usize, taken: &[Point])
     };
     let mut most: usize = 0;
     for number in 0..line.len() {
-        let moved = number.saturating_add(1) / 2;
-        let index = if number % 2 == 0 {
-            (line.len() / 2).saturating_add(moved)
-        } else {
-            (line.len() / 2).saturating_sub(moved)
-        };
+        let index = moved(
+            line.len() / 2,
+            number.saturating_add(1) / 2,
+            number % 2 == 0,
+        );
         let point = line.get(index).copied().unwrap_or(found);
         let free = freedom(places, lines, own, taken, point);
         if number == 0 || free > most {

@@ -4,14 +4,14 @@ use Rattle.vsi_syntax.specs.declared.lexer.LexError.TheVariants as lexer
 use Rattle.vsi_syntax.specs.declared.parser.ParseError.{ParseError}
 use Rattle.vsi_syntax.specs.declared.parser.ParseError.TheVariants as parser
 use Rattle.vsi_layout.specs.declared.layouts.LayoutError.{LayoutError}
-use Rattle.vsi_layout.specs.declared.layouts.LayoutError.TheVariants.{Lex, Parse, Memory}
+use Rattle.vsi_layout.specs.declared.layouts.LayoutError.TheVariants.{Memory, NoProgram}
 
 -- An error of the lexer.
 abbrev pub lexical : LexError → LayoutError
 lexical lexer.Memory = Memory
-lexical e = Lex e
+lexical _ = NoProgram
 
 -- An error of the parser.
 abbrev pub syntactic : ParseError → LayoutError
 syntactic parser.Memory = Memory
-syntactic e = Parse e
+syntactic _ = NoProgram

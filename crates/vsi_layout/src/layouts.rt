@@ -9,37 +9,25 @@ ghost use Rattle.vsi_layout.specs.Layout.{IsGood, IsLayout, HasProgram};
 ghost use Rattle.vsi_layout.specs.declared.layouts.LayoutError.TheVariants.{Memory};
 
 use crate::writing::{laid, part, rest_of};
-use std::alloc::{AllocError, AllocFailed, Global};
+use std::alloc::{AllocError, Global};
 use thiserror::Error;
 use vsi_syntax::{Kind, LexError, ParseError, Token, lex, parse};
 
-/// Why a text isn't laid out: it isn't the text of a program. A lack of memory is always `Memory`,
-/// never the `Memory` of an inner error.
+/// Why a text isn't laid out.
 #[derive(Debug, Drop, Error)]
 pub enum LayoutError {
     /// Memory ran out.
     #[error("out of memory")]
     Memory,
-    /// The text has no tokens.
-    #[error("{0}")]
-    Lex(LexError),
-    /// No program writes the tokens.
-    #[error("{0}")]
-    Parse(ParseError),
+    /// The text isn't that of a program.
+    #[error("the text has no program")]
+    NoProgram,
 }
 
 impl From<AllocError> for LayoutError {
     ghost from_gives = { λ _ e. e ≡ Memory };
 
     fn from(_error: AllocError) -> Self {
-        LayoutError::Memory
-    }
-}
-
-impl<T: Drop> From<AllocFailed<T>> for LayoutError {
-    ghost from_gives = { λ _ e. e ≡ Memory };
-
-    fn from(_error: AllocFailed<T>) -> Self {
         LayoutError::Memory
     }
 }
@@ -52,7 +40,7 @@ impl From<LexError> for LayoutError {
     fn from(error: LexError) -> Self {
         match error {
             LexError::Memory => LayoutError::Memory,
-            other => LayoutError::Lex(other),
+            _ => LayoutError::NoProgram,
         }
     }
 }
@@ -65,7 +53,7 @@ impl From<ParseError> for LayoutError {
     fn from(error: ParseError) -> Self {
         match error {
             ParseError::Memory => LayoutError::Memory,
-            other => LayoutError::Parse(other),
+            _ => LayoutError::NoProgram,
         }
     }
 }
@@ -77,7 +65,7 @@ impl From<ParseError> for LayoutError {
 ///
 /// # Errors
 ///
-/// `Lex` and `Parse` if the text isn't that of a program, `Memory`.
+/// `NoProgram` if the text isn't that of a program, `Memory`.
 pub fn layout(alloc: Global, text: &[u8]) -> Result<Vec<u8>, LayoutError>
     ensures laid { IfOk result (λ out. IsLayout text.now out.items) }
     ensures exact { HasProgram text.now → IfErr result (λ e. e ≡ Memory) }
@@ -189,10 +177,7 @@ fn is_same_value(a: Option<i64>, b: Option<i64>) -> bool
 fn is_same_token(a: &Token<'_>, b: &Token<'_>) -> bool
     ensures { result ≡ sames.is_same_token (piece a.now) (piece b.now) }
 {
-    if a.text == b.text {
-        return true;
-    }
-    is_same_value(number_of(a.kind), number_of(b.kind))
+    a.text == b.text || is_same_value(number_of(a.kind), number_of(b.kind))
 }
 
 /// Whether two texts have the same tokens and comments in the same order.

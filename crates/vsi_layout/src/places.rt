@@ -92,8 +92,7 @@ fn put_gap_change(
     let Some(place) = at.checked_add(common(gap, other)) else {
         return Err(AllocError);
     };
-    starts.push(place)?;
-    Ok(())
+    Ok(starts.push(place)?)
 }
 
 /// Adds the position of a token if it is spelled otherwise than another one.
@@ -108,8 +107,7 @@ fn put_token_change(
     if token.text == other.text {
         return Ok(());
     }
-    starts.push(token.span.start)?;
-    Ok(())
+    Ok(starts.push(token.span.start)?)
 }
 
 /// The positions at which a text begins to differ from another one.
@@ -184,7 +182,7 @@ fn lines_of(alloc: Global, text: &[u8], starts: &[usize]) -> Result<Vec<u8>, All
 ///
 /// # Errors
 ///
-/// `Lex` if one of the two isn't a text with tokens, `Memory`.
+/// `NoProgram` if one of the two isn't a text with tokens, `Memory`.
 pub fn places_text(alloc: Global, text: &[u8], out: &[u8]) -> Result<Vec<u8>, LayoutError>
     ensures places { IfOk result (λ lines. spec.IsChangeText text.now out.now lines.items) }
     ensures exact { HasTokens text.now → HasTokens out.now → IfErr result (λ e. e ≡ Memory) }

@@ -151,13 +151,8 @@ fn token_level(joint: Joint, after: Option<Kind>, depth: u8) -> u8
     };
     match joint {
         Joint::Nothing | Joint::Space => inner_level(kind, depth),
-        _ => {
-            if closes_block(kind) {
-                depth.saturating_sub(1)
-            } else {
-                depth
-            }
-        }
+        _ if closes_block(kind) => depth.saturating_sub(1),
+        _ => depth,
     }
 }
 
@@ -258,13 +253,6 @@ fn put_line(out: &mut Vec<u8>, place: &Place, cursor: Cursor, level: u8) -> Resu
     put_spaces(out, level)
 }
 
-/// Whether nothing is before a comment there.
-fn is_start(joint: Joint) -> bool
-    ensures { result ≡ blanks.is_start joint }
-{
-    matches!(joint, Joint::Start)
-}
-
 /// Writes the text before a comment.
 fn put_before_comment(out: &mut Vec<u8>, place: &Place, cursor: Cursor) -> Result<(), AllocError>
     ensures { OnOk result (out.new.items ≡ out.old.items ++ blanks.before_comment place.now cursor) }
@@ -272,7 +260,7 @@ fn put_before_comment(out: &mut Vec<u8>, place: &Place, cursor: Cursor) -> Resul
     if cursor.has_comment {
         return put_line(out, place, cursor, place.comment_level);
     }
-    if is_start(place.joint) {
+    if matches!(place.joint, Joint::Start) {
         return Ok(());
     }
     if cursor.breaks == 0 {
@@ -281,38 +269,21 @@ fn put_before_comment(out: &mut Vec<u8>, place: &Place, cursor: Cursor) -> Resul
     put_line(out, place, cursor, place.comment_level)
 }
 
-/// Writes the text between two tokens without comments between them.
-fn put_plain(out: &mut Vec<u8>, place: &Place, cursor: Cursor) -> Result<(), AllocError>
-    ensures { OnOk result
-        (out.new.items ≡ out.old.items ++ blanks.plain place.now.joint place.now cursor) }
+/// Writes the text before the next token: after the last comment, or without comments.
+fn put_before_token(out: &mut Vec<u8>, place: &Place, cursor: Cursor) -> Result<(), AllocError>
+    ensures { OnOk result (out.new.items ≡ out.old.items ++ blanks.before_token place.now cursor) }
 {
+    if cursor.has_comment {
+        return match place.joint {
+            Joint::End => out.extend_from_slice(b"\n"),
+            _ => put_line(out, place, cursor, place.token_level),
+        };
+    }
     match place.joint {
         Joint::Start | Joint::Nothing => Ok(()),
         Joint::Space => out.extend_from_slice(b" "),
         Joint::Line => put_line(out, place, cursor, place.token_level),
         Joint::End => out.extend_from_slice(b"\n"),
-    }
-}
-
-/// Writes the text after the last comment.
-fn put_after_comments(out: &mut Vec<u8>, place: &Place, cursor: Cursor) -> Result<(), AllocError>
-    ensures { OnOk result
-        (out.new.items ≡ out.old.items ++ blanks.after_comments place.now.joint place.now cursor) }
-{
-    match place.joint {
-        Joint::End => out.extend_from_slice(b"\n"),
-        _ => put_line(out, place, cursor, place.token_level),
-    }
-}
-
-/// Writes the text before the next token.
-fn put_before_token(out: &mut Vec<u8>, place: &Place, cursor: Cursor) -> Result<(), AllocError>
-    ensures { OnOk result (out.new.items ≡ out.old.items ++ blanks.before_token place.now cursor) }
-{
-    if cursor.has_comment {
-        put_after_comments(out, place, cursor)
-    } else {
-        put_plain(out, place, cursor)
     }
 }
 

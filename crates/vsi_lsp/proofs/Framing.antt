@@ -1,6 +1,6 @@
 -- Streams of messages.
 use Rattle.std.proofs.Common.{◌≡◌, ◌∙◌, ◌++◌, ◌∷◌, ℕ, List, [], refl, sym, ap}
-use Rattle.vsi_lsp.specs.Frames.{AreFrames, frame, frames}
+use Rattle.vsi_client.specs.Frames.{AreFrames, frame, frames}
 use Rattle.std.proofs.lemmas.List.{append_assoc, append-nil}
 
 -- The messages of two streams, one after the other.

@@ -1,4 +1,3 @@
-pub mod Frames
 pub mod Severity
 pub mod Titles
 pub mod Verdict

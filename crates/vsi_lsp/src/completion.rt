@@ -37,21 +37,16 @@ struct Items {
 impl Items {
     /// Adds an item.
     fn put(&mut self, word: &[u8], kind: usize) -> Made<()> {
-        let label = text_value(self.alloc, word)?;
-        let item = json!(in self.alloc; {"label": label, "kind": kind})?;
+        let item = json!(in self.alloc; {"label": text_value(self.alloc, word)?, "kind": kind})?;
         Ok(self.list.push(item)?)
     }
 
     /// Adds the names that may come after these tokens: classes after a colon, none in a
     /// declaration, and else the variables in scope.
     fn put_names(&mut self, lattice: &Lattice, tokens: &[Token<'_>]) -> Made<()> {
-        let last = match tokens.last() {
-            Some(token) => token.kind,
-            None => Kind::Semicolon,
-        };
-        match last {
-            Kind::Var | Kind::Letvar => {}
-            Kind::Colon => {
+        match tokens.last().map(|token| token.kind) {
+            Some(Kind::Var | Kind::Letvar) => {}
+            Some(Kind::Colon) => {
                 for number in 0..lattice.count() {
                     self.put(lattice.name(Class::at(number as u8)), CLASS)?;
                 }
@@ -185,12 +180,9 @@ pub(crate) fn names_after<'a>(alloc: Global, tokens: &[Token<'a>]) -> Made<Vec<&
     for token in tokens {
         walk.note(token)?;
     }
-    let letvars = walk.letvars(alloc)?;
-    let mut names = Vec::from_slice(alloc, &letvars)?;
-    for name in &walk.globals {
-        if !letvars.contains(name) {
-            names.push(*name)?;
-        }
-    }
+    let mut names = walk.letvars(alloc)?;
+    let letvars = Vec::from_slice(alloc, &names)?;
+    let globals = walk.globals.iter().copied();
+    names.extend(globals.filter(|name| !letvars.contains(name)))?;
     Ok(names)
 }

@@ -1,10 +1,14 @@
-//! A document, and JSON objects about its parts.
+//! A document, JSON objects about its parts, its layout and its blocks.
+
+ghost use Rattle.std.specs.Prelude.{IfOk, IfSome};
+ghost use Rattle.vsi_layout.specs.Layout.{IsLayout};
 
 use serde_json::{Value, json};
 use std::alloc::{AllocError, Global};
 use vsi_client::{Encoding, Marked, Place, Range, offset_of};
 use vsi_compiler::{CompileError, Source, read_source};
 use vsi_lattice::Lattice;
+use vsi_layout::{LayoutError, layout};
 use vsi_syntax::{LexError, Span, Token, lex};
 use vsi_types::Profile;
 
@@ -46,8 +50,7 @@ impl<'a> DocumentText<'a> {
     /// The object of a part of the text, with the name of the document.
     pub(crate) fn location(&self, span: Span) -> Made<Value> {
         let uri = text_value(self.alloc, self.uri)?;
-        let range = self.range(span)?;
-        json!(in self.alloc; {"uri": uri, "range": range})
+        json!(in self.alloc; {"uri": uri, "range": self.range(span)?})
     }
 
     /// The list of the one change that puts a text in place of a part.
@@ -60,6 +63,14 @@ impl<'a> DocumentText<'a> {
     pub(crate) fn whole_edits(&self, new: &[u8]) -> Made<Value> {
         let stop = self.text.len();
         self.edits(Span { start: 0, stop }, new)
+    }
+
+    /// The change that lays the text out: nothing for a text that is no program's.
+    pub(crate) fn layout_edits(&self) -> Made<Value> {
+        match laid_out(self.alloc, self.text)? {
+            Some(out) => self.whole_edits(&out),
+            None => Ok(Value::Null),
+        }
     }
 
     /// The changes of the document in a list.
@@ -93,9 +104,7 @@ fn range_object(alloc: Global, range: Range) -> Made<Value> {
 
 /// The change of a part of a text.
 pub(crate) fn edit(alloc: Global, range: Range, new: &[u8]) -> Made<Value> {
-    let range = range_object(alloc, range)?;
-    let new = text_value(alloc, new)?;
-    json!(in alloc; {"range": range, "newText": new})
+    json!(in alloc; {"range": range_object(alloc, range)?, "newText": text_value(alloc, new)?})
 }
 
 /// The text at a path of an object.
@@ -123,4 +132,46 @@ pub(crate) fn tokens_of(alloc: Global, text: &[u8]) -> Made<Option<Vec<Token<'_>
         Err(LexError::Memory) => Err(AllocError),
         Err(_) => Ok(None),
     }
+}
+
+/// The layout of a text, which keeps its comments: nothing for a text that is no program's.
+fn laid_out(alloc: Global, text: &[u8]) -> Made<Option<Vec<u8>>>
+    ensures laid { IfOk result (λ found. IfSome found (λ out. IsLayout text.now out.items)) }
+{
+    match layout(alloc, text) {
+        Ok(out) => Ok(Some(out)),
+        Err(LayoutError::Memory) => Err(AllocError),
+        Err(_) => Ok(None),
+    }
+}
+
+/// The blocks of several lines of a text, each from the line of its `{` to the line before its `}`.
+pub(crate) fn folds(alloc: Global, text: &[u8]) -> Made<Value> {
+    let mut found = Vec::new(alloc);
+    let mut open: Vec<usize> = Vec::new(alloc);
+    let mut line: usize = 0;
+    let mut last = 0;
+    let mut is_comment = false;
+    for byte in text {
+        // A line feed after a carriage return is one end of a line with it.
+        if *byte == b'\r' || *byte == b'\n' && last != b'\r' {
+            line = line.saturating_add(1);
+        }
+        last = *byte;
+        match *byte {
+            b'#' => is_comment = true,
+            b'\n' => is_comment = false,
+            b'{' if !is_comment => open.push(line)?,
+            b'}' if !is_comment => {
+                let end = line.saturating_sub(1);
+                if let Some(start) = open.pop()
+                    && start < end
+                {
+                    found.push(json!(in alloc; {"startLine": start, "endLine": end})?)?;
+                }
+            }
+            _ => {}
+        }
+    }
+    Ok(Value::Array(found))
 }

@@ -10,7 +10,7 @@ use vsi_conform::{
     unknown_cycle,
 };
 use vsi_diagnostics::{Fault, fault_diagnostic, fault_text};
-use vsi_lattice::{Lattice, LatticeError, read_lattice};
+use vsi_lattice::{LatticeError, read_lattice};
 use vsi_policy::named_policy;
 use vsi_syntax::Span;
 use vsi_types::Profile;
@@ -32,6 +32,17 @@ pub(crate) enum Policy {
     File(Vec<u8>),
     /// The file at this path, which can't be read.
     Lost(Vec<u8>),
+}
+
+impl Policy {
+    /// The bytes of the file, or the path of one that can't be read.
+    fn bytes(&self) -> Result<&[u8], &[u8]> {
+        match self {
+            Policy::Two => Ok(TWO_CLASSES),
+            Policy::File(bytes) => Ok(bytes.as_slice()),
+            Policy::Lost(path) => Err(path.as_slice()),
+        }
+    }
 }
 
 /// A kind of document.
@@ -96,13 +107,9 @@ impl Document {
 
     /// The bytes of the lattice file of the document, if it is a text and the file can be read.
     pub(crate) fn policy_bytes(&self) -> Option<&[u8]> {
-        if self.kind() != DocumentKind::Source {
-            return None;
-        }
-        match &self.policy {
-            Policy::Two => Some(TWO_CLASSES),
-            Policy::File(bytes) => Some(bytes.as_slice()),
-            Policy::Lost(_) => None,
+        match self.kind() {
+            DocumentKind::Source => self.policy.bytes().ok(),
+            _ => None,
         }
     }
 
@@ -122,14 +129,7 @@ impl Document {
                 Ok(_lattice) => Ok(Vec::new(alloc)),
                 Err(error) => refused_errors(document, line_span(&self.text, 0), error),
             },
-            DocumentKind::Source => {
-                let span = naming_span(&self.text);
-                match &self.policy {
-                    Policy::Two => source_errors(document, span, TWO_CLASSES),
-                    Policy::File(bytes) => source_errors(document, span, bytes),
-                    Policy::Lost(path) => lost_errors(document, span, path),
-                }
-            }
+            DocumentKind::Source => source_errors(document, &self.policy),
         }
     }
 }
@@ -171,11 +171,15 @@ fn refused_errors(document: DocumentText<'_>, span: Span, error: LatticeError) -
     error_list(document, span, diagnostic.code, text.trim_ascii_end())
 }
 
-/// The errors and warnings of a source text under a lattice file, which a part of the text names.
-fn source_errors(document: DocumentText<'_>, span: Span, bytes: &[u8]) -> Made<Vec<Value>> {
-    match read_lattice(document.alloc, bytes) {
-        Ok(lattice) => objects_in(document, &lattice),
-        Err(error) => refused_errors(document, span, error),
+/// The errors and warnings of a source text under its lattice file.
+fn source_errors(document: DocumentText<'_>, policy: &Policy) -> Made<Vec<Value>> {
+    let span = naming_span(document.text);
+    match policy.bytes() {
+        Ok(bytes) => match read_lattice(document.alloc, bytes) {
+            Ok(lattice) => objects_in(document, &lattice),
+            Err(error) => refused_errors(document, span, error),
+        },
+        Err(path) => lost_errors(document, span, path),
     }
 }
 
@@ -207,15 +211,28 @@ fn interface_errors(document: DocumentText<'_>, policy: &Policy) -> Made<Vec<Val
     }
 }
 
-/// The errors of an interface under a lattice file.
+/// The errors of an interface under a lattice file: its first global whose class isn't there, or
+/// else its first such boundary.
 fn errors_by(document: DocumentText<'_>, asked: &InterfaceFile, bytes: &[u8]) -> Made<Vec<Value>> {
-    match read_lattice(document.alloc, bytes) {
-        Ok(lattice) => match unknown_name(document.alloc, &lattice, asked)? {
-            Some(error) => refused_interface(document, &error),
-            None => Ok(Vec::new(document.alloc)),
-        },
-        Err(error) => refused_errors(document, line_span(document.text, 0), error),
+    let (alloc, interface) = (document.alloc, &asked.interface);
+    let lattice = match read_lattice(alloc, bytes) {
+        Ok(lattice) => lattice,
+        Err(error) => return refused_errors(document, line_span(document.text, 0), error),
+    };
+    if let Some(place) = unknown_class(&lattice, interface)
+        && let Some(entry) = interface.globals.get(place)
+    {
+        let name = Vec::from_slice(alloc, &entry.0)?;
+        return refused_interface(document, &InterfaceError::UnknownClass(name));
     }
+    if let Some(place) = unknown_cycle(&lattice, &asked.cycles)
+        && let Some(cycle) = asked.cycles.get(place)
+    {
+        let name = Vec::from_slice(alloc, &cycle.class)?;
+        let error = InterfaceError::UnknownInCycle(place.saturating_add(1), name);
+        return refused_interface(document, &error);
+    }
+    Ok(Vec::new(alloc))
 }
 
 /// The error of an interface that is refused.
@@ -226,25 +243,4 @@ fn refused_interface(document: DocumentText<'_>, error: &InterfaceError) -> Made
     let text = interface_text(document.alloc, error)?;
     let line = text.strip_suffix(b"\n").unwrap_or(&text);
     error_list(document, line_span(document.text, 0), 0, line)
-}
-
-/// The first global whose class isn't in the lattice, or else the first such boundary.
-fn unknown_name(
-    alloc: Global,
-    lattice: &Lattice,
-    asked: &InterfaceFile,
-) -> Made<Option<InterfaceError>> {
-    if let Some(place) = unknown_class(lattice, &asked.interface)
-        && let Some(entry) = asked.interface.globals.get(place)
-    {
-        let name = Vec::from_slice(alloc, &entry.0)?;
-        return Ok(Some(InterfaceError::UnknownClass(name)));
-    }
-    if let Some(place) = unknown_cycle(lattice, &asked.cycles)
-        && let Some(cycle) = asked.cycles.get(place)
-    {
-        let name = Vec::from_slice(alloc, &cycle.class)?;
-        return Ok(Some(InterfaceError::UnknownInCycle(place.saturating_add(1), name)));
-    }
-    Ok(None)
 }

@@ -12,7 +12,7 @@
 //! `laid_out` keeps the program and the comments (clause `laid`). Only tests show which messages
 //! there are, where an error points, and what it says.
 //!
-//! To be believed: `specs/Frames`, `specs/Severity`, `specs/Titles`, `specs/Verdict`, and the
+//! To be believed: `specs/Severity`, `specs/Titles`, `specs/Verdict`, and the
 //! definitions of the crates below that the clauses cite.
 #![tactic(auto)]
 
@@ -20,7 +20,6 @@ mod completion;
 mod diagnostics;
 mod document;
 mod documents;
-mod layout;
 mod reading;
 mod repairs;
 mod replies;

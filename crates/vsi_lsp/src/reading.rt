@@ -5,7 +5,7 @@ ghost use Rattle.vsi_lattice.specs.LatticeView.{order};
 ghost use Rattle.vsi_lattice.specs.Order.{IsClass};
 
 use crate::completion::completion;
-use crate::document::{DocumentText, Made, edit, joined, text_at, text_value};
+use crate::document::{DocumentText, Made, edit, folds, joined, text_at, text_value};
 use crate::repairs::fixes;
 use crate::replies::{Fault, PARAMETERS, RENAME};
 use serde_json::{Value, json};
@@ -14,7 +14,7 @@ use vsi_client::{Change, Mention, Range, mentions_of, rename};
 use vsi_compiler::{CompileError, Source, judge};
 use vsi_flows::related;
 use vsi_infer::put_variable;
-use vsi_lattice::{Class, Lattice};
+use vsi_lattice::{Class, Lattice, LatticeError, read_lattice};
 use vsi_scope::Var;
 use vsi_syntax::Span;
 
@@ -28,9 +28,28 @@ pub(crate) fn is_topic(topic: &str) -> bool {
     }
 }
 
+/// The answer to a request about a text, with the bytes of its lattice file if there are any.
+pub(crate) fn answer(
+    document: DocumentText<'_>,
+    policy: Option<&[u8]>,
+    topic: &str,
+    value: &Value,
+) -> Result<Value, Fault> {
+    match (topic, policy) {
+        ("formatting", _) => Ok(document.layout_edits()?),
+        ("foldingRange", _) => Ok(folds(document.alloc, document.text)?),
+        (_, None) => Ok(Value::Null),
+        (_, Some(bytes)) => match read_lattice(document.alloc, bytes) {
+            Ok(lattice) => lattice_answer(document, &lattice, topic, value),
+            Err(LatticeError::Memory) => Err(Fault::Memory),
+            Err(_) => Ok(Value::Null),
+        },
+    }
+}
+
 /// The answer to a request about a text and its lattice; nothing if the request is about the names
 /// of a program and the text has none.
-pub(crate) fn lattice_answer<'a>(
+fn lattice_answer<'a>(
     document: DocumentText<'a>,
     lattice: &'a Lattice,
     topic: &str,
@@ -92,38 +111,27 @@ impl<'a> Reading<'a> {
         })
     }
 
-    /// The answer to a request about the names of a program.
+    /// The answer to a request about the names of a program, or about the one to which it points.
     fn answer(&self, topic: &str, value: &Value) -> Result<Value, Fault> {
-        match topic {
-            "inlayHint" => Ok(self.hints()?),
-            "documentSymbol" => Ok(self.symbols()?),
-            _ => match self.pointed(value) {
-                Some(mention) => self.pointed_answer(mention, topic, value),
-                None if topic == "rename" => Err(RENAME),
-                None => Ok(Value::Null),
-            },
-        }
-    }
-
-    /// The answer to a request about a name.
-    fn pointed_answer(&self, name: Mention, topic: &str, value: &Value) -> Result<Value, Fault> {
-        match topic {
-            "rename" => self.renaming(name.variable, value),
-            "hover" => Ok(self.hover(name)?),
-            "definition" => Ok(self.definition(name.variable)?),
-            _ => Ok(self.parts(name.variable, topic == "references")?),
+        match (topic, self.pointed(value)) {
+            ("inlayHint", _) => Ok(self.hints()?),
+            ("documentSymbol", _) => Ok(self.symbols()?),
+            ("rename", Some(name)) => self.renaming(name.variable, value),
+            ("rename", None) => Err(RENAME),
+            ("hover", Some(name)) => Ok(self.hover(name)?),
+            ("definition", Some(name)) => Ok(self.definition(name.variable)?),
+            (_, Some(name)) => Ok(self.parts(name.variable, topic == "references")?),
+            (_, None) => Ok(Value::Null),
         }
     }
 
     /// The name to which a message points.
     fn pointed(&self, value: &Value) -> Option<Mention> {
         let at = self.document.byte_at(value, "/params/position")?;
-        for mention in &self.mentions {
-            if mention.span.start <= at && at <= mention.span.stop {
-                return Some(*mention);
-            }
-        }
-        None
+        let mut names = self.mentions.iter();
+        names
+            .find(|name| name.span.start <= at && at <= name.span.stop)
+            .copied()
     }
 
     /// The text of a part.
@@ -134,28 +142,18 @@ impl<'a> Reading<'a> {
         }
     }
 
-    /// The number of a variable among the letvars, if it is one.
-    fn letvar_of(&self, variable: usize) -> Option<usize> {
-        variable.checked_sub(self.source.globals().len())
-    }
-
-    /// Whether the class of a variable isn't declared.
-    fn is_inferred(&self, variable: usize) -> bool {
-        let Some(number) = self.letvar_of(variable) else {
-            return false;
-        };
-        match self.source.resolved().letvars().get(number) {
+    /// The class of a variable, if it is known, and whether it isn't declared.
+    fn class_of(&self, variable: usize) -> (Option<&[u8]>, bool) {
+        let globals = self.source.globals();
+        if let Some(global) = globals.get(variable) {
+            return (Some(global.class.text), false);
+        }
+        let number = variable.saturating_sub(globals.len());
+        let is_inferred = match self.source.resolved().letvars().get(number) {
             Some(entry) => entry.class.is_none(),
             None => false,
-        }
-    }
-
-    /// The class of a variable, if it is known.
-    fn class_of(&self, variable: usize) -> Option<&[u8]> {
-        if let Some(global) = self.source.globals().get(variable) {
-            return Some(global.class.text);
-        }
-        self.classes.get(self.letvar_of(variable)?).copied()
+        };
+        (self.classes.get(number).copied(), is_inferred)
     }
 
     /// The text about a name: the class of its variable, and the declared variables that reach it
@@ -163,11 +161,12 @@ impl<'a> Reading<'a> {
     fn hover(&self, name: Mention) -> Made<Value> {
         let alloc = self.document.alloc;
         let mut shown = Vec::from_slice(alloc, self.text_of(name.span))?;
-        if let Some(class) = self.class_of(name.variable) {
+        let (class, is_inferred) = self.class_of(name.variable);
+        if let Some(class) = class {
             shown.extend_from_slice(b" : ")?;
             shown.extend_from_slice(class)?;
         }
-        if self.is_inferred(name.variable) {
+        if is_inferred {
             shown.extend_from_slice(b" (inferred)")?;
         }
         if name.variable < 65535 {
@@ -176,34 +175,29 @@ impl<'a> Reading<'a> {
             put_line(&mut shown, &self.source, b"\nfrom ", &found.from)?;
             put_line(&mut shown, &self.source, b"\nto ", &found.to)?;
         }
-        let contents = text_value(alloc, &shown)?;
         let range = self.document.range(name.span)?;
-        json!(in alloc; {"contents": contents, "range": range})
+        json!(in alloc; {"contents": text_value(alloc, &shown)?, "range": range})
     }
 
     /// Where a variable is declared.
     fn definition(&self, variable: usize) -> Made<Value> {
-        for mention in &self.mentions {
-            if mention.is_declaration && mention.variable == variable {
-                return self.document.location(mention.span);
-            }
+        let mut names = self.mentions.iter();
+        match names.find(|name| name.is_declaration && name.variable == variable) {
+            Some(name) => self.document.location(name.span),
+            None => Ok(Value::Null),
         }
-        Ok(Value::Null)
     }
 
     /// The parts of the text that name a variable, with the name of the document or without.
     fn parts(&self, variable: usize, is_named: bool) -> Made<Value> {
         let mut list = Vec::new(self.document.alloc);
-        for mention in &self.mentions {
-            if mention.variable != variable {
-                continue;
-            }
-            if is_named {
-                list.push(self.document.location(mention.span)?)?;
+        let names = self.mentions.iter();
+        for name in names.filter(|name| name.variable == variable) {
+            list.push(if is_named {
+                self.document.location(name.span)?
             } else {
-                let range = self.document.range(mention.span)?;
-                list.push(json!(in self.document.alloc; {"range": range})?)?;
-            }
+                json!(in self.document.alloc; {"range": self.document.range(name.span)?})?
+            })?;
         }
         Ok(Value::Array(list))
     }
@@ -214,8 +208,7 @@ impl<'a> Reading<'a> {
         let mut list = Vec::new(alloc);
         for mention in &self.mentions {
             if mention.is_declaration
-                && self.is_inferred(mention.variable)
-                && let Some(class) = self.class_of(mention.variable)
+                && let (Some(class), true) = self.class_of(mention.variable)
             {
                 let label = text_value(alloc, &joined(alloc, &[b" : ", class])?)?;
                 let place = self.document.marked.range(mention.span).stop;
@@ -232,12 +225,11 @@ impl<'a> Reading<'a> {
     fn symbols(&self) -> Made<Value> {
         let alloc = self.document.alloc;
         let mut list = Vec::new(alloc);
-        for mention in &self.mentions {
-            if !mention.is_declaration {
-                continue;
-            }
+        let names = self.mentions.iter();
+        for mention in names.filter(|name| name.is_declaration) {
             let name = text_value(alloc, self.text_of(mention.span))?;
-            let class = text_value(alloc, self.class_of(mention.variable).unwrap_or(b""))?;
+            let class = self.class_of(mention.variable).0.unwrap_or(b"");
+            let class = text_value(alloc, class)?;
             let range = self.document.range(mention.span)?;
             list.push(json!(in alloc; {
                 "name": name, "detail": class, "kind": 13, "range": &range, "selectionRange": range

@@ -287,10 +287,8 @@ fn distance(alloc: Global, written: &[u8], meant: &[u8]) -> Made<Option<usize>> 
         return Ok(Some(0));
     }
     let far = osa_distance(alloc, written_text, meant_text)?;
-    if written.len().min(meant.len()) <= far.saturating_mul(2) {
-        return Ok(None);
-    }
-    Ok(Some(far))
+    let is_near = far.saturating_mul(2) < written.len().min(meant.len());
+    Ok(is_near.then_some(far))
 }
 
 /// The nearest of the names, the first of those as near.

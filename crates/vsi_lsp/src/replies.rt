@@ -1,7 +1,7 @@
 //! Messages to the client, and what they are made of.
 
 ghost use Rattle.std.specs.Prelude.{◌≡◌, ◌++◌, IfOk, OnOk};
-ghost use Rattle.vsi_lsp.specs.Frames as spec;
+ghost use Rattle.vsi_client.specs.Frames as spec;
 
 use crate::document::{Made, text_value};
 use serde_json::{Value, json};
@@ -128,7 +128,6 @@ pub(crate) fn published(
 
 /// A message for the log of the client.
 pub(crate) fn said(alloc: Global, line: &[u8]) -> Made<Value> {
-    let line = text_value(alloc, line)?;
-    let parameters = json!(in alloc; {"type": 3, "message": line})?;
+    let parameters = json!(in alloc; {"type": 3, "message": text_value(alloc, line)?})?;
     notification(alloc, "window/logMessage", parameters)
 }

@@ -1,12 +1,11 @@
 //! The state of a server, and what it does for each message.
 
 ghost use Rattle.std.specs.Prelude.{IfOk};
-ghost use Rattle.vsi_lsp.specs.Frames.{AreFrames};
+ghost use Rattle.vsi_client.specs.Frames.{AreFrames};
 
 use crate::document::{Made, place_at, text_at};
 use crate::documents::{Document, DocumentKind, Policy, interface_path};
-use crate::layout::{folds, layout_edits};
-use crate::reading::{is_topic, lattice_answer};
+use crate::reading::{answer, is_topic};
 use crate::replies::{
     EARLY, Fault, METHOD, PARAMETERS, PARSE, REQUEST, encoding_for, framed, published, said,
     welcome,
@@ -14,7 +13,6 @@ use crate::replies::{
 use serde_json::{Value, json};
 use std::alloc::{AllocError, Global};
 use vsi_client::{Change, Encoding, Marked, Piece, changed_by, next_piece, path_beside};
-use vsi_lattice::{LatticeError, read_lattice};
 use vsi_policy::named_policy;
 use vsi_types::Profile;
 
@@ -133,10 +131,8 @@ impl Server {
     pub fn obey(&mut self, message: &[u8]) -> Result<Option<Wanted>, AllocError> {
         match Value::from_slice(self.alloc, message) {
             Ok(value) => self.obey_value(&value),
-            Err(error) => {
-                if error.is_memory() {
-                    return Err(AllocError);
-                }
+            Err(error) if error.is_memory() => Err(AllocError),
+            Err(_) => {
                 self.fail(&Value::Null, PARSE)?;
                 Ok(None)
             }
@@ -203,19 +199,7 @@ impl Server {
         let document = self.documents.get(place).ok_or(PARAMETERS)?;
         let marked = Marked::of(self.alloc, self.encoding, &document.text)?;
         let judged = document.text_in(self.alloc, self.encoding, self.profile, &marked);
-        match topic {
-            "formatting" => return Ok(layout_edits(judged)?),
-            "foldingRange" => return Ok(folds(self.alloc, judged.text)?),
-            _ => {}
-        }
-        let Some(bytes) = document.policy_bytes() else {
-            return Ok(Value::Null);
-        };
-        match read_lattice(self.alloc, bytes) {
-            Ok(lattice) => lattice_answer(judged, &lattice, topic, value),
-            Err(LatticeError::Memory) => Err(Fault::Memory),
-            Err(_) => Ok(Value::Null),
-        }
+        answer(judged, document.policy_bytes(), topic, value)
     }
 
     /// Does what a notification asks.
@@ -250,10 +234,8 @@ impl Server {
 
     /// Opens a document.
     fn open(&mut self, value: &Value) -> Made<Option<Wanted>> {
-        let Some(uri) = text_at(value, "/params/textDocument/uri") else {
-            return Ok(None);
-        };
-        let Some(text) = text_at(value, "/params/textDocument/text") else {
+        let uri = text_at(value, "/params/textDocument/uri");
+        let (Some(uri), Some(text)) = (uri, text_at(value, "/params/textDocument/text")) else {
             return Ok(None);
         };
         self.forget(uri.as_bytes());
@@ -287,7 +269,7 @@ impl Server {
         Ok(self.messages.push(message)?)
     }
 
-    /// Changes a document.
+    /// Changes a document, up to the first change that is malformed.
     fn change(&mut self, value: &Value) -> Made<Option<Wanted>> {
         let Some(place) = self.place_of(value) else {
             return Ok(None);
@@ -295,7 +277,13 @@ impl Server {
         let Some(Value::Array(list)) = value.pointer("/params/contentChanges") else {
             return Ok(None);
         };
-        let changes = changes_in(self.alloc, list)?;
+        let mut changes = Vec::new(self.alloc);
+        for part in list {
+            match change_in(part) {
+                Some(change) => changes.push(change)?,
+                None => break,
+            }
+        }
         if let Some(document) = self.documents.get_mut(place) {
             document.text = changed_by(self.alloc, self.encoding, &document.text, &changes)?;
             document.version = version_in(value);
@@ -366,23 +354,12 @@ fn version_in(value: &Value) -> Option<i64> {
     value.pointer("/params/textDocument/version")?.as_i64()
 }
 
-/// The changes that a list gives, up to the first that is malformed.
-fn changes_in<'v>(alloc: Global, list: &'v [Value]) -> Made<Vec<Change<'v>>> {
-    let mut changes = Vec::new(alloc);
-    for value in list {
-        let Some(text) = text_at(value, "/text") else {
-            return Ok(changes);
-        };
-        let mut range = None;
-        if let Some(part) = value.get("range") {
-            let (Some(start), Some(stop)) = (place_at(part, "/start"), place_at(part, "/end"))
-            else {
-                return Ok(changes);
-            };
-            range = Some((start, stop));
-        }
-        let text = text.as_bytes();
-        changes.push(Change { range, text })?;
-    }
-    Ok(changes)
+/// The change that an object gives, unless it is malformed.
+fn change_in(value: &Value) -> Option<Change<'_>> {
+    let range = match value.get("range") {
+        Some(part) => Some((place_at(part, "/start")?, place_at(part, "/end")?)),
+        None => None,
+    };
+    let text = text_at(value, "/text")?.as_bytes();
+    Some(Change { range, text })
 }

@@ -1,7 +1,7 @@
 //! Why a file isn't read or written, in a sentence.
 
 ghost use Rattle.std.specs.Prelude.{Contains};
-ghost use Rattle.vsi.specs.Objections.{OBJECTIONS};
+ghost use Rattle.vsi_subject.specs.Objections.{OBJECTIONS};
 
 use std::io;
 use std::io::ErrorKind;

@@ -10,6 +10,7 @@ ghost use Rattle.vsi_recovery.specs.Sorts.{lexeme_sort};
 ghost use Rattle.vsi_recovery.specs.Told.{told};
 
 use crate::rules::{Wanted, put_rule};
+use crate::sort::Sort::*;
 use crate::sort::{SORTS, Sort};
 use std::alloc::{AllocError, Global};
 use vsi_syntax::Token;
@@ -55,17 +56,8 @@ fn step(ahead: &mut Vec<Wanted>, sort: Sort) -> Result<bool, AllocError>
 fn may_stand(alloc: Global, ahead: &[Wanted], sort: Sort) -> Result<bool, AllocError>
     ensures { IfOk result (λ stands. is_some (spec.step (reverse ahead.now) sort) ≡ stands) }
 {
-    let mut parts = Vec::new(alloc);
-    for i in 0..ahead.len() {
-        let wanted = ahead[ahead.len() - 1 - i];
-        if put_rule(&mut parts, wanted, sort)? {
-            return Ok(true);
-        }
-        if !wanted.may_be_empty() {
-            return Ok(false);
-        }
-    }
-    Ok(false)
+    let mut rest = Vec::from_slice(alloc, ahead)?;
+    Ok(step(&mut rest, sort)?)
 }
 
 /// Whether all pending parts may be omitted.
@@ -134,5 +126,70 @@ pub fn expected_after<'a>(alloc: Global, tokens: &[Token<'a>]) -> Result<Expecte
             sorts: Vec::new(alloc),
             end: false,
         }),
+    }
+}
+
+/// The sorts of operands, in the order of a sentence.
+const VALUES: [Sort; 2] = [Name, Number];
+
+/// The operators, in the order of a sentence.
+const OPERATORS: [Sort; 5] = [Plus, Minus, Star, Equal, Less];
+
+/// All other sorts, in the order of a sentence.
+const SIGNS: [Sort; 15] = [
+    Open, Var, If, While, Letvar, OpenBrace, Assign, Colon, Semicolon, Then, Else, Do, In, Close,
+    CloseBrace,
+];
+
+/// How a sentence names each sort, in the order of `Sort`: a token as it is written, in back
+/// quotes, or a description.
+const WORDS: [&str; 22] = [
+    "`var`", "`letvar`", "`in`", "`if`", "`then`", "`else`", "`while`", "`do`", "`:=`", "`:`",
+    "`;`", "`+`", "`-`", "`*`", "`=`", "`<`", "`(`", "`)`", "`{`", "`}`", "a name", "a number",
+];
+
+/// Adds items as a sentence lists them: with commas between them, and "or" before the last.
+fn put_listed(text: &mut Vec<u8>, words: &[&[u8]]) -> Result<(), AllocError> {
+    let mut joint: &[u8] = b"";
+    for (number, word) in words.iter().enumerate() {
+        text.extend_from_slice(joint)?;
+        text.extend_from_slice(word)?;
+        let is_next_last = number.saturating_add(2) == words.len();
+        joint = if is_next_last { b" or " } else { b", " };
+    }
+    Ok(())
+}
+
+impl Expected {
+    /// Adds the items for those of these sorts that may come next.
+    fn put_words(&self, words: &mut Vec<&[u8]>, sorts: &[Sort]) -> Result<(), AllocError> {
+        for sort in sorts {
+            if self.has(*sort) {
+                words.push(WORDS[*sort as usize].as_bytes())?;
+            }
+        }
+        Ok(())
+    }
+
+    /// The tokens that may come next, as a sentence lists them: names and numbers, the operators
+    /// together, the other tokens as they are written, in back quotes, and the end of the text.
+    pub fn words(&self, alloc: Global) -> Result<Vec<u8>, AllocError> {
+        let mut operators = Vec::new(alloc);
+        self.put_words(&mut operators, &OPERATORS)?;
+        let mut together = Vec::from_slice(alloc, b"an operator (")?;
+        put_listed(&mut together, &operators)?;
+        together.push(b')')?;
+        let mut words = Vec::new(alloc);
+        self.put_words(&mut words, &VALUES)?;
+        if !operators.is_empty() {
+            words.push(together.as_slice())?;
+        }
+        self.put_words(&mut words, &SIGNS)?;
+        if self.end {
+            words.push(b"the end of the text")?;
+        }
+        let mut text = Vec::new(alloc);
+        put_listed(&mut text, &words)?;
+        Ok(text)
     }
 }

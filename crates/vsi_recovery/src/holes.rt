@@ -1,9 +1,8 @@
 //! The tokens of a text in which some bytes begin no token.
 
-use crate::fault::{Cause, Fault};
-use crate::repairs::NAME;
-use crate::tokens::{is_landmark, put_at, put_text, span, tokens_of};
-use crate::walk::{Stretch, stop_of};
+use crate::open::{is_landmark, put_at, put_text, span, tokens_of};
+use crate::search::NAME;
+use crate::walk::{Cause, Fault, Stretch, stop_of};
 use std::alloc::{AllocError, Global};
 use vsi_syntax::{LexError, Span, Token, lex};
 
@@ -15,24 +14,16 @@ fn up_to(text: &[u8], stop: u8) -> usize {
 
 /// The number of bytes of a quotation: its line has its end, or it is the quote alone.
 fn quotation(text: &[u8], quote: u8) -> usize {
-    let line = text.get(..up_to(text, b'\n')).unwrap_or(b"");
-    let rest = line.get(1..).unwrap_or(b"");
-    let length = up_to(rest, quote);
-    if length < rest.len() {
-        length.saturating_add(2)
-    } else {
-        1
-    }
+    let mut line = text.iter().take_while(|byte| **byte != b'\n').skip(1);
+    let found = line.position(|byte| *byte == quote);
+    found.map_or(1, |length| length.saturating_add(2))
 }
 
 /// The number of bytes of a comment of C: up to its end, or of its beginning alone.
 fn block(text: &[u8]) -> usize {
-    for at in 3..text.len() {
-        if text[at - 1] == b'*' && text[at] == b'/' {
-            return at + 1;
-        }
-    }
-    2
+    let is_end = |at: &usize| text.get(*at..).unwrap_or(b"").starts_with(b"*/");
+    let found = (2..text.len()).find(is_end);
+    found.map_or(2, |at| at.saturating_add(2))
 }
 
 /// The number of bytes that are skipped for a byte that begins no token: a comment, a quotation, or a
@@ -98,38 +89,28 @@ impl<'a> Pieces<'a> {
         self.put_tokens(&tokens)?;
         let put = match fault.cause {
             Cause::Lex(LexError::BadWord(_)) => NAME,
-            Cause::Lex(LexError::BadNumber(_)) => b"0",
-            _ => b"",
+            Cause::Lex(LexError::BadNumber(_)) => "0",
+            _ => "",
         };
-        put_text(self.alloc, &mut self.list, put, fault.span)?;
+        put_text(self.alloc, &mut self.list, put.as_bytes(), fault.span)?;
         self.faults.push(fault)?;
         self.from = fault.span.stop;
         Ok(())
     }
 
-    /// Reads up to the next fault of a token, and over it. The answer is no at the end of the text.
-    fn put_next(&mut self) -> Result<bool, AllocError> {
-        match lex(self.alloc, self.text.get(self.from..).unwrap_or(b"")) {
-            Ok(tokens) => {
-                self.put_tokens(&tokens)?;
-                Ok(false)
-            }
-            Err(LexError::Memory) => Err(AllocError),
-            Err(error) => {
-                let Some(fault) = fault_of(self.text, self.from, error) else {
-                    return Ok(false);
-                };
-                self.put_fault(fault)?;
-                Ok(true)
-            }
-        }
-    }
-
     /// Reads the text, and returns whether it has fewer such faults than `most`.
     pub(crate) fn read(&mut self, most: usize) -> Result<bool, AllocError> {
         for _fault in 0..most {
-            if !self.put_next()? {
-                return Ok(true);
+            match lex(self.alloc, self.text.get(self.from..).unwrap_or(b"")) {
+                Ok(tokens) => {
+                    self.put_tokens(&tokens)?;
+                    return Ok(true);
+                }
+                Err(LexError::Memory) => return Err(AllocError),
+                Err(error) => match fault_of(self.text, self.from, error) {
+                    Some(fault) => self.put_fault(fault)?,
+                    None => return Ok(true),
+                },
             }
         }
         Ok(false)

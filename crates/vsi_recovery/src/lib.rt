@@ -17,29 +17,23 @@
 //! lattice (clause `lattice`), and a completion puts no class below another one that it was not
 //! below (clause `keeps`). Only transcripts show that there is an answer.
 //!
-//! To be believed: `specs/Listed`; `specs/Goes`, `specs/Sorts`, `specs/Told` and `specs/Words`;
-//! `specs/Completed`. `specs/Rules` is a stepping stone of proofs.
+//! To be believed: `specs/Listed`; `specs/Goes`, `specs/Sorts` and `specs/Told`; `specs/Completed`.
+//! `specs/Rules` is a stepping stone of proofs.
 #![tactic(auto)]
 
 mod check;
-mod context;
 mod expected;
-mod fault;
 mod holes;
 mod naming;
+mod open;
 mod orders;
-mod repairs;
 mod rows;
 mod rules;
 mod search;
-mod skipping;
 mod sort;
-mod tokens;
 mod walk;
-mod words;
 
 pub use expected::{Expected, expected_after};
-pub use fault::{Cause, Fault};
 pub use orders::{Addition, Placement, Rank, completion, links, nearest, placements};
 pub use sort::Sort;
-pub use walk::further_faults;
+pub use walk::{Cause, Fault, further_faults};

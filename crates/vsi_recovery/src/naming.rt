@@ -1,10 +1,8 @@
 //! The names of a program that can't be resolved.
 
-use crate::fault::{Cause, Fault};
-use crate::repairs::NAME;
-use crate::skipping::DECLARATION;
-use crate::tokens::{number_of, put_at, put_numbered, put_text, span, tokens_of};
-use crate::walk::{MAX_FAULTS, Walk};
+use crate::open::{number_of, put_at, put_numbered, put_text, span, tokens_of};
+use crate::search::{DECLARATION, NAME};
+use crate::walk::{Cause, Fault, MAX_FAULTS, Walk};
 use indexmap::IndexSet;
 use std::alloc::{AllocError, Global};
 use vsi_lattice::{Class, Classes};
@@ -19,25 +17,19 @@ fn is_declaring(kind: Kind) -> bool {
     kind == Kind::Var || kind == Kind::Letvar
 }
 
-/// The names of the declarations of a list.
-fn declared_names<'a>(alloc: Global, list: &[Token<'a>]) -> Result<IndexSet<&'a [u8]>, AllocError> {
-    let mut names = IndexSet::new(alloc);
-    let mut before = Kind::Semicolon;
-    for token in list {
-        if is_declaring(before) {
-            names.insert(token.text)?;
-        }
-        before = token.kind;
-    }
-    Ok(names)
-}
-
 /// The first uses of the names that no declaration of a list has, in their order: those of the
 /// first 20 names. Each of them is out of scope wherever it is used.
 fn undeclared_names<'a>(alloc: Global, list: &[Token<'a>]) -> Result<Vec<Token<'a>>, AllocError> {
-    let mut known = declared_names(alloc, list)?;
-    let mut found = Vec::new(alloc);
+    let mut known = IndexSet::new(alloc);
     let mut before = Kind::Semicolon;
+    for token in list {
+        if is_declaring(before) {
+            known.insert(token.text)?;
+        }
+        before = token.kind;
+    }
+    let mut found = Vec::new(alloc);
+    before = Kind::Semicolon;
     for token in list {
         let is_class = before == Kind::Colon;
         let is_used = token.kind == Kind::Name && !is_class && !is_declaring(before);
@@ -137,7 +129,7 @@ impl<'a> Walk<'_, 'a> {
         let mut before = Kind::Semicolon;
         for token in &self.list {
             // Declarations that were put in front end at 0.
-            let is_lost = token.text == NAME && token.span.stop != 0;
+            let is_lost = token.text == NAME.as_bytes() && token.span.stop != 0;
             if is_declaring(before) && (is_lost || self.is_mended && token.text == name) {
                 return true;
             }

@@ -1,10 +1,8 @@
 //! The search for a repair of a fault of the tree.
 
-use crate::context::{Open, Start};
-use crate::repairs::{COMMAND, ENDINGS, FILLINGS, SMALL};
-use crate::skipping::{DECLARATION, OUTSIDE, UNBRACKETED, lone_end, misplaced};
-use crate::tokens::{Reading, landmark_from, put_numbered, read, tokens_of};
+use crate::open::{Open, Reading, Start, landmark_from, put_numbered, read, tokens_of};
 use std::alloc::{AllocError, Global};
+use vsi_syntax::Kind::*;
 use vsi_syntax::{Kind, Token};
 
 /// The most tokens that are skipped.
@@ -16,13 +14,162 @@ const MAX_AHEAD: usize = 200;
 /// The cost of trying a repair, in tokens, beside the tokens that are read for it.
 const TRIAL: usize = 20;
 
+/// The name that repairs put in.
+pub(crate) const NAME: &str = "put_in_by_a_repair";
+
+/// A command.
+pub(crate) const COMMAND: &str = "put_in_by_a_repair := 0";
+
+/// A branch after a first one.
+const OTHERWISE: &str = "else put_in_by_a_repair := 0";
+
+/// A body of a loop.
+const LOOPING: &str = "do put_in_by_a_repair := 0";
+
+/// A first branch.
+const FIRST: &str = "then put_in_by_a_repair := 0";
+
+/// A body of a local variable.
+const WITHIN: &str = "in put_in_by_a_repair := 0";
+
+/// A value that is assigned.
+const ASSIGNED: &str = ":= 0";
+
+/// A class of a declaration.
+const CLASS: &str = ": put_in_by_a_repair";
+
+/// The repairs of one token that are tried at each fault, in this order: how many tokens are left
+/// out, and what is put in their place.
+const SMALL: [(usize, &[&str]); 6] = [
+    (0, &[";", "0"]),
+    (1, &["", ":="]),
+    (0, &["then", "do", "in", ")", "}", ":=", ":", NAME]),
+    (1, &["then", "do", "in", ";", "<", NAME, "0", "var"]),
+    (0, &[OTHERWISE, COMMAND, CLASS, ASSIGNED]),
+    (2, &[":=", ""]),
+];
+
+/// The replacements of all tokens up to one at which reading can go on.
+const FILLINGS: [&str; 7] = ["", "0", ASSIGNED, CLASS, COMMAND, LOOPING, FIRST];
+
+/// What is put at the end of a text that ends too early: the first of these that can come there.
+const ENDINGS: [&str; 11] = [
+    "}", ")", "0", COMMAND, OTHERWISE, LOOPING, FIRST, WITHIN, ASSIGNED, CLASS, ";",
+];
+
+/// The number of tokens of a declaration of a global.
+pub(crate) const DECLARATION: usize = 5;
+
+/// The tokens of a declaration of a global.
+const DECLARED: [Kind; DECLARATION] = [Var, Name, Colon, Name, Semicolon];
+
+/// The most tokens that are passed over in search of one.
+const MAX_PASSED: usize = 10_000;
+
+/// The kinds that begin a construct, and those that end it or its first part.
+const ENDS: [(Kind, Kind); 5] = [
+    (OpenBrace, CloseBrace),
+    (Kind::Open, Close),
+    (If, Else),
+    (While, Do),
+    (Letvar, In),
+];
+
+/// The constructs that begin in a skipped part and haven't ended: how many there are for each row
+/// of `ENDS`. Within braces only braces count.
+#[derive(Clone, Copy)]
+struct Nest {
+    open: [usize; 5],
+}
+
+/// No construct.
+const OUTSIDE: Nest = Nest { open: [0; 5] };
+
+impl Nest {
+    /// Whether reading can go on at a token of this kind: it doesn't belong to a construct of the
+    /// skipped part.
+    fn serves(&self, kind: Kind) -> bool {
+        let [braces, rounds, ifs, whiles, letvars] = self.open;
+        let is_outside = match kind {
+            Semicolon | Var => rounds == 0,
+            CloseBrace => true,
+            Else => ifs == 0,
+            Do => whiles == 0,
+            In => letvars == 0,
+            _ => false,
+        };
+        braces == 0 && is_outside
+    }
+
+    /// The constructs after one more token.
+    fn noted(&self, kind: Kind) -> Nest {
+        let mut open = self.open;
+        if kind == OpenBrace || kind == CloseBrace {
+            open[1] = 0;
+        }
+        if kind == Semicolon && open[0] == 0 && open[1] == 0 {
+            return OUTSIDE;
+        }
+        for number in 0..5 {
+            if 0 < number && self.open[0] != 0 {
+                break;
+            }
+            let (begin, end) = ENDS[number];
+            if kind == begin {
+                open[number] = open[number].saturating_add(1);
+            } else if kind == end {
+                open[number] = open[number].saturating_sub(1);
+            }
+        }
+        Nest { open }
+    }
+}
+
+/// The kinds of tokens that are in no brackets.
+const UNBRACKETED: [Kind; 7] = [OpenBrace, CloseBrace, Then, Do, Else, In, Var];
+
+/// The number of the first token outside braces that ends what began before these tokens, if it is
+/// near and no token of the kinds in `stops` comes before it.
+fn lone_end(list: &[Token<'_>], begin: Kind, end: Kind, stops: &[Kind]) -> Option<usize> {
+    let mut braces = 0usize;
+    let mut open = 0usize;
+    for (number, token) in list.iter().enumerate().take(MAX_PASSED) {
+        match token.kind {
+            kind if stops.contains(&kind) => return None,
+            OpenBrace => braces = braces.saturating_add(1),
+            CloseBrace if braces == 0 => return None,
+            CloseBrace => braces = braces.saturating_sub(1),
+            _ if braces != 0 => {}
+            kind if kind == begin => open = open.saturating_add(1),
+            kind if kind == end && open == 0 => return Some(number),
+            kind if kind == end => open = open.saturating_sub(1),
+            _ => {}
+        }
+    }
+    None
+}
+
+/// Whether a command or a declaration follows the declaration with which these tokens begin, if
+/// they do.
+fn misplaced(list: &[Token<'_>]) -> Option<bool> {
+    for (number, kind) in DECLARED.iter().enumerate() {
+        if list.get(number)?.kind != *kind {
+            return None;
+        }
+    }
+    let Some(next) = list.get(DECLARATION) else {
+        return Some(false);
+    };
+    Some(matches!(next.kind, Name | If | While | Letvar | OpenBrace | Var))
+}
+
 /// A repair at a fault. A text is put in at a beginning before the fault; the tokens from there up
 /// to the fault come after it or are left out, and so many tokens after the fault are left out too.
 /// Then the first fault is so many tokens after this one at the earliest.
 #[derive(Clone, Copy)]
 pub(crate) struct Choice {
     pub(crate) start: Start,
-    pub(crate) put: &'static [u8],
+    pub(crate) put: &'static str,
     pub(crate) is_before: bool,
     pub(crate) stop: usize,
     /// Whether a declaration that is out of place is left out.
@@ -32,7 +179,7 @@ pub(crate) struct Choice {
 
 /// The repair that puts in a text in place of the tokens from a beginning up to one after the
 /// fault.
-fn replacing(start: Start, stop: usize, put: &'static [u8]) -> Choice {
+fn replacing(start: Start, stop: usize, put: &'static str) -> Choice {
     Choice {
         start,
         put,
@@ -45,13 +192,12 @@ fn replacing(start: Start, stop: usize, put: &'static [u8]) -> Choice {
 
 /// Whether some of these tokens begin a construct that ends with another one.
 fn has_opening(tokens: &[Token<'_>]) -> bool {
-    let is_opening = |token: &Token<'_>| {
+    tokens.iter().any(|token| {
         matches!(
             token.kind,
-            Kind::If | Kind::While | Kind::Letvar | Kind::Var | Kind::OpenBrace | Kind::Open
+            If | While | Letvar | Var | OpenBrace | Kind::Open
         )
-    };
-    tokens.iter().any(is_opening)
+    })
 }
 
 /// A search: it ends with the first repair with which reading goes on up to a landmark and over it.
@@ -78,11 +224,11 @@ impl Search<'_, '_> {
         for _landmark in 0..self.landmarks {
             end = landmark_from(near, end).saturating_add(1);
         }
-        match near.get(end) {
-            Some(token) if token.kind == Kind::Var && self.open.is_at_head() => {
-                end.saturating_add(1)
-            }
-            _ => end.min(last),
+        let is_var = near.get(end).is_some_and(|token| token.kind == Var);
+        if is_var && self.open.is_at_head() {
+            end.saturating_add(1)
+        } else {
+            end.min(last)
         }
     }
 
@@ -92,7 +238,7 @@ impl Search<'_, '_> {
         let kept = self.open.kept.as_slice();
         let mut made = Vec::new(self.alloc);
         put_numbered(&mut made, kept.get(..choice.start.kept).unwrap_or(&[]))?;
-        put_numbered(&mut made, &tokens_of(self.alloc, choice.put)?)?;
+        put_numbered(&mut made, &tokens_of(self.alloc, choice.put.as_bytes())?)?;
         if choice.is_before {
             put_numbered(&mut made, kept.get(choice.start.kept..).unwrap_or(&[]))?;
         }
@@ -115,10 +261,7 @@ impl Search<'_, '_> {
         }
         let end = self.window_end(choice.stop);
         if let Some(reached) = self.reached(choice, end)? {
-            let is_better = match self.best {
-                Some(best) => best.reached < reached,
-                None => true,
-            };
+            let is_better = self.best.is_none_or(|best| best.reached < reached);
             self.is_found = end <= reached;
             if is_better || self.is_found {
                 self.best = Some(Choice { reached, ..choice });
@@ -128,25 +271,33 @@ impl Search<'_, '_> {
     }
 
     /// Tries to put in a text at a beginning.
-    fn attempt_before(&mut self, start: Start, put: &'static [u8]) -> Result<(), AllocError> {
+    fn attempt_before(&mut self, start: Start, put: &'static str) -> Result<(), AllocError> {
         let mut choice = replacing(start, 0, put);
         choice.is_before = true;
         self.attempt(choice)
     }
 
-    /// Tries to put a text in place of tokens. A token that begins a construct is left out only if
-    /// reading goes on over two landmarks.
-    fn try_one(&mut self, here: Start, out: usize, put: &'static [u8]) -> Result<(), AllocError> {
+    /// Tries to put each text in place of tokens. A token that begins a construct is left out only
+    /// if reading goes on over two landmarks.
+    fn try_texts(
+        &mut self,
+        here: Start,
+        out: usize,
+        texts: &[&'static str],
+    ) -> Result<(), AllocError> {
         if self.landmarks <= 1 && has_opening(self.rest.get(..out).unwrap_or(&[])) {
             return Ok(());
         }
-        self.attempt(replacing(here, out, put))
+        for put in texts {
+            self.attempt(replacing(here, out, *put))?;
+        }
+        Ok(())
     }
 
     /// Tries repairs of one token.
     fn try_small(&mut self, here: Start) -> Result<(), AllocError> {
-        for (out, put) in SMALL.as_slice() {
-            self.try_one(here, *out, *put)?;
+        for (out, texts) in SMALL.as_slice() {
+            self.try_texts(here, *out, *texts)?;
         }
         Ok(())
     }
@@ -156,8 +307,8 @@ impl Search<'_, '_> {
     fn try_sure(&mut self, here: Start) -> Result<(), AllocError> {
         self.landmarks = 2;
         if let Some(number) = lone_end(self.rest, Kind::Open, Kind::Close, &UNBRACKETED) {
-            self.attempt(replacing(here, number, b""))?;
-            self.attempt(replacing(here, number, b"0"))?;
+            self.attempt(replacing(here, number, ""))?;
+            self.attempt(replacing(here, number, "0"))?;
         }
         self.try_small(here)?;
         if 0 < here.kept {
@@ -165,11 +316,11 @@ impl Search<'_, '_> {
                 place: here.place.saturating_sub(1),
                 kept: here.kept.saturating_sub(1),
             };
-            self.attempt(replacing(before, 0, b""))?;
+            self.attempt(replacing(before, 0, ""))?;
         }
         let start = self.open.now.command;
-        self.attempt_before(start, b"if")?;
-        self.attempt_before(start, b"while")?;
+        self.attempt_before(start, "if")?;
+        self.attempt_before(start, "while")?;
         self.landmarks = 1;
         Ok(())
     }
@@ -183,7 +334,7 @@ impl Search<'_, '_> {
         self.attempt(replacing(now.command, number, COMMAND))?;
         self.attempt(replacing(now.item, number, COMMAND))?;
         if kind == Kind::Semicolon {
-            self.attempt(replacing(now.item, number.saturating_add(1), b""))?;
+            self.attempt(replacing(now.item, number.saturating_add(1), ""))?;
         }
         Ok(())
     }
@@ -212,14 +363,14 @@ impl Search<'_, '_> {
         let Some(is_followed) = misplaced(self.rest) else {
             return Ok(());
         };
-        let mut choice = replacing(here, DECLARATION, b";");
+        let mut choice = replacing(here, DECLARATION, ";");
         choice.is_misplaced = true;
         let is_begun = self.open.now.item.place == here.place;
         let is_ended = !is_begun && self.reached(choice, DECLARATION)?.is_some();
         choice.put = match (is_begun, is_followed) {
             (true, false) => COMMAND,
-            (false, true) => b";",
-            _ => b"",
+            (false, true) => ";",
+            _ => "",
         };
         if is_begun || is_ended && !self.open.is_declaration() {
             self.best = Some(choice);
@@ -242,10 +393,10 @@ impl Search<'_, '_> {
         let item = self.open.now.item;
         let is_named = item.place.saturating_add(1) == here.place && self.open.is_outermost();
         if token.kind == Kind::Colon && is_named {
-            self.attempt_before(item, b"var")?;
+            self.attempt_before(item, "var")?;
         }
         if let Some(number) = lone_end(self.rest, Kind::If, Kind::Else, &[]) {
-            self.attempt(replacing(here, number, b""))?;
+            self.attempt(replacing(here, number, ""))?;
         }
         self.try_sure(here)?;
         self.try_small(here)?;

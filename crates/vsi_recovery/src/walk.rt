@@ -1,16 +1,36 @@
-//! A walk over the tokens of a text, from one fault of the tree to the next.
+//! The faults of a text: a walk over its tokens, from one fault of the tree to the next.
 
-ghost use Rattle.std.specs.Prelude.{◌≤◌, IfOk, length};
+ghost use Rattle.std.specs.Prelude.{◌≡◌, ◌≤◌, IfOk, length, true};
 ghost use Rattle.vsi_recovery.specs.Listed.{AreListed};
 
-use crate::context::Open;
-use crate::fault::{Cause, Fault, listed};
 use crate::holes::Pieces;
+use crate::open::{Open, Reading, landmark_from, put_numbered, put_text, read, span};
 use crate::search::{Choice, repair_of};
-use crate::tokens::{Reading, landmark_from, put_numbered, put_text, read, span};
 use std::alloc::{AllocError, Global};
 use vsi_lattice::Lattice;
-use vsi_syntax::{Kind, Token};
+use vsi_scope::ScopeError;
+use vsi_syntax::{Kind, LexError, Span, Token};
+
+/// The most faults of a text that are reported after its first one.
+const MAX_FURTHER: usize = 19;
+
+/// Why a part of a text is refused.
+#[derive(Clone, Copy, Debug)]
+pub enum Cause {
+    /// It has no token: the error of `lex`.
+    Lex(LexError),
+    /// No program goes on with it: `Unexpected`.
+    Tree,
+    /// It is a name that can't be resolved: the error of `resolve`.
+    Scope(ScopeError),
+}
+
+/// A fault with its part of the text.
+#[derive(Clone, Copy, Debug)]
+pub struct Fault {
+    pub cause: Cause,
+    pub span: Span,
+}
 
 /// The fewest tokens that are read at once.
 const CHUNK: usize = 500;
@@ -55,10 +75,7 @@ pub(crate) struct Walk<'s, 'a> {
 
 /// The byte at which the last of these tokens ends, or 0 if there is none.
 pub(crate) fn stop_of(list: &[Token<'_>]) -> usize {
-    match list.last() {
-        Some(last) => last.span.stop,
-        None => 0,
-    }
+    list.last().map_or(0, |last| last.span.stop)
 }
 
 /// Whether some of these tokens are braces.
@@ -77,13 +94,9 @@ impl<'s, 'a> Walk<'s, 'a> {
     /// The byte at which the token at a place begins: one that was read, or else the next one, or
     /// the end of the last one.
     pub(crate) fn byte_at(&self, place: usize) -> usize {
-        match self.list.get(place) {
-            Some(token) => token.span.start,
-            None => match self.rest().first() {
-                Some(token) => token.span.start,
-                None => stop_of(&self.list),
-            },
-        }
+        let read = self.list.get(place).map(|token| token.span.start);
+        let next = self.rest().first().map(|token| token.span.start);
+        read.or(next).unwrap_or(stop_of(&self.list))
     }
 
     /// Whether a fault of the tree at a byte may come from a repair.
@@ -124,11 +137,8 @@ impl<'s, 'a> Walk<'s, 'a> {
             self.list.push(*token)?;
         }
         self.next = self.next.saturating_add(passed);
-        if passed < count || count == rest.len() {
-            Ok(Some(reading))
-        } else {
-            Ok(None)
-        }
+        let is_end = passed < count || count == rest.len();
+        Ok(is_end.then_some(reading))
     }
 
     /// Goes on to the next fault of the tree, or to the end of the text.
@@ -153,7 +163,12 @@ impl<'s, 'a> Walk<'s, 'a> {
             after.extend_from_slice(self.list.get(from..).unwrap_or(&[]))?;
         }
         self.list.truncate(from);
-        put_text(self.alloc, &mut self.list, choice.put, span(start, start))?;
+        put_text(
+            self.alloc,
+            &mut self.list,
+            choice.put.as_bytes(),
+            span(start, start),
+        )?;
         self.list.extend_from_slice(&after)?;
         self.is_mended = true;
         Ok(())
@@ -184,10 +199,9 @@ impl<'s, 'a> Walk<'s, 'a> {
         let (first, stop) = if choice.is_misplaced {
             (self.list.len(), stop_of(out).saturating_sub(1))
         } else {
-            let stop = match rest.get(landmark_from(rest, choice.stop)..) {
-                Some([token, ..]) => token.span.start,
-                _ => stop_of(rest).max(from),
-            };
+            let landmark = rest.get(landmark_from(rest, choice.stop));
+            let end = stop_of(rest).max(from);
+            let stop = landmark.map_or(end, |token| token.span.start);
             (self.open.now.command.place.min(place), stop)
         };
         Stretch {
@@ -205,10 +219,8 @@ impl<'s, 'a> Walk<'s, 'a> {
             return false;
         }
         let rest = self.rest();
-        let stop = choice
-            .stop
-            .saturating_add(usize::from(matches!(choice.put, [b';'])));
-        matches!(choice.put, [b'}'])
+        let stop = choice.stop.saturating_add(usize::from(choice.put == ";"));
+        choice.put == "}"
             || !choice.is_before && has_brace(self.list.get(choice.start.place..).unwrap_or(&[]))
             || has_brace(rest.get(..stop).unwrap_or(rest))
     }
@@ -283,6 +295,52 @@ fn all_faults<'a>(
     }
     let Walk { faults, .. } = walk;
     Ok(faults)
+}
+
+/// Whether the faults begin in the text, each after the one before it.
+fn are_listed(text: &[u8], faults: &[Fault]) -> bool
+    ensures { result ≡ true → AreListed 0 (length text.now) faults.now }
+{
+    let mut from = 0usize;
+    let mut rest = faults;
+    while let [fault, behind @ ..] = rest {
+        let start = fault.span.start;
+        if start < from || text.len() < start {
+            return false;
+        }
+        from = start + 1;
+        rest = behind;
+    }
+    true
+}
+
+/// The faults after the first one in the order of their places, up to 19.
+fn sorted(alloc: Global, text: &[u8], faults: &[Fault]) -> Result<Vec<Fault>, AllocError> {
+    let mut sorted = Vec::from_slice(alloc, faults.get(1..).unwrap_or(&[]))?;
+    sorted.sort_by_key(|fault| fault.span.start)?;
+    let mut kept = Vec::new(alloc);
+    let mut from = 0usize;
+    for fault in &sorted {
+        let start = fault.span.start;
+        if kept.len() < MAX_FURTHER && from <= start && start <= text.len() {
+            from = start.saturating_add(1);
+            kept.push(*fault)?;
+        }
+    }
+    Ok(kept)
+}
+
+/// The faults after the first one as they are returned. `sorted` proposes them, and they are
+/// examined here.
+fn listed(alloc: Global, text: &[u8], faults: &[Fault]) -> Result<Vec<Fault>, AllocError>
+    ensures few { IfOk result (λ faults. length faults.items ≤ 19) }
+    ensures listed { IfOk result (λ faults. AreListed 0 (length text.now) faults.items) }
+{
+    let kept = sorted(alloc, text, faults)?;
+    if kept.len() <= MAX_FURTHER && are_listed(text, &kept) {
+        return Ok(kept);
+    }
+    Ok(Vec::new(alloc))
 }
 
 /// The faults of a text after the one for which it is refused, in the order of their places; none

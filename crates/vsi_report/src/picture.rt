@@ -7,7 +7,7 @@ use crate::page::{Added, Made, Page, Part};
 use crate::report::View;
 use std::alloc::Global;
 use vsi_infer::rule_text;
-use vsi_layered::{Drawing, Graph, Node, Place, Point, apart, badges_of, between, drawing_of};
+use vsi_layered::{Drawing, Graph, Node, Place, Point, badges_of, drawing_of};
 use vsi_types::{Profile, Rule, Step};
 
 /// The most arrows of a picture.
@@ -194,12 +194,8 @@ const CORNER: usize = 12;
 
 /// The point near a corner of a line on the way to another point, at most half the way.
 fn beside(corner: Point, other: Point) -> Point {
-    let whole = apart(corner.x, other.x).max(apart(corner.y, other.y));
-    let length = CORNER.min(whole / 2);
-    Point {
-        x: between(corner.x, other.x, length, whole),
-        y: between(corner.y, other.y, length, whole),
-    }
+    let whole = corner.distance(other);
+    corner.towards(other, CORNER.min(whole / 2), whole)
 }
 
 /// The line of the arrow with an index, with rounded corners.

@@ -5,12 +5,11 @@ use crate::banner::{count_refused, number_word};
 use crate::page::{Added, Made, Page, Part};
 use crate::report::View;
 use std::alloc::AllocError;
-use vsi_caret::ColourMode;
 use vsi_compiler::{CompileError, Source};
 use vsi_diagnostics::refusal_text;
 use vsi_flows::{WalkedPair, raise_lines_of, refused_pairs, walks_of};
 use vsi_infer::rule_text;
-use vsi_telling::source_explanation;
+use vsi_telling::{ColourMode, source_explanation};
 use vsi_types::{Profile, Rule, Step};
 
 /// A step: its number, its source, its target and its rule.

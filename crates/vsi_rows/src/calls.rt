@@ -1,7 +1,7 @@
 //! The calls, by their names.
 
 use crate::row::{Row, Wrong};
-use crate::{compiling, drives, flows, images, lattices, requests, texts};
+use crate::{compiling, flows, images, lattices, requests, texts};
 use std::alloc::Global;
 use vsi_lattice::Lattice;
 
@@ -9,12 +9,14 @@ use vsi_lattice::Lattice;
 pub(crate) fn answered(alloc: Global, line: &str) -> Row<'_> {
     let mut row = Row::new(alloc, line);
     let call = row.field();
-    answer(call, &mut row);
+    if let Err(wrong) = answer(call, &mut row) {
+        row.wrong = row.put_refusal(&wrong).err();
+    }
     row
 }
 
 /// Adds the answer to a row.
-fn answer(call: &str, row: &mut Row<'_>) {
+fn answer(call: &str, row: &mut Row<'_>) -> Result<(), Wrong> {
     match call {
         "lex" => texts::tokens(row),
         "parse" => texts::parsed(row),
@@ -22,7 +24,6 @@ fn answer(call: &str, row: &mut Row<'_>) {
         "name" => texts::name(row),
         "place" => texts::place(row),
         "place_of" => texts::position(row),
-        "apply" => texts::applied(row),
         "asked" => requests::asked(row),
         "help" => requests::help_asked(row),
         "lattice" => lattices::read(row),
@@ -34,25 +35,24 @@ fn answer(call: &str, row: &mut Row<'_>) {
         "machine" => images::machine(row),
         "bound" => images::bound(row),
         _ => {
-            if let Some(lattice) = row.lattice() {
-                answer_over_lattice(call, row, &lattice);
-            }
+            let lattice = row.lattice()?;
+            answer_over_lattice(call, row, &lattice)
         }
     }
 }
 
 /// Adds the answer to a row about a program over a lattice.
-fn answer_over_lattice(call: &str, row: &mut Row<'_>, lattice: &Lattice) {
+fn answer_over_lattice(call: &str, row: &mut Row<'_>, lattice: &Lattice) -> Result<(), Wrong> {
     match call {
         "size" => compiling::size_of(row, lattice),
         "judge" | "sizes" | "compile" => compiling::image(row, lattice, call),
         "classes" => compiling::classes(row, lattice),
         "refusal" => compiling::refusal(row, lattice),
         "run" => compiling::ran(row, lattice),
-        "drive" => drives::driven(row, lattice),
+        "drive" => compiling::driven(row, lattice),
         "check" => flows::typed(row, lattice),
         "infer" => flows::least_classes(row, lattice),
         "walk" => flows::walked(row, lattice),
-        _ => row.fail(Wrong::Row),
+        _ => Err(Wrong::Row),
     }
 }

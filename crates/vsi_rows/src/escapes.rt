@@ -7,22 +7,15 @@
 
 use crate::row::Wrong;
 use std::alloc::{AllocError, Global};
+use std::str::from_utf8;
 use vsi_syntax::put_number;
 
-/// The value of a hexadecimal digit.
-fn digit(byte: u8) -> Result<u8, Wrong> {
-    match byte {
-        b'0'..=b'9' => Ok(byte - b'0'),
-        b'a'..=b'f' => Ok(byte - b'a' + 10),
-        _ => Err(Wrong::Row),
-    }
-}
-
 /// The byte with two hexadecimal digits.
-pub(crate) fn byte_of(high: u8, low: u8) -> Result<u8, Wrong> {
-    let high = digit(high)?;
-    let low = digit(low)?;
-    Ok(high.wrapping_mul(16).wrapping_add(low))
+pub(crate) fn byte_of(digits: &[u8]) -> Result<u8, Wrong> {
+    match from_utf8(digits) {
+        Ok(digits) => Ok(u8::from_str_radix(digits, 16)?),
+        Err(_) => Err(Wrong::Row),
+    }
 }
 
 /// Adds a first byte and then others.
@@ -52,8 +45,11 @@ fn put_turn(out: &mut Vec<u8>, part: &str, number: u32) -> Result<(), Wrong> {
     Ok(())
 }
 
-/// Adds a part once for each of some numbers.
-fn put_turns(out: &mut Vec<u8>, from: u32, to: u32, part: &str) -> Result<(), Wrong> {
+/// Adds the meaning of `FROM TO PART`: the part once for each of some numbers.
+fn put_repetition(out: &mut Vec<u8>, text: &str) -> Result<(), Wrong> {
+    let (from, text) = text.split_once(' ').unwrap_or((text, ""));
+    let (to, part) = text.split_once(' ').unwrap_or((text, ""));
+    let (from, to) = (from.parse::<u32>()?, to.parse::<u32>()?);
     if from <= to {
         for number in from..=to {
             put_turn(out, part, number)?;
@@ -66,20 +62,6 @@ fn put_turns(out: &mut Vec<u8>, from: u32, to: u32, part: &str) -> Result<(), Wr
     Ok(())
 }
 
-/// Adds the meaning of `FROM TO PART`.
-fn put_repetition(out: &mut Vec<u8>, text: &str) -> Result<(), Wrong> {
-    let Some((from, text)) = text.split_once(' ') else {
-        return Err(Wrong::Row);
-    };
-    let Some((to, part)) = text.split_once(' ') else {
-        return Err(Wrong::Row);
-    };
-    match (from.parse::<u32>(), to.parse::<u32>()) {
-        (Ok(from), Ok(to)) => put_turns(out, from, to, part),
-        _ => Err(Wrong::Row),
-    }
-}
-
 /// Adds the meaning of the text after a backslash, up to the next one.
 fn put_piece(out: &mut Vec<u8>, piece: &str) -> Result<(), Wrong> {
     if let Some(repetition) = piece.strip_prefix('[') {
@@ -88,7 +70,7 @@ fn put_piece(out: &mut Vec<u8>, piece: &str) -> Result<(), Wrong> {
     match piece.as_bytes() {
         [b'n', rest @ ..] => put(out, b'\n', rest),
         [b't', rest @ ..] => put(out, b'\t', rest),
-        [b'x', high, low, rest @ ..] => put(out, byte_of(*high, *low)?, rest),
+        [b'x', high, low, rest @ ..] => put(out, byte_of(&[*high, *low])?, rest),
         [b']', rest @ ..] => {
             out.extend_from_slice(rest)?;
             Ok(())

@@ -7,7 +7,6 @@ ghost use Rattle.vsi_lattice.specs.Order.{IsClass};
 ghost use Rattle.vsi_lattice.specs.LatticeView.{order};
 
 use crate::row::{Row, Wrong};
-use crate::shown::Shown;
 use std::alloc::Global;
 use vsi_compiler::{Source, explanation_text, read_source};
 use vsi_infer::{InferError, Walk, check_walk, check_walk_in, check_walk_once, infer, infer_in};
@@ -15,17 +14,6 @@ use vsi_lattice::{Class, Classes, Lattice};
 use vsi_scope::Var;
 use vsi_syntax::Span;
 use vsi_types::{CheckError, Profile, Rule, Step, check, check_in};
-
-/// The source of a row's text over a lattice, unless it is refused.
-fn source_of<'t>(row: &mut Row<'_>, lattice: &'t Lattice, text: &'t [u8]) -> Option<Source<'t>> {
-    match read_source(row.alloc, lattice, text) {
-        Ok(source) => Some(source),
-        Err(error) => {
-            error.show(row);
-            None
-        }
-    }
-}
 
 /// Whether each given class is a class of the lattice.
 fn are_chosen(lattice: &Lattice, choice: &[Class]) -> bool
@@ -60,15 +48,14 @@ fn checked(
 /// `check PROFILE LATTICE CLASSES TEXT`: whether the program is typable with these classes of its
 /// `letvar`s, or the first flow that isn't allowed: its rule, the variable that is read and its
 /// position, and the variable that is written.
-pub(crate) fn typed(row: &mut Row<'_>, lattice: &Lattice) {
-    let choice = row.classes();
-    let text = row.text();
-    if let Some(source) = source_of(row, lattice, &text) {
-        match checked(row.alloc, row.profile, &source, &choice) {
-            Some(Ok(())) => row.put("accepted\n"),
-            Some(Err(error)) => row.put_line(&error),
-            None => row.fail(Wrong::Row),
-        }
+pub(crate) fn typed(row: &mut Row<'_>, lattice: &Lattice) -> Result<(), Wrong> {
+    let choice = row.classes()?;
+    let text = row.text()?;
+    let source = read_source(row.alloc, lattice, &text)?;
+    match checked(row.alloc, row.profile, &source, &choice) {
+        Some(Ok(())) => row.put("accepted\n"),
+        Some(Err(error)) => row.put_line(&error),
+        None => Err(Wrong::Row),
     }
 }
 
@@ -88,17 +75,27 @@ fn inferred(
 
 /// `infer PROFILE LATTICE TEXT`: the numbers of the least classes of the `letvar`s, or the lines of
 /// the walk that refuses it.
-pub(crate) fn least_classes(row: &mut Row<'_>, lattice: &Lattice) {
-    let text = row.text();
-    if let Some(source) = source_of(row, lattice, &text) {
-        match inferred(row.alloc, row.profile, &source) {
-            Ok(classes) => row.put_classes(&classes),
-            Err(InferError::Refused(walk)) => {
-                explanation_text(row.alloc, lattice, &text, &walk).show(row);
-            }
-            Err(InferError::Memory) => row.fail(Wrong::Memory),
+pub(crate) fn least_classes(row: &mut Row<'_>, lattice: &Lattice) -> Result<(), Wrong> {
+    let text = row.text()?;
+    let source = read_source(row.alloc, lattice, &text)?;
+    match inferred(row.alloc, row.profile, &source) {
+        Ok(classes) => put_classes(row, &classes),
+        Err(InferError::Refused(walk)) => {
+            let lines = explanation_text(row.alloc, lattice, &text, &walk)?;
+            row.put_bytes(&lines)
         }
+        Err(InferError::Memory) => Err(Wrong::Memory),
     }
+}
+
+/// Adds the numbers of classes.
+fn put_classes(row: &mut Row<'_>, classes: &[Class]) -> Result<(), Wrong> {
+    row.put("classes")?;
+    for class in classes {
+        let number = class.index();
+        write!(row.answer, " {number}")?;
+    }
+    row.put("\n")
 }
 
 /// The next field as the name of a rule.
@@ -113,28 +110,25 @@ fn rule(row: &mut Row<'_>) -> Rule {
 }
 
 /// The next field as the first byte of a name of one byte.
-fn place(row: &mut Row<'_>) -> Span {
-    let start = usize::from(row.small());
-    Span {
-        start,
-        stop: start + 1,
-    }
+fn place(row: &mut Row<'_>) -> Result<Span, Wrong> {
+    let start = usize::from(row.small()?);
+    let stop = start + 1;
+    Ok(Span { start, stop })
 }
 
 /// The next fields as a number of steps and the steps, each of five fields.
-fn walk(row: &mut Row<'_>) -> Walk {
+fn walk(row: &mut Row<'_>) -> Result<Walk, Wrong> {
     let mut steps = Vec::new(row.alloc);
-    for _ in 0..row.small() {
-        let step = Step {
+    for _ in 0..row.small()? {
+        steps.push(Step {
             rule: rule(row),
-            source: Var(row.small()),
-            target: Var(row.small()),
-            read: place(row),
-            written: place(row),
-        };
-        row.note(steps.push(step).is_err());
+            source: Var(row.small()?),
+            target: Var(row.small()?),
+            read: place(row)?,
+            written: place(row)?,
+        })?;
     }
-    Walk { steps }
+    Ok(Walk { steps })
 }
 
 /// Whether a walk is bad, by `check_walk` for the base profile; none if `check_walk_once`
@@ -155,13 +149,12 @@ fn is_bad(alloc: Global, profile: Profile, source: &Source<'_>, walk: &Walk) -> 
 /// `walk PROFILE LATTICE COUNT STEPS TEXT`: whether this many steps are a bad walk. A step is
 /// `RULE SOURCE TARGET READ WRITTEN`, by the numbers of variables and the first bytes of names of
 /// one byte.
-pub(crate) fn walked(row: &mut Row<'_>, lattice: &Lattice) {
-    let walk = walk(row);
-    let text = row.text();
-    if let Some(source) = source_of(row, lattice, &text) {
-        match is_bad(row.alloc, row.profile, &source, &walk) {
-            Some(is_bad) => row.put(if is_bad { "bad\n" } else { "not bad\n" }),
-            None => row.fail(Wrong::Memory),
-        }
+pub(crate) fn walked(row: &mut Row<'_>, lattice: &Lattice) -> Result<(), Wrong> {
+    let walk = walk(row)?;
+    let text = row.text()?;
+    let source = read_source(row.alloc, lattice, &text)?;
+    match is_bad(row.alloc, row.profile, &source, &walk) {
+        Some(is_bad) => row.put(if is_bad { "bad\n" } else { "not bad\n" }),
+        None => Err(Wrong::Memory),
     }
 }

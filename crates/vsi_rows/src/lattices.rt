@@ -1,113 +1,115 @@
 //! Calls about classes and their order.
 
+ghost use Rattle.std.specs.Prelude.{IfOk};
 ghost use Rattle.vsi_lattice.specs.Pairs.{ArePairsBelow};
 
 use crate::row::{Row, Wrong};
-use crate::shown::Shown;
+use vsi_diagnostics::Fault;
 use vsi_lattice::{Class, Classes, Lattice, MaskLattice, OrderError, PairLattice, read_lattice};
 
 /// Adds, for two classes, whether the first is at or below the second, their join and their meet.
-fn put_pair<C: Classes>(row: &mut Row<'_>, lattice: &C, low: Class, high: Class) {
+fn put_pair<C: Classes>(
+    row: &mut Row<'_>,
+    lattice: &C,
+    low: Class,
+    high: Class,
+) -> Result<(), Wrong> {
     if low.index() >= lattice.count() || high.index() >= lattice.count() {
-        return;
+        return Ok(());
     }
-    row.put(if lattice.leq(low, high) { " <" } else { " ." });
-    row.put_number(&lattice.join(low, high).index());
-    row.put("/");
-    row.put_number(&lattice.meet(low, high).index());
+    let sign = if lattice.leq(low, high) { '<' } else { '.' };
+    let (join, meet) = (
+        lattice.join(low, high).index(),
+        lattice.meet(low, high).index(),
+    );
+    Ok(write!(row.answer, " {sign}{join}/{meet}")?)
 }
 
-/// Adds the line of a class.
-fn put_class<C: Classes>(row: &mut Row<'_>, lattice: &C, low: Class) {
-    row.put_number(&low.index());
-    row.put(":");
-    for number in 0..64u8 {
-        put_pair(row, lattice, low, Class::at(number));
+/// Adds the line of a class, if there is one of this number.
+fn put_class<C: Classes>(row: &mut Row<'_>, lattice: &C, number: u8) -> Result<(), Wrong> {
+    if usize::from(number) >= lattice.count() {
+        return Ok(());
     }
-    row.put("\n");
+    write!(row.answer, "{number}:")?;
+    for other in 0..64u8 {
+        put_pair(row, lattice, Class::at(number), Class::at(other))?;
+    }
+    row.put("\n")
 }
 
 /// Adds a line for each class, with the text of `put_pair` for each class as the second.
-fn put_order<C: Classes>(row: &mut Row<'_>, lattice: &C) {
-    row.put("bottom ");
-    row.put_number(&lattice.bottom().index());
-    row.put(" top ");
-    row.put_number(&lattice.top().index());
-    row.put("\n");
+fn put_order<C: Classes>(row: &mut Row<'_>, lattice: &C) -> Result<(), Wrong> {
+    let (bottom, top) = (lattice.bottom().index(), lattice.top().index());
+    writeln!(row.answer, "bottom {bottom} top {top}")?;
     for number in 0..64u8 {
-        if usize::from(number) < lattice.count() {
-            put_class(row, lattice, Class::at(number));
-        }
+        put_class(row, lattice, number)?;
     }
+    Ok(())
 }
 
 /// Adds the names of the classes, each after a space.
-fn put_names(row: &mut Row<'_>, lattice: &Lattice) {
-    row.put("classes");
+fn put_names(row: &mut Row<'_>, lattice: &Lattice) -> Result<(), Wrong> {
+    row.put("classes")?;
     for number in 0..64u8 {
         let class = Class::at(number);
         if class.index() < lattice.count() {
-            row.put(" ");
-            row.put_bytes(lattice.name(class));
+            row.put(" ")?;
+            row.put_bytes(lattice.name(class))?;
         }
     }
-    row.put("\n");
+    row.put("\n")
 }
 
 /// `lattice TEXT`: the classes of a lattice file and their order, or the line of the refusal.
-pub(crate) fn read(row: &mut Row<'_>) {
-    let text = row.text();
+pub(crate) fn read(row: &mut Row<'_>) -> Result<(), Wrong> {
+    let text = row.text()?;
     match read_lattice(row.alloc, &text) {
         Ok(lattice) => {
-            put_names(row, &lattice);
-            put_order(row, &lattice);
+            put_names(row, &lattice)?;
+            put_order(row, &lattice)
         }
-        Err(error) => error.show(row),
+        Err(error) => row.put_fault(&Fault::Lattice(error)),
     }
 }
 
 /// Adds the lines of an order or its fault.
-fn put_made<C: Classes + Drop>(row: &mut Row<'_>, made: Result<C, OrderError>) {
+fn put_made<C: Classes + Drop>(
+    row: &mut Row<'_>,
+    made: Result<C, OrderError>,
+) -> Result<(), Wrong> {
     match made {
         Ok(lattice) => put_order(row, &lattice),
         Err(error) => row.put_line(&error),
     }
 }
 
-/// A number as the number of a class. A text that isn't a number gives one that no class has.
-fn class_number(text: &str) -> u8 {
-    text.parse::<u8>().unwrap_or(u8::MAX)
-}
-
-/// The pairs `LOW<HIGH` of a field, separated by commas, without those that aren't numbers below a
-/// count.
-fn pairs_below(row: &mut Row<'_>, count: u8) -> Vec<(u8, u8)>
-    ensures below { ArePairsBelow count result.items }
+/// The pairs `LOW<HIGH` of a field, separated by commas, if they are of numbers below a count.
+fn pairs_below(row: &mut Row<'_>, count: u8) -> Result<Vec<(u8, u8)>, Wrong>
+    ensures below { IfOk result (λ pairs. ArePairsBelow count pairs.items) }
 {
     let mut pairs = Vec::new(row.alloc);
     for pair in row.field().split(',') {
         let (low, high) = pair.split_once('<').unwrap_or(("", ""));
-        let (low, high) = (class_number(low), class_number(high));
-        if low < count && high < count {
-            row.note(pairs.push((low, high)).is_err());
-        } else {
-            row.fail(Wrong::Row);
+        let (low, high) = (low.parse::<u8>()?, high.parse::<u8>()?);
+        if low >= count || high >= count {
+            return Err(Wrong::Row);
         }
+        pairs.push((low, high))?;
     }
-    pairs
+    Ok(pairs)
 }
 
 /// `mask COUNT PAIRS` and `pair COUNT PAIRS`: the order of this many classes that pairs `LOW<HIGH`
 /// of their numbers declare, or its fault, by either form.
-pub(crate) fn order(row: &mut Row<'_>, is_mask: bool) {
-    let count = u8::try_from(row.small()).unwrap_or(0);
+pub(crate) fn order(row: &mut Row<'_>, is_mask: bool) -> Result<(), Wrong> {
+    let count = u8::try_from(row.small()?).unwrap_or(0);
     if count == 0 || count > 64 {
-        return row.fail(Wrong::Row);
+        return Err(Wrong::Row);
     }
-    let pairs = pairs_below(row, count);
+    let pairs = pairs_below(row, count)?;
     if is_mask {
-        put_made(row, MaskLattice::new(row.alloc, usize::from(count), &pairs));
+        put_made(row, MaskLattice::new(row.alloc, usize::from(count), &pairs))
     } else {
-        put_made(row, PairLattice::new(row.alloc, usize::from(count), &pairs));
+        put_made(row, PairLattice::new(row.alloc, usize::from(count), &pairs))
     }
 }

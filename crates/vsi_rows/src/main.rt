@@ -14,14 +14,12 @@
 
 mod calls;
 mod compiling;
-mod drives;
 mod escapes;
 mod flows;
 mod images;
 mod lattices;
 mod requests;
 mod row;
-mod shown;
 mod texts;
 
 use crate::calls::answered;
@@ -46,7 +44,7 @@ fn show(rt: &impl Print, row: &Row<'_>) -> io::Result<()> {
     } else {
         show_lines(rt, row.answer.as_str())?;
     }
-    match row.wrong {
+    match &row.wrong {
         Some(wrong) => println!(rt; "  no answer: {wrong:?}"),
         None => Ok(()),
     }

@@ -16,35 +16,33 @@ fn words_of(alloc: Global, line: &str) -> Result<Vec<String>, AllocError> {
 }
 
 /// Adds a line that says whether the arguments make the request.
-fn put_asked(row: &mut Row<'_>, words: &[String], request: &Request<'_>) {
-    match request_of(row.alloc, words) {
-        Ok(Some(made)) => row.put_verdict(made == *request),
-        Ok(None) => row.put_verdict(false),
-        Err(_) => row.fail(Wrong::Memory),
+fn put_asked(row: &mut Row<'_>, words: &[String], request: &Request<'_>) -> Result<(), Wrong> {
+    match request_of(row.alloc, words)? {
+        Some(made) => row.put_verdict(made == *request),
+        None => row.put_verdict(false),
     }
 }
 
 /// `asked LINE | OTHER`: whether the arguments of the other line make the request that those of the
 /// first make.
-pub(crate) fn asked(row: &mut Row<'_>) {
-    let (line, other) = row.rest.split_once(" | ").unwrap_or((row.rest, ""));
-    let (Ok(words), Ok(others)) = (words_of(row.alloc, line), words_of(row.alloc, other)) else {
-        return row.fail(Wrong::Memory);
-    };
-    match (
-        manner_of(row.alloc, words.as_slice()),
-        request_of(row.alloc, words.as_slice()),
-    ) {
-        (Err(ArgumentsError::Memory), _) | (_, Err(_)) => row.fail(Wrong::Memory),
-        (Ok(_), Ok(Some(request))) => put_asked(row, others.as_slice(), &request),
-        _ => row.fail(Wrong::Row),
+pub(crate) fn asked(row: &mut Row<'_>) -> Result<(), Wrong> {
+    let (alloc, rest) = (row.alloc, row.rest);
+    let (line, other) = rest.split_once(" | ").unwrap_or((rest, ""));
+    let words = words_of(alloc, line)?;
+    let others = words_of(alloc, other)?;
+    match manner_of(alloc, words.as_slice()) {
+        Ok(_) => {}
+        Err(ArgumentsError::Memory) => return Err(Wrong::Memory),
+        Err(_) => return Err(Wrong::Row),
     }
+    let Some(request) = request_of(alloc, words.as_slice())? else {
+        return Err(Wrong::Row);
+    };
+    put_asked(row, others.as_slice(), &request)
 }
 
 /// `help LINE`: whether the arguments of the line ask for help or the version.
-pub(crate) fn help_asked(row: &mut Row<'_>) {
-    match words_of(row.alloc, row.rest) {
-        Ok(words) => row.put_verdict(asks_help(words.as_slice())),
-        Err(_) => row.fail(Wrong::Memory),
-    }
+pub(crate) fn help_asked(row: &mut Row<'_>) -> Result<(), Wrong> {
+    let words = words_of(row.alloc, row.rest)?;
+    row.put_verdict(asks_help(words.as_slice()))
 }

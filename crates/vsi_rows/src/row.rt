@@ -2,18 +2,26 @@
 
 use crate::escapes::bytes_of;
 use std::alloc::{AllocError, AllocFailed, Global};
-use std::fmt::{Debug, Display};
+use std::fmt::Debug;
+use std::num::ParseIntError;
 use std::str::from_utf8;
+use vsi_compiler::CompileError;
+use vsi_diagnostics::{Fault, fault_text};
+use vsi_image::{Image, VerifyError};
 use vsi_lattice::{Class, Lattice, read_lattice};
 use vsi_types::Profile;
 
-/// Why a row has no answer.
-#[derive(Clone, Copy, Debug)]
+/// Why a call has no other answer.
+#[derive(Debug, Drop)]
 pub(crate) enum Wrong {
     /// There was too little memory.
     Memory,
     /// The row doesn't have the form of its call.
     Row,
+    /// The text is refused.
+    Refused(CompileError),
+    /// The image isn't valid.
+    Invalid(VerifyError),
 }
 
 impl From<AllocError> for Wrong {
@@ -28,8 +36,25 @@ impl<T: Drop> From<AllocFailed<T>> for Wrong {
     }
 }
 
-/// A row whose first fields are being read and whose answer is being written. If something goes
-/// wrong, the row notes it and goes on with 0, an empty text or the values it has.
+impl From<ParseIntError> for Wrong {
+    fn from(_e: ParseIntError) -> Wrong {
+        Wrong::Row
+    }
+}
+
+impl From<CompileError> for Wrong {
+    fn from(e: CompileError) -> Wrong {
+        Wrong::Refused(e)
+    }
+}
+
+impl From<(Image, VerifyError)> for Wrong {
+    fn from(e: (Image, VerifyError)) -> Wrong {
+        Wrong::Invalid(e.1)
+    }
+}
+
+/// A row whose first fields are being read and whose answer is being written.
 #[derive(Drop)]
 pub(crate) struct Row<'a> {
     /// The allocator of its input and its answer.
@@ -39,37 +64,27 @@ pub(crate) struct Row<'a> {
     /// The profile of a row over a lattice.
     pub profile: Profile,
     pub answer: String,
-    /// The last error.
+    /// Why the answer isn't complete.
     pub wrong: Option<Wrong>,
 }
 
-/// `L` alone.
-const ONE: &[u8] = b"classes = [\"L\"]\nbelow = []\n";
-
-/// `L` below `H`.
-const TWO: &[u8] = b"classes = [\"L\", \"H\"]\nbelow = [[\"L\", \"H\"]]\n";
-
-/// `L` below `A` and `B`, and these below `H`.
-const FOUR: &[u8] = b"classes = [\"L\", \"A\", \"B\", \"H\"]
-below = [[\"L\", \"A\"], [\"L\", \"B\"], [\"A\", \"H\"], [\"B\", \"H\"]]
-";
-
-/// `M` alone.
-const OTHER: &[u8] = b"classes = [\"M\"]\nbelow = []\n";
-
-/// Everyone below the operators, and these below the owner of secrets.
-const HOUSE: &[u8] = b"classes = [\"Public\", \"Operator\", \"Secret\"]
-below = [[\"Public\", \"Operator\"], [\"Operator\", \"Secret\"]]
-";
-
-/// The file of the lattice with a name.
-fn file_named(name: &str) -> &'static [u8] {
+/// The file of the lattice with a name. In `four`, `L` is below `A` and `B`, and these are below `H`;
+/// in `house`, everyone is below the operators, and these are below the owner of secrets.
+fn file_named(name: &str) -> &'static str {
     match name {
-        "one" => ONE,
-        "two" => TWO,
-        "four" => FOUR,
-        "house" => HOUSE,
-        _ => OTHER,
+        "one" => "classes = [\"L\"]\nbelow = []\n",
+        "two" => "classes = [\"L\", \"H\"]\nbelow = [[\"L\", \"H\"]]\n",
+        "four" => {
+            "classes = [\"L\", \"A\", \"B\", \"H\"]
+below = [[\"L\", \"A\"], [\"L\", \"B\"], [\"A\", \"H\"], [\"B\", \"H\"]]
+"
+        }
+        "house" => {
+            "classes = [\"Public\", \"Operator\", \"Secret\"]
+below = [[\"Public\", \"Operator\"], [\"Operator\", \"Secret\"]]
+"
+        }
+        _ => "classes = [\"M\"]\nbelow = []\n",
     }
 }
 
@@ -88,174 +103,125 @@ impl<'a> Row<'a> {
 
     /// The next field.
     pub(crate) fn field(&mut self) -> &'a str {
-        match self.rest.split_once(' ') {
-            Some((field, rest)) => {
-                self.rest = rest;
-                field
-            }
-            None => {
-                let field = self.rest;
-                self.rest = "";
-                field
-            }
-        }
+        let (field, rest) = self.rest.split_once(' ').unwrap_or((self.rest, ""));
+        self.rest = rest;
+        field
     }
 
     /// The next field as a number; 0 if no field is left.
-    pub(crate) fn number(&mut self) -> u64 {
-        let field = self.field();
-        match field.parse::<u64>() {
-            Ok(number) => number,
-            Err(_) => {
-                if !field.is_empty() {
-                    self.fail(Wrong::Row);
-                }
-                0
-            }
+    pub(crate) fn number(&mut self) -> Result<u64, Wrong> {
+        match self.field() {
+            "" => Ok(0),
+            field => Ok(field.parse::<u64>()?),
         }
     }
 
     /// The next field as a number below 65,536; a larger one is 65,535.
-    pub(crate) fn small(&mut self) -> u16 {
-        u16::try_from(self.number()).unwrap_or(u16::MAX)
+    pub(crate) fn small(&mut self) -> Result<u16, Wrong> {
+        Ok(u16::try_from(self.number()?).unwrap_or(u16::MAX))
     }
 
     /// The next field as the name of a lattice, after the name of a profile unless that is left out
     /// for the base profile.
-    pub(crate) fn lattice(&mut self) -> Option<Lattice> {
-        let file = match self.field() {
-            "base" => file_named(self.field()),
-            "strict" => {
-                self.profile = Profile::Strict;
-                file_named(self.field())
-            }
-            name => file_named(name),
-        };
-        let found = read_lattice(self.alloc, file).ok();
-        self.note(found.is_none());
-        found
+    pub(crate) fn lattice(&mut self) -> Result<Lattice, Wrong> {
+        let mut name = self.field();
+        if name == "strict" {
+            self.profile = Profile::Strict;
+        }
+        if name == "base" || name == "strict" {
+            name = self.field();
+        }
+        match read_lattice(self.alloc, file_named(name).as_bytes()) {
+            Ok(lattice) => Ok(lattice),
+            Err(_) => Err(Wrong::Memory),
+        }
     }
 
     /// The next field as numbers separated by commas, or `-` for none.
-    pub(crate) fn numbers(&mut self) -> Vec<i64> {
+    pub(crate) fn numbers(&mut self) -> Result<Vec<i64>, Wrong> {
         let mut numbers = Vec::new(self.alloc);
         let field = self.field();
         if field != "-" {
             for part in field.split(',') {
-                match part.parse::<i64>() {
-                    Ok(number) => self.note(numbers.push(number).is_err()),
-                    Err(_) => self.fail(Wrong::Row),
-                }
+                numbers.push(part.parse::<i64>()?)?;
             }
         }
-        numbers
+        Ok(numbers)
     }
 
     /// The next field as the numbers of classes.
-    pub(crate) fn classes(&mut self) -> Vec<Class> {
+    pub(crate) fn classes(&mut self) -> Result<Vec<Class>, Wrong> {
         let mut classes = Vec::new(self.alloc);
-        for number in &self.numbers() {
-            match u8::try_from(*number) {
-                Ok(number) => self.note(classes.push(Class::at(number)).is_err()),
-                Err(_) => self.fail(Wrong::Row),
-            }
+        for number in &self.numbers()? {
+            classes.push(Class::at(u8::try_from(*number).unwrap_or(u8::MAX)))?;
         }
-        classes
+        Ok(classes)
     }
 
     /// The rest up to ` | `, as the bytes that it denotes; the text after it remains. Without a
     /// ` | `, the whole text counts as both.
-    pub(crate) fn first_text(&mut self) -> Vec<u8> {
-        match self.rest.split_once(" | ") {
-            Some((first, other)) => {
-                self.rest = first;
-                let text = self.text();
-                self.rest = other;
-                text
-            }
-            None => self.text(),
-        }
+    pub(crate) fn first_text(&mut self) -> Result<Vec<u8>, Wrong> {
+        let (first, other) = self
+            .rest
+            .split_once(" | ")
+            .unwrap_or((self.rest, self.rest));
+        self.rest = other;
+        bytes_of(self.alloc, first)
     }
 
     /// The rest, as the bytes that it denotes.
-    pub(crate) fn text(&mut self) -> Vec<u8> {
-        match bytes_of(self.alloc, self.rest) {
-            Ok(text) => text,
-            Err(wrong) => {
-                self.fail(wrong);
-                Vec::new(self.alloc)
-            }
-        }
+    pub(crate) fn text(&mut self) -> Result<Vec<u8>, Wrong> {
+        bytes_of(self.alloc, self.rest)
     }
 }
 
 /// Writing.
 impl<'a> Row<'a> {
-    /// Notes an error.
-    pub(crate) fn fail(&mut self, wrong: Wrong) {
-        self.wrong = Some(wrong);
-    }
-
-    /// Notes that memory ran out, if it did.
-    pub(crate) fn note(&mut self, is_wanting: bool) {
-        if is_wanting {
-            self.wrong = Some(Wrong::Memory);
-        }
-    }
-
     /// Adds a text.
-    pub(crate) fn put(&mut self, text: &str) {
-        let is_wanting = self.answer.push_str(text).is_err();
-        self.note(is_wanting);
+    pub(crate) fn put(&mut self, text: &str) -> Result<(), Wrong> {
+        Ok(self.answer.push_str(text)?)
     }
 
     /// Adds bytes that are text.
-    pub(crate) fn put_bytes(&mut self, bytes: &[u8]) {
+    pub(crate) fn put_bytes(&mut self, bytes: &[u8]) -> Result<(), Wrong> {
         match from_utf8(bytes) {
             Ok(text) => self.put(text),
-            Err(_) => self.fail(Wrong::Row),
+            Err(_) => Err(Wrong::Row),
         }
-    }
-
-    /// Adds a number.
-    pub(crate) fn put_number(&mut self, number: &impl Display) {
-        let is_wanting = write!(self.answer, "{number}").is_err();
-        self.note(is_wanting);
     }
 
     /// Adds a space and a word, for each of some words.
-    pub(crate) fn put_words(&mut self, words: &[i64]) {
+    pub(crate) fn put_words(&mut self, words: &[i64]) -> Result<(), Wrong> {
         for word in words {
-            self.put(" ");
-            self.put_number(word);
+            write!(self.answer, " {word}")?;
         }
-        self.put("\n");
-    }
-
-    /// Adds a value by its name in the code.
-    pub(crate) fn put_value(&mut self, value: &impl Debug) {
-        let is_wanting = write!(self.answer, "{value:?}").is_err();
-        self.note(is_wanting);
+        self.put("\n")
     }
 
     /// Adds a line with a value by its name in the code.
-    pub(crate) fn put_line(&mut self, value: &impl Debug) {
-        self.put_value(value);
-        self.put("\n");
+    pub(crate) fn put_line(&mut self, value: &impl Debug) -> Result<(), Wrong> {
+        Ok(writeln!(self.answer, "{value:?}")?)
     }
 
     /// Adds a line with a verdict.
-    pub(crate) fn put_verdict(&mut self, is_so: bool) {
-        self.put(if is_so { "yes\n" } else { "no\n" });
+    pub(crate) fn put_verdict(&mut self, is_so: bool) -> Result<(), Wrong> {
+        self.put(if is_so { "yes\n" } else { "no\n" })
     }
 
-    /// Adds the numbers of classes.
-    pub(crate) fn put_classes(&mut self, classes: &[Class]) {
-        self.put("classes");
-        for class in classes {
-            self.put(" ");
-            self.put_number(&class.index());
+    /// Adds a line with the number and the name of a fault.
+    pub(crate) fn put_fault(&mut self, fault: &Fault) -> Result<(), Wrong> {
+        let line = fault_text(self.alloc, fault)?;
+        self.put_bytes(&line)
+    }
+
+    /// Adds the line of a refusal, by its name in the code but for a flow, or of an image's fault.
+    pub(crate) fn put_refusal(&mut self, wrong: &Wrong) -> Result<(), Wrong> {
+        match wrong {
+            Wrong::Memory => Err(Wrong::Memory),
+            Wrong::Row => Err(Wrong::Row),
+            Wrong::Refused(CompileError::Flow(_)) => self.put("Flow\n"),
+            Wrong::Refused(error) => self.put_line(error),
+            Wrong::Invalid(error) => self.put_fault(&Fault::Verify(*error)),
         }
-        self.put("\n");
     }
 }

@@ -1,1 +1,3 @@
+pub mod SafeLemmas
+pub mod PlaceLemmas
 pub mod PlaceFacts

@@ -1,10 +1,10 @@
 -- Texts that begin with a place.
 use Rattle.std.proofs.Common.{◌≡◌, ℕ, List, [], ◌++◌, ap, sym, ◌∙◌, append_assoc}
 use Rattle.std.proofs.lemmas.List.{append-nil}
-use Rattle.vsi_caret.specs.declared.colour_mode.ColourMode.{ColourMode}
-use Rattle.vsi_caret.specs.declared.window.Window.{Window}
-use Rattle.vsi_caret.specs.Window.{IsWindow}
-use Rattle.vsi_caret.specs.Place.{placed}
+use Rattle.vsi_telling.specs.declared.colour_mode.ColourMode.{ColourMode}
+use Rattle.vsi_telling.specs.declared.window.Window.{Window}
+use Rattle.vsi_telling.specs.Window.{IsWindow}
+use Rattle.vsi_telling.specs.Place.{placed}
 use Rattle.vsi_telling.specs.Places.{BeginsAt}
 
 -- If an empty text is followed by a place, the text begins with the place.

@@ -8,10 +8,10 @@ use Rattle.vsi_scope.specs.declared.resolution.ScopeError.{ScopeError}
 use Rattle.vsi_scope.specs.declared.resolution.ScopeError.TheVariants as scope
 use Rattle.vsi_compiler.specs.declared.error.CompileError.{CompileError}
 use Rattle.vsi_compiler.specs.declared.error.CompileError.TheVariants.{Lex, Parse, Scope, Flow, Memory}
-use Rattle.vsi_caret.specs.declared.colour_mode.ColourMode.{ColourMode}
-use Rattle.vsi_caret.specs.declared.window.Window.{Window}
-use Rattle.vsi_caret.specs.Window.{IsWindow}
-use Rattle.vsi_caret.specs.Place.{placed}
+use Rattle.vsi_telling.specs.declared.colour_mode.ColourMode.{ColourMode}
+use Rattle.vsi_telling.specs.declared.window.Window.{Window}
+use Rattle.vsi_telling.specs.Window.{IsWindow}
+use Rattle.vsi_telling.specs.Place.{placed}
 
 -- Where a word is refused.
 abbrev pub lexical_start : LexError → Option ℕ

@@ -2,22 +2,22 @@
 //! a shortest walk, what would make it go away, and what would make the whole text accepted.
 
 ghost use Rattle.std.specs.Prelude.{◌≡◌, IfOk, true};
-ghost use Rattle.vsi_caret.specs.declared.colour_mode.ColourMode.TheVariants.{Plain};
-ghost use Rattle.vsi_caret.specs.Safe.{all_plain};
+ghost use Rattle.vsi_telling.specs.declared.colour_mode.ColourMode.TheVariants.{Plain};
+ghost use Rattle.vsi_telling.specs.Safe.{all_plain};
 
-use crate::fixes::{put_fixes, put_least_raise, put_whole};
+use crate::colour_mode::ColourMode;
+use crate::sentence::Part;
 use crate::subject::Subject;
 use std::alloc::{AllocError, Global};
-use vsi_caret::{ColourMode, Explanation, Part};
 use vsi_compiler::{CompileError, Source, judge};
-use vsi_flows::{WalkedPair, refused_pairs, walks_of};
+use vsi_flows::{WalkedPair, raise_lines_of, refused_pairs, walks_of};
 use vsi_scope::Var;
 use vsi_types::{LOOP, Profile, Rule, Step};
 
-/// The largest number of flows that are listed.
+/// The largest number of flows, and of raises, that are listed.
 const LISTED: usize = 20;
 
-/// The number of them that are explained step by step; each of the others has a line.
+/// The number of flows that are explained step by step; each of the others has a line.
 const EXPLAINED: usize = 3;
 
 /// The largest number of steps of a walk that is reported whole.
@@ -28,28 +28,23 @@ const NEAR: usize = 8;
 
 /// A refused flow, by the steps of a shortest walk.
 #[derive(Clone, Copy)]
-pub(crate) struct RefusedFlow<'w> {
+struct RefusedFlow<'w> {
     steps: &'w [Step],
 }
 
 impl<'w> RefusedFlow<'w> {
     /// Where the walk begins.
-    pub(crate) fn source(&self) -> Var {
-        match self.steps.first() {
-            Some(step) => step.source,
-            None => LOOP,
-        }
+    fn source(&self) -> Var {
+        self.steps.first().map_or(LOOP, |step| step.source)
     }
 
     /// Where the walk ends.
-    pub(crate) fn target(&self) -> Var {
-        match self.steps.last() {
-            Some(step) => step.target,
-            None => LOOP,
-        }
+    fn target(&self) -> Var {
+        self.steps.last().map_or(LOOP, |step| step.target)
     }
 
-    /// The steps that are reported: those near the beginning of a long walk, and those near its end.
+    /// The steps that are reported: those near the beginning of a long walk, and those near its
+    /// end.
     fn ends(&self) -> (&'w [Step], &'w [Step]) {
         let steps = self.steps;
         if steps.len() <= WHOLE {
@@ -60,43 +55,31 @@ impl<'w> RefusedFlow<'w> {
 
     /// Whether the walk passes a step between the same variables at the same places.
     fn passes(&self, wanted: &Step) -> bool {
-        for step in self.steps {
-            let has_same_ends = step.source == wanted.source && step.target == wanted.target;
-            let is_read_there = step.read.start == wanted.read.start;
-            if has_same_ends && is_read_there && step.written.start == wanted.written.start {
-                return true;
-            }
-        }
-        false
+        self.steps.iter().any(|step| {
+            step.source == wanted.source
+                && step.target == wanted.target
+                && step.read.start == wanted.read.start
+                && step.written.start == wanted.written.start
+        })
     }
 
-    /// The step, among those that are reported, that most of these flows take, and how many do; among
-    /// equals the last one.
-    pub(crate) fn busiest(&self, flows: &[RefusedFlow<'_>]) -> Option<(Step, usize)> {
+    /// The step, among those that are reported, that most of these flows take, and how many do;
+    /// among equals the last one.
+    fn busiest(&self, flows: &[RefusedFlow<'_>]) -> Option<(Step, usize)> {
         let mut best: Option<(Step, usize)> = None;
         let (start, end) = self.ends();
-        for part in [start, end] {
-            for step in part {
-                let count = passing(flows, step);
-                match best {
-                    Some((_, most)) if count < most => {}
-                    _ => best = Some((*step, count)),
-                }
+        for step in start.iter().chain(end) {
+            let mut count: usize = 0;
+            for flow in flows {
+                count = count.saturating_add(usize::from(flow.passes(step)));
+            }
+            match best {
+                Some((_, most)) if count < most => {}
+                _ => best = Some((*step, count)),
             }
         }
         best
     }
-}
-
-/// The number of flows whose walks pass a step.
-fn passing(flows: &[RefusedFlow<'_>], step: &Step) -> usize {
-    let mut count: usize = 0;
-    for flow in flows {
-        if flow.passes(step) {
-            count = count.saturating_add(1);
-        }
-    }
-    count
 }
 
 /// The sentences about a step by its rule: about its source, its target, its target and its source.
@@ -123,87 +106,172 @@ fn sentences(rule: Rule) -> &'static str {
     }
 }
 
-/// Adds a step of a walk that begins at a variable: where it reads, what happens there, and which
-/// class a variable without a declared one gets.
-fn put_step(
-    told: &mut Explanation,
-    subject: &Subject<'_, '_>,
-    from: Var,
-    step: &Step,
-) -> Result<(), AllocError> {
-    told.show(step.read)?;
-    let (source, target) = (subject.name(step.source), subject.name(step.target));
-    told.say(sentences(step.rule), &[source, target, target, source])?;
-    if let Rule::If | Rule::While = step.rule {
-        told.show(step.written)?;
-    }
-    match (subject.declared(step.target), subject.declared(from)) {
-        (None, Some(class)) => {
-            let sentence = if subject.is_top(from) {
-                "So % is %.\n"
-            } else {
-                "So % is % or a class above it.\n"
-            };
-            told.say(sentence, &[target, Part::Text(class)])
+/// The first lines of a text that are listed, and whether there are more.
+fn first_lines(lines: &[u8]) -> (&[u8], bool) {
+    let mut count: usize = 0;
+    for place in 0..lines.len() {
+        if lines[place] == b'\n' {
+            count = count.saturating_add(1);
         }
-        _ => Ok(()),
-    }
-}
-
-/// Adds the steps of a walk.
-fn put_walk(
-    told: &mut Explanation,
-    subject: &Subject<'_, '_>,
-    flow: &RefusedFlow<'_>,
-) -> Result<(), AllocError> {
-    let (start, end) = flow.ends();
-    for step in start {
-        put_step(told, subject, flow.source(), step)?;
-    }
-    if !end.is_empty() {
-        let left_out = flow.steps.len().saturating_sub(WHOLE);
-        told.say("Steps left out here: %.\n", &[Part::Number(left_out)])?;
-    }
-    for step in end {
-        put_step(told, subject, flow.source(), step)?;
-    }
-    Ok(())
-}
-
-/// Adds the conflict of a flow.
-fn put_conflict(
-    told: &mut Explanation,
-    subject: &Subject<'_, '_>,
-    flow: &RefusedFlow<'_>,
-) -> Result<(), AllocError> {
-    let (from, to) = (flow.source(), flow.target());
-    let (source, target) = (subject.name(from), subject.name(to));
-    let low = Part::Text(subject.declared(from).unwrap_or(b""));
-    let high = Part::Text(subject.declared(to).unwrap_or(b""));
-    told.say(
-        "% flows to %: % is % and % is %, and % is not at or below %.\n",
-        &[source, target, source, low, target, high, low, high],
-    )
-}
-
-/// Adds the flows: the first ones step by step, and a line for each of the others.
-fn put_flows(
-    told: &mut Explanation,
-    subject: &Subject<'_, '_>,
-    flows: &[RefusedFlow<'_>],
-) -> Result<(), AllocError> {
-    for (place, flow) in flows.iter().enumerate() {
-        put_conflict(told, subject, flow)?;
-        if place < EXPLAINED {
-            put_walk(told, subject, flow)?;
-            put_fixes(told, subject, flows, place)?;
-            told.say("\n", &[])?;
+        if count == LISTED {
+            return (&lines[..place + 1], place + 1 < lines.len());
         }
     }
-    if flows.len() > EXPLAINED {
-        told.say("\n", &[])?;
+    (lines, false)
+}
+
+impl Subject<'_, '_> {
+    /// Adds a step of a walk that begins at a variable: where it reads, what happens there, and
+    /// which class a variable without a declared one gets.
+    fn put_step(&mut self, from: Var, step: &Step) -> Result<(), AllocError> {
+        let (source, target) = (self.name(step.source), self.name(step.target));
+        self.show(step.read)?;
+        self.say(sentences(step.rule), &[source, target, target, source])?;
+        if let Rule::If | Rule::While = step.rule {
+            self.show(step.written)?;
+        }
+        match (self.declared(step.target), self.declared(from)) {
+            (None, Some(class)) => {
+                let sentence = if self.is_top(from) {
+                    "So % is %.\n"
+                } else {
+                    "So % is % or a class above it.\n"
+                };
+                self.say(sentence, &[target, Part::Text(class)])
+            }
+            _ => Ok(()),
+        }
     }
-    Ok(())
+
+    /// Adds the steps of a walk.
+    fn put_walk(&mut self, flow: &RefusedFlow<'_>) -> Result<(), AllocError> {
+        let (start, end) = flow.ends();
+        for step in start {
+            self.put_step(flow.source(), step)?;
+        }
+        if !end.is_empty() {
+            let left_out = flow.steps.len().saturating_sub(WHOLE);
+            self.say("Steps left out here: %.\n", &[Part::Number(left_out)])?;
+        }
+        for step in end {
+            self.put_step(flow.source(), step)?;
+        }
+        Ok(())
+    }
+
+    /// Adds which class the target of a flow would need, and what that means.
+    fn put_raise(&mut self, flow: &RefusedFlow<'_>) -> Result<(), AllocError> {
+        let (from, to) = (flow.source(), flow.target());
+        let target = self.name(to);
+        let (Some(raised), Some(own)) = (self.raised(from, to), self.declared(to)) else {
+            let sentence = ".\nNo declaration changes the class of %.\n";
+            return self.say(sentence, &[target]);
+        };
+        let sentence = if self.is_global(to) {
+            ", or\n- declare % as %: nothing at % may then depend on it.\n"
+        } else {
+            ", or\n- declare % as %, or leave out `: %`, and its class is inferred.\n"
+        };
+        self.say(sentence, &[target, Part::Text(raised), Part::Text(own)])
+    }
+
+    /// Adds what would make a flow go away, of the flows the one with this number.
+    fn put_fixes(&mut self, flows: &[RefusedFlow<'_>], number: usize) -> Result<(), AllocError> {
+        let Some(flow) = flows.get(number) else {
+            return Ok(());
+        };
+        let Some((step, count)) = flow.busiest(flows) else {
+            return Ok(());
+        };
+        let path = Part::Text(self.path);
+        let place = Part::Place(self.source.text(), step.read.start);
+        let (from, to) = (self.name(step.source), self.name(step.target));
+        self.say(
+            "This flow goes away if you\n- change %:% so that % doesn't depend on %, and no other \
+            walk is left",
+            &[path, place, to, from],
+        )?;
+        self.put_raise(flow)?;
+        if count > 1 {
+            let sentence = "% of the flows shown here take the step at %:%.\n";
+            self.say(sentence, &[Part::Number(count), path, place])?;
+        }
+        let earlier = flows.get(..number).unwrap_or(&[]);
+        let start = flow.source();
+        if earlier.iter().all(|other| other.source() != start) {
+            let source = self.name(start);
+            self.say(
+                "Declaring % lower is not a fix: % may then flow to more variables.\n",
+                &[source, source],
+            )?;
+        }
+        Ok(())
+    }
+
+    /// Adds the conflict of a flow.
+    fn put_conflict(&mut self, flow: &RefusedFlow<'_>) -> Result<(), AllocError> {
+        let (from, to) = (flow.source(), flow.target());
+        let (source, target) = (self.name(from), self.name(to));
+        let low = Part::Text(self.declared(from).unwrap_or(b""));
+        let high = Part::Text(self.declared(to).unwrap_or(b""));
+        self.say(
+            "% flows to %: % is % and % is %, and % is not at or below %.\n",
+            &[source, target, source, low, target, high, low, high],
+        )
+    }
+
+    /// Adds the flows: the first ones step by step, and a line for each of the others.
+    fn put_flows(&mut self, flows: &[RefusedFlow<'_>]) -> Result<(), AllocError> {
+        for (place, flow) in flows.iter().enumerate() {
+            self.put_conflict(flow)?;
+            if place < EXPLAINED {
+                self.put_walk(flow)?;
+                self.put_fixes(flows, place)?;
+                self.say("\n", &[])?;
+            }
+        }
+        let end = if flows.len() > EXPLAINED { "\n" } else { "" };
+        self.say(end, &[])
+    }
+
+    /// Adds what is said once for the whole text, of whose refused flows so many are shown.
+    fn put_whole(&mut self, shown: usize, refused: usize) -> Result<(), AllocError> {
+        self.say(
+            "This language has no way to release a single result on purpose.\n\
+            `vsi leak` with the same files looks for two runs that show the leak.\n",
+            &[],
+        )?;
+        if refused == shown {
+            return Ok(());
+        }
+        let parts = [Part::Number(refused), Part::Number(shown)];
+        self.say("Refused flows: %. Shown here: %.\n", &parts)
+    }
+
+    /// Adds the least raise of classes with which the whole text is accepted, or that there is
+    /// none.
+    fn put_least_raise(&mut self, profile: Profile) -> Result<(), AllocError> {
+        let lines = match raise_lines_of(self.alloc, profile, self.source) {
+            Ok(lines) => lines,
+            Err(CompileError::Memory) => return Err(AllocError),
+            Err(_) => {
+                let sentence = "No raise of declared classes makes the text accepted.\n";
+                return self.say(sentence, &[]);
+            }
+        };
+        let (first, has_more) = first_lines(&lines);
+        self.say(
+            "The whole text is accepted if you raise these classes (`vsi mend`):\n%",
+            &[Part::Text(first)],
+        )?;
+        let sentence = if has_more {
+            "`vsi mend` prints the others, too.\nNothing at the class before `->` may then depend \
+            on the variable.\n"
+        } else {
+            "Nothing at the class before `->` may then depend on the variable.\n"
+        };
+        self.say(sentence, &[])
+    }
 }
 
 /// The flows that are listed, at most 20: first the one of the fixed lines, with the steps of its
@@ -232,23 +300,23 @@ fn refused_text(
     alloc: Global,
     mode: ColourMode,
     profile: Profile,
-    subject: &Subject<'_, '_>,
+    path: &[u8],
+    source: &Source<'_>,
     named: &[Step],
 ) -> Result<Vec<u8>, AllocError>
     ensures { mode ≡ Plain → IfOk result (λ text. all_plain text.items ≡ true) }
 {
-    let source = subject.source;
     let lattice = source.lattice();
     let resolved = source.resolved();
     let pairs = refused_pairs(alloc, profile, lattice, resolved)?;
     let first = &pairs[..pairs.len().min(LISTED)];
     let walks = walks_of(alloc, profile, lattice, resolved, first)?;
     let flows = listed(alloc, named, &walks)?;
-    let mut told = Explanation::new(alloc);
-    put_flows(&mut told, subject, &flows)?;
-    put_whole(&mut told, flows.len(), pairs.len())?;
-    put_least_raise(alloc, &mut told, profile, source)?;
-    told.shown(mode, subject.path, source.text())
+    let mut subject = Subject::new(alloc, path, source);
+    subject.put_flows(&flows)?;
+    subject.put_whole(flows.len(), pairs.len())?;
+    subject.put_least_raise(profile)?;
+    subject.shown(mode)
 }
 
 /// The explanation of a source text that is refused for a flow under a profile: at most 20 refused
@@ -264,11 +332,10 @@ pub fn flows_explanation(
     // Without colours no byte drives a terminal.
     ensures plain { mode ≡ Plain → IfOk result (λ text. all_plain text.items ≡ true) }
 {
-    let subject = Subject { path, source };
     match judge(alloc, profile, source) {
         Ok(_) => Ok(Vec::new(alloc)),
         Err(CompileError::Flow(walk)) => {
-            refused_text(alloc, mode, profile, &subject, walk.steps.as_slice())
+            refused_text(alloc, mode, profile, path, source, walk.steps.as_slice())
         }
         // A text that has a program is refused for a flow alone.
         Err(_) => Err(AllocError),

@@ -1,50 +1,34 @@
 //! The explanation of a refused lattice file.
 
-use crate::finding::{bare_place, key_place, quoted_place};
-use crate::orders::Order;
-use crate::tables::{array_in, table_in, value_in};
-use crate::telling::{Tail, Telling, Told};
+use crate::orders::{Lack, Order};
+use crate::parts::{
+    array_in, bare_place, has_text, key_place, quoted_place, table_classes, table_in,
+};
+use crate::sentence::Part;
+use crate::telling::{Telling, Told};
 use std::alloc::{AllocError, Global};
 use toml::{Table, Value};
-use vsi_caret::Part;
 use vsi_lattice::{Class, LatticeError};
 
 /// An example of a lattice file.
-const SHAPE: &str = "A lattice file names the classes, and pairs of them, the lower one first:\n  \
-    classes = [\"L\", \"H\"]\n  below = [[\"L\", \"H\"]]\n";
-
-/// The largest number of classes.
-const MOST_CLASSES: usize = 64;
+const SHAPE: Part<'static> = Part::Text(
+    b"A lattice file names the classes, and pairs of them, the lower one first:\n  \
+    classes = [\"L\", \"H\"]\n  below = [[\"L\", \"H\"]]\n",
+);
 
 /// The name of the class with this place.
 fn class_in(table: &Table, place: usize) -> Option<&[u8]> {
-    let value = value_in(table, "classes", place)?;
-    let text = value.as_str()?;
+    let text = array_in(table, "classes").get(place)?.as_str()?;
     Some(text.as_bytes())
-}
-
-/// Whether a name is one of the classes.
-fn is_class(table: &Table, name: &str) -> bool {
-    let Some(classes) = array_in(table, "classes") else {
-        return false;
-    };
-    for item in classes {
-        if item.as_str() == Some(name) {
-            return true;
-        }
-    }
-    false
 }
 
 /// The name in the pair with this place that is no class.
 fn unknown_in(table: &Table, place: usize) -> Option<&[u8]> {
-    let pair = value_in(table, "below", place)?;
-    let array = pair.as_array()?;
-    for item in array.as_slice() {
-        let Some(name) = item.as_str() else {
-            continue;
-        };
-        if !is_class(table, name) {
+    let classes = array_in(table, "classes");
+    for item in array_in(table, "below").get(place)?.as_array()?.as_slice() {
+        if let Some(name) = item.as_str()
+            && !has_text(classes, name.as_bytes())
+        {
             return Some(name.as_bytes());
         }
     }
@@ -66,51 +50,24 @@ fn other_key(table: &Table) -> Option<&[u8]> {
 
 /// The number of the class with this name, or that of none.
 fn number_in(names: &[&[u8]], value: Option<&Value>) -> u8 {
-    let name = match value {
-        Some(value) => value.as_str().unwrap_or(""),
-        None => "",
-    };
-    for place in 0..names.len() {
-        if names[place] == name.as_bytes() {
-            return place.min(255) as u8;
-        }
-    }
-    255
-}
-
-/// The classes of a table.
-fn classes_in<'t>(alloc: Global, table: &'t Table) -> Result<Vec<&'t [u8]>, AllocError> {
-    let mut names = Vec::new(alloc);
-    for place in 0..MOST_CLASSES {
-        let Some(name) = class_in(table, place) else {
-            break;
-        };
-        names.push(name)?;
-    }
-    Ok(names)
-}
-
-/// The classes of a pair.
-fn pair_of(names: &[&[u8]], item: &Value) -> Option<(u8, u8)> {
-    let pair = item.as_array()?.as_slice();
-    Some((number_in(names, pair.get(0)), number_in(names, pair.get(1))))
-}
-
-/// The pairs of a table.
-fn pairs_in(alloc: Global, table: &Table, names: &[&[u8]]) -> Result<Vec<(u8, u8)>, AllocError> {
-    let mut pairs = Vec::new(alloc);
-    for item in array_in(table, "below").unwrap_or(&[]) {
-        if let Some(pair) = pair_of(names, item) {
-            pairs.push(pair)?;
-        }
-    }
-    Ok(pairs)
+    let text = value.and_then(|value| value.as_str()).unwrap_or("");
+    let found = names.iter().position(|name| *name == text.as_bytes());
+    found.unwrap_or(255).min(255) as u8
 }
 
 /// The classes and the pairs of a table.
 fn order_in<'t>(alloc: Global, table: &'t Table) -> Result<Order<'t>, AllocError> {
-    let names = classes_in(alloc, table)?;
-    let pairs = pairs_in(alloc, table, &names)?;
+    let names = table_classes(alloc, table)?;
+    let mut pairs = Vec::new(alloc);
+    for item in array_in(table, "below") {
+        if let Some(pair) = item.as_array() {
+            let pair = pair.as_slice();
+            pairs.push((
+                number_in(&names, pair.get(0)),
+                number_in(&names, pair.get(1)),
+            ))?;
+        }
+    }
     Ok(Order { names, pairs })
 }
 
@@ -122,14 +79,14 @@ fn number_of(class: Class) -> u8 {
 /// The fault of the keys or the values of a table that has no other key.
 fn key_words(table: &Table) -> &'static str {
     if table.get("classes").is_none() {
-        return "The key `classes` is missing.\n";
+        return "The key `classes` is missing.\n%";
     }
     if table.get("below").is_none() {
         return "The key `below` is missing. Hint: write `below = []` if no class is below \
-            another one.\n";
+            another one.\n%";
     }
     "The value of `classes` must be an array of names between quotes, and that of `below` an \
-    array of pairs of them.\n"
+    array of pairs of them.\n%"
 }
 
 /// The hint for another sort of file in the place of a lattice file.
@@ -149,58 +106,41 @@ fn file_hint(bytes: &[u8]) -> Option<&'static str> {
     None
 }
 
-/// The sentence about a fault at one name, and the number of its occurrences before the wrong one.
-fn name_saying(error: LatticeError) -> (&'static str, usize) {
-    match error {
-        LatticeError::BadName(_) => (
-            "% isn't a valid name. Hint: a name begins with a letter, continues with letters, \
-            digits and `_`, has at most 32 of them, and isn't a keyword.\n",
-            0,
-        ),
-        LatticeError::DuplicateName(_) => { ("% is in `classes` twice. Hint: leave one out.\n", 1) }
-        _ => (
-            "% is in `below` but isn't a class. Hint: add it to `classes`, or fix its spelling.\n",
-            0,
-        ),
-    }
-}
-
 impl Telling<'_> {
     /// Adds the explanation if the file is no TOML, and answers a place where it may be wrong.
     fn put_not_toml(&mut self) -> Told {
         self.add("The file isn't a TOML document.\n")?;
-        if let Some(hint) = file_hint(self.bytes) {
-            return self.tell(hint, &[Part::Text(self.path)], Tail::Text(SHAPE), None);
-        }
-        let place = bare_place(self.bytes);
-        let hint = match place {
+        let hint = file_hint(self.bytes);
+        let place = match hint {
+            Some(_) => None,
+            None => bare_place(self.bytes),
+        };
+        let otherwise = match place {
             Some(_) => "Hint: the names of classes go between quotes.\n",
             None => "",
         };
-        self.tell(hint, &[], Tail::Text(SHAPE), place)
+        self.say(hint.unwrap_or(otherwise), &[Part::Text(self.path)])?;
+        self.tell(place, "%", &[SHAPE])
     }
 
     /// Adds which keys or values of a table are wrong, and answers where.
     fn put_bad_keys(&mut self, table: &Table) -> Told {
         let Some(key) = other_key(table) else {
-            return self.tell(key_words(table), &[], Tail::Text(SHAPE), None);
+            return self.tell(None, key_words(table), &[SHAPE]);
         };
-        self.tell(
-            "A lattice file has no key %, only `classes` and `below`.\n",
-            &[Part::Quoted(key)],
-            Tail::Text(SHAPE),
-            key_place(self.bytes, key),
-        )
+        let place = key_place(self.bytes, key);
+        let sentence = "A lattice file has no key %, only `classes` and `below`.\n%";
+        self.tell(place, sentence, &[Part::Quoted(key), SHAPE])
     }
 
-    /// Adds the explanation of a fault at a name, if it is known, and returns its place.
-    fn put_name(&mut self, name: Option<&[u8]>, error: LatticeError) -> Told {
-        let (sentence, others) = name_saying(error);
+    /// Adds the explanation of a fault at a name, if it is known, and returns its place after so
+    /// many others.
+    fn put_name(&mut self, name: Option<&[u8]>, others: usize, sentence: &str) -> Told {
         let Some(name) = name else {
-            return self.tell(sentence, &[Part::Text(b"A name")], Tail::Nothing, None);
+            return self.tell(None, sentence, &[Part::Text(b"A name")]);
         };
         let place = quoted_place(self.bytes, name, others);
-        self.tell(sentence, &[Part::Quoted(name)], Tail::Nothing, place)
+        self.tell(place, sentence, &[Part::Quoted(name)])
     }
 
     /// Adds the explanation of a fault in the table that a file is, and answers where it is.
@@ -208,19 +148,30 @@ impl Telling<'_> {
         let below = key_place(self.bytes, b"below");
         match error {
             LatticeError::BadShape => self.put_bad_keys(table),
-            LatticeError::BadName(place) | LatticeError::DuplicateName(place) => {
-                self.put_name(class_in(table, place), error)
+            LatticeError::BadName(place) => self.put_name(
+                class_in(table, place),
+                0,
+                "% isn't a valid name. Hint: a name begins with a letter, continues with letters, \
+                digits and `_`, has at most 32 of them, and isn't a keyword.\n",
+            ),
+            LatticeError::DuplicateName(place) => {
+                let sentence = "% is in `classes` twice. Hint: leave one out.\n";
+                self.put_name(class_in(table, place), 1, sentence)
             }
-            LatticeError::UnknownName(place) => self.put_name(unknown_in(table, place), error),
+            LatticeError::UnknownName(place) => self.put_name(
+                unknown_in(table, place),
+                0,
+                "% is in `below` but isn't a class. Hint: add it to `classes`, or fix its \
+                spelling.\n",
+            ),
             LatticeError::Cycle(a, _) => {
-                let order = order_in(self.alloc, table)?;
-                let place = self.put_ring(&order, number_of(a))?;
+                let place = self.put_ring(&order_in(self.alloc, table)?, number_of(a))?;
                 Ok(place.or(below))
             }
             LatticeError::NoJoin(a, b) | LatticeError::NoMeet(a, b) => {
-                let order = order_in(self.alloc, table)?;
                 let is_up = matches!(error, LatticeError::NoJoin(_, _));
-                self.put_missing(&order, number_of(a), number_of(b), is_up)?;
+                let (a, b) = (number_of(a), number_of(b));
+                self.put_missing(&order_in(self.alloc, table)?, Lack { a, b, is_up })?;
                 Ok(below)
             }
             _ => Ok(None),
@@ -233,18 +184,14 @@ impl Telling<'_> {
         match error {
             LatticeError::Memory => Err(AllocError),
             LatticeError::NotToml => self.put_not_toml(),
-            LatticeError::NoClass => self.tell(
-                "The list of classes is empty. Hint: name at least one.\n",
-                &[],
-                Tail::Text(SHAPE),
-                classes,
-            ),
-            LatticeError::TooManyClasses => self.tell(
-                "There are more than 64 classes. Hint: leave some out.\n",
-                &[],
-                Tail::Nothing,
-                classes,
-            ),
+            LatticeError::NoClass => {
+                let sentence = "The list of classes is empty. Hint: name at least one.\n%";
+                self.tell(classes, sentence, &[SHAPE])
+            }
+            LatticeError::TooManyClasses => {
+                let sentence = "There are more than 64 classes. Hint: leave some out.\n";
+                self.tell(classes, sentence, &[])
+            }
             other => match table_in(self.alloc, self.bytes)? {
                 Some(table) => self.put_table_fault(&table, other),
                 None => Ok(None),

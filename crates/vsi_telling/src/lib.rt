@@ -1,48 +1,56 @@
 //! The explanation that follows the refusal of a file: where it is wrong, what is there, what could
 //! be there, and what to do.
 //!
-//! To be believed: `specs/Places`.
+//! A sentence is a text with holes and the parts for them (`say`). Given a path, a text and a part
+//! of it, `put_place_in` writes `PATH:LINE:COLUMN`, the line of the text, and carets below that
+//! part; `placed` of `specs/Place` is that layout. Every byte of a path or a text is written by
+//! `put_safe`, whose clause `printable` says that it can't control a terminal; the clauses `plain`
+//! say the same of whole answers.
+//!
+//! To be believed: all files of `specs/`.
 #![tactic(auto)]
 
-ghost use Rattle.std.specs.Prelude.{◌≡◌, IfOk, IfSome, option_map, true};
-ghost use Rattle.vsi_caret.specs.declared.colour_mode.ColourMode.TheVariants.{Plain};
-ghost use Rattle.vsi_caret.specs.Safe.{all_plain};
+ghost use Rattle.std.specs.Prelude.{◌≡◌, IfOk, IfSome, true};
+ghost use Rattle.vsi_telling.specs.declared.colour_mode.ColourMode.TheVariants.{Plain};
+ghost use Rattle.vsi_telling.specs.Safe.{all_plain};
 ghost use Rattle.vsi_telling.specs.Places.{BeginsAt, start_of};
 
-pub mod finding;
-mod fixes;
+mod colour_mode;
 mod flows;
-mod further;
-mod hints;
 mod images;
 mod lattices;
-mod lexical;
-mod missing;
-pub mod names;
-mod nearest;
 mod orders;
-mod scoping;
-mod stores;
+mod parts;
+mod place;
+mod safe;
+mod sentence;
+mod source;
 mod subject;
 mod syntactic;
-pub mod tables;
 mod telling;
-mod token_place;
-mod wrapping;
+mod tokens;
+mod window;
 
+pub use colour_mode::ColourMode;
 pub use flows::flows_explanation;
-use names::class_names;
+pub use parts::{
+    array_in, class_names, has_text, key_place, line_place, part_of, quoted_place, span_at,
+    table_classes, table_in, texts_in,
+};
+pub use place::put_place_in;
+pub use safe::{put_safe, put_text};
+pub use sentence::{Part, say};
+use source::place_of;
 use std::alloc::{AllocError, Global};
-pub use telling::{Tail, Telling, Told};
-use vsi_caret::{ColourMode, Part, put_place_in, put_safe, put_text};
+use telling::wrapped;
+pub use telling::{Telling, Told};
 use vsi_compiler::CompileError;
 use vsi_diagnostics::Fault;
-use vsi_hints::put_further;
 use vsi_image::Image;
 use vsi_lattice::Lattice;
-use vsi_scope::ScopeError;
 use vsi_store::StoreError;
-use vsi_syntax::{LexError, ParseError, Span};
+use vsi_syntax::Span;
+pub use window::Window;
 
 /// A refusal: a file by its path and its bytes, and why.
 #[derive(Clone, Copy)]
@@ -69,23 +77,6 @@ pub enum RefusedFile<'a> {
     },
 }
 
-/// The place of a file as text.
-fn begun_at(
-    alloc: Global,
-    mode: ColourMode,
-    path: &[u8],
-    bytes: &[u8],
-    span: Span,
-) -> Result<Vec<u8>, AllocError>
-    ensures plain { mode ≡ Plain → IfOk result (λ text. all_plain text.items ≡ true) }
-    ensures place { IfOk result
-        (λ text. BeginsAt mode path.now bytes.now span.start text.items) }
-{
-    let mut text = Vec::new(alloc);
-    put_place_in(&mut text, mode, path, bytes, span.start, span.stop)?;
-    Ok(text)
-}
-
 /// The path of a file as text.
 fn begun(alloc: Global, path: &[u8]) -> Result<Vec<u8>, AllocError>
     ensures { IfOk result (λ text. all_plain text.items ≡ true) }
@@ -109,7 +100,8 @@ fn shown_at(
     ensures place { IfOk result
         (λ text. BeginsAt mode path.now bytes.now span.start text.items) }
 {
-    let mut text = begun_at(alloc, mode, path, bytes, span)?;
+    let mut text = Vec::new(alloc);
+    put_place_in(&mut text, mode, path, bytes, span.start, span.stop)?;
     put_text(&mut text, lines)?;
     Ok(text)
 }
@@ -128,7 +120,7 @@ pub fn shown(
     ensures place { IfSome place (λ span.
         IfOk result (λ text. BeginsAt mode path.now bytes.now span.start text.items)) }
 {
-    let lines = wrapping::wrapped(alloc, words)?;
+    let lines = wrapped(alloc, words)?;
     match place {
         Some(span) => shown_at(alloc, mode, path, bytes, span, &lines),
         None => {
@@ -136,84 +128,6 @@ pub fn shown(
             put_text(&mut text, &lines)?;
             Ok(text)
         }
-    }
-}
-
-/// The part of one byte.
-fn one_byte(at: usize) -> Span
-    ensures { result.start ≡ at }
-{
-    Span {
-        start: at,
-        stop: at.saturating_add(1),
-    }
-}
-
-/// Where a source text is refused.
-fn place_of(error: &CompileError) -> Option<Span>
-    ensures { option_map (λ span. span.start) result ≡ start_of error.now }
-{
-    match error {
-        CompileError::Lex(LexError::BadByte(at)) => Some(one_byte(*at)),
-        CompileError::Lex(LexError::BadWord(span) | LexError::BadNumber(span)) => Some(*span),
-        CompileError::Lex(LexError::Memory | LexError::TooLong) => None,
-        CompileError::Parse(ParseError::Unexpected(span) | ParseError::TooDeep(span)) => {
-            Some(*span)
-        }
-        CompileError::Parse(ParseError::Memory) => None,
-        CompileError::Scope(inner) => scoping::place_of(*inner),
-        CompileError::Flow(_) | CompileError::Memory => None,
-    }
-}
-
-/// The place of a refusal after which a text may have constructs of other languages.
-fn misread_at(error: &CompileError) -> Option<usize> {
-    match error {
-        CompileError::Lex(_) | CompileError::Parse(_) => Some(place_of(error)?.start),
-        CompileError::Scope(ScopeError::Unbound(span)) => Some(span.start),
-        _ => None,
-    }
-}
-
-impl Telling<'_> {
-    /// Adds the explanation of why a source text is refused.
-    fn put_cause(&mut self, lattice: &Lattice, error: &CompileError) -> Result<(), AllocError> {
-        match error {
-            CompileError::Lex(inner) => self.put_lexical(*inner),
-            CompileError::Parse(inner) => self.put_tree(inner),
-            CompileError::Scope(inner) => self.put_scopes(lattice, *inner),
-            CompileError::Flow(_) => self.add("A flow breaks the policy.\n"),
-            CompileError::Memory => Err(AllocError),
-        }
-    }
-
-    /// Adds the explanation of a refused source text.
-    fn put_source(&mut self, lattice: &Lattice, error: &CompileError) -> Result<(), AllocError> {
-        self.put_cause(lattice, error)?;
-        if hints::file_hint(self.bytes).is_some() {
-            return Ok(());
-        }
-        if let Some(at) = misread_at(error) {
-            let classes = class_names(self.alloc, lattice)?;
-            put_further(self.alloc, &mut self.words, self.bytes, at, &classes)?;
-        }
-        if let Some(span) = place_of(error) {
-            self.put_faults(lattice, error, span.start)?;
-        }
-        Ok(())
-    }
-
-    /// Adds the explanation of a refused lattice file, image or other file, and answers where it is
-    /// wrong.
-    fn put_file(&mut self, fault: &Fault) -> Result<Option<Span>, AllocError> {
-        match fault {
-            Fault::Lattice(error) => return self.put_lattice(*error),
-            Fault::Store(error) => return self.put_store(&[], error),
-            Fault::Decode(error) => self.put_bytes(*error)?,
-            Fault::Verify(error) => self.put_image(error)?,
-            Fault::View(error) => self.put_view(error)?,
-        }
-        Ok(None)
     }
 }
 
@@ -277,12 +191,10 @@ pub fn class_list(alloc: Global, lattice: &Lattice) -> Result<Vec<u8>, AllocErro
     ensures plain { IfOk result (λ text. all_plain text.items ≡ true) }
 {
     let classes = class_names(alloc, lattice)?;
-    let mut telling = Telling::new(alloc, b"", b"");
-    telling.say(
-        "The classes of the lattice file: %.\n",
-        &[Part::Names(&classes)],
-    )?;
-    let sentence = wrapping::wrapped(alloc, &telling.words)?;
+    let mut words = Vec::new(alloc);
+    let parts = [Part::Names(&classes)];
+    say(&mut words, "The classes of the lattice file: %.\n", &parts)?;
+    let sentence = wrapped(alloc, &words)?;
     let mut text = Vec::new(alloc);
     put_text(&mut text, &sentence)?;
     Ok(text)

@@ -1,10 +1,15 @@
-//! The explanation of a lattice file whose pairs form a cycle.
+//! The explanation of a lattice file whose pairs form a cycle, or in which two classes lack one
+//! above both, or one below both.
 
-use crate::finding::key_place;
-use crate::telling::{Tail, Telling, Told};
+use crate::parts::key_place;
+use crate::sentence::{Part, say};
+use crate::telling::{Telling, Told};
 use std::alloc::{AllocError, Global};
-use vsi_caret::Part;
+use vsi_recovery::{Addition, Placement, Rank, completion, links, nearest, placements};
 use vsi_syntax::Span;
+
+/// How many names are tried for an added class: more than there are classes.
+const MOST_TRIED: usize = 70;
 
 /// The classes of a lattice file by their names, and its pairs by the numbers of their classes, the
 /// lower one first.
@@ -12,6 +17,14 @@ use vsi_syntax::Span;
 pub(crate) struct Order<'t> {
     pub(crate) names: Vec<&'t [u8]>,
     pub(crate) pairs: Vec<(u8, u8)>,
+}
+
+/// Two classes that lack one above both if `is_up`, otherwise one below both.
+#[derive(Clone, Copy)]
+pub(crate) struct Lack {
+    pub(crate) a: u8,
+    pub(crate) b: u8,
+    pub(crate) is_up: bool,
 }
 
 /// The part of a file that holds the pair of `below` with a number.
@@ -43,18 +56,25 @@ fn pair_place(bytes: &[u8], number: usize) -> Option<Span> {
 
 impl<'t> Order<'t> {
     /// The name of a class.
-    pub(crate) fn name(&self, class: u8) -> &'t [u8] {
+    fn name(&self, class: u8) -> &'t [u8] {
         self.names.get(usize::from(class)).copied().unwrap_or(b"")
     }
 
-    /// The name of a class, as a part of a sentence.
-    pub(crate) fn quoted(&self, class: u8) -> Part<'t> {
-        Part::Quoted(self.name(class))
+    /// The names of two classes between back quotes.
+    fn quoted(&self, (one, other): (u8, u8)) -> [Part<'t>; 2] {
+        [Part::Quoted(self.name(one)), Part::Quoted(self.name(other))]
     }
 
     /// The pair of two classes, as a part of a sentence.
-    pub(crate) fn listed(&self, (low, high): (u8, u8)) -> Part<'t> {
+    fn listed(&self, (low, high): (u8, u8)) -> Part<'t> {
         Part::Pair(self.name(low), self.name(high))
+    }
+
+    /// Whether a class is in none of the pairs.
+    fn is_unplaced(&self, class: u8) -> bool {
+        self.pairs
+            .iter()
+            .all(|(low, high)| *low != class && *high != class)
     }
 
     /// The classes of the pair with a number.
@@ -99,54 +119,265 @@ impl<'t> Order<'t> {
 
 /// The pair of a cycle that goes against the order of the classes, where one alone does.
 fn wrong_in(order: &Order, cycle: &[usize]) -> Option<usize> {
-    let mut wrong = None;
-    for number in cycle {
+    let mut wrong = cycle.iter().copied().filter(|number| {
         let (low, high) = order.pair(*number);
-        if high <= low {
-            if let Some(_) = wrong {
-                return None;
-            }
-            wrong = Some(*number);
+        high <= low
+    });
+    match (wrong.next(), wrong.next()) {
+        (Some(only), None) => Some(only),
+        _ => None,
+    }
+}
+
+/// The name for an added class by its pairs.
+fn base_name(pairs: &[(u8, u8)], class: usize) -> &'static [u8] {
+    let has_low = pairs.iter().any(|(_, high)| usize::from(*high) == class);
+    let has_high = pairs.iter().any(|(low, _)| usize::from(*low) == class);
+    match (has_low, has_high) {
+        (true, false) => b"Top",
+        (false, true) => b"Public",
+        _ => b"Both",
+    }
+}
+
+/// Whether one of the names is this one.
+fn has_name(names: &[&[u8]], fresh: &[Vec<u8>], name: &[u8]) -> bool {
+    names.contains(&name) || fresh.iter().any(|other| other.as_slice() == name)
+}
+
+/// A name for an added class that no class has: this one, or this one and a number.
+fn fresh_name(
+    alloc: Global,
+    names: &[&[u8]],
+    fresh: &[Vec<u8>],
+    base: &[u8],
+) -> Result<Vec<u8>, AllocError> {
+    for turn in 1..MOST_TRIED {
+        let mut name = Vec::from_slice(alloc, base)?;
+        if turn > 1 {
+            say(&mut name, "%", &[Part::Number(turn)])?;
+        }
+        if !has_name(names, fresh, &name) {
+            return Ok(name);
         }
     }
-    wrong
+    Ok(Vec::new(alloc))
+}
+
+/// Names for the added classes.
+fn fresh_names(
+    alloc: Global,
+    names: &[&[u8]],
+    addition: &Addition,
+) -> Result<Vec<Vec<u8>>, AllocError> {
+    let mut fresh: Vec<Vec<u8>> = Vec::new(alloc);
+    for more in 0..addition.count {
+        let base = base_name(&addition.pairs, names.len().saturating_add(more));
+        let name = fresh_name(alloc, names, &fresh, base)?;
+        fresh.push(name)?;
+    }
+    Ok(fresh)
+}
+
+/// The condition of a placement.
+fn case_of(rank: &Rank) -> &'static str {
+    match rank {
+        Rank::Above => "if it is above all others, add ",
+        Rank::Below => "if it is below all others, add ",
+        Rank::Between => "if it is between the others, add ",
+        Rank::Levels => "if each class is below the next one, add ",
+    }
 }
 
 impl Telling<'_> {
-    /// Adds the pairs of a cycle, the last one first.
-    fn put_links(&mut self, order: &Order, cycle: &[usize]) -> Result<(), AllocError> {
+    /// Adds the explanation of pairs that form a cycle, and returns the place of the wrong one.
+    pub(crate) fn put_ring(&mut self, order: &Order, class: u8) -> Told {
+        let cycle = order.cycle(self.alloc, class)?;
         let mut is_first = true;
         for number in cycle.iter().rev() {
-            let (low, high) = order.pair(*number);
             let sentence = if is_first {
                 "% is below %"
             } else {
                 ", % below %"
             };
-            self.say(sentence, &[order.quoted(low), order.quoted(high)])?;
+            self.say(sentence, &order.quoted(order.pair(*number)))?;
             is_first = false;
         }
-        Ok(())
-    }
-
-    /// Adds the explanation of pairs that form a cycle, and returns the place of the wrong one.
-    pub(crate) fn put_ring(&mut self, order: &Order, class: u8) -> Told {
-        let cycle = order.cycle(self.alloc, class)?;
-        self.put_links(order, &cycle)?;
         let Some(number) = wrong_in(order, &cycle) else {
-            self.add(
+            return self.tell(
+                None,
                 ": that is a cycle.\nHint: remove the pair that is the wrong way round. Removing \
                 another pair changes who may see what.\n",
-            )?;
-            return Ok(None);
+                &[],
+            );
         };
-        let place = pair_place(self.bytes, number);
         self.tell(
+            pair_place(self.bytes, number),
             ": that is a cycle.\nHint: `%` goes against the order of `classes`: perhaps it is the \
             wrong way round, or superfluous. Removing another pair changes who may see what.\n",
             &[order.listed(order.pair(number))],
-            Tail::Nothing,
-            place,
         )
+    }
+
+    /// Adds pairs of classes with these names as a lattice file writes them, between back quotes.
+    fn put_pairs(&mut self, order: &Order, pairs: &[(u8, u8)]) -> Result<(), AllocError> {
+        let mut joint = "`";
+        for pair in pairs {
+            let parts = [Part::Text(joint.as_bytes()), order.listed(*pair)];
+            self.say("%%", &parts)?;
+            joint = ", ";
+        }
+        self.add("`")
+    }
+
+    /// Adds the pairs that place a class among the others.
+    fn put_placements(
+        &mut self,
+        order: &Order,
+        class: u8,
+        found: &[Placement],
+    ) -> Result<(), AllocError> {
+        let sentence = match found {
+            [
+                Placement {
+                    rank: Rank::Levels,
+                    ..
+                },
+            ] => "`below` is empty.",
+            _ => "% isn't in any pair of `below`.",
+        };
+        self.say(sentence, &[Part::Quoted(order.name(class))])?;
+        let mut joint = " Hint: ";
+        for placement in found {
+            self.add(joint)?;
+            self.add(case_of(&placement.rank))?;
+            self.put_pairs(order, &placement.pairs)?;
+            self.add(" to `below`")?;
+            joint = "; ";
+        }
+        self.add(".\n")
+    }
+
+    /// Adds the pairs that place one of the two classes, if it is in no pair, and returns whether
+    /// there are any.
+    fn put_unplaced(&mut self, order: &Order, lack: Lack) -> Result<bool, AllocError> {
+        let class = if order.is_unplaced(lack.b) {
+            lack.b
+        } else {
+            lack.a
+        };
+        if !order.is_unplaced(class) {
+            return Ok(false);
+        }
+        let count = order.names.len();
+        let found = placements(self.alloc, count, &order.pairs, class)?;
+        if found.is_empty() {
+            return Ok(false);
+        }
+        self.put_placements(order, class, &found)?;
+        if order.pairs.is_empty() {
+            if let Some(addition) = completion(self.alloc, count, &order.pairs)? {
+                self.put_addition(order, "Or add ", &addition)?;
+            }
+        }
+        Ok(true)
+    }
+
+    /// Adds which class the two lack.
+    fn put_lack(&mut self, order: &Order, lack: Lack) -> Result<(), AllocError> {
+        let [a, b] = order.quoted((lack.a, lack.b));
+        if !lack.is_up {
+            let sentence =
+                "No class is below both % and %. A value that may flow to both needs one.\n";
+            return self.say(sentence, &[a, b]);
+        }
+        let count = order.names.len();
+        let near = nearest(self.alloc, count, &order.pairs, lack.a, lack.b)?;
+        let near: Vec<&[u8]> = near
+            .iter()
+            .map(|class| order.name(*class))
+            .collect(self.alloc)?;
+        let sentence = if near.is_empty() {
+            "No class is above both % and %. A value computed from both needs one.\n"
+        } else {
+            "The lowest classes above both % and % are %: a value computed from both needs a \
+            single lowest one.\n"
+        };
+        self.say(sentence, &[a, b, Part::Names(&near)])
+    }
+
+    /// Adds the classes and pairs that complete an order.
+    fn put_addition(
+        &mut self,
+        order: &Order,
+        begin: &str,
+        addition: &Addition,
+    ) -> Result<(), AllocError> {
+        let fresh = fresh_names(self.alloc, &order.names, addition)?;
+        let mut added = Vec::new(self.alloc);
+        let mut names = Vec::new(self.alloc);
+        for name in &order.names {
+            let name: &[u8] = *name;
+            names.push(name)?;
+        }
+        for name in &fresh {
+            added.push(name.as_slice())?;
+            names.push(name.as_slice())?;
+        }
+        self.add(begin)?;
+        self.say("% to `classes`, and ", &[Part::Names(&added)])?;
+        let pairs = Vec::new(self.alloc);
+        self.put_pairs(&Order { names, pairs }, &addition.pairs)?;
+        self.add(" to `below`.\n")
+    }
+
+    /// Adds the pairs, one of which makes an order a lattice.
+    fn put_pair_choices(
+        &mut self,
+        order: &Order,
+        begin: &str,
+        found: &[(u8, u8)],
+    ) -> Result<(), AllocError> {
+        let mut joint = begin;
+        for (low, high) in found {
+            let (one, other) = (Part::Text(order.name(*low)), Part::Text(order.name(*high)));
+            self.say(
+                "%`%` to `below` if `%` may flow to `%`",
+                &[
+                    Part::Text(joint.as_bytes()),
+                    order.listed((*low, *high)),
+                    one,
+                    other,
+                ],
+            )?;
+            joint = "; or add ";
+        }
+        if found.is_empty() {
+            return Ok(());
+        }
+        self.add(".\n")
+    }
+
+    /// Adds which class above two others is missing if `is_up`, otherwise which class below them,
+    /// and what to add to the file: each text that is offered makes it a lattice.
+    pub(crate) fn put_missing(&mut self, order: &Order, lack: Lack) -> Result<(), AllocError> {
+        if self.put_unplaced(order, lack)? {
+            return Ok(());
+        }
+        self.put_lack(order, lack)?;
+        let count = order.names.len();
+        let addition = completion(self.alloc, count, &order.pairs)?;
+        let found = links(self.alloc, count, &order.pairs, lack.a, lack.b, lack.is_up)?;
+        match &addition {
+            Some(addition) => {
+                self.put_addition(order, "Hint: add ", addition)?;
+                self.put_pair_choices(order, "Or add ", &found)
+            }
+            None if found.is_empty() => self.add(
+                "Hint: adding up to four classes, or one pair, doesn't make it a lattice. `vsi \
+                help lattice` shows lattices of usual shapes.\n",
+            ),
+            None => self.put_pair_choices(order, "Hint: add ", &found),
+        }
     }
 }

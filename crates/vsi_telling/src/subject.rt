@@ -1,24 +1,75 @@
-//! The source text that is explained, and its variables in sentences.
+//! The source text that is explained: its variables in sentences, and its explanation as it is
+//! gathered.
 
-ghost use Rattle.std.specs.Prelude.{IfSome};
+ghost use Rattle.std.specs.Prelude.{◌≡◌, IfOk, IfSome, OnOk, true};
 ghost use Rattle.std.specs.List.{All};
 ghost use Rattle.vsi_lattice.specs.Order.{IsClass};
 ghost use Rattle.vsi_lattice.specs.LatticeView.{order};
 ghost use Rattle.vsi_types.specs.Security.{program as program_of};
 ghost use Rattle.vsi_infer.specs.Inference.{AreClasses};
+ghost use Rattle.vsi_telling.specs.declared.colour_mode.ColourMode.TheVariants.{Plain};
+ghost use Rattle.vsi_telling.specs.Safe.{all_plain};
 
-use vsi_caret::Part;
+use crate::colour_mode::ColourMode;
+use crate::place::put_place_in;
+use crate::safe::put_text;
+use crate::sentence::{Part, say};
+use std::alloc::{AllocError, Global};
 use vsi_compiler::Source;
 use vsi_infer::{declared_class, variable_name};
 use vsi_lattice::{Class, Classes, Lattice};
 use vsi_scope::{Resolved, Var};
+use vsi_syntax::Span;
 use vsi_types::LOOP;
 
-/// A source text and its path.
-#[derive(Clone, Copy)]
+/// A piece of an explanation: sentences, or a part of the text.
+#[derive(Drop)]
+enum Piece {
+    Words(Vec<u8>),
+    Place(Span),
+}
+
+/// A source text, its path, and its explanation so far.
+#[derive(Drop)]
 pub(crate) struct Subject<'p, 's> {
+    pub(crate) alloc: Global,
     pub(crate) path: &'p [u8],
     pub(crate) source: &'p Source<'s>,
+    pieces: Vec<Piece>,
+}
+
+/// Appends a piece of an explanation of a file with this path and these bytes.
+fn put_piece(
+    text: &mut Vec<u8>,
+    mode: ColourMode,
+    path: &[u8],
+    bytes: &[u8],
+    piece: &Piece,
+) -> Result<(), AllocError>
+    ensures { mode ≡ Plain → all_plain text.old.items ≡ true
+        → OnOk result (all_plain text.new.items ≡ true) }
+{
+    match piece {
+        Piece::Words(words) => put_text(text, words),
+        Piece::Place(span) => put_place_in(text, mode, path, bytes, span.start, span.stop),
+    }
+}
+
+/// Appends pieces of an explanation.
+fn put_pieces(
+    text: &mut Vec<u8>,
+    mode: ColourMode,
+    path: &[u8],
+    bytes: &[u8],
+    pieces: &[Piece],
+) -> Result<(), AllocError>
+    ensures { mode ≡ Plain → all_plain text.old.items ≡ true
+        → OnOk result (all_plain text.new.items ≡ true) }
+{
+    for piece in pieces {
+        put_piece(text, mode, path, bytes, piece)?;
+    }
+    Ok(())
 }
 
 /// The name of the class with which a variable is declared; the ending of loops has the lowest one.
@@ -26,10 +77,8 @@ fn class_in<'l>(lattice: &'l Lattice, program: &Resolved<'_>, variable: Var) -> 
     requires globals { All (IsClass (order lattice.now)) (program_of program.now).globals }
     requires declared { AreClasses (order lattice.now) (program_of program.now).declared }
 {
-    match declared_class(lattice, program, variable) {
-        Some(class) => Some(lattice.name(class)),
-        None => None,
-    }
+    let class = declared_class(lattice, program, variable)?;
+    Some(lattice.name(class))
 }
 
 /// The least class at or above that of the target to which the source may flow. The ending of loops
@@ -42,16 +91,45 @@ fn raised_in(lattice: &Lattice, program: &Resolved<'_>, source: Var, target: Var
     if target == LOOP {
         return None;
     }
-    let Some(low) = declared_class(lattice, program, source) else {
-        return None;
-    };
-    let Some(high) = declared_class(lattice, program, target) else {
-        return None;
-    };
+    let low = declared_class(lattice, program, source)?;
+    let high = declared_class(lattice, program, target)?;
     Some(lattice.join(low, high))
 }
 
 impl<'p, 's> Subject<'p, 's> {
+    /// A source text about which nothing is said yet.
+    pub(crate) fn new(alloc: Global, path: &'p [u8], source: &'p Source<'s>) -> Self {
+        Subject {
+            alloc,
+            path,
+            source,
+            pieces: Vec::new(alloc),
+        }
+    }
+
+    /// Adds a sentence, with a part in place of each `%`.
+    pub(crate) fn say(&mut self, sentence: &str, parts: &[Part<'_>]) -> Result<(), AllocError> {
+        let mut words = Vec::new(self.alloc);
+        say(&mut words, sentence, parts)?;
+        self.pieces.push(Piece::Words(words))?;
+        Ok(())
+    }
+
+    /// Adds a place of the text, with its line and carets.
+    pub(crate) fn show(&mut self, span: Span) -> Result<(), AllocError> {
+        self.pieces.push(Piece::Place(span))?;
+        Ok(())
+    }
+
+    /// The explanation as text.
+    pub(crate) fn shown(&self, mode: ColourMode) -> Result<Vec<u8>, AllocError>
+        ensures { mode ≡ Plain → IfOk result (λ text. all_plain text.items ≡ true) }
+    {
+        let mut text = Vec::new(self.alloc);
+        put_pieces(&mut text, mode, self.path, self.source.text(), &self.pieces)?;
+        Ok(text)
+    }
+
     /// A variable as a sentence names it.
     pub(crate) fn name(&self, variable: Var) -> Part<'p> {
         if variable == LOOP {
@@ -70,10 +148,7 @@ impl<'p, 's> Subject<'p, 's> {
     /// Whether a variable is declared with the highest class.
     pub(crate) fn is_top(&self, variable: Var) -> bool {
         let lattice = self.source.lattice();
-        match declared_class(lattice, self.source.resolved(), variable) {
-            Some(class) => class == lattice.top(),
-            None => false,
-        }
+        declared_class(lattice, self.source.resolved(), variable) == Some(lattice.top())
     }
 
     /// Whether a variable is a global.
@@ -85,9 +160,7 @@ impl<'p, 's> Subject<'p, 's> {
     pub(crate) fn raised(&self, source: Var, target: Var) -> Option<&'p [u8]> {
         let lattice = self.source.lattice();
         let resolved = self.source.resolved();
-        match raised_in(lattice, resolved, source, target) {
-            Some(class) => Some(lattice.name(class)),
-            None => None,
-        }
+        let class = raised_in(lattice, resolved, source, target)?;
+        Some(lattice.name(class))
     }
 }

@@ -1,14 +1,40 @@
-//! The explanation of tokens that are no program.
+//! The explanation of tokens that are no program, with hints for the commonest mistakes.
 
-use crate::hints::{file_hint, place_hint};
-use crate::names::{is_declared, part_of, tokens_in};
-use crate::nearest::KEYWORDS;
+use crate::parts::part_of;
+use crate::sentence::Part;
 use crate::telling::Telling;
-use crate::token_place::{TokenPlace, token_place};
+use crate::tokens::{TokenPlace, declaration, tokens_in};
 use std::alloc::{AllocError, Global};
-use vsi_caret::Part;
 use vsi_recovery::expected_after;
 use vsi_syntax::{Kind, ParseError, Token};
+
+/// The keywords.
+const KEYWORDS: [&[u8]; 8] = [
+    b"var", b"letvar", b"in", b"if", b"then", b"else", b"while", b"do",
+];
+
+/// Whether a text begins with a word, and then, after blanks, with an `=`.
+fn begins_with(text: &[u8], word: &[u8]) -> bool {
+    let rest = text.trim_ascii_start().strip_prefix(word);
+    rest.is_some_and(|rest| rest.trim_ascii_start().starts_with(b"="))
+}
+
+/// The hint if another sort of file is in the place of a source text.
+pub(crate) fn file_hint(text: &[u8]) -> Option<&'static str> {
+    if let [b'V', b'S', b'I', 0..=31, ..] = text {
+        return Some(
+            "Hint: this is an image, not a source text: run it with `vsi run IMAGE`, or give the \
+            text that it was built from here.\n",
+        );
+    }
+    if begins_with(text, b"classes") || begins_with(text, b"below") {
+        return Some(
+            "Hint: this looks like a lattice file. The lattice file comes first, and the source \
+            text after it: `vsi check LATTICE SOURCE`.\n",
+        );
+    }
+    None
+}
 
 /// Whether an `if` among the tokens, in the block that they end in, still wants its `else`.
 fn lacks_else(alloc: Global, tokens: &[Token]) -> Result<bool, AllocError> {
@@ -29,6 +55,71 @@ fn lacks_else(alloc: Global, tokens: &[Token]) -> Result<bool, AllocError> {
     Ok(wanted > 0)
 }
 
+/// The hint for a `;`, for a command that lacks one, and for a declaration.
+fn separator_hint(place: &TokenPlace) -> Option<&'static str> {
+    let is_declared = place.kind(-2) == Some(Kind::Colon);
+    let hint = match (place.kind(-1), place.kind(0)) {
+        (None, None) => "Hint: a program has at least one command, as in `var x : L; x := 1`.\n",
+        (Some(Kind::Semicolon), None) if place.kind(-5) == Some(Kind::Var) => {
+            "Hint: at least one command follows the declarations, as in `x := 1`.\n"
+        }
+        (Some(Kind::Semicolon), Some(Kind::Semicolon)) => {
+            "Hint: only one `;` goes between two commands: remove this one.\n"
+        }
+        (_, Some(Kind::Semicolon)) if place.kind(1) == Some(Kind::Else) => {
+            "Hint: remove this `;`: there is none before `else`.\n"
+        }
+        (Some(Kind::Name), _) if place.kind(-2) == Some(Kind::Var) => {
+            "Hint: a declaration gives the variable a class and no value: write `var x : L;`, and \
+            assign to it in the body.\n"
+        }
+        _ if is_declared && place.kind(-4) == Some(Kind::Var) => {
+            "Hint: a `;` comes after each declaration.\n"
+        }
+        (_, Some(Kind::Var)) => "Hint: all declarations come before the first command.\n",
+        (Some(Kind::Less), Some(Kind::Equal)) => {
+            "Hint: there is no `<=`: `P <= Q` is written `1 - (Q < P)`.\n"
+        }
+        (Some(Kind::Equal), Some(Kind::Equal)) => {
+            "Hint: there is no `==`: `P == Q` is written `P = Q`.\n"
+        }
+        _ if place.is_behind_target() => {
+            "Hint: a command that begins with a name assigns to it, as in `x := 1`.\n"
+        }
+        _ => return None,
+    };
+    Some(hint)
+}
+
+/// The hint for a place after an operand. `lacks_else` says whether an `if` before it still wants
+/// its `else`, which is explained elsewhere.
+fn operand_hint(place: &TokenPlace, lacks_else: bool) -> Option<&'static str> {
+    let hint = match (place.last_word(), place.kind(0)) {
+        (_, Some(Kind::Assign)) => "Hint: `:=` assigns. Two numbers are compared with `=`.\n",
+        _ if place.has_open(Kind::Open, Kind::Close) => {
+            "Hint: a `(` before this place has no `)` yet.\n"
+        }
+        (Some(Kind::If), _) => "Hint: `then` comes after the guard of an `if`.\n",
+        (Some(Kind::While), _) => "Hint: `do` comes after the guard of a `while`.\n",
+        (Some(Kind::Letvar), _) => {
+            "Hint: `in` comes after the initial value of a `letvar`, and then the command that \
+            can use the variable.\n"
+        }
+        _ if lacks_else => return None,
+        (_, None | Some(Kind::Else)) if place.has_open(Kind::OpenBrace, Kind::CloseBrace) => {
+            "Hint: a `{` before this place has no `}` yet.\n"
+        }
+        (_, Some(Kind::Name | Kind::If | Kind::While | Kind::Letvar | Kind::OpenBrace)) => {
+            "Hint: a `;` goes between two commands.\n"
+        }
+        (_, Some(Kind::Number(_) | Kind::Open)) => {
+            "Hint: an operator goes between two operands: `2 * x`, not `2 x`.\n"
+        }
+        _ => return None,
+    };
+    Some(hint)
+}
+
 impl Telling<'_> {
     /// Adds the tokens that could follow these, if any could.
     fn put_expected(&mut self, tokens: &[Token]) -> Result<(), AllocError> {
@@ -39,78 +130,64 @@ impl Telling<'_> {
         self.say("Expected here: %.\n", &[Part::Text(&list)])
     }
 
-    /// Adds the token at a place.
-    fn put_standing(&mut self, place: &TokenPlace) -> Result<(), AllocError> {
-        match place.here() {
-            Some(token) => self.say("% can't be here.\n", &[Part::Quoted(token.text)]),
-            None => self.add("The text ends here, before the program is complete.\n"),
-        }
+    /// Adds a sentence about a missing command, with holes for a variable that it could assign.
+    fn put_idle(&mut self, place: &TokenPlace, sentence: &str) -> Result<(), AllocError> {
+        let name = Part::Text(place.last_target().unwrap_or(b"x"));
+        self.say(sentence, &[name, name])
     }
 
-    /// Adds what does nothing.
-    fn put_idle(&mut self, place: &TokenPlace, before: &str) -> Result<(), AllocError> {
-        let name = Part::Text(place.last_target().unwrap_or(b"x"));
-        let before = Part::Text(before.as_bytes());
-        self.say(
-            " To do nothing there, write `%% := %`.\n",
-            &[before, name, name],
-        )
+    /// Adds a hint where a branch or a block is empty, and returns whether it is.
+    fn put_empty(&mut self, place: &TokenPlace) -> Result<bool, AllocError> {
+        let sentence = match (place.kind(-1), place.kind(0)) {
+            (Some(Kind::Else), _) => {
+                "Hint: a command comes after `else`. To do nothing there, write `% := %`.\n"
+            }
+            (Some(Kind::OpenBrace), Some(Kind::CloseBrace)) => {
+                "Hint: a block has at least one command. To do nothing there, write `% := %`.\n"
+            }
+            _ => return Ok(false),
+        };
+        self.put_idle(place, sentence)?;
+        Ok(true)
     }
 
     /// Adds a hint for a `;` in front of a place that is one too many, and returns whether it is.
     fn put_superfluous(&mut self, place: &TokenPlace) -> Result<bool, AllocError> {
-        let last = match (place.before(1), place.kind()) {
+        let last = match (place.token(-1), place.kind(0)) {
             (Some(last), Some(Kind::CloseBrace | Kind::Else) | None) => last,
             _ => return Ok(false),
         };
         if last.kind != Kind::Semicolon {
             return Ok(false);
         }
-        let at = Part::Place(self.bytes, last.span.start);
         self.say(
             "Hint: the `;` before it, at %, is one too many: a `;` goes between two commands, not \
             after the last one.\n",
-            &[at],
+            &[Part::Place(self.bytes, last.span.start)],
         )?;
         Ok(true)
     }
 
-    /// Adds a hint where a branch or a block is empty, and returns whether it is.
-    fn put_empty(&mut self, place: &TokenPlace) -> Result<bool, AllocError> {
-        let is_block_end = place.kind() == Some(Kind::CloseBrace);
-        match place.kind_before(1) {
-            Some(Kind::Else) => self.add("Hint: a command comes after `else`.")?,
-            Some(Kind::OpenBrace) if is_block_end => {
-                self.add("Hint: a block has at least one command.")?
-            }
-            _ => return Ok(false),
-        }
-        self.put_idle(place, "")?;
-        Ok(true)
-    }
-
-    /// Adds a hint for an `else` that is missing.
-    fn put_missing_else(&mut self, place: &TokenPlace) -> Result<(), AllocError> {
-        self.add("Hint: every `if` has an `else`.")?;
-        if place.kind() == Some(Kind::Semicolon) {
-            self.add(" Put { } around several commands of a branch.")?;
-        }
-        self.put_idle(place, "else ")
-    }
-
     /// Adds a hint by the place alone, where one is known.
     fn put_place_hint(&mut self, place: &TokenPlace) -> Result<(), AllocError> {
-        if self.put_empty(place)? {
+        if self.put_empty(place)? || self.add_any(separator_hint(place))? {
             return Ok(());
         }
         let wants_else = lacks_else(self.alloc, place.tokens_before())?;
-        if self.add_any(place_hint(place, wants_else))? || self.put_superfluous(place)? {
+        if !place.is_behind_operand() {
+            self.put_superfluous(place)?;
             return Ok(());
         }
-        if wants_else && place.is_behind_operand() {
-            return self.put_missing_else(place);
+        if self.add_any(operand_hint(place, wants_else))? || !wants_else {
+            return Ok(());
         }
-        Ok(())
+        let sentence = if place.kind(0) == Some(Kind::Semicolon) {
+            "Hint: every `if` has an `else`. Put { } around several commands of a branch. To do \
+            nothing there, write `else % := %`.\n"
+        } else {
+            "Hint: every `if` has an `else`. To do nothing there, write `else % := %`.\n"
+        };
+        self.put_idle(place, sentence)
     }
 
     /// Adds which keyword was perhaps meant by a name that is declared nowhere, and returns whether
@@ -120,25 +197,31 @@ impl Telling<'_> {
         place: &TokenPlace,
         token: Option<Token>,
     ) -> Result<bool, AllocError> {
-        match token {
-            Some(name) if name.kind == Kind::Name && !is_declared(place.tokens, name.text) => {
-                self.nearest(name.text, &KEYWORDS)
-            }
-            _ => Ok(false),
+        let Some(name) = token else {
+            return Ok(false);
+        };
+        let is_declared = declaration(place.tokens, Kind::Var, name.text).is_some()
+            || declaration(place.tokens, Kind::Letvar, name.text).is_some();
+        if is_declared || name.kind != Kind::Name {
+            return Ok(false);
         }
+        self.nearest(name.text, &KEYWORDS)
     }
 
     /// Adds the token at a place, those that could be there, and a hint.
     fn put_at_place(&mut self, place: &TokenPlace) -> Result<(), AllocError> {
-        self.put_standing(place)?;
+        match place.token(0) {
+            Some(token) => self.say("% can't be here.\n", &[Part::Quoted(token.text)])?,
+            None => self.add("The text ends here, before the program is complete.\n")?,
+        }
         if self.add_any(file_hint(self.bytes))? || self.hint_at(place.start())? {
             return Ok(());
         }
-        if place.is_behind_target() && self.put_keyword(place, place.before(1))? {
+        if place.is_behind_target() && self.put_keyword(place, place.token(-1))? {
             return Ok(());
         }
         self.put_expected(place.tokens_before())?;
-        if self.put_keyword(place, place.here())? {
+        if self.put_keyword(place, place.token(0))? {
             return Ok(());
         }
         self.put_place_hint(place)
@@ -150,7 +233,7 @@ impl Telling<'_> {
             ParseError::Memory => Err(AllocError),
             ParseError::Unexpected(span) => {
                 let tokens = tokens_in(self.alloc, self.bytes)?;
-                self.put_at_place(&token_place(&tokens, *span))
+                self.put_at_place(&TokenPlace::new(&tokens, *span))
             }
             ParseError::TooDeep(span) => self.say(
                 "% is nested more than 200 levels deep here: in brackets, blocks, `if`, `while` \

@@ -1,7 +1,7 @@
 -- The loops, letvars and globals that are warned of.
-use Rattle.std.specs.Prelude.{ℕ, ◌+◌, Bool, false, not, ◌||◌, ◌==◌, List, [], ◌∷◌, ◌++◌}
+use Rattle.std.specs.Prelude.{ℕ, ◌+◌, Bool, true, false, not, ◌||◌, ◌&&◌, ◌==◌, List, [], ◌∷◌, ◌++◌}
 use Rattle.vsi_scope.specs.Language.{Expression, Number, Location, Operator, Command, Skip, Assign, Sequence, If, While, Letvar}
-use Rattle.vsi_opt.specs.Liveness.{all_reads}
+use Rattle.vsi_opt.specs.Liveness.{reads}
 
 -- A command assigns a location.
 abbrev pub assigned : Command → ℕ → Bool
@@ -11,6 +11,15 @@ assigned (Sequence a b) l = assigned a l || assigned b l
 assigned (If e a b) l = assigned a l || assigned b l
 assigned (While e c) l = assigned c l
 assigned (Letvar e c) l = assigned c l
+
+-- A command reads a location, or assigns it, where assignments count.
+abbrev pub used : Bool → Command → ℕ → Bool
+used counts Skip l = false
+used counts (Assign k s e) l = (counts && k == l) || reads e l
+used counts (Sequence a b) l = used counts a l || used counts b l
+used counts (If e a b) l = reads e l || (used counts a l || used counts b l)
+used counts (While e c) l = reads e l || used counts c l
+used counts (Letvar e c) l = reads e l || used counts c l
 
 -- An expression reads a location that a command assigns.
 abbrev pub reads_assigned : Command → Expression → Bool
@@ -35,8 +44,8 @@ unread k (Assign l s e) = []
 unread k (Sequence a b) = unread k a ++ unread k b
 unread k (If e a b) = unread k a ++ unread k b
 unread k (While e c) = unread k c
-unread k (Letvar e c) = not (all_reads c k) ∷ unread (k + 1) c
+unread k (Letvar e c) = not (used false c k) ∷ unread (k + 1) c
 
 -- A command neither reads nor assigns a location.
 abbrev pub is_unused : Command → ℕ → Bool
-is_unused c l = not (all_reads c l || assigned c l)
+is_unused c l = not (used true c l)

@@ -1,6 +1,6 @@
 //! The commands that are indented as if the loop or the `if` above them had them.
 
-use crate::warning::{Concern, Warning};
+use crate::warning::{AFTER_CHOICE, AFTER_LOOP, Warning};
 use std::alloc::{AllocError, Global};
 use vsi_syntax::{Kind, Span, Token};
 
@@ -24,37 +24,24 @@ struct Opened {
 
 /// The bytes of the line of a byte that are before it.
 fn line_before(text: &[u8], at: usize) -> &[u8] {
-    let mut start = at;
-    for byte in text.get(..at).unwrap_or(b"").iter().rev() {
-        if *byte == b'\n' {
-            break;
-        }
-        start = start.saturating_sub(1);
-    }
+    let before = text.get(..at).unwrap_or(b"");
+    let line = before.iter().rev().take_while(|byte| **byte != b'\n');
+    let start = at.saturating_sub(line.count());
     text.get(start..at).unwrap_or(b"")
 }
 
 /// The blanks at the beginning of a line.
 fn indent(line: &[u8]) -> &[u8] {
-    let mut count: usize = 0;
-    for byte in line {
-        if *byte != b' ' && *byte != b'\t' {
-            break;
-        }
-        count = count.saturating_add(1);
-    }
-    line.get(..count).unwrap_or(b"")
+    let blanks = line
+        .iter()
+        .take_while(|byte| matches!(**byte, b' ' | b'\t'));
+    line.get(..blanks.count()).unwrap_or(b"")
 }
 
 /// The number of things up to and including the last one of a frame.
 fn count_to(open: &[Opened], frame: Frame) -> usize {
-    let mut count = 0usize;
-    for (place, opened) in open.iter().enumerate() {
-        if opened.frame == frame {
-            count = place.saturating_add(1);
-        }
-    }
-    count
+    let inner = open.iter().rev().take_while(|opened| opened.frame != frame);
+    open.len().saturating_sub(inner.count())
 }
 
 /// The warning about a command that begins its line at a token right of a loop or an `if` that ends
@@ -67,21 +54,16 @@ fn warning_at(text: &[u8], span: Span, open: &[Opened]) -> Option<Warning> {
     let mut found = None;
     for opened in open {
         let outer = indent(line_before(text, opened.start));
+        let is_right = outer.len() < own.len() && own.starts_with(outer);
         match opened.frame {
             Frame::Brace => found = None,
-            Frame::Loop if outer.len() < own.len() && own.starts_with(outer) => {
-                found = Some(Concern::AfterLoop);
-            }
-            _ if outer.len() < own.len() && own.starts_with(outer) => {
-                found = Some(Concern::AfterChoice);
-            }
+            Frame::Loop if is_right => found = Some(AFTER_LOOP),
+            _ if is_right => found = Some(AFTER_CHOICE),
             _ => {}
         }
     }
-    Some(Warning {
-        concern: found?,
-        span,
-    })
+    let sentence = found?;
+    Some(Warning { sentence, span })
 }
 
 /// Begins what a token begins, and finishes what it finishes: an `else` all within the `if` to which

@@ -11,9 +11,8 @@
 mod indented;
 mod loops;
 mod uses;
-mod walk;
 mod warning;
 
 pub use loops::unchanged_guards;
 pub use uses::{is_unused_global, unread_letvars};
-pub use warning::{Concern, Warning, put_message, warning_lines, warnings_of};
+pub use warning::{Warning, put_message, warning_lines, warnings_of};

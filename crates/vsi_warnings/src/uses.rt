@@ -4,8 +4,8 @@ ghost use Rattle.std.specs.Prelude.{◌≡◌, ◌++◌, ◌+◌, ◌≤◌, IfO
 ghost use Rattle.vsi_scope.specs.Language.{letvars};
 ghost use Rattle.vsi_scope.specs.Limits.{max_declarations};
 ghost use Rattle.vsi_scope.specs.View.{command, expression, sequence};
-ghost use Rattle.vsi_opt.specs.Liveness.{all_reads, reads};
-ghost use Rattle.vsi_warnings.specs.Warned.{assigned, is_unused, unread};
+ghost use Rattle.vsi_opt.specs.Liveness.{reads};
+ghost use Rattle.vsi_warnings.specs.Warned.{is_unused, unread, used};
 
 use std::alloc::{AllocError, Global};
 use vsi_scope::{Cmd, Ex, Resolved};
@@ -21,57 +21,32 @@ fn reads(e: &Ex, location: u16) -> bool
     }
 }
 
-/// Whether an expression of these commands reads a location.
-#[cycle(reading)]
-fn are_reading(body: &[Cmd], location: u16) -> bool
-    ensures { result ≡ all_reads (sequence body.now) location }
+/// Whether one of these commands reads a location, or assigns it, where assignments count.
+#[cycle(using)]
+fn are_using(body: &[Cmd], location: u16, counts: bool) -> bool
+    ensures { result ≡ used counts (sequence body.now) location }
 {
     for c in body {
-        if is_reading(c, location) {
+        if is_using(c, location, counts) {
             return true;
         }
     }
     false
 }
 
-/// Whether an expression of a command reads a location.
-#[cycle(reading)]
-fn is_reading(c: &Cmd, location: u16) -> bool
-    ensures { result ≡ all_reads (command c.now) location }
+/// Whether a command reads a location, or assigns it, where assignments count.
+#[cycle(using)]
+fn is_using(c: &Cmd, location: u16, counts: bool) -> bool
+    ensures { result ≡ used counts (command c.now) location }
 {
     match c {
-        Cmd::Assign { value, .. } => reads(value, location),
+        Cmd::Assign { loc, value, .. } => (counts & (*loc == location)) | reads(value, location),
         Cmd::If { guard, yes, no } => {
-            reads(guard, location) | (are_reading(yes, location) | are_reading(no, location))
+            reads(guard, location)
+                | (are_using(yes, location, counts) | are_using(no, location, counts))
         }
-        Cmd::While { guard, body } => reads(guard, location) | are_reading(body, location),
-        Cmd::Letvar { value, body } => reads(value, location) | are_reading(body, location),
-    }
-}
-
-/// Whether one of these commands assigns a location.
-#[cycle(assigning)]
-fn are_assigning(body: &[Cmd], location: u16) -> bool
-    ensures { result ≡ assigned (sequence body.now) location }
-{
-    for c in body {
-        if is_assigning(c, location) {
-            return true;
-        }
-    }
-    false
-}
-
-/// Whether a command assigns a location.
-#[cycle(assigning)]
-fn is_assigning(c: &Cmd, location: u16) -> bool
-    ensures { result ≡ assigned (command c.now) location }
-{
-    match c {
-        Cmd::Assign { loc, .. } => *loc == location,
-        Cmd::If { yes, no, .. } => are_assigning(yes, location) | are_assigning(no, location),
-        Cmd::While { body, .. } => are_assigning(body, location),
-        Cmd::Letvar { body, .. } => are_assigning(body, location),
+        Cmd::While { guard, body } => reads(guard, location) | are_using(body, location, counts),
+        Cmd::Letvar { value, body } => reads(value, location) | are_using(body, location, counts),
     }
 }
 
@@ -103,7 +78,7 @@ fn put_one(c: &Cmd, scope: u16, found: &mut Vec<bool>) -> Result<(), AllocError>
         }
         Cmd::While { body, .. } => put_all(body, scope, found),
         Cmd::Letvar { body, .. } => {
-            found.push(!are_reading(body, scope))?;
+            found.push(!are_using(body, scope, false))?;
             put_all(body, scope + 1, found)
         }
     }
@@ -125,6 +100,5 @@ pub fn unread_letvars(alloc: Global, program: &Resolved<'_>) -> Result<Vec<bool>
 pub fn is_unused_global(program: &Resolved<'_>, global: u16) -> bool
     ensures exact { result ≡ is_unused (sequence program.now.body) global }
 {
-    let body = program.body();
-    !(are_reading(body, global) || are_assigning(body, global))
+    !are_using(program.body(), global, true)
 }

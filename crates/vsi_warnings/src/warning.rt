@@ -3,91 +3,168 @@
 use crate::indented::put_indented;
 use crate::loops::unchanged_guards;
 use crate::uses::{is_unused_global, unread_letvars};
-use crate::walk::walk;
 use std::alloc::{AllocError, Global};
 use vsi_compiler::Source;
 use vsi_opt::optimise;
-use vsi_syntax::{Kind, LexError, Span, Token, lex, put_line_column};
+use vsi_scope::{Cmd, Ex, Resolved};
+use vsi_syntax::{Kind, LexError, Op, Span, Token, lex, put_line_column};
 
-/// The subject of a warning.
-#[derive(Clone, Copy, Debug, PartialEq, Eq)]
-pub enum Concern {
-    /// A command after a loop that is indented as if the loop had it.
-    AfterLoop,
-    /// A command after an `if` that is indented as if the `if` had it.
-    AfterChoice,
-    /// A loop whose body assigns no variable that its guard reads.
-    UnchangedGuard,
-    /// A letvar whose variable no expression reads.
-    UnreadLetvar,
-    /// A global that is neither read nor assigned.
-    UnusedGlobal,
-    /// An assignment that the optimiser removes.
-    RemovedAssignment,
-    /// A letvar that has the name of a variable in scope.
-    HidingLetvar,
-    /// A comparison of a comparison with something else.
-    ChainedComparison,
-}
+/// The sentence about a command after a loop that is indented as if the loop had it.
+pub(crate) const AFTER_LOOP: &[u8] =
+    b"this comes after the loop above it; only braces put several commands into a loop";
 
-/// A warning: what it is about, and the part of the text to which it points.
+/// The sentence about a command after an `if` that is indented as if the `if` had it.
+pub(crate) const AFTER_CHOICE: &[u8] =
+    b"this comes after the `if` above it; only braces put several commands into a branch";
+
+/// The sentence about a loop whose body assigns no variable that its guard reads.
+const UNCHANGED_GUARD: &[u8] = b"nothing in the body of this loop changes its guard";
+
+/// The sentence about a letvar whose variable no expression reads.
+const UNREAD_LETVAR: &[u8] = b" is never read";
+
+/// The sentence about a global that is neither read nor assigned.
+const UNUSED_GLOBAL: &[u8] = b" is never used";
+
+/// The sentence about an assignment that the optimiser removes.
+const REMOVED_ASSIGNMENT: &[u8] =
+    b"the image has no code for this assignment: its value is never used";
+
+/// The sentence about a letvar that has the name of a variable in scope.
+const HIDING_LETVAR: &[u8] = b" hides a variable of the same name";
+
+/// The sentence about a comparison of a comparison with something else.
+const CHAINED_COMPARISON: &[u8] = b"this compares the answer of a comparison, which is 0 or 1";
+
+/// A warning: its sentence, which begins with a space if a name comes before it, and the part of the
+/// text to which it points, which is that name.
 #[derive(Clone, Copy, Debug)]
 pub struct Warning {
-    pub concern: Concern,
+    pub sentence: &'static [u8],
     pub span: Span,
-}
-
-/// The sentence of a warning, without the name at its beginning.
-fn sentence(concern: Concern) -> &'static [u8] {
-    match concern {
-        Concern::AfterLoop => {
-            b"this comes after the loop above it; only braces put several commands into a loop"
-        }
-        Concern::AfterChoice => {
-            b"this comes after the `if` above it; only braces put several commands into a branch"
-        }
-        Concern::UnchangedGuard => b"nothing in the body of this loop changes its guard",
-        Concern::UnreadLetvar => b" is never read",
-        Concern::UnusedGlobal => b" is never used",
-        Concern::RemovedAssignment => {
-            b"the image has no code for this assignment: its value is never used"
-        }
-        Concern::HidingLetvar => b" hides a variable of the same name",
-        Concern::ChainedComparison => {
-            b"this compares the answer of a comparison, which is 0 or 1"
-        }
-    }
-}
-
-/// Whether the sentence of a warning begins with the name to which it points.
-fn begins_with_name(concern: Concern) -> bool {
-    matches!(
-        concern,
-        Concern::UnreadLetvar | Concern::UnusedGlobal | Concern::HidingLetvar
-    )
 }
 
 /// Adds the sentence of a warning about a source text.
 pub fn put_message(text: &mut Vec<u8>, source: &[u8], warning: Warning) -> Result<(), AllocError> {
-    if begins_with_name(warning.concern)
+    if warning.sentence.starts_with(b" ")
         && let Some(name) = source.get(warning.span.start..warning.span.stop)
     {
         text.extend_from_slice(name)?;
     }
-    text.extend_from_slice(sentence(warning.concern))
+    text.extend_from_slice(warning.sentence)
+}
+
+/// The findings of a walk over a program, the names in scope, and those of all letvars.
+#[derive(Drop)]
+struct Found<'a> {
+    names: Vec<&'a [u8]>,
+    letvars: Vec<&'a [u8]>,
+    /// For each letvar, whether its name is in scope there.
+    hiding: Vec<bool>,
+    /// For each comparison, whether exactly one of its operands is a comparison and the other one is
+    /// neither 0 nor 1.
+    chained: Vec<bool>,
+    /// The name that each assignment has in the text.
+    assigned: Vec<Span>,
+}
+
+/// Whether an expression is a comparison.
+fn is_comparison(e: &Ex) -> bool {
+    matches!(e, Ex::Op(Op::Eq | Op::Lt, _, _))
+}
+
+/// Whether an expression is the answer of no comparison: neither a comparison nor 0 nor 1.
+fn is_other(e: &Ex) -> bool {
+    !matches!(e, Ex::Num(0) | Ex::Num(1)) && !is_comparison(e)
+}
+
+/// Adds an answer for each comparison of an expression, in the order of the text.
+fn put_comparisons(e: &Ex, chained: &mut Vec<bool>) -> Result<(), AllocError> {
+    match e {
+        Ex::Num(_) | Ex::Loc(_, _) => Ok(()),
+        Ex::Op(_, a, b) => {
+            put_comparisons(a, chained)?;
+            if is_comparison(e) {
+                let is_left = is_comparison(a) && is_other(b);
+                chained.push(is_left || (is_comparison(b) && is_other(a)))?;
+            }
+            put_comparisons(b, chained)
+        }
+    }
+}
+
+/// Adds an answer for the next letvar, whose name is in scope from then on.
+fn enter(found: &mut Found<'_>) -> Result<(), AllocError> {
+    if let Some(name) = found.letvars.get(found.hiding.len()).copied() {
+        found.hiding.push(found.names.contains(&name))?;
+        found.names.push(name)?;
+    }
+    Ok(())
+}
+
+/// Walks over a list of commands.
+#[cycle(walk)]
+fn walk_all(body: &[Cmd], found: &mut Found<'_>) -> Result<(), AllocError> {
+    for c in body {
+        walk_one(c, found)?;
+    }
+    Ok(())
+}
+
+/// Walks over a command.
+#[cycle(walk)]
+fn walk_one(c: &Cmd, found: &mut Found<'_>) -> Result<(), AllocError> {
+    match c {
+        Cmd::Assign { span, value, .. } => {
+            found.assigned.push(*span)?;
+            put_comparisons(value, &mut found.chained)
+        }
+        Cmd::If { guard, yes, no } => {
+            put_comparisons(guard, &mut found.chained)?;
+            walk_all(yes, found)?;
+            walk_all(no, found)
+        }
+        Cmd::While { guard, body } => {
+            put_comparisons(guard, &mut found.chained)?;
+            walk_all(body, found)
+        }
+        Cmd::Letvar { value, body } => {
+            put_comparisons(value, &mut found.chained)?;
+            let outside = found.names.len();
+            enter(found)?;
+            walk_all(body, found)?;
+            found.names.truncate(outside);
+            Ok(())
+        }
+    }
+}
+
+/// The findings of a walk over a program, in the order of its text.
+fn walk<'a>(alloc: Global, program: &Resolved<'a>) -> Result<Found<'a>, AllocError> {
+    let globals = program.globals().iter().map(|global| global.name);
+    let letvars = program.letvars().iter().map(|entry| entry.name);
+    let mut found = Found {
+        names: globals.collect(alloc)?,
+        letvars: letvars.collect(alloc)?,
+        hiding: Vec::new(alloc),
+        chained: Vec::new(alloc),
+        assigned: Vec::new(alloc),
+    };
+    walk_all(program.body(), &mut found)?;
+    Ok(found)
 }
 
 /// Adds a warning at each part whose answer is yes.
 fn put(
     found: &mut Vec<Warning>,
-    concern: Concern,
+    sentence: &'static [u8],
     parts: &[Span],
     answers: &[bool],
 ) -> Result<(), AllocError> {
     for (part, answer) in parts.iter().zip(answers.iter()) {
         if *answer {
             let span = *part;
-            found.push(Warning { concern, span })?;
+            found.push(Warning { sentence, span })?;
         }
     }
     Ok(())
@@ -95,47 +172,37 @@ fn put(
 
 /// The parts of the tokens of these kinds.
 fn parts_of(alloc: Global, tokens: &[Token<'_>], kinds: &[Kind]) -> Result<Vec<Span>, AllocError> {
-    let mut parts = Vec::new(alloc);
-    for token in tokens {
-        if kinds.contains(&token.kind) {
-            parts.push(token.span)?;
-        }
-    }
-    Ok(parts)
+    let tokens = tokens.iter().filter(|token| kinds.contains(&token.kind));
+    tokens.map(|token| token.span).collect(alloc)
 }
 
-/// For each assignment, whether it isn't among those that are kept, in their order.
-fn removed(alloc: Global, all: &[Span], kept: &[Span]) -> Result<Vec<bool>, AllocError> {
-    let mut answers = Vec::new(alloc);
+/// Adds the warnings about the assignments that aren't among those that are kept, in their order.
+fn put_removed(found: &mut Vec<Warning>, all: &[Span], kept: &[Span]) -> Result<(), AllocError> {
     let mut rest = kept;
     for span in all {
-        let mut is_removed = true;
-        if let [first, more @ ..] = rest
-            && *first == *span
-        {
-            is_removed = false;
-            rest = more;
+        match rest {
+            [first, more @ ..] if *first == *span => rest = more,
+            _ => found.push(Warning {
+                sentence: REMOVED_ASSIGNMENT,
+                span: *span,
+            })?,
         }
-        answers.push(is_removed)?;
     }
-    Ok(answers)
+    Ok(())
 }
 
 /// Adds the warnings about the globals of a program.
-fn put_globals(
-    alloc: Global,
-    source: &Source<'_>,
-    found: &mut Vec<Warning>,
-) -> Result<(), AllocError> {
-    let mut parts = Vec::new(alloc);
-    let mut unused = Vec::new(alloc);
+fn put_globals(source: &Source<'_>, found: &mut Vec<Warning>) -> Result<(), AllocError> {
     for (number, declaration) in source.globals().iter().enumerate() {
-        if let Ok(global) = u16::try_from(number) {
-            parts.push(declaration.name.span)?;
-            unused.push(is_unused_global(source.resolved(), global))?;
+        let Ok(global) = u16::try_from(number) else {
+            continue;
+        };
+        if is_unused_global(source.resolved(), global) {
+            let (sentence, span) = (UNUSED_GLOBAL, declaration.name.span);
+            found.push(Warning { sentence, span })?;
         }
     }
-    put(found, Concern::UnusedGlobal, &parts, &unused)
+    Ok(())
 }
 
 /// Adds the warnings about the commands and the letvars of a program.
@@ -147,32 +214,26 @@ fn put_program(
 ) -> Result<(), AllocError> {
     let program = source.resolved();
     let walked = walk(alloc, program)?;
-    let whiles = parts_of(alloc, tokens, &[Kind::While])?;
-    let loops = unchanged_guards(alloc, program)?;
-    put(found, Concern::UnchangedGuard, &whiles, &loops)?;
-    let comparisons = parts_of(alloc, tokens, &[Kind::Equal, Kind::Less])?;
+    let parts = parts_of(alloc, tokens, &[Kind::While])?;
     put(
         found,
-        Concern::ChainedComparison,
-        &comparisons,
-        &walked.chained,
+        UNCHANGED_GUARD,
+        &parts,
+        &unchanged_guards(alloc, program)?,
     )?;
-    let mut letvars = Vec::new(alloc);
-    for entry in program.letvars() {
-        letvars.push(entry.span)?;
-    }
-    let unread = unread_letvars(alloc, program)?;
-    put(found, Concern::UnreadLetvar, &letvars, &unread)?;
-    put(found, Concern::HidingLetvar, &letvars, &walked.hiding)?;
-    let optimised = optimise(alloc, program)?;
-    let kept = walk(alloc, &optimised)?;
-    let removed = removed(alloc, &walked.assigned, &kept.assigned)?;
+    let parts = parts_of(alloc, tokens, &[Kind::Equal, Kind::Less])?;
+    put(found, CHAINED_COMPARISON, &parts, &walked.chained)?;
+    let letvars = program.letvars().iter().map(|entry| entry.span);
+    let parts: Vec<Span> = letvars.collect(alloc)?;
     put(
         found,
-        Concern::RemovedAssignment,
-        &walked.assigned,
-        &removed,
-    )
+        UNREAD_LETVAR,
+        &parts,
+        &unread_letvars(alloc, program)?,
+    )?;
+    put(found, HIDING_LETVAR, &parts, &walked.hiding)?;
+    let kept = walk(alloc, &optimise(alloc, program)?)?;
+    put_removed(found, &walked.assigned, &kept.assigned)
 }
 
 /// The warnings about a text, in the order of the parts to which they point.
@@ -181,12 +242,11 @@ fn put_program(
 ///
 /// Only if memory runs out.
 pub fn warnings_of(alloc: Global, source: &Source<'_>) -> Result<Vec<Warning>, AllocError> {
-    let text = source.text();
     let mut found = Vec::new(alloc);
-    match lex(alloc, text) {
+    match lex(alloc, source.text()) {
         Ok(tokens) => {
-            put_indented(alloc, text, &tokens, &mut found)?;
-            put_globals(alloc, source, &mut found)?;
+            put_indented(alloc, source.text(), &tokens, &mut found)?;
+            put_globals(source, &mut found)?;
             put_program(alloc, source, &tokens, &mut found)?;
         }
         Err(LexError::Memory) => return Err(AllocError),

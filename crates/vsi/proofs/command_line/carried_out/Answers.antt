@@ -1,8 +1,8 @@
 use Rattle.std.proofs.Common.{◌∙◌, [], ap, subst}
 use Rattle.std.specs.Prelude.{IfErr, OnOk, Some, if◌then◌else◌}
 use Rattle.vsi_devices.specs.Counted.{device_of}
-use Rattle.vsi.specs.Done.{Done, Failed}
-use Rattle.vsi.specs.Saved.{KeepsStateOf}
+use Rattle.vsi_subject.specs.Done.{Done, Failed}
+use Rattle.vsi_subject.specs.Saved.{KeepsStateOf}
 use Rattle.vsi.proofs.command_line.carried_out.Goals as goal
 
 pub returns-then-reads_input-clause-done : goal.returns-then-reads_input-clause-done

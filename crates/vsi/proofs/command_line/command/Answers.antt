@@ -1,13 +1,13 @@
 use Rattle.std.proofs.lemmas.Result.{IfErr-weaker}
 use Rattle.vsi_devices.specs.Counted.{device_of}
-use Rattle.vsi.specs.Done.{FailsAt}
-use Rattle.vsi.specs.Noted.{NotesFailure}
-use Rattle.vsi.specs.Words.{given_to}
-use Rattle.vsi.proofs.Filled.{unfilled_at}
-use Rattle.vsi.proofs.Leaving.{partly_at}
-use Rattle.vsi.proofs.NoteLemmas.{tells_note}
-use Rattle.vsi.proofs.CarriedOut.{both_failed, fails_at}
-use Rattle.vsi.proofs.Failed.{done_at_zero, tells_failure}
+use Rattle.vsi_subject.specs.Done.{FailsAt}
+use Rattle.vsi_subject.specs.Noted.{NotesFailure}
+use Rattle.vsi_subject.specs.Words.{given_to}
+use Rattle.vsi_subject.proofs.Filled.{unfilled_at}
+use Rattle.vsi_subject.proofs.Leaving.{partly_at}
+use Rattle.vsi_subject.proofs.NoteLemmas.{tells_note}
+use Rattle.vsi_subject.proofs.CarriedOut.{both_failed, fails_at}
+use Rattle.vsi_subject.proofs.Failed.{done_at_zero, tells_failure}
 use Rattle.vsi.proofs.command_line.command.Goals as goal
 
 pub returns-clause-told : goal.returns-clause-told

@@ -1,7 +1,7 @@
 use Rattle.std.proofs.Common.{arith}
 use Rattle.std.proofs.lemmas.Result.{IfErr-at_err}
-use Rattle.vsi.specs.Screen.{tamed}
-use Rattle.vsi.proofs.Failed.{told_alone, told_memory, told_with_note}
+use Rattle.vsi_subject.specs.Screen.{tamed}
+use Rattle.vsi_subject.proofs.Failed.{told_alone, told_memory, told_with_note}
 use Rattle.vsi.proofs.command_line.ended.Goals as goal
 use Rattle.vsi.proofs.command_line.ended.Goals.{then-not-wants_memory, else-not-wants_memory}
 

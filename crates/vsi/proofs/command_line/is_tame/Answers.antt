@@ -1,5 +1,5 @@
 use Rattle.std.proofs.Common.{◌∙◌, ◌-◌, ap}
-use Rattle.vsi.proofs.ScreenLemmas.{begun, passed, plain_passed}
+use Rattle.vsi_subject.proofs.ScreenLemmas.{begun, passed, plain_passed}
 use Rattle.vsi.proofs.command_line.is_tame.Goals as goal
 use Rattle.vsi.proofs.command_line.is_tame.Goals.{then-left-eq0+else-left-eq0-2, else-left-eq0-2-via-then-left-eq0-2+else-not-is_plain, else-left-eq0-2-via-else-left-eq0-2, else-left-eq0}
 

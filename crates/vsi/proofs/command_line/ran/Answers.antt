@@ -1,6 +1,6 @@
 use Rattle.vsi_answers.specs.Requests.{RunsSourceTo}
-use Rattle.vsi.proofs.Answered.{answered_told}
-use Rattle.vsi.proofs.Failed.{answered_failed}
+use Rattle.vsi_subject.proofs.AnswerLemmas.{answered_told}
+use Rattle.vsi_subject.proofs.Failed.{answered_failed}
 use Rattle.vsi.proofs.command_line.ran.Goals as goal
 
 pub returns-clause-ran : goal.returns-clause-ran

@@ -3,9 +3,9 @@ use Rattle.std.proofs.lemmas.Result.{IfErr-weaker, on_ok_weaker}
 use Rattle.vsi_answers.specs.Requests.{RunsSourceTo}
 use Rattle.vsi_devices.specs.Counted.{device_of}
 use Rattle.vsi_devices.specs.Engine.{IsReadFrom}
-use Rattle.vsi.specs.Input.{FailsRun}
-use Rattle.vsi.proofs.Partly.{Partly-weaker, any_failure, kept_partly}
-use Rattle.vsi.proofs.Failed.{FailsFor-weaker}
+use Rattle.vsi_subject.specs.Input.{FailsRun}
+use Rattle.vsi_subject.proofs.Partly.{Partly-weaker, any_failure, kept_partly}
+use Rattle.vsi_subject.proofs.Failed.{FailsFor-weaker}
 use Rattle.vsi.proofs.command_line.run_input.Goals as goal
 
 pub returns-in-Ok-clause-ran : goal.returns-in-Ok-clause-ran

@@ -1,11 +1,11 @@
 use Rattle.std.proofs.Common.{◌≡◌, ◌<◌, subst, sym, arith}
 use Rattle.vsi_devices.specs.Counted.{device_of, faults_of}
-use Rattle.vsi.specs.FaultyFiles.{TellsRefusal, has_line}
-use Rattle.vsi.specs.Failures.{status_of}
-use Rattle.vsi.specs.Noted.{noting}
-use Rattle.vsi.proofs.NoteLemmas.{noted_err, noted_ok}
+use Rattle.vsi_subject.specs.FaultyFiles.{TellsRefusal, has_line}
+use Rattle.vsi_subject.specs.Failures.{status_of}
+use Rattle.vsi_subject.specs.Noted.{noting}
+use Rattle.vsi_subject.proofs.NoteLemmas.{noted_err, noted_ok}
 use Rattle.vsi.proofs.Hushed.{failure_note}
-use Rattle.vsi.proofs.CarriedOut.{early_told, explained_fails}
+use Rattle.vsi_subject.proofs.CarriedOut.{early_told, explained_fails}
 use Rattle.vsi.proofs.Faulted.{fault_told, room_left, told_failure, told_state}
 use Rattle.vsi.proofs.requests.carry_out_asked.Goals as goal
 

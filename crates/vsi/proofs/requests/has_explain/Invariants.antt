@@ -1,5 +1,5 @@
 use Rattle.std.proofs.Common.{◌≡◌, length}
-use Rattle.vsi.specs.Words.{has_explain}
+use Rattle.vsi_subject.specs.Words.{has_explain}
 use Rattle.vsi.proofs.requests.has_explain.Given as goal
 
 abbrev pub invariant-loop-rest : goal.invariant-loop-rest

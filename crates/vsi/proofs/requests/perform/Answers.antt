@@ -8,9 +8,9 @@ use Rattle.vsi_arguments.specs.declared.request.Layout.{Layout}
 use Rattle.vsi_arguments.specs.declared.request.Request.{Request}
 use Rattle.vsi_arguments.specs.declared.request.Request.TheVariants as request
 use Rattle.vsi_arguments.specs.declared.request.Serving.{Serving}
-use Rattle.vsi.specs.Works.{Replies, work_of}
-use Rattle.vsi.proofs.Filled.{alone}
-use Rattle.vsi.proofs.Partly.{any_failure, cut_leaves}
+use Rattle.vsi_subject.specs.Works.{Replies, work_of}
+use Rattle.vsi_subject.proofs.Filled.{alone}
+use Rattle.vsi_subject.proofs.Partly.{any_failure, cut_leaves}
 use Rattle.vsi.proofs.requests.perform.Goals as goal
 
 -- A request that doesn't write while it works answers.

@@ -5,8 +5,9 @@ returns c = record {
   bound = record {
     answer = c.in_ok-found.found;
     is = c.in_ok-found.ensures;
-    place = c.in_ok-text.ensures.text.0;
-    line = c.in_ok-text.ensures.text.1;
-    bounded = c.is_bounded.ensures;
+    place = c.in_ok-place.place;
+    line = c.in_ok-answer.ensures.0;
+    bounded = c.in_ok-answer.ensures.1;
+    found = c.in_ok-answer.ensures.2;
   };
 }

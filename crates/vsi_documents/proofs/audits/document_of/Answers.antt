@@ -1,13 +1,19 @@
-use Rattle.std.proofs.Common.{◌∙◌, ap}
-use Rattle.vsi_documents.specs.Bounds.{bound_members}
+use Rattle.std.proofs.Common.{ap, ◌∙◌}
 use Rattle.vsi_diagnostics.specs.Members.{object_line}
+use Rattle.vsi_answers.specs.Bounds.{bound_line}
+use Rattle.vsi_documents.specs.Bounds.{bound_members}
 use Rattle.vsi_documents.proofs.audits.document_of.Goals as goal
 
 pub returns : goal.returns
-returns c = record {
-  answer = c.args.found;
-  is = c.requires.right;
-  says = c.is_bounded.ensures;
-  place = c.requires.line.0;
-  line = c.in_ok-line.ensures ∙ ap (λ t. object_line (bound_members c.args.found t)) c.requires.line.1;
-}
+returns c =
+    let told = c.args.answer in
+    record {
+      answer = c.requires.answer;
+      is = c.requires.is;
+      says = c.requires.bounded;
+      place = c.requires.place;
+      line = c.in_ok-line.ensures
+          ∙ ap (λ t. object_line (bound_members told.is_bounded told.found t)) (c.deref.ensures.value ∙ c.requires.line)
+          ∙ ap (λ f. object_line (bound_members told.is_bounded f (bound_line c.requires.place c.requires.answer)))
+          c.requires.found;
+    }

@@ -1,5 +1,5 @@
 use Rattle.std.proofs.Common.{subst, sym}
-use Rattle.vsi_lsp.specs.Frames.{AreFrames}
+use Rattle.vsi_client.specs.Frames.{AreFrames}
 use Rattle.vsi_lsp.proofs.Framing.{one_framed}
 use Rattle.vsi_lsp.proofs.replies.framed.Goals as goal
 

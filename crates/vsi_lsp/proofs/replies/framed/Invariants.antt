@@ -1,4 +1,4 @@
-use Rattle.vsi_lsp.specs.Frames as spec
+use Rattle.vsi_client.specs.Frames as spec
 use Rattle.vsi_lsp.proofs.replies.framed.Given as goal
 
 -- The bytes so far are messages.

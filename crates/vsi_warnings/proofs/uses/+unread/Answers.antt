@@ -72,6 +72,6 @@ pub put_one-returns-in_ok-push-in-Letvar : goal.put_one-returns-in_ok-push-in-Le
 put_one-returns-in_ok-push-in-Letvar t c =
     on_ok_weaker c.put_all-in-Letvar.result
     (passed_letvar c.args.scope c.args.c.now c.in-Letvar.value c.in-Letvar.body _ _ _ _ _ _ c.in-Letvar.is
-    c.deref-in-Letvar.ensures.value c.deref-in-Letvar-2.ensures.value c.are_reading.ensures
+    c.deref-in-Letvar.ensures.value c.deref-in-Letvar-2.ensures.value c.are_using.ensures
     c.in_ok-push-in-Letvar.ensures.items)
     c.put_all-in-Letvar.ensures

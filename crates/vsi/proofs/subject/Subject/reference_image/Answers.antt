@@ -1,9 +1,0 @@
-use Rattle.vsi.specs.Refusals.{FailsBy}
-use Rattle.vsi.specs.Undriven.{IsUnusable}
-use Rattle.vsi.proofs.Reasons.{handed, late_fails}
-use Rattle.vsi.proofs.subject.Subject.reference_image.Goals as goal
-
-pub returns-in_err-text : goal.returns-in_err-text
-returns-in_err-text g c =
-    handed (FailsBy (λ reason. ⊥) IsUnusable) c.in_err-text.field-0.0 c.from_residual.result c.from_residual.ensures.1
-    (late_fails (λ reason. ⊥) IsUnusable c.in_err-text.field-0.0 c.in_err-text.ensures.failed)

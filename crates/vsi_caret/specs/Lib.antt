@@ -1,4 +1,0 @@
-pub mod Safe
-pub mod Colours
-pub mod Window
-pub mod Place

@@ -1,0 +1,4 @@
+use Rattle.vsi_documents.proofs.texts.classes_json.Goals as goal
+
+pub returns-in-Ok : goal.returns-in-Ok
+returns-in-Ok c = record { answer = rw (← c.in-Ok.ensures.lattice, ← c.in-Ok.ensures.text) c.source_classes.ensures }

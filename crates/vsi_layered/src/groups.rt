@@ -1,0 +1,447 @@
+//! The levels and the columns of the groups that have nodes, the layers of the nodes within their
+//! groups, the boxes of the groups, and the rows of the nodes.
+//!
+//! The groups of a column form a chain, so in it no group is above another one that it isn't above
+//! in the order. The box of a group reaches over the columns beside its own whose groups it can be
+//! compared with.
+
+use crate::graph::{Graph, Made, Place, add_at, apart, at, filled, greatest, raise_at, write_at};
+use std::alloc::Global;
+
+/// The groups of a graph: for each the number of its nodes, its level, its column, the first and
+/// the last column of its box, the number of its layers, and the width of the widest one; the layer
+/// of each node within its group; and the number of columns.
+#[derive(Drop)]
+pub(crate) struct Groups<'a> {
+    pub(crate) alloc: Global,
+    pub(crate) graph: Graph<'a>,
+    pub(crate) nodes: Vec<usize>,
+    pub(crate) levels: Vec<usize>,
+    pub(crate) columns: Vec<usize>,
+    pub(crate) firsts: Vec<usize>,
+    pub(crate) lasts: Vec<usize>,
+    pub(crate) layers: Vec<usize>,
+    pub(crate) heights: Vec<usize>,
+    pub(crate) widths: Vec<usize>,
+    pub(crate) count: usize,
+}
+
+/// For each group the length of the longest chain of groups with nodes that leads up to it.
+fn levels_of(alloc: Global, graph: Graph<'_>, nodes: &[usize]) -> Made<Vec<usize>> {
+    let mut levels = filled(alloc, nodes.len(), 0)?;
+    for _ in 0..nodes.len() {
+        for high in 0..nodes.len() {
+            for low in 0..nodes.len() {
+                let have_nodes = at(nodes, low) > 0 && at(nodes, high) > 0;
+                if low != high && have_nodes && graph.is_below(low, high) {
+                    let least = at(&levels, low).saturating_add(1);
+                    raise_at(&mut levels, high, least);
+                }
+            }
+        }
+    }
+    Ok(levels)
+}
+
+/// The layer of a node that has none yet.
+const UNPLACED: usize = usize::MAX;
+
+/// The most columns whose order is searched.
+const MOST: usize = 12;
+
+/// The total distance of columns over which arrows go.
+fn cost(graph: Graph<'_>, columns: &[usize]) -> usize {
+    let mut sum: usize = 0;
+    for arrow in graph.arrows {
+        let from = at(columns, graph.group_of(arrow.0));
+        sum = sum.saturating_add(apart(from, at(columns, graph.group_of(arrow.1))));
+    }
+    sum
+}
+
+/// Swaps two columns.
+fn swap(columns: &mut Vec<usize>, one: usize, other: usize) {
+    for cell in columns {
+        if *cell == one {
+            *cell = other;
+        } else if *cell == other {
+            *cell = one;
+        }
+    }
+}
+
+/// Orders the columns so that arrows go over few of them: swaps two if that shortens the arrows.
+fn order_columns(graph: Graph<'_>, columns: &mut Vec<usize>, count: usize) {
+    if count > MOST {
+        return;
+    }
+    for _ in 0..count {
+        for one in 0..count {
+            for other in 0..one {
+                let before = cost(graph, columns);
+                swap(columns, one, other);
+                if cost(graph, columns) >= before {
+                    swap(columns, one, other);
+                }
+            }
+        }
+    }
+}
+
+impl Groups<'_> {
+    /// Puts a group on top of the column with the highest top that is below it, or into a new one.
+    fn put(&mut self, tops: &mut Vec<usize>, group: usize) -> Made<()> {
+        let mut found = tops.len();
+        let mut highest: usize = 0;
+        for (column, top) in tops.iter().enumerate() {
+            let level = at(&self.levels, *top).saturating_add(1);
+            if self.graph.is_below(*top, group) && level > highest {
+                highest = level;
+                found = column;
+            }
+        }
+        write_at(&mut self.columns, group, found);
+        if found == tops.len() {
+            tops.push(group)?;
+        }
+        write_at(tops, found, group);
+        Ok(())
+    }
+
+    /// Puts the groups into columns, level by level.
+    fn put_all(&mut self) -> Made<()> {
+        let mut tops = Vec::new(self.alloc);
+        for level in 0..greatest(&self.levels).saturating_add(1) {
+            for group in 0..self.nodes.len() {
+                if at(&self.nodes, group) > 0 && at(&self.levels, group) == level {
+                    self.put(&mut tops, group)?;
+                }
+            }
+        }
+        self.count = tops.len();
+        order_columns(self.graph, &mut self.columns, tops.len());
+        self.firsts = self.columns.to_vec(self.alloc)?;
+        self.lasts = self.columns.to_vec(self.alloc)?;
+        Ok(())
+    }
+
+    /// Whether a group can be compared with each other one whose box is in a column.
+    fn can_reach(&self, group: usize, column: usize) -> bool {
+        let graph = self.graph;
+        for other in 0..self.nodes.len() {
+            let first = at(&self.firsts, other);
+            let is_there = first <= column && column <= at(&self.lasts, other);
+            let is_comparable = graph.is_below(group, other) || graph.is_below(other, group);
+            if is_there && at(&self.nodes, other) > 0 && !is_comparable {
+                return false;
+            }
+        }
+        true
+    }
+
+    /// Widens the box of a group over the columns beside it that it can reach.
+    fn widen(&mut self, group: usize) {
+        let own = at(&self.columns, group);
+        for column in own.saturating_add(1)..self.count {
+            if !self.can_reach(group, column) {
+                break;
+            }
+            write_at(&mut self.lasts, group, column);
+        }
+        for step in 0..own {
+            let column = own.saturating_sub(1).saturating_sub(step);
+            if !self.can_reach(group, column) {
+                break;
+            }
+            write_at(&mut self.firsts, group, column);
+        }
+    }
+}
+
+/// The groups of a graph, with their levels and columns, and without layers.
+pub(crate) fn groups_of(alloc: Global, graph: Graph<'_>) -> Made<Groups<'_>> {
+    let mut nodes = filled(alloc, graph.titles.len(), 0)?;
+    for node in graph.nodes {
+        add_at(&mut nodes, node.group, 1);
+    }
+    let mut groups = Groups {
+        alloc,
+        graph,
+        levels: levels_of(alloc, graph, &nodes)?,
+        columns: filled(alloc, nodes.len(), 0)?,
+        firsts: Vec::new(alloc),
+        lasts: Vec::new(alloc),
+        layers: filled(alloc, graph.nodes.len(), UNPLACED)?,
+        heights: filled(alloc, nodes.len(), 0)?,
+        widths: filled(alloc, nodes.len(), 0)?,
+        nodes,
+        count: 0,
+    };
+    groups.put_all()?;
+    for group in 0..groups.nodes.len() {
+        if at(&groups.nodes, group) > 0 {
+            groups.widen(group);
+        }
+    }
+    Ok(groups)
+}
+
+/// The space between two boxes of nodes.
+pub(crate) const GAP: usize = 30;
+/// The width of all columns together at which the layers of a group are full.
+const FULL: usize = 1_040;
+/// The least width at which a layer is full.
+const LEAST: usize = 230;
+
+/// The first layer from `least` on that has room for a width.
+fn layer_with_room(widths: &[usize], least: usize, wide: usize, full: usize) -> usize {
+    for layer in least..widths.len() {
+        let used = at(widths, layer);
+        if used == 0 || used.saturating_add(wide) <= full {
+            return layer;
+        }
+    }
+    least
+}
+
+impl Groups<'_> {
+    /// The width at which a layer of a group is full: its share of the columns.
+    fn full_width(&self, group: usize) -> usize {
+        let last = at(&self.lasts, group).saturating_add(1);
+        let columns = last.saturating_sub(at(&self.firsts, group));
+        if self.count == 0 {
+            return FULL;
+        }
+        (FULL.saturating_mul(columns) / self.count).max(LEAST)
+    }
+
+    /// How many arrows come to a node from others of its group without a layer, and the first layer
+    /// above those of all others from which arrows come.
+    fn wait_of(&self, node: usize) -> (usize, usize) {
+        let mut waits: usize = 0;
+        let mut least: usize = 0;
+        let arrows = self.graph.arrows;
+        for arrow in arrows {
+            if arrow.1 == node && self.graph.is_inside(*arrow) {
+                let layer = at(&self.layers, arrow.0);
+                if layer == UNPLACED {
+                    waits = waits.saturating_add(1);
+                } else {
+                    least = least.max(layer.saturating_add(1));
+                }
+            }
+        }
+        (waits, least)
+    }
+
+    /// The next node of a group, with its first layer: the one to which the fewest arrows come from
+    /// nodes without a layer.
+    fn next_of(&self, group: usize) -> Option<(usize, usize)> {
+        let mut found = None;
+        let mut fewest = usize::MAX;
+        for node in 0..self.layers.len() {
+            if self.graph.group_of(node) == group && at(&self.layers, node) == UNPLACED {
+                let (waits, least) = self.wait_of(node);
+                if waits < fewest {
+                    fewest = waits;
+                    found = Some((node, least));
+                }
+            }
+        }
+        found
+    }
+
+    /// Gives the nodes of a group their layers.
+    fn put_layers(&mut self, group: usize) -> Made<()> {
+        let full = self.full_width(group);
+        let count = at(&self.nodes, group);
+        let mut used = filled(self.alloc, count, 0)?;
+        for _ in 0..count {
+            if let Some((node, least)) = self.next_of(group) {
+                let wide = self.graph.width_of(node).saturating_add(GAP);
+                let layer = layer_with_room(&used, least, wide, full);
+                add_at(&mut used, layer, wide);
+                write_at(&mut self.layers, node, layer);
+                raise_at(&mut self.widths, group, at(&used, layer));
+                raise_at(&mut self.heights, group, layer.saturating_add(1));
+            }
+        }
+        Ok(())
+    }
+}
+
+/// The height of a row: a box and the space above it.
+const ROW: usize = 86;
+/// Half the height of a box of a node.
+pub(crate) const HALF: usize = 17;
+/// The space in a group's box above its uppermost boxes, where its title is.
+const HEAD: usize = 40;
+/// The space in a group's box below its lowest boxes.
+const FOOT: usize = 18;
+/// The space between the boxes of two groups.
+const BETWEEN: usize = 34;
+/// The space at the left and at the right of the boxes within a group's box.
+const SIDE: usize = 18;
+/// The space around a drawing.
+const MARGIN: usize = 8;
+
+/// The row of each node, from below; the height of the middle of each row; the boxes of the groups;
+/// and the width and the height of the drawing.
+#[derive(Drop)]
+pub(crate) struct Frame {
+    pub(crate) rows: Vec<usize>,
+    pub(crate) heights: Vec<usize>,
+    pub(crate) boxes: Vec<Place>,
+    pub(crate) wide: usize,
+    pub(crate) high: usize,
+}
+
+/// The sum of the numbers before an index.
+fn sum_before(list: &[usize], place: usize) -> usize {
+    let mut sum: usize = 0;
+    for index in 0..place {
+        sum = sum.saturating_add(at(list, index));
+    }
+    sum
+}
+
+/// The left edge of a column, without the margin.
+fn column_left(widths: &[usize], column: usize) -> usize {
+    sum_before(widths, column).saturating_add(column.saturating_mul(BETWEEN))
+}
+
+/// The width of the columns from one to another, with the spaces between them.
+fn columns_width(widths: &[usize], first: usize, last: usize) -> usize {
+    column_left(widths, last)
+        .saturating_add(at(widths, last))
+        .saturating_sub(column_left(widths, first))
+}
+
+/// The height of the bottom of a level above the bottom of the drawing.
+fn level_foot(rows: &[usize], level: usize) -> usize {
+    let spaces = level.saturating_mul(HEAD + FOOT + BETWEEN + 2 * HALF - ROW);
+    sum_before(rows, level)
+        .saturating_mul(ROW)
+        .saturating_add(spaces)
+}
+
+/// The height of a level's boxes.
+fn level_height(rows: &[usize], level: usize) -> usize {
+    let above = at(rows, level).saturating_sub(1).saturating_mul(ROW);
+    above.saturating_add(HEAD + FOOT + 2 * HALF)
+}
+
+/// The heights of the rows, from below.
+fn row_heights(alloc: Global, rows: &[usize], high: usize) -> Made<Vec<usize>> {
+    let mut heights = Vec::new(alloc);
+    for level in 0..rows.len() {
+        for row in 0..at(rows, level) {
+            let up = level_foot(rows, level).saturating_add(row.saturating_mul(ROW));
+            heights.push(high.saturating_sub(up.saturating_add(FOOT + HALF + MARGIN)))?;
+        }
+    }
+    Ok(heights)
+}
+
+impl Groups<'_> {
+    /// The number of rows of each level.
+    fn level_rows(&self) -> Made<Vec<usize>> {
+        let mut rows = filled(self.alloc, greatest(&self.levels).saturating_add(1), 1)?;
+        for group in 0..self.levels.len() {
+            raise_at(&mut rows, at(&self.levels, group), at(&self.heights, group));
+        }
+        Ok(rows)
+    }
+
+    /// Widens the columns of a group until its box is wide enough.
+    fn put_width(&self, widths: &mut Vec<usize>, group: usize) {
+        let (first, last) = (at(&self.firsts, group), at(&self.lasts, group));
+        let count = last.saturating_add(1).saturating_sub(first);
+        let inner = at(&self.widths, group).saturating_sub(GAP);
+        let needed = inner
+            .max(at(self.graph.titles, group))
+            .saturating_add(2 * SIDE);
+        let lacks = needed.saturating_sub(columns_width(widths, first, last));
+        if count == 0 || lacks == 0 {
+            return;
+        }
+        for column in first..last.saturating_add(1) {
+            add_at(widths, column, (lacks / count).saturating_add(1));
+        }
+    }
+
+    /// The widths of the columns: those of the groups with one column first.
+    fn column_widths(&self) -> Made<Vec<usize>> {
+        let mut widths = filled(self.alloc, self.count, 0)?;
+        for columns in 1..self.count.saturating_add(1) {
+            for group in 0..self.nodes.len() {
+                let last = at(&self.lasts, group).saturating_add(1);
+                let is_next = last.saturating_sub(at(&self.firsts, group)) == columns;
+                if is_next && at(&self.nodes, group) > 0 {
+                    self.put_width(&mut widths, group);
+                }
+            }
+        }
+        Ok(widths)
+    }
+
+    /// The box of a group.
+    fn box_of(&self, rows: &[usize], widths: &[usize], high: usize, group: usize) -> Place {
+        if at(&self.nodes, group) == 0 {
+            return Place {
+                left: 0,
+                top: 0,
+                wide: 0,
+                high: 0,
+            };
+        }
+        let first = at(&self.firsts, group);
+        let level = at(&self.levels, group);
+        let tall = level_height(rows, level);
+        let foot = level_foot(rows, level).saturating_add(MARGIN);
+        Place {
+            left: column_left(widths, first).saturating_add(MARGIN),
+            top: high.saturating_sub(foot.saturating_add(tall)),
+            wide: columns_width(widths, first, at(&self.lasts, group)),
+            high: tall,
+        }
+    }
+
+    /// The rows of the nodes: their layers, in the middle of the rows of their levels.
+    fn rows(&self, rows: &[usize]) -> Made<Vec<usize>> {
+        let mut list = Vec::new(self.alloc);
+        for node in 0..self.layers.len() {
+            let group = self.graph.group_of(node);
+            let level = at(&self.levels, group);
+            let spare = at(rows, level).saturating_sub(at(&self.heights, group)) / 2;
+            let row = spare.saturating_add(at(&self.layers, node));
+            list.push(sum_before(rows, level).saturating_add(row))?;
+        }
+        Ok(list)
+    }
+}
+
+/// The frame of a drawing, after the nodes of all groups have got their layers.
+pub(crate) fn frame_of(groups: &mut Groups<'_>) -> Made<Frame> {
+    let alloc = groups.alloc;
+    for group in 0..groups.nodes.len() {
+        groups.put_layers(group)?;
+    }
+    let rows = groups.level_rows()?;
+    let widths = groups.column_widths()?;
+    let top = rows.len().saturating_sub(1);
+    let high = level_foot(&rows, top).saturating_add(level_height(&rows, top));
+    let high = high.saturating_add(2 * MARGIN);
+    let wide = columns_width(&widths, 0, groups.count.saturating_sub(1));
+    let mut boxes = Vec::new(alloc);
+    for group in 0..groups.nodes.len() {
+        boxes.push(groups.box_of(&rows, &widths, high, group))?;
+    }
+    Ok(Frame {
+        rows: groups.rows(&rows)?,
+        heights: row_heights(alloc, &rows, high)?,
+        boxes,
+        wide: wide.saturating_add(2 * MARGIN),
+        high,
+    })
+}

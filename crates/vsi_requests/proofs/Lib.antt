@@ -1,0 +1,6 @@
+pub mod Written
+pub mod Walked
+pub mod Documented
+pub mod Sought
+pub mod Unbounded
+pub mod Looked

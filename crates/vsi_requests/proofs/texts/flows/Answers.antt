@@ -1,0 +1,23 @@
+use Rattle.vsi_answers.specs.Requests.{FlowsTo}
+use Rattle.std.proofs.Common.{false}
+use Rattle.vsi_subject.specs.Refusals.{AsksFlows}
+use Rattle.vsi_subject.proofs.RefusalLemmas.{refuses_by, refuses_lattice}
+use Rattle.vsi_requests.proofs.Written.{told_by}
+use Rattle.vsi_requests.proofs.texts.flows.Goals as goal
+
+pub returns-in_err-classes-clause-failed : goal.returns-in_err-classes-clause-failed
+returns-in_err-classes-clause-failed g c =
+    refuses_lattice (g.F.Files.holds c.args.subject.now.files.now) c.args.compilation
+    (AsksFlows false c.args.compilation.is_strict)
+    c.from_residual.result c.in_err-classes.field-0.0 c.from_residual.ensures.1 c.in_err-classes.ensures.failed
+
+pub returns-clause-told : goal.returns-clause-told
+returns-clause-told g c =
+    told_by _ _ FlowsTo _ _ _ _ c.flows.result c.answered.result c.in_ok-classes.ensures.told
+    c.as_slice.ensures.value c.profile-profile.ensures c.answered.ensures c.flows.ensures.flows
+
+pub returns-clause-failed : goal.returns-clause-failed
+returns-clause-failed g c =
+    refuses_by _ _ (λ l P s a. FlowsTo l P s a) _ _ _ _ c.flows.result c.answered.result
+    c.in_ok-classes.ensures.told
+    c.as_slice.ensures.value c.profile-profile.ensures c.answered.ensures c.flows.ensures.flows

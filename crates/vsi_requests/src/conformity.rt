@@ -1,0 +1,420 @@
+//! The evidence of a judgement by an interface, and the reference beside which a file is run.
+
+ghost use Rattle.std.specs.Prelude.{◌≡◌, ◌++◌, IfErr, IfOk, map, true};
+ghost use Rattle.vsi_subject.specs.Filed.{Follows, HasBound, IsFiledBound, IsJudged};
+ghost use Rattle.vsi_subject.specs.Performed.{IsConformity, judged_files, program_version};
+ghost use Rattle.vsi_subject.specs.Refusals.{FailsBy};
+ghost use Rattle.vsi_subject.specs.Undriven.{IsUnusable};
+ghost use Rattle.vsi_answers.specs.Judged.{AreImage};
+ghost use Rattle.vsi_store.specs.Evidence.{conformity_text};
+ghost use Rattle.vsi_subject.specs.Referred.{BeginsSo, IsReferred, IsTried};
+ghost use Rattle.vsi_conform.specs.Reaching.{released};
+ghost use Rattle.vsi_subject.specs.Filed as spec;
+ghost use Rattle.vsi_subject.specs.Reached as reached;
+ghost use Rattle.vsi_subject.specs.Supplied as supplied;
+
+use crate::conformance::begins_image;
+use crate::images::version;
+use std::alloc::{AllocError, Global};
+use vsi_answers::{enough_budget, judged_image};
+use vsi_arguments::{AnswerForm, Conformance};
+use vsi_compiler::{CompileError, unjudged_image};
+use vsi_conform::{
+    Bounded, InterfaceError, InterfaceFile, Judgement, Policy, Reach, Reference, are_within,
+    compare_reference, image_reaches, json_with, judged, lines_with, path_beside, reference_line,
+    refusal_lines, text_reaches, with_reached_json, with_reached_lines,
+};
+use vsi_diagnostics::without_end;
+use vsi_image::Verified;
+use vsi_lattice::Lattice;
+use vsi_steady::UnsteadyError;
+use vsi_store::{AuditProfile, Filed, conformity};
+use vsi_subject::{AskedFiles, Fallible, Files, InputKind, Subject, unusable};
+
+/// How an interface judges, as evidence names it.
+fn filed_profile(judgement: Judgement) -> AuditProfile
+    ensures { result ≡ spec.filed_profile judgement }
+{
+    match judgement {
+        Judgement::Base => AuditProfile::Base,
+        Judgement::Strict => AuditProfile::Strict,
+        Judgement::Steady => AuditProfile::Steady,
+    }
+}
+
+/// The image that was judged: that of these bytes, or that of a source text. A file that conforms
+/// has one.
+fn image_judged(
+    alloc: Global,
+    is_image: bool,
+    lattice: &Lattice,
+    bytes: &[u8],
+) -> Result<Verified, AllocError>
+    ensures { IfOk result (IsJudged is_image lattice.now bytes.now) }
+{
+    if is_image {
+        return match judged_image(alloc, bytes) {
+            Ok(verified) => Ok(verified),
+            Err(_) => Err(AllocError),
+        };
+    }
+    match unjudged_image(alloc, lattice, bytes) {
+        Ok(verified) => Ok(verified),
+        Err(_) => Err(AllocError),
+    }
+}
+
+/// A bound of the image that was judged. A file that conforms has one if the interface requires it.
+fn bound_judged(
+    alloc: Global,
+    is_image: bool,
+    lattice: &Lattice,
+    bytes: &[u8],
+) -> Result<u64, AllocError>
+    ensures { IfOk result (HasBound (IsJudged is_image lattice.now bytes.now)) }
+{
+    let verified = image_judged(alloc, is_image, lattice, bytes)?;
+    match enough_budget(alloc, &verified)? {
+        Ok(most) => Ok(most),
+        Err(_) => Err(AllocError),
+    }
+}
+
+/// The bound that evidence names.
+fn filed_bound(
+    alloc: Global,
+    bounded: Bounded,
+    is_image: bool,
+    lattice: &Lattice,
+    bytes: &[u8],
+) -> Result<Option<u64>, AllocError>
+    ensures { IfOk result (IsFiledBound bounded (IsJudged is_image lattice.now bytes.now)) }
+{
+    match bounded {
+        Bounded::No => Ok(None),
+        Bounded::Yes => {
+            let most = bound_judged(alloc, is_image, lattice, bytes)?;
+            Ok(Some(most))
+        }
+        Bounded::AtMost(maximum) => {
+            let most = bound_judged(alloc, is_image, lattice, bytes)?;
+            if most > maximum {
+                return Err(AllocError);
+            }
+            Ok(Some(most))
+        }
+    }
+}
+
+/// The evidence with this bound, of the files with these bytes.
+fn evidence_text<'x>(
+    alloc: Global,
+    asked: Conformance<'x>,
+    read: &'x AskedFiles,
+    most: Option<u64>,
+    source: &'x [u8],
+) -> Result<Vec<u8>, AllocError>
+    ensures { IfOk result (λ text. text.items ≡ conformity_text program_version (spec.filed_profile
+        read.now.found.interface.judgement) most (judged_files asked.entry read.now.found
+        read.now.bytes.items read.now.policy.items source.now)) }
+{
+    let profile = filed_profile(read.found.interface.judgement);
+    let interface = Filed {
+        path: asked.interface.as_bytes(),
+        bytes: read.bytes.as_slice(),
+    };
+    let judged = Filed {
+        path: asked.source.as_bytes(),
+        bytes: source,
+    };
+    match &read.found.policy {
+        Policy::File(path) => {
+            let path = path_beside(alloc, asked.interface, path)?;
+            let lattice = Filed {
+                path: path.as_bytes(),
+                bytes: read.policy.as_slice(),
+            };
+            let files = [interface, lattice, judged];
+            conformity(alloc, version(), profile, most, &files)
+        }
+        Policy::Tables(_) => {
+            let files = [interface, judged];
+            conformity(alloc, version(), profile, most, &files)
+        }
+    }
+}
+
+/// The evidence that a file conforms to an interface.
+fn evidence_of<'x>(
+    alloc: Global,
+    asked: Conformance<'x>,
+    read: &'x AskedFiles,
+    source: &'x [u8],
+) -> Result<Vec<u8>, AllocError>
+    ensures { IfOk result (λ text. IsConformity read.now.found read.now.lattice source.now
+        (judged_files asked.entry read.now.found read.now.bytes.items read.now.policy.items
+        source.now) text.items) }
+{
+    let bounded = read.found.interface.bounded;
+    let is_image = begins_image(source);
+    let most = filed_bound(alloc, bounded, is_image, &read.lattice, source)?;
+    let text = evidence_text(alloc, asked, read, most, source)?;
+    Ok(text)
+}
+
+/// The lines that follow an answer: the evidence, if it is requested and the file conforms.
+pub(crate) fn lines_after<'x>(
+    alloc: Global,
+    asked: Conformance<'x>,
+    conforms: bool,
+    read: &'x AskedFiles,
+    source: &'x [u8],
+) -> Result<Vec<u8>, AllocError>
+    ensures { IfOk result (λ lines. Follows asked.entry.has_evidence conforms
+        (IsConformity read.now.found read.now.lattice source.now (judged_files asked.entry
+        read.now.found read.now.bytes.items read.now.policy.items source.now)) lines.items) }
+{
+    if asked.has_evidence {
+        if conforms {
+            evidence_of(alloc, asked, read, source)
+        } else {
+            Ok(Vec::new(alloc))
+        }
+    } else {
+        Ok(Vec::new(alloc))
+    }
+}
+
+/// An answer with lines after it.
+pub(crate) fn with_lines(answer: Vec<u8>, lines: &[u8]) -> Result<Vec<u8>, AllocError>
+    ensures { IfOk result (λ text. text.items ≡ answer.items ++ lines.now) }
+{
+    let mut text = answer;
+    text.extend_from_slice(lines)?;
+    Ok(text)
+}
+
+/// The fault of an interface whose reference isn't accepted: its path, and the lines of `check`.
+fn refused_reference(
+    alloc: Global,
+    path: &[u8],
+    read: &AskedFiles,
+    text: &[u8],
+    error: &UnsteadyError,
+) -> Result<InterfaceError, AllocError> {
+    let is_steady = matches!(read.found.interface.judgement, Judgement::Steady);
+    let lines = refusal_lines(alloc, &read.lattice, text, error, is_steady)?;
+    let mut told = Vec::from_slice(alloc, path)?;
+    told.extend_from_slice(b"\n")?;
+    told.extend_from_slice(without_end(&lines))?;
+    Ok(InterfaceError::RefusedReference(told))
+}
+
+/// The image of the reference at a path, which is accepted as the interface requires of a text.
+fn reference_image<'a, F: Files>(
+    subject: &Subject<'_, F>,
+    interface: &str,
+    path: &[u8],
+    read: &AskedFiles,
+) -> Fallible<'a, Verified>
+    ensures { IfErr result (FailsBy (λ reason. ⊥) IsUnusable) }
+{
+    let text = subject.named_file(InputKind::Reference, interface, path)?;
+    match judged(
+        subject.alloc,
+        read.found.interface.judgement,
+        &read.lattice,
+        &text,
+    )? {
+        Ok(verified) => Ok(verified),
+        Err(error) => {
+            let fault = refused_reference(subject.alloc, path, read, &text, &error)?;
+            Err(unusable(subject.alloc, fault))
+        }
+    }
+}
+
+/// Whether a source text or an image agrees with the reference at a path, and the line about
+/// it.
+fn told_of<'a, F: Files>(
+    subject: &Subject<'_, F>,
+    asked: Conformance<'a>,
+    path: &[u8],
+    read: &AskedFiles,
+    bytes: &[u8],
+) -> Fallible<'a, (bool, Vec<u8>)>
+    ensures { IfErr result (FailsBy (λ reason. ⊥) IsUnusable) }
+{
+    let verified = reference_image(subject, asked.interface, path, read)?;
+    let image = image_beside(subject.alloc, &read.lattice, bytes)?;
+    let beside = Reference {
+        interface: &read.found.interface,
+        cycles: &read.found.cycles,
+        verified: &verified,
+    };
+    let budget = asked.budget;
+    let found = compare_reference(subject.alloc, &read.lattice, image.as_ref(), beside, budget)?;
+    let line = reference_line(subject.alloc, path, beside, found)?;
+    Ok((found.agrees(), line))
+}
+
+/// An answer with the line of the trial beside the reference, if the interface names one, and
+/// whether all is as required.
+pub(crate) fn with_reference<'a, F: Files>(
+    subject: &Subject<'_, F>,
+    asked: Conformance<'a>,
+    read: &AskedFiles,
+    bytes: &[u8],
+    holds: bool,
+    answer: Vec<u8>,
+) -> Fallible<'a, (bool, Vec<u8>)>
+    ensures tried { IfOk result (λ pair. IsTried asked.entry.form read.now.found.reference holds
+        pair.0 answer.items pair.1.items) }
+    ensures failed { IfErr result (FailsBy (λ reason. ⊥) IsUnusable) }
+{
+    let Some(path) = &read.found.reference else {
+        return Ok((holds, answer));
+    };
+    let (agrees, line) = told_of(subject, asked, path, read, bytes)?;
+    let told = referred(subject.alloc, asked.form, holds, answer, agrees, &line)?;
+    Ok(told)
+}
+
+/// The image with these bytes, or that of a source text, if there is one. The bytes of an image
+/// were judged before.
+fn image_beside(
+    alloc: Global,
+    lattice: &Lattice,
+    bytes: &[u8],
+) -> Result<Option<Verified>, AllocError> {
+    if begins_image(bytes) {
+        return match judged_image(alloc, bytes) {
+            Ok(verified) => Ok(Some(verified)),
+            Err(_) => Err(AllocError),
+        };
+    }
+    match unjudged_image(alloc, lattice, bytes) {
+        Ok(verified) => Ok(Some(verified)),
+        Err(CompileError::Memory) => Err(AllocError),
+        Err(_) => Ok(None),
+    }
+}
+
+/// An answer with the line of a trial, which a document of SARIF doesn't have.
+fn written_with(
+    alloc: Global,
+    form: AnswerForm,
+    is_alone: bool,
+    answer: Vec<u8>,
+    agrees: bool,
+    line: &[u8],
+) -> Result<Vec<u8>, AllocError>
+    ensures { IfOk result (λ text. BeginsSo form is_alone answer.items text.items) }
+{
+    match form {
+        AnswerForm::Lines => lines_with(alloc, is_alone, answer, line),
+        AnswerForm::Json => json_with(alloc, is_alone, &answer, agrees, line),
+        AnswerForm::Sarif => Ok(answer),
+    }
+}
+
+/// An answer with the line of a trial, and whether all is as required.
+fn referred(
+    alloc: Global,
+    form: AnswerForm,
+    holds: bool,
+    answer: Vec<u8>,
+    agrees: bool,
+    line: &[u8],
+) -> Result<(bool, Vec<u8>), AllocError>
+    ensures { IfOk result (λ pair. IsReferred form holds pair.0 answer.items pair.1.items) }
+{
+    if holds {
+        let text = written_with(alloc, form, !agrees, answer, agrees, line)?;
+        return Ok((agrees, text));
+    }
+    let text = written_with(alloc, form, false, answer, agrees, line)?;
+    Ok((false, text))
+}
+
+/// The image with these bytes, which were judged before.
+fn image_of(alloc: Global, bytes: &[u8]) -> Result<Verified, AllocError>
+    ensures { IfOk result (AreImage bytes.now) }
+{
+    match judged_image(alloc, bytes) {
+        Ok(verified) => Ok(verified),
+        Err(_) => Err(AllocError),
+    }
+}
+
+/// The released outputs of an interface, by the flows of the image with these bytes.
+fn image_released(
+    alloc: Global,
+    lattice: &Lattice,
+    bytes: &[u8],
+    asked: &InterfaceFile,
+) -> Result<Vec<Reach>, AllocError>
+    ensures { IfOk result (λ reaches. reached.AreReleasedIn true lattice.now bytes.now asked.now
+        (map released reaches.items)) }
+{
+    let verified = image_of(alloc, bytes)?;
+    let judgement = asked.interface.judgement;
+    let reaches = image_reaches(alloc, lattice, &verified, judgement, &asked.cycles)?;
+    Ok(reaches)
+}
+
+/// The released outputs of an interface, by the flows of the image with these bytes or of a source
+/// text. The bytes of an image were judged before.
+fn reaches_in(
+    alloc: Global,
+    is_image: bool,
+    lattice: &Lattice,
+    bytes: &[u8],
+    asked: &InterfaceFile,
+) -> Result<Vec<Reach>, AllocError>
+    ensures { IfOk result (λ reaches. reached.AreReleasedIn is_image lattice.now bytes.now asked.now
+        (map released reaches.items)) }
+{
+    if is_image {
+        return image_released(alloc, lattice, bytes, asked);
+    }
+    let judgement = asked.interface.judgement;
+    text_reaches(alloc, lattice, bytes, judgement, asked.cycles.as_slice())
+}
+
+/// An answer with its points and the released outputs.
+fn with_reached(
+    alloc: Global,
+    form: AnswerForm,
+    fits: bool,
+    points: &[u8],
+    reaches: &[Reach],
+) -> Result<Vec<u8>, AllocError>
+    ensures { IfOk result (λ answer. answer.items
+        ≡ reached.with_released form fits points.now (map released reaches.now)) }
+{
+    match form {
+        AnswerForm::Lines => with_reached_lines(alloc, fits, points, reaches),
+        AnswerForm::Json => with_reached_json(alloc, fits, points, reaches),
+        AnswerForm::Sarif => Vec::from_slice(alloc, points),
+    }
+}
+
+/// The answer with the released outputs, and whether the bytes of a file conform: if no point
+/// differs, and the interface allows each global that reaches a released output.
+pub(crate) fn reached_answer(
+    alloc: Global,
+    form: AnswerForm,
+    read: &AskedFiles,
+    bytes: &[u8],
+    fits: bool,
+    points: &[u8],
+) -> Result<(bool, Vec<u8>), AllocError>
+    ensures { IfOk result (λ pair. reached.IsReachedAs form (supplied.begins_image bytes.now)
+        read.now.lattice bytes.now read.now.found fits points.now pair.0 pair.1.items) }
+{
+    let is_image = begins_image(bytes);
+    let reaches = reaches_in(alloc, is_image, &read.lattice, bytes, &read.found)?;
+    let answer = with_reached(alloc, form, fits, points, &reaches)?;
+    Ok((fits && are_within(&reaches), answer))
+}

@@ -1,0 +1,21 @@
+//! Requests that run nothing: texts and images judged, rewritten, drawn and put into C.
+#![tactic(auto)]
+
+mod c_code;
+mod conformance;
+mod conformity;
+mod documents;
+mod images;
+mod layouts;
+mod policies;
+mod texts;
+
+pub use c_code::emit;
+pub use conformance::conform;
+pub use documents::{
+    audit_document, checked_sarif, classes_line, draw, flows_line, leak, leak_line, report,
+};
+pub use images::{audit, bound, source};
+pub use layouts::{lay_out, put_flows};
+pub use policies::{lattice, policy, visible};
+pub use texts::{built, check, classes, format, list, mend};

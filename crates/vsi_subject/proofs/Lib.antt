@@ -1,0 +1,17 @@
+pub mod AnswerLemmas
+pub mod Reasons
+pub mod Partly
+pub mod Cut
+pub mod KeepingLemmas
+pub mod Leaving
+pub mod Filled
+pub mod Driven
+pub mod ScreenLemmas
+pub mod Failed
+pub mod NoteLemmas
+pub mod CarriedOut
+pub mod RefusalLemmas
+pub mod Unrun
+pub mod Conforming
+pub mod Loading
+pub mod Ended
