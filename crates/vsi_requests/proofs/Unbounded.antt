@@ -23,8 +23,15 @@ unbounded_says holds asked image held bounded (fails.Refused text None) is = rec
     image = image;
     held = held;
     is = (
-      record { text = text; is_bounded = false },
-      record { answer = is.answer; is = is.is; place = None; line = is.says; bounded = sym is.unbounded },
+      record { text = text; is_bounded = false; found = is.answer },
+      record {
+        answer = is.answer;
+        is = is.is;
+        place = None;
+        line = is.says;
+        bounded = sym is.unbounded;
+        found = refl;
+      },
       refl,
       refl,
     );
