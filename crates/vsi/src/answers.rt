@@ -16,6 +16,7 @@ use std::alloc::Global;
 use std::io::Write;
 use vsi_arguments::{Audit, Document, Request};
 use vsi_devices::Counted;
+use vsi_documents::Reply;
 use vsi_lattice::Lattice;
 use vsi_requests::{
     audit, audit_document, bound, built, check, checked_sarif, classes, classes_line, conform,
@@ -24,7 +25,7 @@ use vsi_requests::{
 };
 use vsi_runs::{compare, compare_steps, monitor, run_line, steps, try_source, view, view_within};
 use vsi_subject::{
-    Failure, Fallible, Files, InputCache, Place, Reply, Subject, deliver, fill, good, write,
+    Failure, Fallible, Files, InputCache, Place, Subject, deliver, fill, good, write,
 };
 
 /// The document that answers a request. The note gets a line if the budget of a comparison

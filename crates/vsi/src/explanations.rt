@@ -23,7 +23,7 @@ use vsi_subject::{
     Failure, Files, InputKind, Inputs, Kept, STREAM, TWO_CLASSES, profile, source_of,
 };
 use vsi_syntax::put_number;
-use vsi_telling::{ColourMode, RefusedFile, class_list, explanation, flows_explanation, put_safe};
+use vsi_telling::{ColourMode, Reason, class_list, explanation, flows_explanation, put_safe};
 use vsi_types::Profile;
 
 /// The advice for a run that is out of budget.
@@ -192,13 +192,27 @@ impl Explaining {
         if let CompileError::Flow(_) = error {
             return self.of_flow(inputs.alloc, &lattice, kept);
         }
-        let refused = RefusedFile::Source {
-            path: &kept.path,
-            bytes: &kept.bytes,
-            lattice: &lattice,
-            error,
-        };
-        explanation(inputs.alloc, self.mode, &refused)
+        self.refusal_of(inputs.alloc, kept, Reason::Source(&lattice, error))
+    }
+
+    /// The explanation of the refusal of a file.
+    fn refusal_of(
+        self,
+        alloc: Global,
+        kept: &Kept,
+        reason: Reason<'_>,
+    ) -> Result<Vec<u8>, AllocError> {
+        explanation(alloc, self.mode, &kept.path, &kept.bytes, reason)
+    }
+
+    /// The explanation of another refusal, with positions in a file.
+    fn advice_on(
+        self,
+        alloc: Global,
+        kept: &Kept,
+        reason: vsi_advice::Reason<'_>,
+    ) -> Result<Vec<u8>, AllocError> {
+        advice(alloc, self.mode, &kept.path, &kept.bytes, reason)
     }
 
     /// The explanation of a refused store file.
@@ -207,13 +221,7 @@ impl Explaining {
             return Ok(Vec::new(inputs.alloc));
         };
         let image = read_image(inputs).ok_or(AllocError)?;
-        let refused = RefusedFile::Store {
-            path: &kept.path,
-            bytes: &kept.bytes,
-            image: &image,
-            error,
-        };
-        explanation(inputs.alloc, self.mode, &refused)
+        self.refusal_of(inputs.alloc, kept, Reason::Store(&image, error))
     }
 
     /// The explanation of a source text whose image isn't steady.
@@ -222,12 +230,11 @@ impl Explaining {
             return Ok(Vec::new(inputs.alloc));
         };
         let lattice = policy(inputs).ok_or(AllocError)?;
-        let refused = vsi_advice::RefusedInput::Text {
-            lattice: &lattice,
-            bytes: &kept.bytes,
-            error,
-        };
-        advice(inputs.alloc, self.mode, &kept.path, refused)
+        self.advice_on(
+            inputs.alloc,
+            kept,
+            vsi_advice::Reason::Text(&lattice, error),
+        )
     }
 
     /// The explanation of a source text that is refused for a flow, which is read once more.
@@ -248,12 +255,7 @@ impl Explaining {
         let Some(kept) = of_kind(inputs, kind) else {
             return Ok(Vec::new(inputs.alloc));
         };
-        let refused = RefusedFile::File {
-            path: &kept.path,
-            bytes: &kept.bytes,
-            fault,
-        };
-        explanation(inputs.alloc, self.mode, &refused)
+        self.refusal_of(inputs.alloc, kept, Reason::File(fault))
     }
 
     /// The explanation of a refused interface.
@@ -261,26 +263,9 @@ impl Explaining {
         let Some(kept) = inputs.last(InputKind::Interface) else {
             return Ok(Vec::new(inputs.alloc));
         };
-        match read_policy(inputs)? {
-            Some(lattice) => self.interface_advice(inputs.alloc, kept, Some(&lattice), error),
-            None => self.interface_advice(inputs.alloc, kept, None, error),
-        }
-    }
-
-    /// The explanation of this refused interface, with its lattice if that was read.
-    fn interface_advice<'d>(
-        self,
-        alloc: Global,
-        kept: &'d Kept,
-        lattice: Option<&'d Lattice>,
-        error: &'d InterfaceError,
-    ) -> Result<Vec<u8>, AllocError> {
-        let refused = vsi_advice::RefusedInput::Interface {
-            bytes: &kept.bytes,
-            lattice,
-            error,
-        };
-        advice(alloc, self.mode, &kept.path, refused)
+        let lattice = read_policy(inputs)?;
+        let reason = vsi_advice::Reason::Interface(lattice.as_ref(), error);
+        self.advice_on(inputs.alloc, kept, reason)
     }
 
     /// The explanation of a run that doesn't begin.
@@ -289,12 +274,7 @@ impl Explaining {
             return Ok(Vec::new(inputs.alloc));
         };
         let image = read_image(inputs).ok_or(AllocError)?;
-        let refused = vsi_advice::RefusedInput::Start {
-            bytes: &kept.bytes,
-            image: &image,
-            fault,
-        };
-        advice(inputs.alloc, self.mode, &kept.path, refused)
+        self.advice_on(inputs.alloc, kept, vsi_advice::Reason::Start(&image, fault))
     }
 
     /// The explanation of an image that an audit refuses.
@@ -302,21 +282,12 @@ impl Explaining {
         let kept = inputs.last(InputKind::Image).ok_or(AllocError)?;
         let image = read_image(inputs).ok_or(AllocError)?;
         let lattice = policy(inputs).ok_or(AllocError)?;
-        let (lattice, image) = (&lattice, &image);
-        let refused = match failure {
-            Failure::Audit(_, error) => vsi_advice::RefusedInput::Audit {
-                lattice,
-                image,
-                error,
-            },
-            Failure::Unsteady(_, error) => vsi_advice::RefusedInput::Steady {
-                lattice,
-                image,
-                error,
-            },
+        let reason = match failure {
+            Failure::Audit(_, error) => vsi_advice::Reason::Audit(&lattice, &image, error),
+            Failure::Unsteady(_, error) => vsi_advice::Reason::Steady(&lattice, &image, error),
             _ => return Ok(Vec::new(inputs.alloc)),
         };
-        advice(inputs.alloc, self.mode, &kept.path, refused)
+        advice(inputs.alloc, self.mode, &kept.path, b"", reason)
     }
 }
 

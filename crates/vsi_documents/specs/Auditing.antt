@@ -2,12 +2,9 @@
 use Rattle.std.specs.Prelude.{◌≡◌, ℕ, Bool, true, false, List, [], None}
 use Rattle.vsi_lattice.specs.LatticeView.{class_named, order}
 use Rattle.vsi_lattice.specs.declared.lattice.Lattice.{Lattice}
-use Rattle.vsi_types.specs.declared.rules.Profile.{Profile}
 use Rattle.vsi_image.specs.declared.instr.Image.{Image}
 use Rattle.vsi_diagnostics.specs.Diagnostic.{Diagnostic}
-use Rattle.vsi_conform.specs.Checking.{judgement_by}
 use Rattle.vsi_conform.specs.declared.interface.Judgement.{Judgement}
-use Rattle.vsi_conform.specs.declared.interface.Judgement.TheVariants.{Steady}
 use Rattle.vsi_conform.specs.ImageConforms.{IsJudged}
 use Rattle.vsi_conform.specs.ImageLines.{IsRefusedAs}
 use Rattle.vsi_documents.specs.Document.{document_text}
@@ -21,16 +18,8 @@ pub record TellsRefused (l : Lattice) (j : Judgement) (path : List ℕ) (image :
   pub refused : IsRefusedAs l j image diagnostic lines
   pub document : IsRefusalDocument l (uri_of path) [] diagnostic lines out
 
--- The document about the image of the file at a path, which is as a profile requires, and then has no result, or is
--- refused.
+-- The document about the image of the file at a path, which is as a judgement requires, and then has no result, or
+-- is refused.
 abbrev pub TellsJudged : Lattice → Judgement → List ℕ → Image → Bool → List ℕ → Type 0
 TellsJudged l j path image true out = IsJudged (class_named l) (order l) j image None × (out ≡ document_text [] [])
 TellsJudged l j path image false out = TellsRefused l j path image out
-
--- The document about an image, which passes its audit or is refused.
-abbrev pub TellsAudit : Lattice → Profile → List ℕ → Image → Bool → List ℕ → Type 0
-TellsAudit l P path image good out = TellsJudged l (judgement_by P) path image good out
-
--- The document about an image, which is steady or isn't.
-abbrev pub TellsSteadiness : Lattice → List ℕ → Image → Bool → List ℕ → Type 0
-TellsSteadiness l path image good out = TellsJudged l Steady path image good out

@@ -2,13 +2,10 @@
 use Rattle.std.specs.Prelude.{◌≡◌, ℕ, Bool, true, false, List, [], None}
 use Rattle.vsi_lattice.specs.LatticeView.{class_named, order}
 use Rattle.vsi_lattice.specs.declared.lattice.Lattice.{Lattice}
-use Rattle.vsi_types.specs.declared.rules.Profile.{Profile}
 use Rattle.vsi_image.specs.declared.instr.Image.{Image}
 use Rattle.vsi_diagnostics.specs.Diagnostic.{Diagnostic}
 use Rattle.vsi_diagnostics.specs.Json.{IsRefusalJson, accepted_line}
-use Rattle.vsi_conform.specs.Checking.{judgement_by}
 use Rattle.vsi_conform.specs.declared.interface.Judgement.{Judgement}
-use Rattle.vsi_conform.specs.declared.interface.Judgement.TheVariants.{Steady}
 use Rattle.vsi_conform.specs.ImageConforms.{IsJudged}
 use Rattle.vsi_conform.specs.ImageLines.{IsRefusedAs}
 
@@ -19,15 +16,7 @@ pub record TellsRefused (l : Lattice) (j : Judgement) (image : Image) (out : Lis
   pub refused : IsRefusedAs l j image diagnostic lines
   pub json : IsRefusalJson l [] diagnostic lines out
 
--- The line about an image, which is as a profile requires or is refused.
+-- The line about an image, which is as a judgement requires or is refused.
 abbrev pub TellsJudged : Lattice → Judgement → Image → Bool → List ℕ → Type 0
 TellsJudged l j image true out = IsJudged (class_named l) (order l) j image None × (out ≡ accepted_line)
 TellsJudged l j image false out = TellsRefused l j image out
-
--- The line about an image, which passes its audit or is refused.
-abbrev pub TellsAudit : Lattice → Profile → Image → Bool → List ℕ → Type 0
-TellsAudit l P image good out = TellsJudged l (judgement_by P) image good out
-
--- The line about an image, which is steady or isn't.
-abbrev pub TellsSteadiness : Lattice → Image → Bool → List ℕ → Type 0
-TellsSteadiness l image good out = TellsJudged l Steady image good out

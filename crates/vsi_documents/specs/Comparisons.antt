@@ -14,7 +14,7 @@ use Rattle.vsi_answers.specs.Judged.{IsViewFault, TellsFault}
 use Rattle.vsi_answers.specs.declared.unanswered.Unanswered.{Unanswered}
 use Rattle.vsi_diagnostics.specs.Members.{with_text, object_line}
 use Rattle.vsi_documents.specs.Words.{with_after, with_ending, with_pairs}
-use Rattle.vsi_documents.specs.declared.answer.Documented.{Documented}
+use Rattle.vsi_documents.specs.declared.answer.Reply.{Reply}
 
 -- The members with the verdict of a class of this name.
 abbrev pub verdict_members : List ℕ → Bool → Members
@@ -39,7 +39,7 @@ pub record IsComparisonJson (l : named.Lattice) (a : ℕ) (image : Image) (m m' 
       (comparison_members (class_named l) (order l) compares.name a (globals image.globals.items) m m' budget found)
 
 -- The line of a comparison, or the first global whose class the lattice lacks.
-abbrev pub ComparesJsonTo : named.Lattice → ℕ → Image → List ℤ → List ℤ → ℕ → Result Documented Unanswered → Type 0
+abbrev pub ComparesJsonTo : named.Lattice → ℕ → Image → List ℤ → List ℤ → ℕ → Result Reply Unanswered → Type 0
 ComparesJsonTo l a image m m' budget =
-    Judges (λ answer. IsComparisonJson l a image m m' budget answer.is_good answer.line.items)
+    Judges (λ answer. IsComparisonJson l a image m m' budget answer.is_good answer.text.items)
     (TellsFault (IsViewFault l image))

@@ -17,27 +17,25 @@ use vsi_lattice::{Class, Lattice};
 use vsi_leak::is_shown;
 use vsi_store::RunEnding;
 
-/// An answer: whether it is good, and the line of JSON or the document of SARIF that says so. The
-/// answer about raises is good if the text is accepted as it is or with them.
+/// The text that answers a request, and whether it says that all is well: then the status of the
+/// subcommand is 0. The answer about raises is good if the text is accepted as it is or with them.
 #[derive(Debug, Drop)]
-pub struct Documented {
-    /// Whether the status of the subcommand is 0.
+pub struct Reply {
     pub is_good: bool,
-    /// The line.
-    pub line: Vec<u8>,
+    pub text: Vec<u8>,
 }
 
 /// The answer for a text that `check` refuses.
-pub(crate) fn refused(checked: Checked) -> Result<Documented, AllocError>
+pub(crate) fn refused(checked: Checked) -> Result<Reply, AllocError>
     ensures { IfOk result (λ answer. (answer.is_good ≡ false) × (checked.is_accepted ≡ false)
-        × (answer.line ≡ checked.line)) }
+        × (answer.text ≡ checked.line)) }
 {
     if checked.is_accepted {
         return Err(AllocError);
     }
-    Ok(Documented {
+    Ok(Reply {
         is_good: false,
-        line: checked.line,
+        text: checked.line,
     })
 }
 

@@ -7,65 +7,39 @@ ghost use Rattle.vsi_documents.specs.Audits as spec;
 ghost use Rattle.vsi_documents.specs.Bounds as bounds_spec;
 ghost use Rattle.vsi_diagnostics.specs.Members as lines;
 
-use crate::answer::Documented;
+use crate::answer::Reply;
 use std::alloc::{AllocError, Global};
 use vsi_answers::{BoundAnswer, bound, bound_in};
-use vsi_conform::{Judgement, judgement_by, refused_image};
+use vsi_conform::{Judgement, refused_image};
 use vsi_diagnostics::{Object, accepted_json, refusal_json, without_end};
 use vsi_image::Verified;
 use vsi_lattice::Lattice;
 use vsi_machine::Bound;
-use vsi_types::Profile;
 
-/// The answer about an image and a profile.
-fn judged_json(
+/// The answer of `vsi audit` to an image as a line of JSON: an object with `accepted` and, for a
+/// refused image, `number`, `name` and `text`, the lines of the refusal without the last line feed.
+/// An error means that memory ran out.
+pub fn audit_json(
     alloc: Global,
     judgement: Judgement,
     lattice: &Lattice,
     image: &Verified,
-) -> Result<Documented, AllocError>
-    ensures { IfOk result (λ answer. spec.TellsJudged lattice.now judgement image.now
-        answer.is_good answer.line.items) }
+) -> Result<Reply, AllocError>
+    ensures answer { IfOk result (λ answer. spec.TellsJudged lattice.now judgement image.now
+        answer.is_good answer.text.items) }
 {
     match refused_image(alloc, judgement, lattice, image)? {
         None => {
-            let line = accepted_json(alloc)?;
+            let text = accepted_json(alloc)?;
             let is_good = true;
-            Ok(Documented { is_good, line })
+            Ok(Reply { is_good, text })
         }
         Some((diagnostic, lines)) => {
-            let line = refusal_json(alloc, lattice, &[], &diagnostic, &lines)?;
+            let text = refusal_json(alloc, lattice, &[], &diagnostic, &lines)?;
             let is_good = false;
-            Ok(Documented { is_good, line })
+            Ok(Reply { is_good, text })
         }
     }
-}
-
-/// The answer of `vsi audit` to an image as a line of JSON: an object with `accepted` and, for a
-/// refused image, `number`, `name` and `text`, the lines of `audit_text` without the last line
-/// feed. An error means that memory ran out.
-pub fn audit_json(
-    alloc: Global,
-    profile: Profile,
-    lattice: &Lattice,
-    image: &Verified,
-) -> Result<Documented, AllocError>
-    ensures answer { IfOk result (λ answer. spec.TellsAudit lattice.now profile image.now
-        answer.is_good answer.line.items) }
-{
-    judged_json(alloc, judgement_by(profile), lattice, image)
-}
-
-/// The answer of `vsi audit --steady` to an image as a line of JSON, of the same form.
-pub fn steady_json(
-    alloc: Global,
-    lattice: &Lattice,
-    image: &Verified,
-) -> Result<Documented, AllocError>
-    ensures answer { IfOk result (λ answer. spec.TellsSteadiness lattice.now image.now
-        answer.is_good answer.line.items) }
-{
-    judged_json(alloc, Judgement::Steady, lattice, image)
 }
 
 /// The object with the numbers of a bound.
@@ -101,27 +75,23 @@ fn bound_line(
 }
 
 /// An answer about an image, with its line.
-fn document_of(
-    alloc: Global,
-    verified: &Verified,
-    answer: BoundAnswer,
-) -> Result<Documented, AllocError>
+fn document_of(alloc: Global, verified: &Verified, answer: BoundAnswer) -> Result<Reply, AllocError>
     requires { TellsBound verified.now answer }
     ensures { IfOk result
-        (λ told. bounds_spec.IsBoundJson verified.now told.is_good told.line.items) }
+        (λ told. bounds_spec.IsBoundJson verified.now told.is_good told.text.items) }
 {
     let is_good = answer.is_bounded;
-    let line = bound_line(alloc, is_good, answer.found, &answer.text)?;
-    Ok(Documented { is_good, line })
+    let text = bound_line(alloc, is_good, answer.found, &answer.text)?;
+    Ok(Reply { is_good, text })
 }
 
 /// The answer of `vsi bound` to an image as a line of JSON: an object with `bounded`, whether a
 /// bound was found, `text`, the line of `vsi_answers::bound` without its line feed, and the numbers
 /// `least` and `most` of instructions or, where there is no bound, the number `instruction` of the
 /// one that is named. An error means that memory ran out.
-pub fn bound_json(alloc: Global, verified: &Verified) -> Result<Documented, AllocError>
+pub fn bound_json(alloc: Global, verified: &Verified) -> Result<Reply, AllocError>
     ensures answer { IfOk result
-        (λ answer. bounds_spec.IsBoundJson verified.now answer.is_good answer.line.items) }
+        (λ answer. bounds_spec.IsBoundJson verified.now answer.is_good answer.text.items) }
 {
     let answer = bound(alloc, verified)?;
     document_of(alloc, verified, answer)
@@ -133,9 +103,9 @@ pub fn bound_json_in(
     lattice: &Lattice,
     source: &[u8],
     verified: &Verified,
-) -> Result<Documented, AllocError>
+) -> Result<Reply, AllocError>
     ensures answer { IfOk result
-        (λ answer. bounds_spec.IsBoundJson verified.now answer.is_good answer.line.items) }
+        (λ answer. bounds_spec.IsBoundJson verified.now answer.is_good answer.text.items) }
 {
     let answer = bound_in(alloc, lattice, source, verified)?;
     document_of(alloc, verified, answer)

@@ -1,7 +1,7 @@
 //! The answers of subcommands for programs: as lines of JSON, and as documents of SARIF 2.1.0.
 //!
-//! `classes_json` and `flows_json` read a source text under a lattice; `audit_json`, `steady_json`
-//! and `bound_json` read a verified image. `run_json` and `compare_json` run one, and `leak_json`
+//! `classes_json` and `flows_json` read a source text under a lattice; `audit_json` and `bound_json`
+//! read a verified image. `run_json` and `compare_json` run one, and `leak_json`
 //! searches the image of a source text. Each answer is an object with the parts of the
 //! subcommand's lines as values, and whether the answer is good. A text that `classes_json` or
 //! `flows_json` refuses has the line of `check_json`; `refused_json` and `refused_interface_json`
@@ -13,8 +13,8 @@
 //! judges a source text as `vsi check` does. The document of an accepted text has no result. The
 //! document of a refused text has one: its rule is the number and the name of the refusal, its
 //! message the lines that `check` prints, its place that of the refusal, and for a refused flow it
-//! has a location for each step of the walk. `audit_sarif` and `steady_sarif` judge an image as
-//! `vsi audit` does, and their documents have the same form; a refusal of an image has no position.
+//! has a location for each step of the walk. `audit_sarif` judges an image as `vsi audit` does, and
+//! its document has the same form; a refusal of an image has no position.
 //! `points_sarif` and `image_sarif` write the answer about a text or an image beside an interface:
 //! a result for each point, whose rule is the kind of the point. `specs/Checking`, `specs/Auditing`
 //! and `specs/Findings` say which answers are written, `specs/Refusals` and `specs/Document` define
@@ -31,9 +31,9 @@ mod runs;
 mod sarif;
 mod texts;
 
-pub use answer::{Documented, refused_interface_json, refused_json};
-pub use audits::{audit_json, bound_json, bound_json_in, steady_json};
+pub use answer::{Reply, refused_interface_json, refused_json};
+pub use audits::{audit_json, bound_json, bound_json_in};
 pub use findings::{image_sarif, points_sarif};
 pub use runs::{compare_json, leak_json, run_json};
-pub use sarif::{audit_sarif, check_sarif, steady_sarif};
+pub use sarif::{audit_sarif, check_sarif};
 pub use texts::{classes_json, flows_json, mend_json};

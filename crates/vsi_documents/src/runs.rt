@@ -14,7 +14,7 @@ ghost use Rattle.vsi_documents.specs.Words as words_spec;
 ghost use Rattle.vsi_documents.specs.Comparisons as comparisons_spec;
 ghost use Rattle.vsi_documents.specs.Leaks as leaks_spec;
 
-use crate::answer::{Documented, end_object, with_after, with_ending, with_pairs, word_objects};
+use crate::answer::{Reply, end_object, with_after, with_ending, with_pairs, word_objects};
 use std::alloc::{AllocError, Global};
 use vsi_answers::Unanswered;
 use vsi_compiler::CompileError;
@@ -52,10 +52,10 @@ pub fn run_json(
     verified: &Verified,
     words: &[i64],
     budget: u64,
-) -> Result<Documented, AllocError>
+) -> Result<Reply, AllocError>
     requires { length words.now ≡ length verified.now.globals.items }
     ensures answer { IfOk result (λ answer. spec.TellsRun verified.now words.now budget
-        answer.is_good answer.line.items) }
+        answer.is_good answer.text.items) }
 {
     let Ok(count) = counted(alloc, verified, words, budget) else {
         return Err(AllocError);
@@ -63,14 +63,14 @@ pub fn run_json(
     match count.outcome {
         Outcome::Halted => {
             let (image, last) = (verified.image(), count.machine.store());
-            let line = halted_line(alloc, image, last, count.instructions)?;
+            let text = halted_line(alloc, image, last, count.instructions)?;
             let is_good = true;
-            Ok(Documented { is_good, line })
+            Ok(Reply { is_good, text })
         }
         Outcome::OutOfBudget => {
-            let line = end_object(alloc, false, count.instructions)?.line()?;
+            let text = end_object(alloc, false, count.instructions)?.line()?;
             let is_good = false;
-            Ok(Documented { is_good, line })
+            Ok(Reply { is_good, text })
         }
     }
 }
@@ -129,7 +129,7 @@ pub fn compare_json(
     first: &[i64],
     second: &[i64],
     budget: u64,
-) -> Result<Documented, Unanswered>
+) -> Result<Reply, Unanswered>
     requires class { IsClass (order lattice.now) class }
     requires first { length first.now ≡ length verified.now.globals.items }
     requires second { length second.now ≡ length verified.now.globals.items }
@@ -139,11 +139,9 @@ pub fn compare_json(
     match vsi_answers::compare(alloc, lattice, verified, class, first, second, budget) {
         Ok(found) => {
             let (image, stores) = (verified.image(), (first, second));
-            let line = comparison_line(alloc, lattice, image, class, stores, budget, &found)?;
-            Ok(Documented {
-                is_good: found.is_same,
-                line,
-            })
+            let text = comparison_line(alloc, lattice, image, class, stores, budget, &found)?;
+            let is_good = found.is_same;
+            Ok(Reply { is_good, text })
         }
         Err(error) => Err(error),
     }
@@ -202,10 +200,10 @@ pub fn leak_json(
     lattice: &Lattice,
     text: &[u8],
     wanted: &Wanted,
-) -> Result<Documented, CompileError>
+) -> Result<Reply, CompileError>
     requires { IfSome wanted.now.class (IsClass (order lattice.now)) }
     ensures answer { IfOk result (λ answer. leaks_spec.TellsSearch lattice.now text.now wanted.now
-        answer.is_good answer.line.items) }
+        answer.is_good answer.text.items) }
     ensures refused { IfErr result (RefusesProgram (class_named lattice.now) text.now) }
     ensures exact { HasProgram (class_named lattice.now) text.now
         → IfErr result (λ e. e ≡ Memory) }
@@ -217,14 +215,14 @@ pub fn leak_json(
     match &finding {
         Finding::Leak(leak) => {
             let image = verified.image();
-            let line = leak_line(alloc, lattice, image, wanted.effort.budget, leak)?;
+            let text = leak_line(alloc, lattice, image, wanted.effort.budget, leak)?;
             let is_good = false;
-            Ok(Documented { is_good, line })
+            Ok(Reply { is_good, text })
         }
         Finding::Nothing { pairs } => {
-            let line = nothing_line(alloc, *pairs)?;
+            let text = nothing_line(alloc, *pairs)?;
             let is_good = true;
-            Ok(Documented { is_good, line })
+            Ok(Reply { is_good, text })
         }
     }
 }

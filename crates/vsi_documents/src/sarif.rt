@@ -8,19 +8,17 @@ ghost use Rattle.vsi_documents.specs.Document as spec;
 ghost use Rattle.vsi_documents.specs.Auditing as auditing_spec;
 ghost use Rattle.vsi_documents.specs.Checking as checking_spec;
 
-use crate::answer::Documented;
+use crate::answer::Reply;
 use crate::refusal::{refusal_document, source_document, uri_of};
 use std::alloc::{AllocError, Global};
 use vsi_compiler::{CompileError, Source, read_source};
 use vsi_conform::{
-    Judgement, judged_of, judgement_by, refusal_lines, refusal_lines_of, refused_image,
-    unsteady_diagnostic,
+    Judgement, judged_of, refusal_lines, refusal_lines_of, refused_image, unsteady_diagnostic,
 };
 use vsi_diagnostics::{Object, Objects};
 use vsi_image::Verified;
 use vsi_lattice::Lattice;
 use vsi_steady::UnsteadyError;
-use vsi_types::Profile;
 
 /// The object of a run of the tool, with its rules.
 fn run(alloc: Global, rules: Objects, results: Objects) -> Result<Object, AllocError>
@@ -55,58 +53,31 @@ pub(crate) fn document(
         .line()
 }
 
-/// The answer about the image of the file at a path and a profile.
-fn judged_sarif(
+/// The answer of `vsi audit` to the image of the file at a path as a document of SARIF 2.1.0. An
+/// error means that memory ran out.
+pub fn audit_sarif(
     alloc: Global,
     judgement: Judgement,
     lattice: &Lattice,
     path: &str,
     image: &Verified,
-) -> Result<Documented, AllocError>
-    ensures { IfOk result (λ told. auditing_spec.TellsJudged lattice.now judgement path.now
-        image.now told.is_good told.line.items) }
+) -> Result<Reply, AllocError>
+    ensures answer { IfOk result (λ told. auditing_spec.TellsJudged lattice.now judgement path.now
+        image.now told.is_good told.text.items) }
 {
     match refused_image(alloc, judgement, lattice, image)? {
         None => {
-            let line = accepted(alloc)?;
+            let text = accepted(alloc)?;
             let is_good = true;
-            Ok(Documented { is_good, line })
+            Ok(Reply { is_good, text })
         }
         Some((diagnostic, lines)) => {
             let uri = uri_of(alloc, path)?;
-            let line = refusal_document(alloc, uri.as_bytes(), &[], &diagnostic, &lines)?;
+            let text = refusal_document(alloc, uri.as_bytes(), &[], &diagnostic, &lines)?;
             let is_good = false;
-            Ok(Documented { is_good, line })
+            Ok(Reply { is_good, text })
         }
     }
-}
-
-/// The answer of `vsi audit` to the image of the file at a path as a document of SARIF 2.1.0. An
-/// error means that memory ran out.
-pub fn audit_sarif(
-    alloc: Global,
-    profile: Profile,
-    lattice: &Lattice,
-    path: &str,
-    image: &Verified,
-) -> Result<Documented, AllocError>
-    ensures answer { IfOk result (λ told. auditing_spec.TellsAudit lattice.now profile path.now image.now
-        told.is_good told.line.items) }
-{
-    judged_sarif(alloc, judgement_by(profile), lattice, path, image)
-}
-
-/// The answer of `vsi audit --steady` to the image of the file at a path as such a document.
-pub fn steady_sarif(
-    alloc: Global,
-    lattice: &Lattice,
-    path: &str,
-    image: &Verified,
-) -> Result<Documented, AllocError>
-    ensures answer { IfOk result (λ told. auditing_spec.TellsSteadiness lattice.now path.now image.now
-        told.is_good told.line.items) }
-{
-    judged_sarif(alloc, Judgement::Steady, lattice, path, image)
 }
 
 /// Whether a judgement demands a steady image.
@@ -168,20 +139,20 @@ fn source_sarif(
     judgement: Judgement,
     path: &str,
     source: &Source<'_>,
-) -> Result<Documented, AllocError>
+) -> Result<Reply, AllocError>
     ensures { IfOk result (λ told. checking_spec.TellsDocument source.now.lattice judgement path.now
-        source.now.text told.is_good told.line.items) }
+        source.now.text told.is_good told.text.items) }
 {
     match judged_of(alloc, judgement, source)? {
         Ok(_verified) => {
-            let line = accepted(alloc)?;
+            let text = accepted(alloc)?;
             let is_good = true;
-            Ok(Documented { is_good, line })
+            Ok(Reply { is_good, text })
         }
         Err(error) => {
-            let line = source_refused(alloc, judgement, path, source, &error)?;
+            let text = source_refused(alloc, judgement, path, source, &error)?;
             let is_good = false;
-            Ok(Documented { is_good, line })
+            Ok(Reply { is_good, text })
         }
     }
 }
@@ -194,18 +165,18 @@ pub fn check_sarif(
     lattice: &Lattice,
     path: &str,
     text: &[u8],
-) -> Result<Documented, AllocError>
+) -> Result<Reply, AllocError>
     ensures answer { IfOk result (λ told. checking_spec.TellsDocument lattice.now judgement path.now
-        text.now told.is_good told.line.items) }
+        text.now told.is_good told.text.items) }
 {
     match read_source(alloc, lattice, text) {
         Ok(source) => source_sarif(alloc, judgement, path, &source),
         Err(CompileError::Memory) => Err(AllocError),
         Err(error) => {
             let error = UnsteadyError::Compile(error);
-            let line = refused(alloc, judgement, lattice, path, text, &error)?;
+            let text = refused(alloc, judgement, lattice, path, text, &error)?;
             let is_good = false;
-            Ok(Documented { is_good, line })
+            Ok(Reply { is_good, text })
         }
     }
 }

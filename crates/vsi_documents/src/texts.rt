@@ -12,7 +12,7 @@ ghost use Rattle.vsi_documents.specs.Classes.{TellsClasses};
 ghost use Rattle.vsi_documents.specs.Flows.{IsFlowsJson, TellsFlows, are_allowed as are_allowed_of};
 ghost use Rattle.vsi_documents.specs.Json.{IsRaisesJson};
 
-use crate::answer::{Documented, refused, verdict_line};
+use crate::answer::{Reply, refused, verdict_line};
 use std::alloc::{AllocError, Global};
 use vsi_compiler::{CompileError, Source, judge, read_source};
 use vsi_conform::{check_json, check_json_of, judgement_by, unread_json};
@@ -80,22 +80,18 @@ fn class_objects(
 }
 
 /// The answer for a source text that was read.
-fn source_classes(
-    alloc: Global,
-    profile: Profile,
-    source: &Source<'_>,
-) -> Result<Documented, AllocError>
+fn source_classes(alloc: Global, profile: Profile, source: &Source<'_>) -> Result<Reply, AllocError>
     ensures { IfOk result (λ answer. TellsClasses source.now.lattice profile source.now.text
-        answer.is_good answer.line.items) }
+        answer.is_good answer.text.items) }
 {
     // The contract of `resolved` says that the source is one; the proofs need that.
     let _program = source.resolved();
     match judge(alloc, profile, source) {
         Ok(classes) => {
             let objects = class_objects(alloc, source, &classes)?;
-            let line = verdict_line(alloc, true, "classes", objects)?;
+            let text = verdict_line(alloc, true, "classes", objects)?;
             let is_good = true;
-            Ok(Documented { is_good, line })
+            Ok(Reply { is_good, text })
         }
         Err(_) => refused(check_json_of(alloc, judgement_by(profile), source)?),
     }
@@ -110,9 +106,9 @@ pub fn classes_json(
     profile: Profile,
     lattice: &Lattice,
     text: &[u8],
-) -> Result<Documented, AllocError>
+) -> Result<Reply, AllocError>
     ensures answer { IfOk result (λ answer. TellsClasses lattice.now profile text.now
-        answer.is_good answer.line.items) }
+        answer.is_good answer.text.items) }
 {
     match read_source(alloc, lattice, text) {
         Ok(source) => source_classes(alloc, profile, &source),
@@ -209,15 +205,15 @@ pub fn flows_json(
     profile: Profile,
     lattice: &Lattice,
     text: &[u8],
-) -> Result<Documented, AllocError>
+) -> Result<Reply, AllocError>
     ensures answer { IfOk result (λ answer. TellsFlows lattice.now profile text.now
-        answer.is_good answer.line.items) }
+        answer.is_good answer.text.items) }
 {
     match read_source(alloc, lattice, text) {
         Ok(source) => {
-            let line = line_of(alloc, profile, &source)?;
+            let text = line_of(alloc, profile, &source)?;
             let is_good = true;
-            Ok(Documented { is_good, line })
+            Ok(Reply { is_good, text })
         }
         Err(CompileError::Memory) => Err(AllocError),
         Err(_) => refused(check_json(alloc, judgement_by(profile), lattice, text)?),
@@ -325,19 +321,15 @@ fn raised_line(
 }
 
 /// The answer for a source text that was read.
-fn source_mended(
-    alloc: Global,
-    profile: Profile,
-    source: &Source<'_>,
-) -> Result<Documented, AllocError>
+fn source_mended(alloc: Global, profile: Profile, source: &Source<'_>) -> Result<Reply, AllocError>
     ensures { IfOk result (λ mended. TellsMended source.now.lattice profile source.now.text
-        mended.is_good mended.line.items) }
+        mended.is_good mended.text.items) }
 {
     let checked = check_json_of(alloc, judgement_by(profile), source)?;
     match raised_line(alloc, profile, source, checked.is_accepted)? {
-        Some(line) => {
+        Some(text) => {
             let is_good = true;
-            Ok(Documented { is_good, line })
+            Ok(Reply { is_good, text })
         }
         None => refused(checked),
     }
@@ -352,17 +344,17 @@ pub fn mend_json(
     profile: Profile,
     lattice: &Lattice,
     text: &[u8],
-) -> Result<Documented, AllocError>
+) -> Result<Reply, AllocError>
     ensures answer { IfOk result (λ mended.
-        TellsMended lattice.now profile text.now mended.is_good mended.line.items) }
+        TellsMended lattice.now profile text.now mended.is_good mended.text.items) }
 {
     match read_source(alloc, lattice, text) {
         Ok(source) => source_mended(alloc, profile, &source),
         Err(CompileError::Memory) => Err(AllocError),
         Err(error) => {
-            let line = unread_json(alloc, judgement_by(profile), lattice, text, error)?;
+            let text = unread_json(alloc, judgement_by(profile), lattice, text, error)?;
             let is_good = false;
-            Ok(Documented { is_good, line })
+            Ok(Reply { is_good, text })
         }
     }
 }

@@ -78,10 +78,7 @@ impl Claim {
 
 /// Gives a new file the name of the one at the path.
 fn put_over(rt: &HostRuntime, name: &str, path: &str) -> Result<(), Trouble> {
-    match fs::rename(rt, name, path) {
-        Ok(()) => Ok(()),
-        Err(error) => Err(Trouble::of_error(&error)),
-    }
+    Ok(fs::rename(rt, name, path)?)
 }
 
 /// Gives a new file a name that nothing has: as its second name, which the system allows only to the

@@ -98,7 +98,7 @@ impl<'a> Disk<'a> {
     /// The identity of the file at the path, whatever its name, if there is one.
     fn identity_at(&self, path: &str) -> Option<Identity> {
         let found = fs::metadata(self.rt, path).ok()?;
-        Some(identity_of(found.dev(), found.ino()))
+        Some(identity_of(&found))
     }
 
     /// Whether the file at the path is left as it is: because another drive keeps it, because this
@@ -147,10 +147,7 @@ impl<'a> Disk<'a> {
                 fs::symlink_metadata(self.rt, path)
             }
         };
-        match found {
-            Ok(found) => found.is_file() && found.len() > 0,
-            Err(_) => false,
-        }
+        found.is_ok_and(|found| found.is_file() && found.len() > 0)
     }
 
     /// Whether the stream of this number, by its link under /proc, is a terminal.
@@ -223,10 +220,8 @@ fn is_pipe(found: &Metadata) -> bool {
 
 /// Whether the path is that of a file right in this folder.
 fn is_within(path: &str, folder: &str) -> bool {
-    match path.strip_prefix(folder) {
-        Some(name) => !name.contains('/'),
-        None => false,
-    }
+    path.strip_prefix(folder)
+        .is_some_and(|name| !name.contains('/'))
 }
 
 /// Whether the path is that of a stream which the system gives to the program.
@@ -255,8 +250,9 @@ fn reason_without(kind: ErrorKind) -> &'static str {
     }
 }
 
-/// The identity with these two numbers.
-fn identity_of(device: u64, number: u64) -> Identity {
+/// The identity of the file that was found.
+fn identity_of(found: &Metadata) -> Identity {
+    let (device, number) = (found.dev(), found.ino());
     Identity { device, number }
 }
 
@@ -270,7 +266,7 @@ impl Files for Disk<'_> {
         }
         let file = File::open(self.rt, path).ok()?;
         let found = file.metadata().ok()?;
-        self.note(identity_of(found.dev(), found.ino()));
+        self.note(identity_of(&found));
         Some(file)
     }
 
@@ -315,24 +311,15 @@ impl Files for Disk<'_> {
     }
 
     fn objection(&self) -> Option<&'static str> {
-        match self.objection {
-            Some(objection) => Some(objection.sentence()),
-            None => None,
-        }
+        Some(self.objection?.sentence())
     }
 
     fn may_wait(&self, path: &str) -> bool {
-        match fs::metadata(self.rt, path) {
-            Ok(found) => !found.is_file(),
-            Err(_) => false,
-        }
+        fs::metadata(self.rt, path).is_ok_and(|found| !found.is_file())
     }
 
     fn lacks(&self, path: &str) -> bool {
-        match fs::symlink_metadata(self.rt, path) {
-            Ok(_) => false,
-            Err(error) => error.kind() == ErrorKind::NotFound,
-        }
+        fs::symlink_metadata(self.rt, path).is_err_and(|error| error.kind() == ErrorKind::NotFound)
     }
 
     fn trouble(&self, path: &str) -> Option<&'static str> {

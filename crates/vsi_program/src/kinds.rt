@@ -30,11 +30,6 @@ enum Part {
     End,
 }
 
-/// Whether a byte may be in a number of TOML, in any of its bases.
-fn is_digit(byte: u8) -> bool {
-    byte.is_ascii_alphanumeric() || byte == b'_'
-}
-
 /// Whether a byte may be in a key.
 fn is_key(byte: u8) -> bool {
     byte.is_ascii_alphanumeric() || matches!(byte, b'_' | b'-' | b'.' | b'"' | b'\'')
@@ -45,53 +40,22 @@ fn is_blank(byte: u8) -> bool {
     matches!(byte, b' ' | b'\t' | b'\r')
 }
 
-/// The part after one byte more, or nothing if no store goes on so.
+/// The part after one byte more, or nothing if no store goes on so. A number may have any base of
+/// TOML.
 fn after(part: Part, byte: u8) -> Option<Part> {
-    match part {
-        Part::Comment => Some(if byte == b'\n' {
-            Part::Start
-        } else {
-            Part::Comment
-        }),
-        Part::Start => after_start(byte),
-        Part::Key if byte == b'=' => Some(Part::Equals),
-        Part::Key if is_key(byte) || is_blank(byte) => Some(Part::Key),
-        Part::Equals if is_blank(byte) => Some(Part::Equals),
-        Part::Equals if byte.is_ascii_digit() || matches!(byte, b'+' | b'-') => Some(Part::Number),
-        Part::Number if is_digit(byte) => Some(Part::Number),
-        Part::Number | Part::End => after_number(byte),
-        Part::Key | Part::Equals => None,
-    }
-}
-
-/// The part after the first byte of a line, or after its blanks.
-fn after_start(byte: u8) -> Option<Part> {
-    match byte {
-        b'\n' => Some(Part::Start),
-        b'#' => Some(Part::Comment),
-        _ if is_blank(byte) => Some(Part::Start),
-        _ if is_key(byte) => Some(Part::Key),
+    match (part, byte) {
+        (Part::Start | Part::Comment | Part::Number | Part::End, b'\n') => Some(Part::Start),
+        (Part::Start | Part::Number | Part::End, b'#') | (Part::Comment, _) => Some(Part::Comment),
+        (Part::Start, _) if is_blank(byte) => Some(Part::Start),
+        (Part::Start, _) if is_key(byte) => Some(Part::Key),
+        (Part::Key, b'=') => Some(Part::Equals),
+        (Part::Key, _) if is_key(byte) || is_blank(byte) => Some(Part::Key),
+        (Part::Equals, _) if is_blank(byte) => Some(Part::Equals),
+        (Part::Equals, b'0'..=b'9' | b'+' | b'-') => Some(Part::Number),
+        (Part::Number, _) if byte.is_ascii_alphanumeric() || byte == b'_' => Some(Part::Number),
+        (Part::Number | Part::End, _) if is_blank(byte) => Some(Part::End),
         _ => None,
     }
-}
-
-/// The part after a number, or after the blanks that follow it.
-fn after_number(byte: u8) -> Option<Part> {
-    match byte {
-        b'\n' => Some(Part::Start),
-        b'#' => Some(Part::Comment),
-        _ if is_blank(byte) => Some(Part::End),
-        _ => None,
-    }
-}
-
-/// The part after these bytes, or nothing if no store goes on so.
-fn after_all(part: Part, bytes: &[u8]) -> Option<Part> {
-    let mut reached = part;
-    for byte in bytes {
-        reached = after(reached, *byte)?;
-    }
-    Some(reached)
 }
 
 /// Whether each line of a file is blank, a comment, or a key with a number.
@@ -105,9 +69,11 @@ fn is_store(mut file: File) -> bool {
         if count == 0 {
             return !matches!(part, Part::Key | Part::Equals);
         }
-        match after_all(part, &chunk[..count]) {
-            Some(reached) => part = reached,
-            None => return false,
+        for byte in &chunk[..count] {
+            match after(part, *byte) {
+                Some(reached) => part = reached,
+                None => return false,
+            }
         }
     }
     false

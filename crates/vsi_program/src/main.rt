@@ -31,14 +31,6 @@ fn arguments(rt: &HostRuntime) -> io::Result<Vec<String>> {
     Ok(arguments)
 }
 
-/// Whether the arguments ask to serve an editor.
-fn is_server(arguments: &[String]) -> bool {
-    match arguments.first() {
-        Some(word) => word.as_str() == "lsp",
-        None => false,
-    }
-}
-
 fn main(rt: HostRuntime) -> ExitCode {
     let arguments = match arguments(&rt) {
         Ok(arguments) => arguments,
@@ -51,7 +43,8 @@ fn main(rt: HostRuntime) -> ExitCode {
             return ExitCode::from(USAGE);
         }
     };
-    let disk = Disk::new(&rt, is_server(arguments.as_slice()));
+    let is_server = arguments.first().is_some_and(|word| word.as_str() == "lsp");
+    let disk = Disk::new(&rt, is_server);
     let Ok(mut files) = load(rt.alloc(), arguments.as_slice(), disk) else {
         let _ = eprintln!(rt; "out of memory");
         return ExitCode::from(OUT_OF_MEMORY);

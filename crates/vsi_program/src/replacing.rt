@@ -53,10 +53,8 @@ pub(crate) fn replace_by_new(
     making: Making<'_>,
     filling: Filling<'_>,
 ) -> Result<File, Trouble> {
-    match create_beside(rt, making) {
-        Ok(made) => replace(rt, path, making.fresh, made, filling),
-        Err(error) => Err(Trouble::of_error(&error)),
-    }
+    let made = create_beside(rt, making)?;
+    replace(rt, path, making.fresh, made, filling)
 }
 
 /// Fills a new file, whose name is `fresh` unless it has another one, and puts it in the place of the
@@ -106,16 +104,11 @@ fn fill(rt: &HostRuntime, file: &File, path: &str, filling: Filling<'_>) -> Resu
         keep_private(file, old)?;
     }
     let mut writer = file;
-    if let Err(error) = writer.write_all(filling.bytes) {
-        return Err(Trouble::of_error(&error));
-    }
+    writer.write_all(filling.bytes)?;
     if let Some(old) = &old {
         give(file, old)?;
     }
-    match file.sync_all() {
-        Ok(()) => Ok(()),
-        Err(error) => Err(Trouble::of_error(&error)),
-    }
+    Ok(file.sync_all()?)
 }
 
 /// The metadata of the regular file at the path, if there is a file.
@@ -124,7 +117,7 @@ fn replaced_at(rt: &HostRuntime, path: &str) -> Result<Option<Metadata>, Trouble
         Ok(old) if old.is_file() => Ok(Some(old)),
         Ok(_) => Err(Trouble::of(NOT_REGULAR)),
         Err(error) if error.kind() == ErrorKind::NotFound => Ok(None),
-        Err(error) => Err(Trouble::of_error(&error)),
+        Err(error) => Err(Trouble::from(error)),
     }
 }
 
@@ -134,24 +127,18 @@ fn keep_private(file: &File, old: &Metadata) -> Result<(), Trouble> {
         Ok(made) if made.uid() != old.uid() => Err(Trouble::Objection(Objection::NotOwn)),
         Ok(_) if old.mode() & OPEN_TO_OTHERS != 0 => Err(Trouble::Objection(Objection::NotPrivate)),
         Ok(_) => Ok(()),
-        Err(error) => Err(Trouble::of_error(&error)),
+        Err(error) => Err(Trouble::from(error)),
     }
 }
 
 /// Gives the file the owner and the rights of another one.
 fn give(file: &File, old: &Metadata) -> Result<(), Trouble> {
-    let made = match file.metadata() {
-        Ok(made) => made,
-        Err(error) => return Err(Trouble::of_error(&error)),
-    };
+    let made = file.metadata()?;
     let is_given = made.uid() == old.uid() && made.gid() == old.gid();
     if !is_given && fchown(file, Some(old.uid()), Some(old.gid())).is_err() {
         return Err(Trouble::of(NOT_GIVEN));
     }
-    match file.set_permissions(Permissions::from_mode(old.mode() & RIGHTS)) {
-        Ok(()) => Ok(()),
-        Err(error) => Err(Trouble::of_error(&error)),
-    }
+    Ok(file.set_permissions(Permissions::from_mode(old.mode() & RIGHTS))?)
 }
 
 /// Whether a new file may take the place of what is at the path: nothing, or a file of its own that
@@ -199,22 +186,13 @@ fn fill_there(rt: &HostRuntime, path: &str, bytes: &[u8]) -> Result<(), Trouble>
     if is_dangling(rt, path) {
         return Err(Trouble::of(LEADS_NOWHERE));
     }
-    let mut file = match File::create(rt, path) {
-        Ok(file) => file,
-        Err(error) => return Err(Trouble::of_error(&error)),
-    };
-    if let Err(error) = file.write_all(bytes) {
-        return Err(Trouble::of_error(&error));
+    let mut file = File::create(rt, path)?;
+    file.write_all(bytes)?;
+    if !file.metadata()?.is_file() {
+        return Ok(());
     }
-    match file.metadata() {
-        Ok(found) if !found.is_file() => return Ok(()),
-        Ok(_) => {}
-        Err(error) => return Err(Trouble::of_error(&error)),
-    }
-    match file.sync_all() {
-        Ok(()) => sync_target(rt, path),
-        Err(error) => Err(Trouble::of_error(&error)),
-    }
+    file.sync_all()?;
+    sync_target(rt, path)
 }
 
 /// Whether the path is that of a link to nothing, which would be made where somebody else wants it.
@@ -235,12 +213,10 @@ fn sync_target(rt: &HostRuntime, path: &str) -> Result<(), Trouble> {
     }
     match fs::canonicalize(rt, path) {
         Ok(target) => sync_folder(rt, target.as_str()),
-        Err(error) if has_no_name(error.kind()) => Ok(()),
-        Err(error) => Err(Trouble::of_error(&error)),
+        Err(error) => match error.kind() {
+            // It has no path, or there is no memory for one.
+            ErrorKind::NotFound | ErrorKind::OutOfMemory => Ok(()),
+            _ => Err(Trouble::from(error)),
+        },
     }
-}
-
-/// Whether an error of this kind says that a file has no path, or that there is no memory for one.
-fn has_no_name(kind: ErrorKind) -> bool {
-    matches!(kind, ErrorKind::NotFound | ErrorKind::OutOfMemory)
 }

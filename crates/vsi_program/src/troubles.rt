@@ -81,9 +81,11 @@ impl Trouble {
     pub(crate) fn of(reason: &'static str) -> Trouble {
         Trouble::Fault(Some(reason))
     }
+}
 
+impl From<io::Error> for Trouble {
     /// The fault that the system answers.
-    pub(crate) fn of_error(error: &io::Error) -> Trouble {
+    fn from(error: io::Error) -> Trouble {
         Trouble::Fault(reason_of(error.kind()))
     }
 }

@@ -19,10 +19,10 @@ use vsi_arguments::{AnswerForm, Conformance};
 use vsi_audit::{AuditError, audit_in};
 use vsi_compiler::{CompileError, unjudged_image};
 use vsi_conform::{Answer, Interface, Judgement, conform_image, images, points_json, points_text};
-use vsi_documents::{image_sarif, points_sarif};
+use vsi_documents::{Reply, image_sarif, points_sarif};
 use vsi_image::Image;
 use vsi_lattice::Lattice;
-use vsi_subject::{Fallible, Files, InputKind, Reply, Subject, whole_in};
+use vsi_subject::{Fallible, Files, InputKind, Subject, whole_in};
 use vsi_types::Profile;
 
 /// The warning about a text that conforms, and whose image doesn't.

@@ -1,9 +1,9 @@
 //! Answers as lines of JSON and documents of SARIF, pages, graphs, and searches for leaks.
 
 ghost use Rattle.std.specs.Prelude.{◌≡◌, ◌⊎◌, IfErr, IfOk, List, Some, IsSomeAnd, IfSome};
-ghost use Rattle.vsi_subject.specs.Documents.{AuditsDocument, ToldAudit, ToldAuditJson, ToldAuditSarif, ToldClassesJson, ToldFlowsJson, ToldSarif};
+ghost use Rattle.vsi_subject.specs.Documents.{AuditsDocument, ToldClassesJson, ToldFlowsJson, ToldSarif, judgement_of};
 ghost use Rattle.vsi_subject.specs.Files.{OfFiles};
-ghost use Rattle.vsi_subject.specs.Performed.{judgement_of, profile_of, AreSought, DrawsFiles, DrawsGraph, GraphOf, ToldPage, SearchesFiles, SearchesJson};
+ghost use Rattle.vsi_subject.specs.Performed.{profile_of, AreSought, DrawsFiles, DrawsGraph, GraphOf, ToldPage, SearchesFiles, SearchesJson};
 ghost use Rattle.vsi_subject.specs.Reasons.{LacksSought, OtherLeak, RefusesSearch, WhyDraw};
 ghost use Rattle.vsi_subject.specs.Refusals.{NoOther, RefusesImage, RefusesLattice, FailsBy, RefusesProgramAt};
 ghost use Rattle.vsi_lattice.specs.LatticeView.{class_named, order};
@@ -23,16 +23,12 @@ use std::alloc::{AllocError, Global};
 use vsi_arguments::{Audit, Compilation, Drawing, Judging, Search};
 use vsi_compiler::CompileError;
 use vsi_documents::{
-    Documented, audit_json, audit_sarif, check_sarif, classes_json, flows_json, leak_json,
-    steady_json, steady_sarif,
+    Reply, audit_json, audit_sarif, check_sarif, classes_json, flows_json, leak_json,
 };
-use vsi_image::Verified;
 use vsi_lattice::Lattice;
 use vsi_leak::{Effort, Finding, Wanted, leak_of_text, leak_text};
 use vsi_report::{Filing, filed_page, flows_dot, lattice_dot, policy_dot};
-use vsi_subject::{
-    Failure, Fallible, Files, InputKind, Reply, Subject, profile, refused, viewer_of,
-};
+use vsi_subject::{Failure, Fallible, Files, InputKind, Subject, profile, refused, viewer_of};
 
 /// Whether the source text is accepted, and the document of SARIF that says so.
 pub fn checked_sarif<'a, F: Files>(
@@ -40,24 +36,17 @@ pub fn checked_sarif<'a, F: Files>(
     asked: Judging<'a>,
 ) -> Fallible<'a, Reply>
     ensures told { IfOk result (λ reply. OfFiles (F.holds subject.now.files.now)
-        asked.entry.compilation (ToldSarif (judgement_of asked.entry)
-        asked.entry.compilation.source.now reply.is_good) reply.text) }
+        asked.entry.compilation (ToldSarif (judgement_of asked.entry.is_steady
+        asked.entry.compilation.is_strict) asked.entry.compilation.source.now reply.is_good)
+        reply.text) }
     ensures failed { IfErr result (FailsBy (RefusesLattice (F.holds subject.now.files.now)
         asked.entry.compilation.lattice.now) NoOther) }
 {
     let (classes, text) = policy_and_text(subject, asked.compilation)?;
     let path = asked.compilation.source;
-    let told = check_sarif(
-        subject.alloc,
-        judgement(asked),
-        &classes,
-        path,
-        text.as_slice(),
-    )?;
-    Ok(Reply {
-        text: told.line,
-        is_good: told.is_good,
-    })
+    let judged = judgement(asked.is_steady, asked.compilation.is_strict);
+    let told = check_sarif(subject.alloc, judged, &classes, path, text.as_slice())?;
+    Ok(told)
 }
 
 /// The line of JSON for a source text with its classes, and whether it is accepted.
@@ -73,10 +62,7 @@ pub fn classes_line<'a, F: Files>(
     let (classes, text) = policy_and_text(subject, compilation)?;
     let profile = profile(compilation.is_strict);
     let told = classes_json(subject.alloc, profile, &classes, text.as_slice())?;
-    Ok(Reply {
-        text: told.line,
-        is_good: told.is_good,
-    })
+    Ok(told)
 }
 
 /// The line of JSON for a source text with its flows, and whether it has a program.
@@ -92,10 +78,7 @@ pub fn flows_line<'a, F: Files>(
     let (classes, text) = policy_and_text(subject, compilation)?;
     let profile = profile(compilation.is_strict);
     let told = flows_json(subject.alloc, profile, &classes, text.as_slice())?;
-    Ok(Reply {
-        text: told.line,
-        is_good: told.is_good,
-    })
+    Ok(told)
 }
 
 /// The line of JSON for an image, or the document of SARIF, and whether it is accepted.
@@ -112,72 +95,13 @@ pub fn audit_document<'a, F: Files>(
 {
     let classes = subject.lattice_in(asked.lattice)?;
     let verified = subject.image_in(asked.image)?;
-    let reply = judged_document(subject.alloc, asked, is_sarif, &classes, &verified)?;
-    Ok(reply)
-}
-
-/// The line of JSON for an image that is judged as requested.
-fn judged_line(
-    alloc: Global,
-    asked: Audit<'_>,
-    classes: &Lattice,
-    verified: &Verified,
-) -> Result<Documented, AllocError>
-    ensures { IfOk result (λ told. ToldAuditJson asked.entry.is_steady
-        (profile_of asked.entry.is_strict) classes.now verified.now told.is_good told.line) }
-{
-    if asked.is_steady {
-        return steady_json(alloc, classes, verified);
-    }
-    audit_json(alloc, profile(asked.is_strict), classes, verified)
-}
-
-/// The document of SARIF for the image of a file that is judged as requested.
-fn judged_sarif(
-    alloc: Global,
-    asked: Audit<'_>,
-    classes: &Lattice,
-    verified: &Verified,
-) -> Result<Documented, AllocError>
-    ensures { IfOk result (λ told. ToldAuditSarif asked.entry.is_steady
-        (profile_of asked.entry.is_strict) asked.entry.image.now classes.now verified.now
-        told.is_good told.line) }
-{
-    if asked.is_steady {
-        return steady_sarif(alloc, classes, asked.image, verified);
-    }
-    audit_sarif(
-        alloc,
-        profile(asked.is_strict),
-        classes,
-        asked.image,
-        verified,
-    )
-}
-
-/// The document for an image that is judged as requested.
-fn judged_document(
-    alloc: Global,
-    asked: Audit<'_>,
-    is_sarif: bool,
-    classes: &Lattice,
-    verified: &Verified,
-) -> Result<Reply, AllocError>
-    ensures { IfOk result (λ reply. ToldAudit is_sarif asked.entry (profile_of
-        asked.entry.is_strict) classes.now verified.now reply.is_good reply.text) }
-{
+    let judged = judgement(asked.is_steady, asked.is_strict);
     if is_sarif {
-        let document = judged_sarif(alloc, asked, classes, verified)?;
-        return Ok(Reply {
-            text: document.line,
-            is_good: document.is_good,
-        });
+        let document = audit_sarif(subject.alloc, judged, &classes, asked.image, &verified)?;
+        return Ok(document);
     }
-    let told = judged_line(alloc, asked, classes, verified)?;
-    Ok(Reply {
-        text: told.line,
-        is_good: told.is_good,
-    })
+    let told = audit_json(subject.alloc, judged, &classes, &verified)?;
+    Ok(told)
 }
 
 /// The page of a source text over a lattice, with the names of both files.
@@ -350,10 +274,7 @@ pub fn leak_line<'a, F: Files>(subject: &Subject<'_, F>, search: Search<'a>) -> 
     let lattice = &sought.lattice;
     let text = sought.text.as_slice();
     match leak_json(subject.alloc, lattice, text, &sought.wanted) {
-        Ok(told) => Ok(Reply {
-            text: told.line,
-            is_good: told.is_good,
-        }),
+        Ok(told) => Ok(told),
         Err(error) => Err(refused(subject.alloc, lattice, text, error)),
     }
 }

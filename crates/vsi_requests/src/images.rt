@@ -18,14 +18,14 @@ use std::alloc::{AllocError, Global};
 use vsi_answers::judged_image;
 use vsi_arguments::{Audit, Bounding, Compilation};
 use vsi_audit::{AuditError, audit_in, audit_text, source_text};
-use vsi_documents::{bound_json, bound_json_in};
+use vsi_documents::{Reply, bound_json, bound_json_in};
 use vsi_emit::{Origin, emit_bounded, emit_bounded_header};
 use vsi_image::{Image, Verified};
 use vsi_lattice::Lattice;
 use vsi_steady::{SteadyError, steady_in, steady_text};
 use vsi_store::{AuditProfile, Filed, evidence};
 use vsi_subject::{
-    Failure, Fallible, Files, InputKind, Reply, Subject, made_image, most_of, profile, two_classes,
+    Failure, Fallible, Files, InputKind, Subject, made_image, most_of, profile, two_classes,
 };
 
 /// The failure for a refused image.
@@ -216,10 +216,7 @@ fn image_bound<'a, F: Files>(
     let verified = subject.image_in(image)?;
     if is_json {
         let told = bound_json(subject.alloc, &verified)?;
-        return Ok(Reply {
-            text: told.line,
-            is_good: told.is_good,
-        });
+        return Ok(told);
     }
     let found = vsi_answers::bound(subject.alloc, &verified)?;
     Ok(Reply {
@@ -249,10 +246,7 @@ fn text_bound<'a, F: Files>(
     let verified = made_image(subject.cache, &classes, source, text.as_slice())?;
     if is_json {
         let told = bound_json_in(subject.alloc, &classes, text.as_slice(), &verified)?;
-        return Ok(Reply {
-            text: told.line,
-            is_good: told.is_good,
-        });
+        return Ok(told);
     }
     let found = vsi_answers::bound_in(subject.alloc, &classes, text.as_slice(), &verified)?;
     Ok(Reply {

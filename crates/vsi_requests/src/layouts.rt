@@ -73,32 +73,12 @@ pub fn put_flows<'a, F: Files, W: Write>(
         compilation.entry (AsksFlows has_walks compilation.entry.is_strict)) NoOther) }
 {
     if has_walks {
-        return put_walks(subject, compilation, output);
+        let (classes, text) = policy_and_text(subject, compilation)?;
+        let profile = profile(compilation.is_strict);
+        return write_text(subject.alloc, profile, &classes, text.as_slice(), output);
     }
     let lines = flows(subject, compilation)?;
     write(lines.as_slice(), output)
-}
-
-/// Writes the flows between the declared variables of the source text, each with a walk.
-fn put_walks<'a, F: Files, W: Write>(
-    subject: &Subject<'_, F>,
-    compilation: Compilation<'a>,
-    output: &mut Counted<W>,
-) -> Fallible<'a, ()>
-    requires { faults_of output.old < u64.MAX }
-    ensures fault { TellsFault (faults_of output.old) (faults_of output.new) result }
-    ensures left { IfErr result (Leaves (AnswersFlows true (F.holds subject.now.files.now)
-        compilation.entry) 4 (W.contents (device_of output.old)) (W.contents (device_of
-        output.new))) }
-    ensures performed { OnOk result (Writes (OfFiles (F.holds subject.now.files.now)
-        compilation.entry (ToldFlows true compilation.entry.is_strict)) (W.contents (device_of
-        output.old)) (W.contents (device_of output.new))) }
-    ensures failed { IfErr result (FailsBy (RefusesFiles (F.holds subject.now.files.now)
-        compilation.entry (AsksFlows true compilation.entry.is_strict)) NoOther) }
-{
-    let (classes, text) = policy_and_text(subject, compilation)?;
-    let profile = profile(compilation.is_strict);
-    write_text(subject.alloc, profile, &classes, text.as_slice(), output)
 }
 
 /// Writes where a text differs from its layout, and then fails if it does.

@@ -3,8 +3,8 @@
 ghost use Rattle.std.specs.Prelude.{◌≡◌, IfErr, IfOk, false};
 ghost use Rattle.vsi_subject.specs.Laying.{ToldCanonical};
 ghost use Rattle.vsi_subject.specs.Files.{AreFiles, OfFile, OfFiles};
-ghost use Rattle.vsi_subject.specs.Performed.{TellsCheck, TellsMend, ToldClasses, ToldFlows, ToldImage, ToldListing, judgement_of, profile_of};
-ghost use Rattle.vsi_subject.specs.Raises.{ToldMendedJson};
+ghost use Rattle.vsi_subject.specs.Documents.{judgement_of};
+ghost use Rattle.vsi_subject.specs.Performed.{TellsCheck, TellsMend, ToldClasses, ToldFlows, ToldImage, ToldListing};
 ghost use Rattle.vsi_subject.specs.Refusals.{AsksCanonical, AsksCheck, AsksClasses, AsksFlows, AsksImage, AsksMend, NoOther, RefusesFile, RefusesFiles, RefusesLattice, FailsBy};
 ghost use Rattle.vsi_subject.specs.Reasons.{RefusesCheck, RefusesMend};
 ghost use Rattle.vsi_subject.specs.declared.failure.Failure.TheVariants.{Memory};
@@ -15,11 +15,11 @@ use std::alloc::Global;
 use vsi_answers::{Observer, Unanswered};
 use vsi_arguments::{Compilation, Judging, Mending};
 use vsi_conform::{Judgement, check_json_for};
-use vsi_documents::mend_json;
+use vsi_documents::{Reply, mend_json};
 use vsi_lattice::Lattice;
 use vsi_subject::{
-    CheckObserver, Fallible, Files, FlowObserver, InputKind, Reply, Subject, answered, good,
-    profile, two_classes,
+    CheckObserver, Fallible, Files, FlowObserver, InputKind, Subject, answered, good, profile,
+    two_classes,
 };
 
 /// The lattice, which is judged, and the bytes of the source text, which are read after it.
@@ -114,7 +114,8 @@ pub fn mend<'a, F: Files>(subject: &Subject<'_, F>, asked: Mending<'a>) -> Falli
     let source = text.as_slice();
     let is_strict = asked.compilation.is_strict;
     if asked.is_json {
-        return mended_line(subject.alloc, is_strict, &classes, source);
+        let told = mend_json(subject.alloc, profile(is_strict), &classes, source)?;
+        return Ok(told);
     }
     good(answered(raised(subject.alloc, asked.is_applied, is_strict, &classes, source)))
 }
@@ -182,16 +183,14 @@ fn checked<O: Observer>(
     vsi_answers::check(alloc, profile, classes, text, observer)
 }
 
-/// The judgement that the source text must pass.
-pub(crate) fn judgement(asked: Judging<'_>) -> Judgement
-    ensures { result ≡ judgement_of asked.entry }
+/// The judgement with `--steady`, and with `--strict`.
+pub(crate) fn judgement(is_steady: bool, is_strict: bool) -> Judgement
+    ensures { result ≡ judgement_of is_steady is_strict }
 {
-    if asked.is_steady {
-        Judgement::Steady
-    } else if asked.compilation.is_strict {
-        Judgement::Strict
-    } else {
-        Judgement::Base
+    match (is_steady, is_strict) {
+        (true, _) => Judgement::Steady,
+        (false, true) => Judgement::Strict,
+        (false, false) => Judgement::Base,
     }
 }
 
@@ -203,11 +202,13 @@ fn checked_line<'a, O: Observer>(
     text: &[u8],
     observer: &mut O,
 ) -> Fallible<'a, Reply>
-    ensures told { IfOk result (λ reply. TellsAnswer classes.now (judgement_of asked.entry) text.now
-        reply.is_good reply.text.items) }
+    ensures told { IfOk result (λ reply. TellsAnswer classes.now (judgement_of
+        asked.entry.is_steady asked.entry.compilation.is_strict) text.now reply.is_good
+        reply.text.items) }
     ensures failed { IfErr result (λ failure. failure ≡ Memory) }
 {
-    let checked = check_json_for(alloc, judgement(asked), classes, text, observer)?;
+    let judged = judgement(asked.is_steady, asked.compilation.is_strict);
+    let checked = check_json_for(alloc, judged, classes, text, observer)?;
     Ok(Reply {
         text: checked.line,
         is_good: checked.is_accepted,
@@ -229,22 +230,4 @@ fn raised(
         return vsi_answers::apply(alloc, profile, classes, text);
     }
     vsi_answers::mend(alloc, profile, classes, text)
-}
-
-/// The raises of a text as a line of JSON, and whether they serve.
-fn mended_line<'a>(
-    alloc: Global,
-    is_strict: bool,
-    classes: &Lattice,
-    text: &[u8],
-) -> Fallible<'a, Reply>
-    ensures told { IfOk result (λ reply. ToldMendedJson (profile_of is_strict) reply.is_good
-        classes.now text.now reply.text) }
-    ensures failed { IfErr result (λ failure. failure ≡ Memory) }
-{
-    let mended = mend_json(alloc, profile(is_strict), classes, text)?;
-    Ok(Reply {
-        text: mended.line,
-        is_good: mended.is_good,
-    })
 }

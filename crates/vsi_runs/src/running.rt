@@ -27,12 +27,12 @@ use std::io::Write;
 use vsi_answers::{Unanswered, start_words};
 use vsi_arguments::{Comparison, Execution, InitialStore};
 use vsi_devices::{Counted, run_words};
-use vsi_documents::{compare_json, run_json};
+use vsi_documents::{Reply, compare_json, run_json};
 use vsi_image::Verified;
 use vsi_lattice::{Class, Lattice};
 use vsi_machine::{Outcome, count_text, counted, stop_text};
 use vsi_subject::{
-    Failure, Fallible, Files, InputCache, InputKind, Reply, Subject, deliver, device_failure,
+    Failure, Fallible, Files, InputCache, InputKind, Subject, deliver, device_failure,
 };
 
 /// The line of JSON for the run of an image file, and whether it halts within its budget.
@@ -51,10 +51,7 @@ pub fn run_line<'a, F: Files>(
     let (verified, words) = image_and_words(subject, execution, initial_store)?;
     let budget = budget_of(subject.alloc, execution.budget, &verified)?;
     let told = run_json(subject.alloc, &verified, &words, budget)?;
-    Ok(Reply {
-        text: told.line,
-        is_good: told.is_good,
-    })
+    Ok(told)
 }
 
 /// The text in place of a path in a message about a setting.
@@ -359,10 +356,7 @@ fn compare_runs(alloc: Global, is_json: bool, runs: &TwoRuns) -> Result<Reply, U
             &runs.second,
             runs.budget,
         )?;
-        return Ok(Reply {
-            text: told.line,
-            is_good: told.is_good,
-        });
+        return Ok(told);
     }
     let found = vsi_answers::compare(
         alloc,

@@ -26,6 +26,7 @@ use std::alloc::{AllocError, Global};
 use vsi_answers::start_words;
 use vsi_arguments::{MonitorRule, StepComparison, Stepping};
 use vsi_compiler::{Source, image_of, read_source};
+use vsi_documents::Reply;
 use vsi_image::{Verified, encode};
 use vsi_lattice::{Class, Lattice};
 use vsi_machine::word_cell;
@@ -34,9 +35,7 @@ use vsi_steps::{
     Listing, Trace, listing_of, steps_json, steps_text, together_json, together_text, trace_of,
 };
 use vsi_store::sees;
-use vsi_subject::{
-    Failure, Fallible, Files, InputCache, InputKind, Reply, Subject, class_in, refused,
-};
+use vsi_subject::{Failure, Fallible, Files, InputCache, InputKind, Subject, class_in, refused};
 
 /// The files of a run in steps: the lattice, the source text, and the bytes of the store.
 #[derive(Drop)]

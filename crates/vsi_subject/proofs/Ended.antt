@@ -9,7 +9,7 @@ use Rattle.vsi_subject.specs.declared.failure.Failure.{Failure}
 use Rattle.vsi_subject.specs.declared.failure.Failure.TheVariants.{Differs}
 use Rattle.vsi_subject.specs.declared.replies.Place.{Place}
 use Rattle.vsi_subject.specs.declared.replies.Place.TheVariants.{Image, Out}
-use Rattle.vsi_subject.specs.declared.replies.Reply.{Reply}
+use Rattle.vsi_documents.specs.declared.answer.Reply.{Reply}
 use Rattle.vsi_subject.specs.Failures.{status_of}
 use Rattle.vsi_subject.specs.Holding.{Holding}
 use Rattle.vsi_subject.specs.Noted.{CompareBudget, Count, DriveBudget, IsNoteBefore, Notes, NotesAnswer, NotesStop, Nothing, Noting, Sentences, ViewBudget, Warning}

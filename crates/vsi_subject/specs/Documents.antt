@@ -3,12 +3,12 @@ use Rattle.std.specs.Prelude.{ℕ, ℤ, Bool, true, false, List, if◌then◌els
 use Rattle.std.specs.Global.{Vec}
 use Rattle.vsi_lattice.specs.declared.lattice.Lattice.{Lattice}
 use Rattle.vsi_types.specs.declared.rules.Profile.{Profile}
-use Rattle.vsi_types.specs.declared.rules.Profile.TheVariants.{Base, Strict}
+use Rattle.vsi_conform.specs.declared.interface.Judgement.TheVariants as judgement
 use Rattle.vsi_image.specs.declared.instr.Image.{Image}
 use Rattle.vsi_conform.specs.declared.interface.Judgement.{Judgement}
 use Rattle.vsi_documents.specs.Auditing as sarif
 use Rattle.vsi_documents.specs.Checking.{TellsDocument}
-use Rattle.vsi_documents.specs.Audits.{TellsAudit, TellsSteadiness}
+use Rattle.vsi_documents.specs.Audits.{TellsJudged}
 use Rattle.vsi_documents.specs.Classes.{TellsClasses}
 use Rattle.vsi_documents.specs.Flows.{TellsFlows}
 use Rattle.vsi_documents.specs.Runs.{TellsRun}
@@ -17,6 +17,11 @@ use Rattle.vsi_arguments.specs.declared.request.Execution.{Execution}
 use Rattle.vsi_arguments.specs.declared.request.InitialStore.{InitialStore}
 use Rattle.vsi_subject.specs.Files.{BeginsAt, IsBudgetOf}
 use Rattle.vsi_subject.specs.Holding.{Holding, IsImageAt, IsLatticeAt}
+
+-- The judgement with `--steady`, and with `--strict`.
+abbrev pub judgement_of : Bool → Bool → Judgement
+judgement_of is_steady is_strict =
+    if is_steady then judgement.Steady else if is_strict then judgement.Strict else judgement.Base
 
 -- The document of SARIF for the text of the file at a path, which is accepted or refused.
 abbrev pub ToldSarif : Judgement → List ℕ → Bool → Lattice → List ℕ → Vec ℕ → Type 0
@@ -30,21 +35,11 @@ ToldClassesJson P good l source text = TellsClasses l P source good text.items
 abbrev pub ToldFlowsJson : Profile → Bool → Lattice → List ℕ → Vec ℕ → Type 0
 ToldFlowsJson P good l source text = TellsFlows l P source good text.items
 
--- The line of JSON for an image that is judged by a profile or, with `--steady`, by its jumps.
-abbrev pub ToldAuditJson : Bool → Profile → Lattice → Image → Bool → Vec ℕ → Type 0
-ToldAuditJson true P l image good text = TellsSteadiness l image good text.items
-ToldAuditJson false P l image good text = TellsAudit l P image good text.items
-
--- The document of SARIF for the image of the file at a path, which is judged by a profile or, with `--steady`, by its
--- jumps.
-abbrev pub ToldAuditSarif : Bool → Profile → List ℕ → Lattice → Image → Bool → Vec ℕ → Type 0
-ToldAuditSarif true P path l image good text = sarif.TellsSteadiness l path image good text.items
-ToldAuditSarif false P path l image good text = sarif.TellsAudit l P path image good text.items
-
--- The line of JSON for an image, or the document of SARIF.
-abbrev pub ToldAudit : Bool → Audit → Profile → Lattice → Image → Bool → Vec ℕ → Type 0
-ToldAudit true a P l image good text = ToldAuditSarif a.is_steady P a.image.now l image good text
-ToldAudit false a P l image good text = ToldAuditJson a.is_steady P l image good text
+-- The line of JSON for an image, or the document of SARIF for the image of the file at a path.
+abbrev pub ToldAudit : Bool → Audit → Lattice → Image → Bool → Vec ℕ → Type 0
+ToldAudit true a l image good text =
+    sarif.TellsJudged l (judgement_of a.is_steady a.is_strict) a.image.now image good text.items
+ToldAudit false a l image good text = TellsJudged l (judgement_of a.is_steady a.is_strict) image good text.items
 
 -- The same for the files of an audit.
 pub record AuditsDocument (is_sarif : Bool) (holds : Holding) (a : Audit) (good : Bool) (text : Vec ℕ) : Type 0 where
@@ -52,7 +47,7 @@ pub record AuditsDocument (is_sarif : Bool) (holds : Holding) (a : Audit) (good 
   pub declared : IsLatticeAt holds a.lattice.now lattice
   pub image : Image
   pub held : IsImageAt holds a.image.now image
-  pub is : ToldAudit is_sarif a (if a.is_strict then Strict else Base) lattice image good text
+  pub is : ToldAudit is_sarif a lattice image good text
 
 -- The line of JSON for the run of the image of a file, which halts within its budget or doesn't.
 pub record RunsJson (holds : Holding) (e : Execution) (o : InitialStore) (good : Bool) (text : Vec ℕ) : Type 0 where

@@ -48,7 +48,6 @@ use Rattle.vsi_conform.specs.declared.interface.Answer.{Answer}
 use Rattle.vsi_conform.specs.declared.reader.InterfaceFile.{InterfaceFile}
 use Rattle.vsi_conform.specs.declared.interface.Interface.{Interface}
 use Rattle.vsi_conform.specs.declared.interface.Judgement.{Judgement}
-use Rattle.vsi_conform.specs.declared.interface.Judgement.TheVariants as judgement
 use Rattle.vsi_conform.specs.Checking.{TellsAnswer}
 use Rattle.vsi_answers.specs.Bounds.{IsBound, TellsBound}
 use Rattle.vsi_answers.specs.Judged.{AreImage}
@@ -74,7 +73,7 @@ use Rattle.vsi_arguments.specs.declared.request.Search.{Search}
 use Rattle.vsi_arguments.specs.declared.request.Request.{Request}
 use Rattle.vsi_arguments.specs.declared.request.Request.TheVariants as request
 use Rattle.vsi_subject.specs.Admitted.{IsAdmitted}
-use Rattle.vsi_subject.specs.Documents.{AuditsDocument, RunsJson, ToldClassesJson, ToldFlowsJson, ToldSarif}
+use Rattle.vsi_subject.specs.Documents.{AuditsDocument, judgement_of, RunsJson, ToldClassesJson, ToldFlowsJson, ToldSarif}
 use Rattle.vsi_subject.specs.Driven.{DrivesInput}
 use Rattle.vsi_subject.specs.Filed.{IsFiledBound, IsFollowed, IsJudged, filed_profile, lattice_file, policy_bytes}
 use Rattle.vsi_subject.specs.Holding.{Delivers, Holding, IsImageAt, IsLatticeAt, IsReadAt}
@@ -103,12 +102,6 @@ use Rattle.vsi_subject.specs.Works.{Drives, Lays, Lists, Puts, Replies, Runs, Ta
 -- The profile that judges.
 abbrev pub profile_of : Bool → Profile
 profile_of is_strict = if is_strict then Strict else Base
-
--- How a text is judged.
-abbrev pub judgement_of : Judging → Judgement
-judgement_of asked =
-    if asked.is_steady then judgement.Steady
-    else if asked.compilation.is_strict then judgement.Strict else judgement.Base
 
 -- `accepted`, for an accepted text, whose image is also steady with `--steady`.
 abbrev pub ToldAccepted : Bool → Bool → Lattice → List ℕ → Vec ℕ → Type 0
@@ -476,7 +469,8 @@ pub record ConformsFiles (holding : Holding) (c : Conformance) (conforms : Bool)
 -- The document that answers a request, and that says of its files that all is well or that something is wrong.
 abbrev pub DocumentOf : Holding → Document → Bool → Vec ℕ → Type 0
 DocumentOf holds (document.Sarif asked) accepted =
-    OfFiles holds asked.compilation (ToldSarif (judgement_of asked) asked.compilation.source.now accepted)
+    OfFiles holds asked.compilation
+    (ToldSarif (judgement_of asked.is_steady asked.compilation.is_strict) asked.compilation.source.now accepted)
 DocumentOf holds (document.Classes asked) good = OfFiles holds asked (ToldClassesJson (profile_of asked.is_strict) good)
 DocumentOf holds (document.Flows asked) good = OfFiles holds asked (ToldFlowsJson (profile_of asked.is_strict) good)
 DocumentOf holds (document.Audit asked) good = AuditsDocument false holds asked good
@@ -495,7 +489,8 @@ Well Kind false text = ⊥
 
 -- `check`: the text is accepted; with `--json` the line says whether it is.
 abbrev pub TellsCheck : Bool → Holding → Judging → Bool → Vec ℕ → Type 0
-TellsCheck true holds asked accepted = OfFiles holds asked.compilation (ToldJson (judgement_of asked) accepted)
+TellsCheck true holds asked accepted =
+    OfFiles holds asked.compilation (ToldJson (judgement_of asked.is_steady asked.compilation.is_strict) accepted)
 TellsCheck false holds asked accepted =
     Well (OfFiles holds asked.compilation (ToldAccepted asked.is_steady asked.compilation.is_strict)) accepted
 

@@ -16,7 +16,7 @@ pub use images::{made_image, most_of};
 pub use inputs::{CheckObserver, FlowObserver, InputCache, InputKind, Inputs, Kept, source_of};
 pub use interfaces::{AskedFiles, unusable};
 pub use loaded::{Loaded, Opened, Shared, load};
-pub use replies::{Place, Reply, good};
+pub use replies::{Place, good};
 pub use subject::{
     Subject, TWO_CLASSES, answered, class_in, declared_lattice, device_failure, faulty, profile,
     refused, two_classes, viewer_of, whole_in,

@@ -4,13 +4,7 @@ ghost use Rattle.std.specs.Prelude.{◌≡◌, Ok, Err, MatchResult};
 ghost use Rattle.vsi_subject.specs.Works.{good_reply};
 
 use crate::failure::Fallible;
-
-/// The text that answers a request, and whether it says that all is well.
-#[derive(Drop)]
-pub struct Reply {
-    pub text: Vec<u8>,
-    pub is_good: bool,
-}
+use vsi_documents::Reply;
 
 /// Where a good answer goes.
 #[derive(Clone, Copy)]

@@ -52,29 +52,15 @@ use vsi_store::StoreError;
 use vsi_syntax::Span;
 pub use window::Window;
 
-/// A refusal: a file by its path and its bytes, and why.
+/// Why a file is refused.
 #[derive(Clone, Copy)]
-pub enum RefusedFile<'a> {
+pub enum Reason<'a> {
     /// A source text over a lattice.
-    Source {
-        path: &'a [u8],
-        bytes: &'a [u8],
-        lattice: &'a Lattice,
-        error: &'a CompileError,
-    },
+    Source(&'a Lattice, &'a CompileError),
     /// A store file for an image.
-    Store {
-        path: &'a [u8],
-        bytes: &'a [u8],
-        image: &'a Image,
-        error: &'a StoreError,
-    },
+    Store(&'a Image, &'a StoreError),
     /// A lattice file, an image, or another file.
-    File {
-        path: &'a [u8],
-        bytes: &'a [u8],
-        fault: &'a Fault,
-    },
+    File(&'a Fault),
 }
 
 /// The path of a file as text.
@@ -151,39 +137,29 @@ pub fn source_explanation(
     shown(alloc, mode, path, source, place_of(error), &telling.words)
 }
 
-/// The explanation that follows a refusal: the place in the file, its line and carets where a place
-/// is known, then in whole sentences of at most 80 columns what is there, what could be there, and
-/// what to do. For `CompileError::Flow` it says only that a flow breaks the policy.
-pub fn explanation<'a>(
+/// The explanation that follows the refusal of the file with this path and these bytes: the place in
+/// the file, its line and carets where a place is known, then in whole sentences of at most 80
+/// columns what is there, what could be there, and what to do. For `CompileError::Flow` it says only
+/// that a flow breaks the policy.
+pub fn explanation(
     alloc: Global,
     mode: ColourMode,
-    refused: &RefusedFile<'a>,
+    path: &[u8],
+    bytes: &[u8],
+    reason: Reason<'_>,
 ) -> Result<Vec<u8>, AllocError>
     ensures plain { mode ≡ Plain → IfOk result (λ text. all_plain text.items ≡ true) }
 {
-    match refused {
-        RefusedFile::Source {
-            path,
-            bytes,
-            lattice,
-            error,
-        } => { source_explanation(alloc, mode, path, lattice, bytes, error) }
-        RefusedFile::Store {
-            path,
-            bytes,
-            image,
-            error,
-        } => {
-            let mut telling = Telling::new(alloc, path, bytes);
-            let place = telling.put_store(&image.globals, error)?;
-            shown(alloc, mode, path, bytes, place, &telling.words)
+    let mut telling = Telling::new(alloc, path, bytes);
+    let place = match reason {
+        Reason::Source(lattice, error) => {
+            telling.put_source(lattice, error)?;
+            place_of(error)
         }
-        RefusedFile::File { path, bytes, fault } => {
-            let mut telling = Telling::new(alloc, path, bytes);
-            let place = telling.put_file(fault)?;
-            shown(alloc, mode, path, bytes, place, &telling.words)
-        }
-    }
+        Reason::Store(image, error) => telling.put_store(&image.globals, error)?,
+        Reason::File(fault) => telling.put_file(fault)?,
+    };
+    shown(alloc, mode, path, bytes, place, &telling.words)
 }
 
 /// The classes of a lattice in a sentence, for who named one that it lacks.

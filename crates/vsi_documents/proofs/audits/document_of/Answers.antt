@@ -12,7 +12,7 @@ returns c =
       is = c.requires.is;
       says = c.requires.bounded;
       place = c.requires.place;
-      line = c.in_ok-line.ensures
+      line = c.in_ok-text.ensures
           ∙ ap (λ t. object_line (bound_members told.is_bounded told.found t)) (c.deref.ensures.value ∙ c.requires.line)
           ∙ ap (λ f. object_line (bound_members told.is_bounded f (bound_line c.requires.place c.requires.answer)))
           c.requires.found;

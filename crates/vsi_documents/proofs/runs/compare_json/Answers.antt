@@ -8,10 +8,10 @@ use Rattle.vsi_documents.specs.Comparisons.{comparison_members}
 use Rattle.vsi_diagnostics.specs.Members.{object_line}
 use Rattle.vsi_documents.proofs.runs.compare_json.Goals as goal
 
-pub returns-in_ok-line-in-Ok : goal.returns-in_ok-line-in-Ok
-returns-in_ok-line-in-Ok c =
+pub returns-in_ok-text-in-Ok : goal.returns-in_ok-text-in-Ok
+returns-in_ok-text-in-Ok c =
     let l = c.args.lattice.now in
-    let told = c.in_ok-line-in-Ok.ensures in
+    let told = c.in_ok-text-in-Ok.ensures in
     let compares = c.in-Ok.ensures.compares in
     let name = compares.name in
     let members : List ℕ → Image → Members = λ n image.

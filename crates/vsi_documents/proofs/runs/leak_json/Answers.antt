@@ -10,7 +10,7 @@ pub returns-in-Leak-clause-answer : goal.returns-in-Leak-clause-answer
 returns-in-Leak-clause-answer c =
     let l = c.args.lattice.now in
     let budget = c.args.wanted.now.effort.budget in
-    let told = c.in_ok-line-in-Leak.ensures in
+    let told = c.in_ok-text-in-Leak.ensures in
     record {
       program = c.in-Ok.ensures.found;
       image = c.in-Ok.found.0;

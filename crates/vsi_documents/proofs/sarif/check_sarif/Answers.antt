@@ -10,8 +10,8 @@ returns-in-Ok c =
     let s = c.in-Ok.ensures in
     record { answer = rw (← s.lattice, ← s.text) c.source_sarif.ensures }
 
-pub returns-in_ok-line-in-Err : goal.returns-in_ok-line-in-Err
-returns-in_ok-line-in-Err c =
+pub returns-in_ok-text-in-Err : goal.returns-in_ok-text-in-Err
+returns-in_ok-text-in-Err c =
     let error = c.in-Err.error in
     let e = c.in-Err.ensures in
     let other : error ≢ Memory = search rules in
@@ -19,6 +19,6 @@ returns-in_ok-line-in-Err c =
       answer = record {
         error = unsteady.Compile error;
         refused = unread_refused c.args.lattice.now c.args.judgement c.args.text.now error other e.refused e.exact;
-        writes = c.in_ok-line-in-Err.ensures;
+        writes = c.in_ok-text-in-Err.ensures;
       };
     }

@@ -11,17 +11,17 @@ returns-in-Ok c =
     let s = c.in-Ok.ensures in
     record { answer = rw (← s.lattice, ← s.text) c.source_mended.ensures }
 
-pub returns-in_ok-line-in-Err : goal.returns-in_ok-line-in-Err
-returns-in_ok-line-in-Err c =
+pub returns-in_ok-text-in-Err : goal.returns-in_ok-text-in-Err
+returns-in_ok-text-in-Err c =
     let l = c.args.lattice.now in
     let P = c.args.profile in
     let text = c.args.text.now in
     let error = c.in-Err.error in
     let e = c.in-Err.ensures in
     let other : error ≢ Memory = search rules in
-    let line = c.in_ok-line-in-Err.line.items in
+    let line = c.in_ok-text-in-Err.text.items in
     record {
       answer = unread_tells l P text error line other e.refused e.exact
           (subst (λ j. WritesRefusal l j text (unsteady.Compile error) line) c.judgement_by.ensures.judgement
-          c.in_ok-line-in-Err.ensures.refusal);
+          c.in_ok-text-in-Err.ensures.refusal);
     }

@@ -22,5 +22,5 @@ returns-in-Ok c =
     record {
       accepted = c.in-Ok.ensures.accepted;
       objects = map view c.in_ok-objects-in-Ok.objects;
-      line = c.in_ok-line-in-Ok.ensures;
+      line = c.in_ok-text-in-Ok.ensures;
     }

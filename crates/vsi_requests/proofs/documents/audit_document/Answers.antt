@@ -1,17 +1,34 @@
-use Rattle.std.proofs.Common.{inl, inr}
+use Rattle.std.proofs.Common.{inl, inr, subst}
+use Rattle.vsi_documents.specs.Auditing as sarif
+use Rattle.vsi_documents.specs.Audits.{TellsJudged}
 use Rattle.vsi_subject.specs.Refusals.{NoOther, RefusesImage, RefusesLattice}
 use Rattle.vsi_subject.proofs.Reasons.{failed_by}
 use Rattle.vsi_subject.proofs.Unrun.{Unseen}
 use Rattle.vsi_requests.proofs.documents.audit_document.Goals as goal
 
-pub returns-clause-told : goal.returns-clause-told
-returns-clause-told g c = record {
+pub returns-then-is_sarif-clause-told : goal.returns-then-is_sarif-clause-told
+returns-then-is_sarif-clause-told g c = rw c.if-is_sarif.true (record {
   lattice = c.in_ok-classes.classes;
   declared = c.in_ok-classes.ensures.read;
   image = c.in_ok-verified.verified;
   held = c.in_ok-verified.ensures.read;
-  is = c.in_ok-reply.ensures;
-}
+  is = subst
+      (λ j. sarif.TellsJudged c.in_ok-classes.classes j c.args.asked.image.now c.in_ok-verified.verified
+      c.in_ok-document.document.is_good c.in_ok-document.document.text.items)
+      c.judgement-judged.ensures c.in_ok-document.ensures.answer;
+})
+
+pub returns-clause-told : goal.returns-clause-told
+returns-clause-told g c = rw c.if-is_sarif.false (record {
+  lattice = c.in_ok-classes.classes;
+  declared = c.in_ok-classes.ensures.read;
+  image = c.in_ok-verified.verified;
+  held = c.in_ok-verified.ensures.read;
+  is = subst
+      (λ j. TellsJudged c.in_ok-classes.classes j c.in_ok-verified.verified c.in_ok-told.told.is_good
+      c.in_ok-told.told.text.items)
+      c.judgement-judged.ensures c.in_ok-told.ensures.answer;
+})
 
 pub returns-in_err-classes-clause-failed : goal.returns-in_err-classes-clause-failed
 returns-in_err-classes-clause-failed g c =

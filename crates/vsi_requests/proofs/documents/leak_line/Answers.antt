@@ -18,9 +18,9 @@ returns-in-Ok-clause-told g c =
       read = read.read;
       viewer = read.viewer;
       looks = read.looks;
-      is = subst (λ w. TellsSearch sought.lattice sought.text.items w c.in-Ok.told.is_good c.in-Ok.told.line.items)
+      is = subst (λ w. TellsSearch sought.lattice sought.text.items w c.in-Ok.told.is_good c.in-Ok.told.text.items)
           read.is
-          (subst (λ t. TellsSearch sought.lattice t sought.wanted c.in-Ok.told.is_good c.in-Ok.told.line.items)
+          (subst (λ t. TellsSearch sought.lattice t sought.wanted c.in-Ok.told.is_good c.in-Ok.told.text.items)
           c.as_slice-text.ensures.value c.in-Ok.ensures.answer);
     }
 

@@ -6,17 +6,34 @@ use Rattle.vsi_subject.specs.Partly.{AnswersFlows}
 use Rattle.vsi_subject.specs.Refusals.{AsksFlows, FailsBy, NoOther, RefusesFiles}
 use Rattle.vsi_subject.proofs.Partly.{fault_leaves, kept_leaves}
 use Rattle.vsi_subject.proofs.Reasons.{handed}
+use Rattle.vsi_subject.proofs.RefusalLemmas.{refuses_lattice}
 use Rattle.vsi_subject.proofs.Unrun.{fault_failed}
+use Rattle.vsi_requests.proofs.Walked.{walks_failed, walks_left, walks_performed}
 use Rattle.vsi_requests.proofs.layouts.put_flows.Goals as goal
 
+pub returns-in_err-classes-clause-left : goal.returns-in_err-classes-clause-left
+returns-in_err-classes-clause-left g c = kept_leaves _ 4 _ c.from_residual.result
+
+pub returns-in_err-classes-clause-failed : goal.returns-in_err-classes-clause-failed
+returns-in_err-classes-clause-failed g c = rw c.if-has_walks.true
+    (refuses_lattice (g.F.Files.holds c.args.subject.now.files.now) c.args.compilation
+    (AsksFlows true c.args.compilation.is_strict) c.from_residual.result c.in_err-classes.field-0.0
+    c.from_residual.ensures.1 c.in_err-classes.ensures.failed)
+
 pub returns-then-has_walks-clause-left : goal.returns-then-has_walks-clause-left
-returns-then-has_walks-clause-left g c = rw c.if-has_walks.true c.put_walks.ensures.left
+returns-then-has_walks-clause-left g c = rw c.if-has_walks.true
+    (walks_left _ _ _ _ _ _ c.in_ok-classes.ensures.told c.as_slice.ensures.value c.profile-profile.ensures _ _
+    c.write_text.result c.write_text.ensures.left)
 
 pub returns-then-has_walks-clause-performed : goal.returns-then-has_walks-clause-performed
-returns-then-has_walks-clause-performed g c = rw c.if-has_walks.true c.put_walks.ensures.performed
+returns-then-has_walks-clause-performed g c = rw c.if-has_walks.true
+    (walks_performed _ _ _ _ _ _ c.in_ok-classes.ensures.told c.as_slice.ensures.value c.profile-profile.ensures
+    c.in_ok-classes.text _ _ c.write_text.result c.write_text.ensures.written)
 
 pub returns-then-has_walks-clause-failed : goal.returns-then-has_walks-clause-failed
-returns-then-has_walks-clause-failed g c = rw c.if-has_walks.true c.put_walks.ensures.failed
+returns-then-has_walks-clause-failed g c = rw c.if-has_walks.true
+    (walks_failed _ _ _ _ _ _ c.in_ok-classes.ensures.told c.as_slice.ensures.value c.profile-profile.ensures
+    c.write_text.result c.write_text.ensures.failed)
 
 pub returns-in_err-lines-clause-left : goal.returns-in_err-lines-clause-left
 returns-in_err-lines-clause-left g c = kept_leaves _ 4 _ c.from_residual.result

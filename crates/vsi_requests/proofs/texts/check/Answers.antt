@@ -2,7 +2,8 @@ use Rattle.std.proofs.Common.{subst}
 use Rattle.std.proofs.lemmas.Result.{IfErr-weaker, IfOk-weaker}
 use Rattle.vsi_conform.specs.Checking.{TellsAnswer}
 use Rattle.vsi_subject.specs.Files.{OfFiles}
-use Rattle.vsi_subject.specs.Performed.{ToldAccepted, judgement_of}
+use Rattle.vsi_subject.specs.Documents.{judgement_of}
+use Rattle.vsi_subject.specs.Performed.{ToldAccepted}
 use Rattle.vsi_subject.specs.Refusals.{AsksCheck, NoOther, RefusesFiles, RefusesLattice, FailsBy}
 use Rattle.vsi_subject.proofs.RefusalLemmas.{judged_lattice, refuses_files}
 use Rattle.vsi_subject.proofs.Ended.{good_failed, good_told}
@@ -25,7 +26,8 @@ returns-then-asked-clause-told g c = rw c.if-asked.true
       source = c.in_ok-classes.text.items;
       files = c.in_ok-classes.ensures.told;
       is = subst
-          (λ s. TellsAnswer c.in_ok-classes.classes (judgement_of c.args.asked) s reply.is_good reply.text.items)
+          (λ s. TellsAnswer c.in_ok-classes.classes
+          (judgement_of c.args.asked.is_steady c.args.asked.compilation.is_strict) s reply.is_good reply.text.items)
           c.as_slice.ensures.value told;
     })
     c.checked_line.ensures.told)

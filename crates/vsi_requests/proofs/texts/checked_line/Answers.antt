@@ -7,4 +7,4 @@ returns-clause-told g c =
     subst
     (λ j. TellsAnswer c.args.classes.now j c.args.text.now c.in_ok-checked.checked.is_accepted
     c.in_ok-checked.checked.line.items)
-    c.judgement.ensures c.in_ok-checked.ensures.answer
+    c.judgement-judged.ensures c.in_ok-checked.ensures.answer

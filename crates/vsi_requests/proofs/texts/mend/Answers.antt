@@ -1,5 +1,4 @@
 use Rattle.std.proofs.Common.{subst}
-use Rattle.std.proofs.lemmas.Result.{IfErr-weaker, IfOk-weaker}
 use Rattle.vsi_documents.specs.Answers.{TellsMended}
 use Rattle.vsi_subject.specs.Files.{OfFiles}
 use Rattle.vsi_subject.specs.Performed.{profile_of}
@@ -19,24 +18,19 @@ returns-in_err-classes-clause-failed g c =
     c.in_err-classes.field-0.0 c.from_residual.ensures.1 c.in_err-classes.ensures.failed
 
 pub returns-then-asked-clause-told : goal.returns-then-asked-clause-told
-returns-then-asked-clause-told g c = rw c.if-asked.true
-    (IfOk-weaker c.mended_line.result _ _
-    (λ reply told. record {
-      lattice = c.in_ok-classes.classes;
-      source = c.in_ok-classes.text.items;
-      files = c.in_ok-classes.ensures.told;
-      is = subst
-          (λ s. TellsMended c.in_ok-classes.classes (profile_of c.args.asked.compilation.is_strict) s reply.is_good
-          reply.text.items)
-          c.as_slice-source.ensures.value told;
-    })
-    c.mended_line.ensures.told)
-
-pub returns-then-asked-clause-failed : goal.returns-then-asked-clause-failed
-returns-then-asked-clause-failed g c = rw c.if-asked.true
-    (IfErr-weaker c.mended_line.result _ _
-    (memory_fails (RefusesLattice (g.F.Files.holds c.args.subject.now.files.now) c.args.asked.compilation.lattice.now) NoOther)
-    c.mended_line.ensures.failed)
+returns-then-asked-clause-told g c = rw c.if-asked.true (record {
+  lattice = c.in_ok-classes.classes;
+  source = c.in_ok-classes.text.items;
+  files = c.in_ok-classes.ensures.told;
+  is = subst
+      (λ P. TellsMended c.in_ok-classes.classes P c.in_ok-classes.text.items c.in_ok-told.told.is_good
+      c.in_ok-told.told.text.items)
+      c.profile.ensures
+      (subst
+      (λ s. TellsMended c.in_ok-classes.classes c.profile.result s c.in_ok-told.told.is_good
+      c.in_ok-told.told.text.items)
+      c.as_slice-source.ensures.value c.in_ok-told.ensures.answer);
+})
 
 pub returns-clause-told : goal.returns-clause-told
 returns-clause-told g c = rw c.if-asked.false

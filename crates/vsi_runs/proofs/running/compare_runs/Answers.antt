@@ -10,11 +10,11 @@ returns-then-is_json-clause-told c = rw c.if-is_json.true
     let told = c.in_ok-told.told in
     subst
     (λ w. IsComparisonJson runs.lattice runs.viewer runs.verified runs.first.items w runs.budget told.is_good
-    told.line.items)
+    told.text.items)
     c.deref-then-is_json.ensures.value
     (subst
     (λ w. IsComparisonJson runs.lattice runs.viewer runs.verified w c.deref-then-is_json.result.now runs.budget
-    told.is_good told.line.items)
+    told.is_good told.text.items)
     c.deref.ensures.value c.in_ok-told.ensures.answer))
 
 pub returns-in_err-told-clause-failed : goal.returns-in_err-told-clause-failed

@@ -14,7 +14,7 @@ returns-clause-told g c = record {
   within = c.in_ok-budget.ensures.budget;
   is = subst
       (λ w. TellsRun c.in_ok-verified.verified w c.in_ok-budget.budget c.in_ok-told.told.is_good
-      c.in_ok-told.told.line.items)
+      c.in_ok-told.told.text.items)
       c.deref.ensures.value c.in_ok-told.ensures.answer;
 }
 
