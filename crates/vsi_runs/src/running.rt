@@ -213,28 +213,8 @@ pub struct Running<'a> {
     pub has_count: bool,
 }
 
-/// The number of instructions of a run that halts within the budget, or its position at the end of
-/// the budget.
-fn count_lines<'a>(
-    alloc: Global,
-    verified: &Verified,
-    words: &[i64],
-    budget: u64,
-) -> Fallible<'a, Vec<u8>>
-    ensures memory { IfErr result (λ failure. failure ≡ Memory) }
-    ensures counted { Halts (run_of verified.now words.now budget)
-        → IfOk result (λ text. Counts true verified.now words.now text.items) }
-{
-    let Ok(count) = counted(alloc, verified, words, budget) else {
-        return Err(Failure::Memory);
-    };
-    match count.outcome {
-        Outcome::Halted => Ok(count_text(alloc, count.instructions)?),
-        Outcome::OutOfBudget => Ok(stop_text(alloc, &count)?),
-    }
-}
-
-/// Appends the count of a run's instructions to the note, if it is requested.
+/// Appends the number of instructions of a run that halts within the budget to the note, or its
+/// position at the end of the budget, if it is requested.
 fn put_count<'a>(
     alloc: Global,
     is_asked: bool,
@@ -247,11 +227,17 @@ fn put_count<'a>(
     ensures counted { note.old.items ≡ [] → Halts (run_of verified.now words.now budget)
         → OnOk result (Counts is_asked verified.now words.now note.new.items) }
 {
-    if is_asked {
-        let lines = count_lines(alloc, verified, words, budget)?;
-        note.extend_from_slice(&lines)?;
+    if !is_asked {
+        return Ok(());
     }
-    Ok(())
+    let Ok(count) = counted(alloc, verified, words, budget) else {
+        return Err(Failure::Memory);
+    };
+    let lines = match count.outcome {
+        Outcome::Halted => count_text(alloc, count.instructions)?,
+        Outcome::OutOfBudget => stop_text(alloc, &count)?,
+    };
+    Ok(note.extend_from_slice(&lines)?)
 }
 
 /// Runs an image file and writes its output; the note gets the text for standard error.

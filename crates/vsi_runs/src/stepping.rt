@@ -266,23 +266,8 @@ fn rule_of(rule: MonitorRule) -> Rule
     }
 }
 
-/// The answer of a monitored run that doesn't come to its end: only one that is stopped has a text.
-fn unfinished_reply<'a>(text: Vec<u8>, unfinished: Unfinished) -> Fallible<'a, Reply>
-    ensures stopped { IfOk result (λ reply. (reply.is_good ≡ false)
-        × ((stop : Stop) × (unfinished ≡ ends.Stopped stop))) }
-    ensures failed { IfErr result (FailsBy (λ reason. reason ≡ unanswered.OutOfBudget) NoOther) }
-{
-    match unfinished {
-        Unfinished::Stopped(_) => Ok(Reply {
-            text,
-            is_good: false,
-        }),
-        Unfinished::Limit => Err(Failure::OutOfBudget),
-        Unfinished::Memory => Err(Failure::Memory),
-    }
-}
-
-/// The answer of a monitored run, and whether it has ended.
+/// The answer of a monitored run, and whether it has ended. One that isn't stopped and comes to no
+/// end has no answer.
 fn ended_reply<'a>(text: Vec<u8>, run: Result<Watched, Unfinished>) -> Fallible<'a, Reply>
     ensures ended { IfOk result (λ reply. reply.is_good ≡ true
         → (last : Watched) × (run ≡ Ok last)) }
@@ -291,11 +276,16 @@ fn ended_reply<'a>(text: Vec<u8>, run: Result<Watched, Unfinished>) -> Fallible<
     ensures failed { IfErr result (FailsBy (λ reason. reason ≡ unanswered.OutOfBudget) NoOther) }
 {
     match run {
-        Ok(_last) => Ok(Reply {
-            text,
-            is_good: true,
-        }),
-        Err(unfinished) => unfinished_reply(text, unfinished),
+        Ok(_last) => {
+            let is_good = true;
+            Ok(Reply { is_good, text })
+        }
+        Err(Unfinished::Stopped(_)) => {
+            let is_good = false;
+            Ok(Reply { is_good, text })
+        }
+        Err(Unfinished::Limit) => Err(Failure::OutOfBudget),
+        Err(Unfinished::Memory) => Err(Failure::Memory),
     }
 }
 
