@@ -1,6 +1,7 @@
 //! How a request is carried out, or what is wrong with its arguments.
 
 use crate::arguments::number_in;
+use crate::explained::{page, subject_page};
 use crate::message::message;
 use crate::request::{Colour, Manner, Reporting};
 use crate::usage::program;
@@ -10,7 +11,6 @@ use clap::parser::ValueSource;
 use std::alloc::Global;
 use thiserror::Error;
 use vsi_emit::is_function_name;
-use vsi_explain::{page, subject_page};
 
 /// Why arguments make no request that the program can carry out.
 #[derive(Debug, Drop, Error)]

@@ -9,13 +9,13 @@ use crate::arguments::{
     at_most_one, behind, has_flag, is_end, is_valued, number, number_in, one, one_or_two, operands,
     rest_of, three, two, value, values_of,
 };
+use crate::explained::{page, subject_page};
 use crate::run_requests::{attempt, compare, compare_steps, drive, monitor, run, steps, view};
 use crate::{
     AnswerForm, Audit, Bounding, Compilation, Conformance, Document, Drawing, Emission, Judging,
     Layout, Looking, Mending, RUNS_BUDGET, Request, SEARCH, Search, Serving, Visibility,
 };
 use std::alloc::{AllocError, Global};
-use vsi_explain::{page, subject_page};
 
 /// The compilation of the two operands.
 fn compilation<'a>(words: &'a [String]) -> Option<Compilation<'a>>

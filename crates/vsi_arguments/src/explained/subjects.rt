@@ -1,7 +1,7 @@
 //! The pages of the subjects: the language, its files, and the judgements.
 
 ghost use Rattle.std.specs.Prelude.{◌≡◌, ◌↔◌, IsSome, option_map, true};
-ghost use Rattle.vsi_explain.specs.Subjects as spec;
+ghost use Rattle.vsi_arguments.specs.Subjects as spec;
 
 /// The page of a subject, by its name: a line that says what it is about, the subject by an
 /// example, and a transcript. Each line ends with a line feed and has at most 80 bytes of ASCII.

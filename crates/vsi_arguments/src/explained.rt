@@ -1,15 +1,8 @@
 //! The pages of `vsi explain`: what each refusal means, and the language with its files.
-//!
-//! `page` returns a page for each number that the program or the library reports; `specs/Numbers`
-//! lists the numbers, and `specs/Pages` the page for each. `subject_page` returns a page for each
-//! name of `specs/Subjects`, which also defines the pages.
-//!
-//! To be believed: `specs/Numbers`, `specs/Pages`, `specs/Subjects`.
-#![tactic(auto)]
 
 ghost use Rattle.std.specs.Prelude.{◌≡◌, ◌↔◌, ◌<◌, IsSome, length, map, option_map, slice_get, true};
-ghost use Rattle.vsi_explain.specs.Numbers as spec;
-ghost use Rattle.vsi_explain.specs.Pages as pages_spec;
+ghost use Rattle.vsi_arguments.specs.Pages as pages_spec;
+ghost use Rattle.vsi_arguments.specs.Refusals as spec;
 
 mod image;
 mod lattice;
@@ -26,7 +19,8 @@ use text::TEXT;
 /// The page at a place, counted from 0, if there are as many pages.
 fn page_at(pages: &[&'static str], place: u64) -> Option<&'static str>
     ensures known { IsSome result ↔ place < length pages.now }
-    ensures exact { option_map (λ page. page.now) result ≡ slice_get (map (λ page. page.now) pages.now) place }
+    ensures exact { option_map (λ page. page.now) result
+        ≡ slice_get (map (λ page. page.now) pages.now) place }
 {
     match pages.get(place as usize) {
         Some(page) => Some(*page),
