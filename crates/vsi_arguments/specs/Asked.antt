@@ -32,9 +32,9 @@ use Rattle.vsi_arguments.specs.declared.request.AnswerForm.TheVariants.{Lines, J
 use Rattle.vsi_arguments.specs.declared.request.Request.{Request}
 use Rattle.vsi_arguments.specs.declared.request.Request.TheVariants.{Try, Lsp, Check, Document as Documented, Conform, Classes, Flows, Mend, Build, List as Listing, Audit, Source, EmitC, Bound, Run, View, ViewWithin, Drive, Compare, CompareSteps, Steps, Monitor, Leak, Report, Draw, Policy, Visible, Format, Layout, Lattice as Shaped, Explain}
 use Rattle.vsi_arguments.specs.declared.request.TheConstants.{EVERY, RUNS_BUDGET, SEARCH, STEPS, TRY_BUDGET}
-use Rattle.vsi_explain.specs.Pages.{page_of}
-use Rattle.vsi_explain.specs.Subjects.{subject_page}
 use Rattle.vsi_arguments.specs.Numbers.{GivesBudget, number_in}
+use Rattle.vsi_arguments.specs.Pages.{page_of}
+use Rattle.vsi_arguments.specs.Subjects.{subject_page}
 use Rattle.vsi_arguments.specs.Words.{dashed_in, has_flag, is_own, operands_in, shown, texts, values_in}
 
 -- The name of the subcommand of a request for a document.

@@ -15,12 +15,10 @@ use std::alloc::{AllocError, Global};
 fn is_option(options: &[&str], word: &[u8]) -> bool
     ensures { result ≡ spec.is_option (spec.shown options.now) word.now }
 {
-    let mut rest = options;
-    while let [option, behind @ ..] = rest {
+    for option in options {
         if word == option.as_bytes() || joined(option.as_bytes(), word).is_some() {
             return true;
         }
-        rest = behind;
     }
     false
 }
@@ -30,9 +28,8 @@ fn are_own(words: &[String], flags: &[&str], options: &[&str]) -> bool
     ensures { result ≡ list_all (spec.is_own (spec.shown flags.now) (spec.shown options.now))
         (spec.dashed_in false (spec.texts words.now)) }
 {
-    let mut rest = words;
     let mut is_value = false;
-    while let [word, behind @ ..] = rest {
+    for word in words {
         if is_value {
             is_value = false;
         } else if is_end(word.as_bytes()) {
@@ -43,7 +40,6 @@ fn are_own(words: &[String], flags: &[&str], options: &[&str]) -> bool
             }
             is_value = is_valued(word.as_bytes());
         }
-        rest = behind;
     }
     true
 }
@@ -113,12 +109,10 @@ pub(crate) fn is_end(word: &[u8]) -> bool
 pub(crate) fn is_among(names: &[&str], word: &[u8]) -> bool
     ensures { result ≡ spec.is_among (spec.shown names.now) word.now }
 {
-    let mut rest = names;
-    while let [name, behind @ ..] = rest {
+    for name in names {
         if word == name.as_bytes() {
             return true;
         }
-        rest = behind;
     }
     false
 }
@@ -144,29 +138,27 @@ pub(crate) fn is_dashed(word: &[u8]) -> bool
 pub(crate) fn has_flag(words: &[String], flag: &str) -> bool
     ensures { result ≡ spec.has_flag flag.now (spec.texts words.now) }
 {
-    let mut rest = words;
-    while let [word, behind @ ..] = rest {
+    for word in words {
         if is_end(word.as_bytes()) {
             return false;
         }
         if word.as_bytes() == flag.as_bytes() {
             return true;
         }
-        rest = behind;
     }
     false
 }
 
-/// Whether the text at a position is the argument.
-fn is_at(texts: &[&[u8]], place: usize, word: &[u8]) -> bool
-    ensures within { result ≡ true → place < length texts.now }
-    ensures text { result ≡ true → drop place (spec.shown texts.now)
-        ≡ word.now ∷ drop (place + 1) (spec.shown texts.now) }
+/// The position after this one, if the text at this one is the argument.
+fn past(texts: &[&[u8]], place: usize, word: &[u8]) -> Option<usize>
+    ensures within { IfSome result (λ next. next ≤ length texts.now) }
+    ensures text { IfSome result (λ next. drop place (spec.shown texts.now)
+        ≡ word.now ∷ drop next (spec.shown texts.now)) }
 {
-    if place >= texts.len() {
-        return false;
+    match texts.get(place) {
+        Some(text) if *text == word => Some(place + 1),
+        _ => None,
     }
-    texts[place] == word
 }
 
 /// The part of an argument after the option and `=`.
@@ -191,34 +183,26 @@ pub(crate) fn joined<'a>(option: &[u8], word: &'a [u8]) -> Option<&'a [u8]>
     }
 }
 
-/// Whether these are the values that the arguments give for an option.
-pub(crate) fn has_values(words: &[String], option: &str, values: &[&[u8]]) -> bool
-    ensures { result ≡ true
-        → spec.values_in option.now false (spec.texts words.now) ≡ spec.shown values.now }
+/// Checks that these are the values that the arguments give for an option.
+pub(crate) fn has_values(words: &[String], option: &str, values: &[&[u8]]) -> Option<()>
+    ensures { IfSome result (λ _.
+        spec.values_in option.now false (spec.texts words.now) ≡ spec.shown values.now) }
 {
-    let mut rest = words;
     let mut done = 0;
     let mut is_value = false;
-    while let [word, behind @ ..] = rest {
+    for word in words {
         if is_value {
-            if !is_at(values, done, word.as_bytes()) {
-                return false;
-            }
+            done = past(values, done, word.as_bytes())?;
             is_value = false;
-            done += 1;
         } else if is_end(word.as_bytes()) {
             break;
         } else if word.as_bytes() == option.as_bytes() {
             is_value = true;
         } else if let Some(value) = joined(option.as_bytes(), word.as_bytes()) {
-            if !is_at(values, done, value) {
-                return false;
-            }
-            done += 1;
+            done = past(values, done, value)?;
         }
-        rest = behind;
     }
-    done == values.len()
+    (done == values.len()).then_some(())
 }
 
 /// The first value that the arguments give for an option, and the arguments after it.
@@ -266,12 +250,12 @@ pub(crate) fn value<'a>(words: &'a [String], option: &str) -> Option<Option<&'a 
     ensures { IfSome result (λ value.
         spec.values_in option.now false (spec.texts words.now) ≡ given value) }
 {
-    match next_value(words, option) {
-        Some((value, _)) => {
-            has_values(words, option, [value.as_bytes()].as_slice()).then_some(Some(value))
-        }
-        None => has_values(words, option, &[]).then_some(None),
-    }
+    let Some((value, _)) = next_value(words, option) else {
+        has_values(words, option, &[])?;
+        return Some(None);
+    };
+    has_values(words, option, [value.as_bytes()].as_slice())?;
+    Some(Some(value))
 }
 
 /// The values of an option, if there are two.
@@ -282,33 +266,24 @@ pub(crate) fn two_values<'a>(words: &'a [String], option: &str) -> Option<(&'a s
     let (first, rest) = next_value(words, option)?;
     let (second, _) = next_value(rest, option)?;
     let both = [first.as_bytes(), second.as_bytes()];
-    has_values(words, option, both.as_slice()).then_some((first, second))
+    has_values(words, option, both.as_slice())?;
+    Some((first, second))
 }
 
-/// Arguments, each of which is an operand if `--` came before them.
-#[derive(Clone, Copy)]
-struct Left<'a> {
-    words: &'a [String],
-    is_over: bool,
-}
-
-/// The first operand of arguments, each of which is one if `is_over`, and the arguments after it.
-fn next_operand<'a>(words: &'a [String], is_over: bool) -> Option<(&'a str, Left<'a>)>
+/// The first operand of arguments, each of which is one if `is_over`, and the arguments after it
+/// with whether each of them is one.
+fn next_operand<'a>(words: &'a [String], is_over: bool) -> Option<(&'a str, (&'a [String], bool))>
     ensures operand { MatchOption result (spec.left is_over false (spec.texts words.now) ≡ [])
         (λ next. spec.left is_over false (spec.texts words.now)
-        ≡ next.0.now ∷ spec.left next.1.is_over false (spec.texts next.1.words.now)) }
-    ensures shorter { IfSome result (λ next. length next.1.words.now < length words.now) }
+        ≡ next.0.now ∷ spec.left next.1.1 false (spec.texts next.1.0.now)) }
+    ensures shorter { IfSome result (λ next. length next.1.0.now < length words.now) }
 {
     let mut rest = words;
     let mut is_value = false;
     let mut is_past = is_over;
     while let [word, behind @ ..] = rest {
-        let left = Left {
-            words: behind,
-            is_over: is_past,
-        };
         if is_past {
-            return Some((word.as_str(), left));
+            return Some((word.as_str(), (behind, true)));
         }
         if is_value {
             is_value = false;
@@ -317,7 +292,7 @@ fn next_operand<'a>(words: &'a [String], is_over: bool) -> Option<(&'a str, Left
         } else if is_valued(word.as_bytes()) {
             is_value = true;
         } else if !is_dashed(word.as_bytes()) {
-            return Some((word.as_str(), left));
+            return Some((word.as_str(), (behind, false)));
         }
         rest = behind;
     }
@@ -328,10 +303,10 @@ fn next_operand<'a>(words: &'a [String], is_over: bool) -> Option<(&'a str, Left
 pub(crate) fn at_most_one<'a>(words: &'a [String], is_over: bool) -> Option<Option<&'a str>>
     ensures { IfSome result (λ only. spec.left is_over false (spec.texts words.now) ≡ given only) }
 {
-    let Some((first, left)) = next_operand(words, is_over) else {
+    let Some((first, (left, is_past))) = next_operand(words, is_over) else {
         return Some(None);
     };
-    match next_operand(left.words, left.is_over) {
+    match next_operand(left, is_past) {
         Some(_) => None,
         None => Some(Some(first)),
     }
@@ -347,8 +322,7 @@ pub(crate) fn operands<'a>(alloc: Global, words: &'a [String]) -> Result<Vec<&'a
     let mut is_over = false;
     while let Some((operand, left)) = next_operand(rest, is_over) {
         operands.push(operand.as_bytes())?;
-        rest = left.words;
-        is_over = left.is_over;
+        (rest, is_over) = left;
     }
     Ok(operands)
 }
@@ -366,8 +340,8 @@ pub(crate) fn one_or_two<'a>(words: &'a [String]) -> Option<(&'a str, Option<&'a
     ensures { IfSome result (λ some.
         spec.operands_in false (spec.texts words.now) ≡ some.0.now ∷ given some.1) }
 {
-    let (first, left) = next_operand(words, false)?;
-    Some((first, at_most_one(left.words, left.is_over)?))
+    let (first, (left, is_over)) = next_operand(words, false)?;
+    Some((first, at_most_one(left, is_over)?))
 }
 
 /// The operands, if there are two.
@@ -384,35 +358,24 @@ pub(crate) fn three<'a>(words: &'a [String]) -> Option<(&'a str, (&'a str, &'a s
     ensures { IfSome result (λ some. spec.operands_in false (spec.texts words.now)
         ≡ some.0.now ∷ some.1.0.now ∷ some.1.1.now ∷ []) }
 {
-    let (first, left) = next_operand(words, false)?;
-    let (second, left) = next_operand(left.words, left.is_over)?;
-    let third = at_most_one(left.words, left.is_over)??;
-    Some((first, (second, third)))
-}
-
-/// A number with one more digit, if the byte is a digit and the result fits in 64 bits.
-fn with_digit(number: u64, byte: u8) -> Option<u64>
-    ensures digit { IfSome result (λ longer. is_ascii_digit byte ≡ true) }
-    ensures number { IfSome result (λ longer. longer ≡ number * 10 + (byte - 48)) }
-{
-    if !byte.is_ascii_digit() {
-        return None;
-    }
-    number.checked_mul(10)?.checked_add(u64::from(byte - b'0'))
+    let (first, (left, is_over)) = next_operand(words, false)?;
+    let (second, (left, is_over)) = next_operand(left, is_over)?;
+    Some((first, (second, at_most_one(left, is_over)??)))
 }
 
 /// The number that an argument spells in decimal digits alone, if it fits in 64 bits.
 pub(crate) fn number_in(word: &[u8]) -> Option<u64>
     ensures { IfSome result (λ number. numbers.number_in word.now ≡ Some number) }
 {
-    if word.is_empty() {
-        return None;
-    }
-    let mut rest = word;
+    word.first()?;
     let mut number: u64 = 0;
-    while let [byte, behind @ ..] = rest {
-        number = with_digit(number, *byte)?;
-        rest = behind;
+    for byte in word {
+        if !byte.is_ascii_digit() {
+            return None;
+        }
+        number = number
+            .checked_mul(10)?
+            .checked_add(u64::from(*byte - b'0'))?;
     }
     Some(number)
 }
@@ -428,27 +391,14 @@ pub(crate) fn number(words: &[String], option: &str, otherwise: Option<u64>) -> 
     }
 }
 
-/// The budget of a run, `auto` or a number, which is required.
-pub(crate) fn budget(words: &[String]) -> Option<Budget>
-    ensures { IfSome result (λ budget.
-        numbers.GivesBudget (spec.values_in (codes "--budget") false (spec.texts words.now)) None budget) }
-{
-    if has_values(words, "--budget", [b"auto".as_slice()].as_slice()) {
-        return Some(Budget::Auto);
-    }
-    Some(Budget::Number(number(words, "--budget", None)?))
-}
-
-/// The budget of a run, which is `auto` where none is given.
-pub(crate) fn budget_or_auto(words: &[String]) -> Option<Budget>
+/// The budget of a run, `auto` or a number, or the default where none is given.
+pub(crate) fn budget(words: &[String], default: Option<Budget>) -> Option<Budget>
     ensures { IfSome result (λ budget. numbers.GivesBudget
-        (spec.values_in (codes "--budget") false (spec.texts words.now)) (Some Auto) budget) }
+        (spec.values_in (codes "--budget") false (spec.texts words.now)) default budget) }
 {
-    if has_values(words, "--budget", &[]) {
-        return Some(Budget::Auto);
-    }
-    match budget(words)? {
-        Budget::Auto => Some(Budget::Auto),
-        Budget::Number(number) => Some(Budget::Number(number)),
+    match value(words, "--budget")? {
+        Some(value) if value.as_bytes() == b"auto".as_slice() => Some(Budget::Auto),
+        Some(value) => Some(Budget::Number(number_in(value.as_bytes())?)),
+        None => default,
     }
 }

@@ -4,11 +4,13 @@
 //! carried out. `request_of` reads the request from them, down to the numbers of its options and the
 //! page that `explain` names, and answers none where an argument is a flag or an option that its
 //! subcommand lacks. The program prints help only if `asks_help` finds that the arguments ask for it.
+//! `page` and `subject_page` return the pages of `explain`, on refusals and on subjects.
 //!
 //! To be believed: all files of `specs/`.
 #![tactic(auto)]
 
 mod arguments;
+mod explained;
 pub mod laws;
 mod manner;
 mod message;
@@ -21,6 +23,7 @@ mod runs;
 mod subcommand;
 mod usage;
 
+pub use explained::{page, subject_page};
 pub use manner::{ArgumentsError, manner_of};
 pub use request::{
     AnswerForm, Attempt, Audit, Bounding, Budget, Colour, Comparison, Compilation, Conformance,

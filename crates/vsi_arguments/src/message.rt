@@ -34,14 +34,6 @@ const UNRECOGNIZED: &str = "error: unrecognized subcommand '";
 /// The beginning of a tip to write `--` before an argument. No argument of the program needs one.
 const DASHES: &str = "  tip: to pass ";
 
-/// Adds texts.
-fn put(told: &mut String, parts: &[&str]) -> Result<(), AllocError> {
-    for part in parts {
-        told.push_str(part)?;
-    }
-    Ok(())
-}
-
 /// Rewrites a message of the command-line parser. If it names an option of other subcommands, its
 /// tip lists them. If arguments are missing or should be numbers, tips explain them. A tip to write
 /// `--` is left out.
@@ -53,14 +45,13 @@ fn with_tips(alloc: Global, text: &str) -> Result<String, AllocError> {
     };
     told.push_str(mistake)?;
     put_tips(&mut told, mistake)?;
-    put_attempt(&mut told, mistake)?;
     let is_owned = put_owners(alloc, &mut told, mistake)?;
     match tip_of(rest) {
         Some((tip, behind)) if is_owned || tip.starts_with(DASHES) => {
-            put(&mut told, &[GAP, behind])?;
+            write!(told, "{GAP}{behind}")?;
         }
-        Some((tip, behind)) => put(&mut told, &[GAP, tip, GAP, behind])?,
-        None => put(&mut told, &[GAP, rest])?,
+        Some((tip, behind)) => write!(told, "{GAP}{tip}{GAP}{behind}")?,
+        None => write!(told, "{GAP}{rest}")?,
     }
     Ok(told)
 }
@@ -72,30 +63,27 @@ fn tip_of(rest: &str) -> Option<(&str, &str)> {
     first.starts_with(TIP).then_some((first, behind))
 }
 
-/// Adds the tips for arguments that are missing or should be numbers, in a paragraph.
+/// Adds the tips for arguments that are missing or should be numbers, in a paragraph, and a tip that
+/// shows `try` if the path of a source text is given in place of a subcommand.
 fn put_tips(told: &mut String, mistake: &str) -> Result<(), AllocError> {
     let mut is_first = true;
     for (part, tip) in &TIPS {
         if mistake.contains(*part) {
             let gap = if is_first { GAP } else { "\n" };
-            put(told, &[gap, TIP, tip])?;
+            write!(told, "{gap}{TIP}{tip}")?;
             is_first = false;
         }
     }
-    Ok(())
-}
-
-/// Adds a tip that shows `try`, if the path of a source text is given in place of a subcommand.
-fn put_attempt(told: &mut String, mistake: &str) -> Result<(), AllocError> {
-    let Some(rest) = mistake.strip_prefix(UNRECOGNIZED) else {
-        return Ok(());
-    };
-    let path = rest.strip_suffix("'").unwrap_or(rest);
-    if !path.contains(".") && !path.contains("/") {
-        return Ok(());
+    match mistake.strip_prefix(UNRECOGNIZED) {
+        Some(rest) if rest.contains(".") || rest.contains("/") => {
+            let path = rest.strip_suffix("'").unwrap_or(rest);
+            write!(
+                told,
+                "{GAP}{TIP}`vsi try {path}` judges a source text and runs it"
+            )
+        }
+        _ => Ok(()),
     }
-    let end = "` judges a source text and runs it";
-    put(told, &[GAP, TIP, "`vsi try ", path, end])
 }
 
 /// The name of the first option that a mistake quotes, if it is about an unexpected argument.
@@ -104,14 +92,6 @@ fn unexpected_option(mistake: &str) -> Option<&str> {
     let (_, quoted) = argument.split_once("'--")?;
     let (option, _) = quoted.split_once("'")?;
     Some(option)
-}
-
-/// Adds names, which have commas between them, with `and` before the last.
-fn put_names(told: &mut String, names: &str) -> Result<(), AllocError> {
-    match names.rsplit_once(", ") {
-        Some((others, last)) => put(told, &[others, " and ", last]),
-        None => told.push_str(names),
-    }
 }
 
 /// Adds a tip that lists the subcommands with the option of the mistake, if there are any.
@@ -124,43 +104,29 @@ fn put_owners(alloc: Global, told: &mut String, mistake: &str) -> Result<bool, A
     if owners.is_empty() && !is_of_most {
         return Ok(false);
     }
-    put(told, &[GAP, TIP, "'--", option, "' is an option of "])?;
-    match option {
-        "color" => told.push_str(MOST)?,
-        "explain" => put(told, &[MOST, ", as in `vsi try a.vsi --explain`"])?,
-        _ => put_names(told, owners.as_str())?,
+    write!(told, "{GAP}{TIP}'--{option}' is an option of ")?;
+    match (option, owners.as_str().rsplit_once(", ")) {
+        ("color", _) => told.push_str(MOST)?,
+        ("explain", _) => write!(told, "{MOST}, as in `vsi try a.vsi --explain`")?,
+        (_, Some((others, last))) => write!(told, "{others} and {last}")?,
+        (_, None) => told.push_str(owners.as_str())?,
     }
     Ok(true)
 }
 
-/// The digits of a hexadecimal number.
-const DIGITS: &[u8; 16] = b"0123456789ABCDEF";
-
-/// The first control character that is no ASCII; in UTF-8 the byte `C2` comes before its own.
-const HIGH_CONTROL: u32 = 0x80;
-
-/// Adds a control character as `\x` and two digits for each of its bytes.
-fn put_control(told: &mut String, number: u32) -> Result<(), AllocError> {
-    let start = if number < HIGH_CONTROL {
-        "\\x"
-    } else {
-        "\\xC2\\x"
-    };
-    told.push_str(start)?;
-    told.push(char::from(DIGITS[(number / 16 % 16) as usize]))?;
-    told.push(char::from(DIGITS[(number % 16) as usize]))
-}
-
 /// The message for a mistake, with tips, and with each control character in it, except for line feeds,
-/// as `\x` and two digits for each of its bytes.
+/// as `\x` and two digits for each of its bytes: one that is no ASCII has two, and the first is `C2`.
 pub(crate) fn message(alloc: Global, text: &str) -> Result<String, AllocError> {
     let text = with_tips(alloc, text)?;
     let mut told = String::new(alloc);
     for character in text.as_str().chars() {
-        if character.is_control() && character != '\n' {
-            put_control(&mut told, character as u32)?;
-        } else {
+        let number = character as u32;
+        if !character.is_control() || character == '\n' {
             told.push(character)?;
+        } else if character.is_ascii() {
+            write!(told, "\\x{number:02X}")?;
+        } else {
+            write!(told, "\\xC2\\x{number:02X}")?;
         }
     }
     Ok(told)

@@ -8,11 +8,11 @@ pub struct Compilation<'a> {
     pub is_strict: bool,
 }
 
-/// The most instructions of a run.
+/// The most instructions of a run: a number, or the bound of its image, within which it halts from
+/// every store.
 #[derive(Clone, Copy, Debug, PartialEq, Eq)]
 pub enum Budget {
     Number(u64),
-    /// The bound of the image, within which it halts from every store.
     Auto,
 }
 
@@ -41,12 +41,11 @@ pub struct NameLists<'a> {
     pub released: Option<&'a str>,
 }
 
-/// The policy of a drive or of a view: who sees what, and what bounds the controller.
+/// The policy of a drive or of a view, who sees what and what bounds the controller: a lattice file
+/// and lists of the command line, or an interface file, which the image must conform to.
 #[derive(Clone, Copy, PartialEq, Eq)]
 pub enum DrivePolicy<'a> {
-    /// The path of a lattice file, and lists of the command line.
     Lattice(&'a str, NameLists<'a>),
-    /// The path of an interface file, which the image must conform to.
     Interface(&'a str),
 }
 
@@ -143,14 +142,11 @@ pub struct Audit<'a> {
     pub has_evidence: bool,
 }
 
-/// How an answer is written.
+/// How an answer is written: as lines, as a line of JSON, or as a document of SARIF.
 #[derive(Clone, Copy, Debug, PartialEq, Eq)]
 pub enum AnswerForm {
-    /// As lines, for a reader.
     Lines,
-    /// As a line of JSON.
     Json,
-    /// As a document of SARIF.
     Sarif,
 }
 
@@ -247,29 +243,21 @@ pub struct Layout<'a> {
     pub is_written: bool,
 }
 
-/// A request whose answer is one document, which a program reads.
+/// A request whose answer is one document, which a program reads, on standard output: SARIF of
+/// `check` or `audit`, or JSON of another subcommand.
 #[derive(Drop, PartialEq, Eq)]
 pub enum Document<'a> {
-    /// The answer of `check` as SARIF.
     Sarif(Judging<'a>),
-    /// The answer of `classes` as JSON.
     Classes(Compilation<'a>),
-    /// The answer of `flows` as JSON.
     Flows(Compilation<'a>),
-    /// The answer of `audit` as JSON.
     Audit(Audit<'a>),
-    /// The answer of `audit` as SARIF.
     AuditSarif(Audit<'a>),
-    /// The answer of `bound` as JSON.
     Bound(Bounding<'a>),
-    /// The answer of `run` as JSON, which goes to standard output.
     Run {
         execution: Execution<'a>,
         initial_store: InitialStore<'a>,
     },
-    /// The answer of `compare` as JSON.
     Compare(Comparison<'a>),
-    /// The answer of `leak` as JSON.
     Leak(Search<'a>),
 }
 
@@ -282,12 +270,10 @@ pub enum Colour {
     Never,
 }
 
-/// How a refusal is reported.
+/// How a refusal is reported: by its fixed text, alone or with an explanation after it.
 #[derive(Clone, Copy, Debug, PartialEq, Eq)]
 pub enum Reporting {
-    /// By its fixed text alone.
     Fixed,
-    /// By its fixed text and an explanation after it.
     Explained(Colour),
 }
 

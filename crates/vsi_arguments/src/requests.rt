@@ -9,13 +9,13 @@ use crate::arguments::{
     at_most_one, behind, has_flag, is_end, is_valued, number, number_in, one, one_or_two, operands,
     rest_of, three, two, value, values_of,
 };
+use crate::explained::named_page;
 use crate::run_requests::{attempt, compare, compare_steps, drive, monitor, run, steps, view};
 use crate::{
     AnswerForm, Audit, Bounding, Compilation, Conformance, Document, Drawing, Emission, Judging,
     Layout, Looking, Mending, RUNS_BUDGET, Request, SEARCH, Search, Serving, Visibility,
 };
 use std::alloc::{AllocError, Global};
-use vsi_explain::{page, subject_page};
 
 /// The compilation of the two operands.
 fn compilation<'a>(words: &'a [String]) -> Option<Compilation<'a>>
@@ -320,23 +320,12 @@ fn lsp<'a>(words: &'a [String]) -> Option<Request<'a>>
     }
 }
 
-/// The page that an argument names.
-fn named_page(argument: &str) -> Option<&'static str>
-    ensures { IfSome result (λ page. spec.named_page argument.now ≡ Some page.now) }
-{
-    match subject_page(argument.as_bytes()) {
-        Some(found) => Some(found),
-        None => page(number_in(argument.as_bytes())?),
-    }
-}
-
 /// The request of `explain`.
 fn explain<'a>(words: &'a [String]) -> Option<Request<'a>>
     ensures { IfSome result (spec.AsksFor words.now) }
 {
     let rest = behind(words, "explain", &[], &[])?;
-    let argument = one(rest)?;
-    Some(Request::Explain(named_page(argument)?))
+    Some(Request::Explain(named_page(one(rest)?).ok()?))
 }
 
 /// The request of a subcommand that takes no list of arguments.
@@ -356,10 +345,7 @@ fn plain<'a>(name: &str, words: &'a [String]) -> Option<Request<'a>>
         "emit-c" => emit_c(words),
         "bound" => bound(words),
         "drive" => drive(words),
-        "compare" => match compare(words) {
-            Some(request) => Some(request),
-            None => compare_steps(words),
-        },
+        "compare" => compare(words).or(compare_steps(words)),
         "leak" => leak(words),
         "report" => report(words),
         "draw" => draw(words),
@@ -416,9 +402,8 @@ pub fn asks_help(words: &[String]) -> bool
     {
         return true;
     }
-    let mut rest = words;
     let mut is_value = false;
-    while let [word, behind @ ..] = rest {
+    for word in words {
         if !is_value && is_end(word.as_bytes()) {
             return false;
         }
@@ -426,7 +411,6 @@ pub fn asks_help(words: &[String]) -> bool
             return true;
         }
         is_value = !is_value && is_valued(word.as_bytes());
-        rest = behind;
     }
     false
 }

@@ -1,15 +1,14 @@
 //! Requests that run a program.
 
-ghost use Rattle.std.specs.Prelude.{◌≡◌, ◌∷◌, ◌++◌, [], IfSome, codes, false};
+ghost use Rattle.std.specs.Prelude.{◌≡◌, ◌∷◌, ◌++◌, [], IfSome, codes, false, true};
 ghost use Rattle.vsi_arguments.specs.Asked as spec;
 ghost use Rattle.vsi_arguments.specs.Words.{has_flag as is_flag, operands_in, shown, texts, values_in};
 
 use crate::arguments::{
-    behind, budget, budget_or_auto, has_flag, has_values, number, one, rest_of, two, two_values,
-    value,
+    behind, budget, has_flag, has_values, number, one, rest_of, two, two_values, value,
 };
 use crate::{
-    Attempt, Comparison, Document, DrivePolicy, Driving, EVERY, Execution, InitialStore,
+    Attempt, Budget, Comparison, Document, DrivePolicy, Driving, EVERY, Execution, InitialStore,
     MonitorRule, NameLists, Request, STEPS, StepComparison, Stepping, TRY_BUDGET, Viewing,
 };
 
@@ -18,9 +17,7 @@ pub(crate) fn attempt<'a>(words: &'a [String], settings: Vec<&'a [u8]>) -> Optio
     ensures { IfSome result (spec.AsksFor words.now) }
 {
     let rest = rest_of! { words "try" [] ["--lattice" "--class" "--set" "--budget"] };
-    if !has_values(rest, "--set", settings.as_slice()) {
-        return None;
-    }
+    has_values(rest, "--set", settings.as_slice())?;
     Some(Request::Try(Attempt {
         source: one(rest)?,
         lattice: value(rest, "--lattice")?,
@@ -40,7 +37,7 @@ fn execution<'a>(words: &'a [String], image: &'a str) -> Option<Execution<'a>>
 {
     Some(Execution {
         image,
-        budget: budget(words)?,
+        budget: budget(words, None)?,
         store: value(words, "--store")?,
     })
 }
@@ -54,9 +51,7 @@ fn initial_store<'a>(words: &'a [String], settings: Vec<&'a [u8]>) -> Option<Ini
     ensures set { IfSome result (λ made.
         values_in (codes "--set") false (texts words.now) ≡ shown made.settings.items) }
 {
-    if !has_values(words, "--set", settings.as_slice()) {
-        return None;
-    }
+    has_values(words, "--set", settings.as_slice())?;
     Some(InitialStore {
         settings,
         is_full: has_flag(words, "--full-store"),
@@ -101,21 +96,17 @@ fn policy<'a>(words: &'a [String], inputs: Option<&'a str>) -> Option<(DrivePoli
         (spec.lists_of made.0).released)) }
 {
     let interface = value(words, "--interface")?;
-    let outputs = value(words, "--outputs")?;
-    let released = value(words, "--release")?;
-    match (interface, inputs, outputs, released) {
-        (None, _, _, _) => {
-            let (lattice, image) = two(words)?;
-            let lists = NameLists {
-                inputs,
-                outputs,
-                released,
-            };
-            Some((DrivePolicy::Lattice(lattice, lists), image))
-        }
-        (Some(interface), None, None, None) => {
-            Some((DrivePolicy::Interface(interface), one(words)?))
-        }
+    let lists = NameLists {
+        inputs,
+        outputs: value(words, "--outputs")?,
+        released: value(words, "--release")?,
+    };
+    let Some(interface) = interface else {
+        let (lattice, image) = two(words)?;
+        return Some((DrivePolicy::Lattice(lattice, lists), image));
+    };
+    match (inputs, lists.outputs, lists.released) {
+        (None, None, None) => Some((DrivePolicy::Interface(interface), one(words)?)),
         _ => None,
     }
 }
@@ -171,34 +162,15 @@ pub(crate) fn view<'a>(words: &'a [String], settings: Vec<&'a [u8]>) -> Option<R
     })
 }
 
-/// The paths of the store files of a drive.
-#[derive(Clone, Copy)]
-struct StorePaths<'a> {
-    store: Option<&'a str>,
-    start: Option<&'a str>,
-    save: Option<&'a str>,
-}
-
-/// The paths of the store files of a drive. With a start store, the store is read and saved at one
-/// path.
-fn stores<'a>(words: &'a [String]) -> Option<StorePaths<'a>>
-    ensures store { IfSome result (λ made.
-        values_in (codes "--store") false (texts words.now) ≡ spec.given made.store) }
-    ensures start { IfSome result (λ made.
-        values_in (codes "--init") false (texts words.now) ≡ spec.given made.start) }
-    ensures save { IfSome result (λ made.
-        values_in (codes "--save") false (texts words.now) ≡ spec.given made.save) }
-    ensures kept { IfSome result (λ made. spec.IsKept made.start made.store made.save) }
+/// Whether a drive that has a start store reads and saves its store at one path.
+fn is_kept(start: Option<&str>, store: Option<&str>, save: Option<&str>) -> bool
+    ensures { result ≡ true → spec.IsKept start.entry store.entry save.entry }
 {
-    let store = value(words, "--store")?;
-    let start = value(words, "--init")?;
-    let save = value(words, "--save")?;
     match (start, store, save) {
-        (None, _, _) => {}
-        (Some(_), Some(read), Some(saved)) if read.as_bytes() == saved.as_bytes() => {}
-        _ => return None,
+        (None, _, _) => true,
+        (Some(_), Some(read), Some(saved)) => read.as_bytes() == saved.as_bytes(),
+        _ => false,
     }
-    Some(StorePaths { store, start, save })
 }
 
 /// The request of `drive`.
@@ -210,17 +182,22 @@ pub(crate) fn drive<'a>(words: &'a [String]) -> Option<Request<'a>>
     "--budget" "--save-every"] "--force" };
     let (policy, image) = policy(rest, value(rest, "--inputs")?)?;
     let class = value(rest, "--class")??;
-    let stores = stores(rest)?;
+    let store = value(rest, "--store")?;
+    let start = value(rest, "--init")?;
+    let save = value(rest, "--save")?;
+    if !is_kept(start, store, save) {
+        return None;
+    }
     Some(Request::Drive(Driving {
         policy,
         class,
         execution: Execution {
             image,
-            budget: budget_or_auto(rest)?,
-            store: stores.store,
+            budget: budget(rest, Some(Budget::Auto))?,
+            store,
         },
-        start: stores.start,
-        save: stores.save,
+        start,
+        save,
         every: number(rest, "--save-every", Some(EVERY))?,
         is_full: has_flag(rest, "--full-store"),
         is_unbounded: has_flag(rest, "--unbounded"),
@@ -238,7 +215,7 @@ pub(crate) fn compare<'a>(words: &'a [String]) -> Option<Request<'a>>
         lattice,
         image,
         class: value(rest, "--class")??,
-        budget: budget(rest)?,
+        budget: budget(rest, None)?,
         stores: two_values(rest, "--store")?,
         is_unbounded: has_flag(rest, "--unbounded"),
     };
@@ -282,9 +259,7 @@ fn stepping<'a>(words: &'a [String], settings: Vec<&'a [u8]>) -> Option<Stepping
     ensures budget { IfSome result (λ made.
         spec.HasNumbers (texts words.now) (spec.step_numbers made.budget)) }
 {
-    if !has_values(words, "--set", settings.as_slice()) {
-        return None;
-    }
+    has_values(words, "--set", settings.as_slice())?;
     let (lattice, source) = two(words)?;
     let store = value(words, "--store")?;
     Some(Stepping {
@@ -313,13 +288,8 @@ fn rule(words: &[String]) -> Option<MonitorRule>
         spec.GivesRule (values_in (codes "--rule") false (texts words.now)) rule) }
 {
     match value(words, "--rule")? {
-        None => Some(MonitorRule::NoSensitiveUpgrade),
-        Some(name) if name.as_bytes() == b"no-sensitive-upgrade".as_slice() => {
-            Some(MonitorRule::NoSensitiveUpgrade)
-        }
-        Some(name) if name.as_bytes() == b"permissive-upgrade".as_slice() => {
-            Some(MonitorRule::PermissiveUpgrade)
-        }
+        None | Some("no-sensitive-upgrade") => Some(MonitorRule::NoSensitiveUpgrade),
+        Some("permissive-upgrade") => Some(MonitorRule::PermissiveUpgrade),
         Some(_) => None,
     }
 }

@@ -56,25 +56,16 @@ impl Subcommand {
             command.override_usage(self.usage)
         };
         let command = taking(alloc, command, self.arguments)?;
-        if self.is_unrefused() {
-            return Ok(command);
+        match self.name {
+            "lattice" | "lsp" | "explain" => Ok(command),
+            _ => taking(alloc, command, &MANNER),
         }
-        taking(alloc, command, &MANNER)
-    }
-
-    /// Whether no refusal ends it, so that there is none to explain.
-    fn is_unrefused(&self) -> bool {
-        matches!(self.name, "lattice" | "lsp" | "explain")
     }
 
     /// Whether one of its arguments is this option.
     pub(crate) fn has_option(&self, name: &str) -> bool {
-        for argument in self.arguments {
-            if argument.is_option() && argument.name == name {
-                return true;
-            }
-        }
-        false
+        let is_it = |argument: &Argument| argument.is_option() && argument.name == name;
+        self.arguments.iter().any(is_it)
     }
 }
 
@@ -84,22 +75,11 @@ fn taking<'a>(
     command: Command<'a>,
     arguments: &[Argument],
 ) -> Result<Command<'a>, AllocError> {
-    let mut taken = Ok(command);
+    let mut command = command;
     for argument in arguments {
-        taken = with_argument(taken, argument.made(alloc)?);
+        command = command.arg(argument.made(alloc)?)?;
     }
-    taken
-}
-
-/// Adds one argument to a command.
-fn with_argument<'a>(
-    command: Result<Command<'a>, AllocError>,
-    argument: Arg<'a>,
-) -> Result<Command<'a>, AllocError> {
-    match command {
-        Ok(command) => command.arg(argument),
-        Err(refused) => Err(refused),
-    }
+    Ok(command)
 }
 
 /// How an argument is given: by position, or by `--NAME`, with the name of its value in the help.
@@ -165,27 +145,28 @@ impl Argument {
         let told = Arg::new(alloc, self.name)
             .help(self.line)
             .long_help(self.whole);
-        match self.form {
-            Form::PlaceUnless(option) => told.required_unless_present(option),
-            form => Ok(formed(told, self.name, form)),
-        }
-    }
-}
-
-/// Makes an argument that is required or optional whatever else is given.
-fn formed<'a>(told: Arg<'a>, name: &'a str, form: Form) -> Arg<'a> {
-    match form {
-        Form::Place => told.required(true),
-        Form::FreePlace | Form::PlaceUnless(_) => told,
-        Form::Places => told.required(true).action(ArgAction::Append).num_args(1..),
-        Form::Flag => told.long(name).action(ArgAction::SetTrue),
-        Form::Value(value) => told.long(name).value_name(value),
-        Form::NeededValue(value) => told.long(name).value_name(value).required(true),
-        Form::Values(value) => appending(told.long(name), value),
-        Form::NeededValues(value) => appending(told.long(name), value).required(true),
-        Form::Number(value) => numeric(told.long(name), value),
-        Form::NeededNumber(value) => numeric(told.long(name), value).required(true),
-        Form::Choice(value, choices) => chosen(told.long(name), value, choices),
+        let told = if self.is_option() {
+            told.long(self.name)
+        } else {
+            told
+        };
+        Ok(match self.form {
+            Form::Place => told.required(true),
+            Form::FreePlace => told,
+            Form::PlaceUnless(option) => told.required_unless_present(option)?,
+            Form::Places => told.required(true).action(ArgAction::Append).num_args(1..),
+            Form::Flag => told.action(ArgAction::SetTrue),
+            Form::Value(value) => told.value_name(value),
+            Form::NeededValue(value) => told.value_name(value).required(true),
+            Form::Values(value) => appending(told, value),
+            Form::NeededValues(value) => appending(told, value).required(true),
+            Form::Number(value) => numeric(told, value),
+            Form::NeededNumber(value) => numeric(told, value).required(true),
+            Form::Choice(value, choices) => told
+                .value_name(value)
+                .value_parser(choices)
+                .hide_possible_values(true),
+        })
     }
 }
 
@@ -197,14 +178,6 @@ fn numeric<'a>(option: Arg<'a>, value: &'a str) -> Arg<'a> {
 /// Makes an option that may be repeated.
 fn appending<'a>(option: Arg<'a>, value: &'a str) -> Arg<'a> {
     option.value_name(value).action(ArgAction::Append)
-}
-
-/// Makes an option whose value is one of these choices.
-fn chosen<'a>(option: Arg<'a>, value: &'a str, choices: &'a [&'a str]) -> Arg<'a> {
-    option
-        .value_name(value)
-        .value_parser(choices)
-        .hide_possible_values(true)
 }
 
 /// The long help of a source text.

@@ -1,9 +1,6 @@
-use Rattle.std.proofs.Common.{◌≡◌, length}
+use Rattle.std.proofs.Common.{◌≡◌, drop}
 use Rattle.vsi_arguments.specs.Words.{is_among, shown}
 use Rattle.vsi_arguments.proofs.arguments.is_among.Given as goal
 
-abbrev pub invariant-loop-rest : goal.invariant-loop-rest
-invariant-loop-rest l = is_among (shown l.rest) l.word ≡ is_among (shown l.names) l.word
-
-abbrev pub decreases-loop-rest : goal.decreases-loop-rest
-decreases-loop-rest l = length l.rest
+abbrev pub invariant-loop-name : goal.invariant-loop-name
+invariant-loop-name l = is_among (shown (drop l.name-index l.names)) l.word ≡ is_among (shown l.names) l.word

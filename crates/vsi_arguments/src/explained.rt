@@ -1,15 +1,9 @@
 //! The pages of `vsi explain`: what each refusal means, and the language with its files.
-//!
-//! `page` returns a page for each number that the program or the library reports; `specs/Numbers`
-//! lists the numbers, and `specs/Pages` the page for each. `subject_page` returns a page for each
-//! name of `specs/Subjects`, which also defines the pages.
-//!
-//! To be believed: `specs/Numbers`, `specs/Pages`, `specs/Subjects`.
-#![tactic(auto)]
 
-ghost use Rattle.std.specs.Prelude.{◌≡◌, ◌↔◌, ◌<◌, IsSome, length, map, option_map, slice_get, true};
-ghost use Rattle.vsi_explain.specs.Numbers as spec;
-ghost use Rattle.vsi_explain.specs.Pages as pages_spec;
+ghost use Rattle.std.specs.Prelude.{◌≡◌, ◌↔◌, ◌<◌, IfOk, IsSome, Some, length, map, option_map, slice_get, true};
+ghost use Rattle.vsi_arguments.specs.Asked as asked_spec;
+ghost use Rattle.vsi_arguments.specs.Pages as pages_spec;
+ghost use Rattle.vsi_arguments.specs.Refusals as spec;
 
 mod image;
 mod lattice;
@@ -17,6 +11,7 @@ mod store;
 mod subjects;
 mod text;
 
+use crate::arguments::number_in;
 use image::IMAGE;
 use lattice::LATTICE;
 use store::STORE;
@@ -26,12 +21,10 @@ use text::TEXT;
 /// The page at a place, counted from 0, if there are as many pages.
 fn page_at(pages: &[&'static str], place: u64) -> Option<&'static str>
     ensures known { IsSome result ↔ place < length pages.now }
-    ensures exact { option_map (λ page. page.now) result ≡ slice_get (map (λ page. page.now) pages.now) place }
+    ensures exact { option_map (λ page. page.now) result
+        ≡ slice_get (map (λ page. page.now) pages.now) place }
 {
-    match pages.get(place as usize) {
-        Some(page) => Some(*page),
-        None => None,
-    }
+    pages.get(place as usize).copied()
 }
 
 /// The page of a refusal, by its number: a line with its number, its name and its fields, then
@@ -52,4 +45,19 @@ pub fn page(number: u64) -> Option<&'static str>
         60..=65 => page_at(&STORE, number - 49),
         _ => None,
     }
+}
+
+/// The mistake of an argument that is neither a number nor a subject.
+const NO_SUBJECT: &str = "`explain` takes the number of a refusal, as in 25, or one of language, \
+    lattice, store, interface, classes and profiles";
+
+/// The page that an argument names; or the mistake, if it names none.
+pub(crate) fn named_page(argument: &str) -> Result<&'static str, &'static str>
+    ensures { IfOk result (λ page. asked_spec.named_page argument.now ≡ Some page.now) }
+{
+    if let Some(page) = subject_page(argument.as_bytes()) {
+        return Ok(page);
+    }
+    let number = number_in(argument.as_bytes()).ok_or(NO_SUBJECT)?;
+    page(number).ok_or("no refusal has this number")
 }

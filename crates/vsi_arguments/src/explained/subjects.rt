@@ -1,7 +1,7 @@
 //! The pages of the subjects: the language, its files, and the judgements.
 
 ghost use Rattle.std.specs.Prelude.{◌≡◌, ◌↔◌, IsSome, option_map, true};
-ghost use Rattle.vsi_explain.specs.Subjects as spec;
+ghost use Rattle.vsi_arguments.specs.Subjects as spec;
 
 /// The page of a subject, by its name: a line that says what it is about, the subject by an
 /// example, and a transcript. Each line ends with a line feed and has at most 80 bytes of ASCII.
@@ -9,25 +9,15 @@ pub fn subject_page(name: &[u8]) -> Option<&'static str>
     ensures known { IsSome result ↔ (spec.is_subject name.now ≡ true) }
     ensures exact { option_map (λ page. page.now) result ≡ spec.subject_page name.now }
 {
-    if name == b"language".as_slice() {
-        return Some(LANGUAGE);
+    match name {
+        _ if name == b"language".as_slice() => Some(LANGUAGE),
+        _ if name == b"lattice".as_slice() => Some(LATTICE),
+        _ if name == b"store".as_slice() => Some(STORE),
+        _ if name == b"interface".as_slice() => Some(INTERFACE),
+        _ if name == b"classes".as_slice() => Some(CLASSES),
+        _ if name == b"profiles".as_slice() => Some(PROFILES),
+        _ => None,
     }
-    if name == b"lattice".as_slice() {
-        return Some(LATTICE);
-    }
-    if name == b"store".as_slice() {
-        return Some(STORE);
-    }
-    if name == b"interface".as_slice() {
-        return Some(INTERFACE);
-    }
-    if name == b"classes".as_slice() {
-        return Some(CLASSES);
-    }
-    if name == b"profiles".as_slice() {
-        return Some(PROFILES);
-    }
-    None
 }
 
 /// The page of the language: a program that uses each part of it.

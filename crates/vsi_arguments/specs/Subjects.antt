@@ -2,7 +2,7 @@
 use Rattle.std.specs.Prelude.{ℕ, Bool, List, [], ◌∷◌, Option, bytes_eq, codes}
 use Rattle.std.specs.List.{list_any}
 use Rattle.std.specs.Map.{lookup}
-use Rattle.vsi_explain.specs.declared.subjects.TheConstants as subjects
+use Rattle.vsi_arguments.specs.declared.explained.subjects.TheConstants as subjects
 
 -- The names of the subjects.
 abbrev pub NAMES : List (List ℕ)

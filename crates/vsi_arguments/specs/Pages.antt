@@ -1,10 +1,10 @@
 -- The page of each refusal.
 use Rattle.std.specs.Prelude.{ℕ, ◌-◌, ◌==◌, List, Option, None, map, slice_get, if◌then◌else◌}
-use Rattle.vsi_explain.specs.Numbers.{is_from}
-use Rattle.vsi_explain.specs.declared.image.TheConstants.{IMAGE}
-use Rattle.vsi_explain.specs.declared.lattice.TheConstants.{LATTICE}
-use Rattle.vsi_explain.specs.declared.store.TheConstants.{STORE}
-use Rattle.vsi_explain.specs.declared.text.TheConstants.{TEXT}
+use Rattle.vsi_arguments.specs.Refusals.{is_from}
+use Rattle.vsi_arguments.specs.declared.explained.image.TheConstants.{IMAGE}
+use Rattle.vsi_arguments.specs.declared.explained.lattice.TheConstants.{LATTICE}
+use Rattle.vsi_arguments.specs.declared.explained.store.TheConstants.{STORE}
+use Rattle.vsi_arguments.specs.declared.explained.text.TheConstants.{TEXT}
 
 -- The page of the refusal of this number.
 abbrev pub page_of : ℕ → Option (List ℕ)
