@@ -15,6 +15,7 @@ ghost use Rattle.vsi_conform.specs.Bounded as bounded_spec;
 
 use crate::globals::global_points;
 use crate::interface::{Answer, Bounded, Interface, Judgement, Point, Trial, put_told};
+use crate::texts::put_counted;
 use std::alloc::{AllocError, Global};
 use vsi_answers::{BoundAnswer, bound_in, enough_budget};
 use vsi_compiler::{CompileError, Source, compile_source, read_source, unjudged_image};
@@ -22,7 +23,6 @@ use vsi_image::Verified;
 use vsi_lattice::Lattice;
 use vsi_machine::{Machine, Outcome};
 use vsi_steady::{UnsteadyError, steady_image_of};
-use vsi_syntax::put_number;
 use vsi_types::Profile;
 
 /// The differences between the globals and runs of an image and the required ones.
@@ -36,7 +36,9 @@ pub(crate) fn image_points(
     let is_ordered = interface.is_ordered;
     let found = &verified.image().globals;
     let mut points = global_points(alloc, is_ordered, &interface.globals, found)?;
-    put_trials(alloc, &mut points, verified, &interface.trials)?;
+    for (number, trial) in interface.trials.iter().enumerate() {
+        put_trial(alloc, &mut points, verified, number, trial)?;
+    }
     Ok(points)
 }
 
@@ -143,24 +145,6 @@ fn compiled_of(
     }
 }
 
-/// The steady image of a source text, or its refusal.
-fn steadily_of(
-    alloc: Global,
-    source: &Source<'_>,
-) -> Result<Result<Verified, UnsteadyError>, AllocError>
-    ensures { IfOk result (λ answer. MatchResult answer
-        (spec.IsSteadilyCompiled (class_named source.now.lattice) (order source.now.lattice)
-        source.now.text)
-        (spec.IsSteadilyRefused (class_named source.now.lattice) (order source.now.lattice)
-        source.now.text)) }
-{
-    match steady_image_of(alloc, source) {
-        Ok(verified) => Ok(Ok(verified)),
-        Err(UnsteadyError::Memory) => Err(AllocError),
-        Err(error) => Ok(Err(error)),
-    }
-}
-
 /// The image of a source text that was read and is accepted as required, or its refusal. An error
 /// means that memory ran out.
 pub fn judged_of(
@@ -177,7 +161,11 @@ pub fn judged_of(
     match judgement {
         Judgement::Base => compiled_of(alloc, Profile::Base, source),
         Judgement::Strict => compiled_of(alloc, Profile::Strict, source),
-        Judgement::Steady => steadily_of(alloc, source),
+        Judgement::Steady => match steady_image_of(alloc, source) {
+            Ok(verified) => Ok(Ok(verified)),
+            Err(UnsteadyError::Memory) => Err(AllocError),
+            Err(error) => Ok(Err(error)),
+        },
     }
 }
 
@@ -316,35 +304,6 @@ fn put_trial(
     }
 }
 
-/// Adds the points of the runs.
-pub(crate) fn put_trials(
-    alloc: Global,
-    points: &mut Vec<Point>,
-    verified: &Verified,
-    trials: &[Trial],
-) -> Result<(), AllocError>
-    ensures { OnOk result (points.new.items ≡ points.old.items
-        ++ points_spec.trials_points verified.now 0 trials.now) }
-{
-    for (number, trial) in trials.iter().enumerate() {
-        put_trial(alloc, points, verified, number, trial)?;
-    }
-    Ok(())
-}
-
-/// The line of a bound above a maximum.
-fn excess_line(alloc: Global, most: u64, maximum: u64) -> Result<Vec<u8>, AllocError>
-    ensures { IfOk result (λ line. line.items ≡ bounded_spec.excess_line most maximum) }
-{
-    let mut line = Vec::new(alloc);
-    line.extend_from_slice(b"halts within ")?;
-    put_number(&mut line, most as usize)?;
-    line.extend_from_slice(b" instructions, expected at most ")?;
-    put_number(&mut line, maximum as usize)?;
-    line.extend_from_slice(b"\n")?;
-    Ok(line)
-}
-
 /// The report about a bound where one of at most `maximum` instructions is required.
 #[tactic(auto, using(crate::proofs::BoundLines::within_reported, crate::proofs::BoundLines::excess_reported, crate::proofs::BoundLines::line_reported))]
 fn report_within(
@@ -359,7 +318,11 @@ fn report_within(
             if most <= maximum {
                 return Ok(None);
             }
-            let line = excess_line(alloc, most, maximum)?;
+            let mut line = Vec::new(alloc);
+            put_counted(&mut line, b"halts within ", most as usize)?;
+            let words = b" instructions, expected at most ";
+            put_counted(&mut line, words, maximum as usize)?;
+            line.extend_from_slice(b"\n")?;
             Ok(Some(line))
         }
         Err(line) => Ok(Some(line)),

@@ -23,7 +23,7 @@ pub(crate) fn is_named(variables: &[(Vec<u8>, Vec<u8>)], name: &[u8]) -> bool
 }
 
 /// Whether two globals have the same name and the same class.
-fn are_same(one: &(Vec<u8>, Vec<u8>), other: &(Vec<u8>, Vec<u8>)) -> bool
+pub(crate) fn are_same(one: &(Vec<u8>, Vec<u8>), other: &(Vec<u8>, Vec<u8>)) -> bool
     ensures { result ≡ spec.are_same (global one.now) (global other.now) }
 {
     one.0.as_slice() == other.0.as_slice() && one.1.as_slice() == other.1.as_slice()
@@ -124,21 +124,13 @@ pub(crate) fn declarations<'a>(
 {
     let tokens = match lex(alloc, text) {
         Ok(tokens) => tokens,
-        Err(error) => {
-            return match error {
-                LexError::Memory => Err(AllocError),
-                _ => Ok(Vec::new(alloc)),
-            };
-        }
+        Err(LexError::Memory) => return Err(AllocError),
+        Err(_) => return Ok(Vec::new(alloc)),
     };
     let program = match parse(alloc, &tokens) {
         Ok(program) => program,
-        Err(error) => {
-            return match error {
-                ParseError::Memory => Err(AllocError),
-                _ => Ok(Vec::new(alloc)),
-            };
-        }
+        Err(ParseError::Memory) => return Err(AllocError),
+        Err(_) => return Ok(Vec::new(alloc)),
     };
     let found = program.globals().to_vec(alloc)?;
     Ok(found)

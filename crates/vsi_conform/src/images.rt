@@ -25,16 +25,15 @@ use crate::interface::{Interface, Judgement, Point};
 use crate::reaching::{GlobalFlows, Reach, flows_profile, have_released, reaches_of};
 use crate::reference::{Comparison, Contrast, Reference};
 use crate::rows::{Judged, Row, asked, numbered, rows_of};
-use crate::texts::{put_parts, rows_json, rows_text};
+use crate::texts::{put_counted, put_parts, rows_json, rows_text};
 use std::alloc::{AllocError, Global};
 use vsi_answers::bound;
 use vsi_audit::{AuditError, audit_in, audit_text, image_flows};
 use vsi_diagnostics::{Diagnostic, Object, without_end};
-use vsi_flows::Pair;
 use vsi_image::{Image, Verified};
 use vsi_lattice::Lattice;
 use vsi_steady::{SteadyError, steady_in, steady_text};
-use vsi_syntax::{put_number, put_word};
+use vsi_syntax::put_word;
 use vsi_types::Profile;
 
 /// The refusal of an image under a profile, if it is refused.
@@ -182,24 +181,8 @@ fn names_of(alloc: Global, globals: &[(Vec<u8>, Vec<u8>)]) -> Result<Vec<Vec<u8>
     Ok(names)
 }
 
-/// The table of flows of an image, if the audit reads its program back.
-fn table_of(
-    alloc: Global,
-    profile: Profile,
-    lattice: &Lattice,
-    verified: &Verified,
-) -> Result<Option<Vec<Pair>>, AllocError>
-    ensures { IfOk result (λ table. reaching_spec.IsTableIn lattice.now profile verified.now
-        (option_map (λ pairs. pairs.items) table)) }
-{
-    match image_flows(alloc, profile, lattice, verified) {
-        Ok(pairs) => Ok(Some(pairs)),
-        Err(AuditError::Memory) => Err(AllocError),
-        Err(_) => Ok(None),
-    }
-}
-
-/// The flows of an image between its globals.
+/// The flows of an image between its globals; without a table if the audit doesn't read its program
+/// back.
 fn flows_of(
     alloc: Global,
     profile: Profile,
@@ -210,8 +193,14 @@ fn flows_of(
         (λ flows. reaching_spec.AreFlowsOf lattice.now profile verified.now (flowing flows)) }
 {
     let names = names_of(alloc, &verified.image().globals)?;
-    let table = table_of(alloc, profile, lattice, verified)?;
-    Ok(GlobalFlows { names, table })
+    match image_flows(alloc, profile, lattice, verified) {
+        Ok(pairs) => Ok(GlobalFlows {
+            names,
+            table: Some(pairs),
+        }),
+        Err(AuditError::Memory) => Err(AllocError),
+        Err(_) => Ok(GlobalFlows { names, table: None }),
+    }
 }
 
 /// The released outputs of boundaries, in their order, each with the globals of an image that reach
@@ -250,16 +239,6 @@ fn refusal_lines(
     }
 }
 
-/// The refusal of an image as a value; none if memory ran out.
-fn refusal_diagnostic(refusal: &Refusal) -> Option<Diagnostic<'static>>
-    ensures { option_map diagnostic_of result ≡ lines_spec.diagnostic refusal.now }
-{
-    match refusal {
-        Refusal::Audit(error) => audit_diagnostic(error),
-        Refusal::Steady(error) => steady_diagnostic(error),
-    }
-}
-
 /// The refusal of an image that isn't as a profile requires, as a value and as lines.
 pub fn refused_image(
     alloc: Global,
@@ -273,8 +252,9 @@ pub fn refused_image(
     let Some(refusal) = refusal_of(alloc, judgement, lattice, verified)? else {
         return Ok(None);
     };
-    let Some(diagnostic) = refusal_diagnostic(&refusal) else {
-        return Err(AllocError);
+    let diagnostic = match &refusal {
+        Refusal::Audit(error) => audit_diagnostic(error).ok_or(AllocError)?,
+        Refusal::Steady(error) => steady_diagnostic(error).ok_or(AllocError)?,
     };
     let lines = refusal_lines(alloc, lattice, verified.image(), &refusal)?;
     Ok(Some((diagnostic, lines)))
@@ -383,12 +363,6 @@ fn put_contrast(
             put_counted(text, words, budget as usize)
         }
     }
-}
-
-/// Adds a text and then a number.
-fn put_counted(text: &mut Vec<u8>, words: &[u8], number: usize) -> Result<(), AllocError> {
-    text.extend_from_slice(words)?;
-    put_number(text, number)
 }
 
 /// Adds what a trial shows.

@@ -285,13 +285,10 @@ impl Answer {
 pub(crate) fn put_told(points: &mut Vec<Point>, point: Option<Point>) -> Result<(), AllocError>
     ensures { OnOk result (points.new.items ≡ points.old.items ++ told point) }
 {
-    match point {
-        Some(point) => {
-            points.push(point)?;
-            Ok(())
-        }
-        None => Ok(()),
+    if let Some(point) = point {
+        points.push(point)?;
     }
+    Ok(())
 }
 
 /// Whether the runs of an interface take together at most this number of instructions.

@@ -38,27 +38,20 @@ pub struct Reach {
     pub beyond: Vec<Vec<u8>>,
 }
 
-/// Whether a pair leads from one global to another.
-fn has_pair(pairs: &[Pair], source: usize, target: usize) -> bool
-    ensures { result ≡ spec.has_pair pairs.now source target }
+/// Whether one global reaches another: whether a pair leads from it to the other.
+fn reaches(table: &Option<Vec<Pair>>, source: usize, target: usize) -> bool
+    ensures { result
+        ≡ spec.reaches (option_map (λ pairs. pairs.items) table.now) source target }
 {
+    let Some(pairs) = table else {
+        return source != target;
+    };
     for pair in pairs {
         if pair.source.0 as usize == source && pair.target.0 as usize == target {
             return true;
         }
     }
     false
-}
-
-/// Whether one global reaches another.
-fn reaches(table: &Option<Vec<Pair>>, source: usize, target: usize) -> bool
-    ensures { result
-        ≡ spec.reaches (option_map (λ pairs. pairs.items) table.now) source target }
-{
-    match table {
-        Some(pairs) => has_pair(pairs, source, target),
-        None => source != target,
-    }
 }
 
 /// The number of the first global with this name, or the number of globals if there is none.
@@ -115,18 +108,6 @@ pub fn is_among(listed: &[Vec<u8>], name: &[u8]) -> bool
     false
 }
 
-/// The names that aren't in a list.
-fn unlisted(alloc: Heap, listed: &[Vec<u8>], names: &[Vec<u8>]) -> Result<Vec<Vec<u8>>, AllocError>
-    ensures { IfOk result (λ found. bytes_of found.items
-        ≡ spec.unlisted (bytes_of listed.now) (bytes_of names.now)) }
-{
-    let mut found = Vec::new(alloc);
-    for name in names {
-        put_name(alloc, &mut found, name, !is_among(listed, name))?;
-    }
-    Ok(found)
-}
-
 /// The names that aren't in a list; without a list there are none.
 fn beyond_of(
     alloc: Heap,
@@ -136,10 +117,14 @@ fn beyond_of(
     ensures { IfOk result (λ found. bytes_of found.items ≡ spec.beyond_of
         (option_map (λ names. bytes_of names.items) listed.now) (bytes_of names.now)) }
 {
-    match listed {
-        Some(listed) => unlisted(alloc, listed, names),
-        None => Ok(Vec::new(alloc)),
+    let mut found = Vec::new(alloc);
+    let Some(allowed) = listed else {
+        return Ok(found);
+    };
+    for name in names {
+        put_name(alloc, &mut found, name, !is_among(allowed, name))?;
     }
+    Ok(found)
 }
 
 /// A released output of a boundary.
@@ -164,23 +149,6 @@ fn reach_of(
     })
 }
 
-/// Adds the released outputs of a boundary.
-fn put_reaches(
-    alloc: Heap,
-    reaches: &mut Vec<Reach>,
-    flows: &GlobalFlows,
-    cycle: &Cycle,
-) -> Result<(), AllocError>
-    ensures { OnOk result (map spec.released reaches.new.items ≡ map spec.released reaches.old.items
-        ++ spec.released_by (spec.flowing flows.now) (cycle_of cycle.now)) }
-{
-    for output in &cycle.released {
-        let reach = reach_of(alloc, flows, cycle, output)?;
-        reaches.push(reach)?;
-    }
-    Ok(())
-}
-
 /// The released outputs of boundaries, in their order, each with the globals of a program that
 /// reach it.
 pub(crate) fn reaches_of(
@@ -193,7 +161,10 @@ pub(crate) fn reaches_of(
 {
     let mut reaches = Vec::new(alloc);
     for cycle in cycles {
-        put_reaches(alloc, &mut reaches, flows, cycle)?;
+        for output in &cycle.released {
+            let reach = reach_of(alloc, flows, cycle, output)?;
+            reaches.push(reach)?;
+        }
     }
     Ok(reaches)
 }
@@ -299,31 +270,8 @@ fn put_spaced(text: &mut Vec<u8>, names: &[Vec<u8>]) -> Result<(), AllocError>
     Ok(())
 }
 
-/// Adds the names of the globals that reach an output.
-fn put_sources(text: &mut Vec<u8>, names: &[Vec<u8>]) -> Result<(), AllocError>
-    ensures { OnOk result
-        (text.new.items ≡ text.old.items ++ lines_spec.sources_text (bytes_of names.now)) }
-{
-    if names.is_empty() {
-        text.extend_from_slice(b" (nothing)")
-    } else {
-        put_spaced(text, names)
-    }
-}
-
-/// Adds the names of the globals that aren't allowed, if there are any.
-fn put_beyond(text: &mut Vec<u8>, names: &[Vec<u8>]) -> Result<(), AllocError>
-    ensures { OnOk result
-        (text.new.items ≡ text.old.items ++ lines_spec.beyond_text (bytes_of names.now)) }
-{
-    if names.is_empty() {
-        return Ok(());
-    }
-    text.extend_from_slice(b", unexpected")?;
-    put_spaced(text, names)
-}
-
-/// Adds the line of a released output.
+/// Adds the line of a released output: the globals that reach it, and those of them that aren't
+/// allowed.
 fn put_line(text: &mut Vec<u8>, reach: &Reach) -> Result<(), AllocError>
     ensures { OnOk result
         (text.new.items ≡ text.old.items ++ lines_spec.released_line (spec.released reach.now)) }
@@ -332,8 +280,14 @@ fn put_line(text: &mut Vec<u8>, reach: &Reach) -> Result<(), AllocError>
         text,
         &[&reach.class, b" releases ", &reach.output, b" from"],
     )?;
-    put_sources(text, &reach.sources)?;
-    put_beyond(text, &reach.beyond)?;
+    if reach.sources.is_empty() {
+        text.extend_from_slice(b" (nothing)")?;
+    }
+    put_spaced(text, &reach.sources)?;
+    if !reach.beyond.is_empty() {
+        text.extend_from_slice(b", unexpected")?;
+    }
+    put_spaced(text, &reach.beyond)?;
     text.extend_from_slice(b"\n")
 }
 
@@ -356,21 +310,14 @@ fn put_quoted(text: &mut Vec<u8>, names: &[Vec<u8>]) -> Result<(), AllocError>
     Ok(())
 }
 
-/// Adds the first two members of the object of a released output.
-fn put_first_members(text: &mut Vec<u8>, reach: &Reach) -> Result<(), AllocError>
+/// Adds the object of a released output.
+fn put_object(text: &mut Vec<u8>, reach: &Reach) -> Result<(), AllocError>
     ensures { OnOk result
-        (text.new.items ≡ text.old.items ++ lines_spec.first_members (spec.released reach.now)) }
+        (text.new.items ≡ text.old.items ++ lines_spec.released_object (spec.released reach.now)) }
 {
     text.extend_from_slice(b"{\"beyond\":[")?;
     put_quoted(text, &reach.beyond)?;
-    put_parts(text, &[b"],\"class\":\"", &reach.class, b"\""])
-}
-
-/// Adds the other two.
-fn put_last_members(text: &mut Vec<u8>, reach: &Reach) -> Result<(), AllocError>
-    ensures { OnOk result
-        (text.new.items ≡ text.old.items ++ lines_spec.last_members (spec.released reach.now)) }
-{
+    put_parts(text, &[b"],\"class\":\"", &reach.class, b"\""])?;
     text.extend_from_slice(b",\"from\":[")?;
     put_quoted(text, &reach.sources)?;
     put_parts(text, &[b"],\"output\":\"", &reach.output, b"\"}"])
@@ -383,20 +330,9 @@ fn put_objects(text: &mut Vec<u8>, reaches: &[Reach]) -> Result<(), AllocError>
 {
     for (i, reach) in reaches.iter().enumerate() {
         text.extend_from_slice(comma(i))?;
-        put_first_members(text, reach)?;
-        put_last_members(text, reach)?;
+        put_object(text, reach)?;
     }
     Ok(())
-}
-
-/// Adds the member of released outputs, and the end of the line.
-fn put_member(text: &mut Vec<u8>, reaches: &[Reach]) -> Result<(), AllocError>
-    ensures { OnOk result (text.new.items
-        ≡ text.old.items ++ lines_spec.released_member (map spec.released reaches.now)) }
-{
-    text.extend_from_slice(b",\"reached\":[")?;
-    put_objects(text, reaches)?;
-    put_parts(text, &[b"]}\n"])
 }
 
 /// Whether the points don't differ, and a released output does.
@@ -447,6 +383,8 @@ pub fn with_reached_json(
         points
     };
     let mut text = Vec::from_slice(alloc, &line[..line.len().saturating_sub(2)])?;
-    put_member(&mut text, reaches)?;
+    text.extend_from_slice(b",\"reached\":[")?;
+    put_objects(&mut text, reaches)?;
+    text.extend_from_slice(b"]}\n")?;
     Ok(text)
 }

@@ -121,33 +121,27 @@ fn put_copy(alloc: Global, tables: &mut Table, table: &Table, key: &str) -> Resu
     Ok(())
 }
 
-/// Whether a table has one of the keys of a lattice file.
-fn has_tables(table: &Table) -> bool
-    ensures classes { result ≡ false → get_member (codes "classes") (table_view table.now) ≡ None }
-    ensures below { result ≡ false → get_member (codes "below") (table_view table.now) ≡ None }
-{
-    if value_at(table, "classes").is_some() {
-        return true;
-    }
-    value_at(table, "below").is_some()
-}
-
 /// The place of the lattice.
 fn policy_in(alloc: Global, table: &Table) -> Result<Policy, InterfaceError>
     ensures policy { IfOk result (spec.IsPolicy (table_view table.now)) }
     ensures inside { IfOk result IsInside }
 {
-    match (value_at(table, "lattice").is_some(), has_tables(table)) {
-        (true, false) => {
+    let lattice = value_at(table, "lattice");
+    match (
+        lattice,
+        value_at(table, "classes"),
+        value_at(table, "below"),
+    ) {
+        (Some(_), None, None) => {
             let path = path_at(table, "lattice").ok_or(InterfaceError::BadLattice)?;
             let path = Vec::from_slice(alloc, path)?;
             Ok(Policy::File(path))
         }
-        (false, true) => {
+        (Some(_), _, _) | (None, None, None) => Err(InterfaceError::BadLattice),
+        (None, _, _) => {
             let text = tables_text(alloc, table)?;
             Ok(Policy::Tables(text))
         }
-        _ => Err(InterfaceError::BadLattice),
     }
 }
 
@@ -233,18 +227,11 @@ fn globals_in(alloc: Global, table: &Table) -> Result<Vec<(Vec<u8>, Vec<u8>)>, I
         (λ found. spec.globals_at (table_view table.now) ≡ Some (globals found.items)) }
 {
     let value = value_at(table, "globals").ok_or(InterfaceError::BadGlobals)?;
-    let array = value.as_array().ok_or(InterfaceError::BadGlobals)?;
+    let values = value.as_array().ok_or(InterfaceError::BadGlobals)?;
+    let array = values.as_slice();
     if array.len() > MOST_GLOBALS {
         return Err(InterfaceError::BadGlobals);
     }
-    globals_of(alloc, array.as_slice())
-}
-
-/// The globals of an array.
-fn globals_of(alloc: Global, array: &[Value]) -> Result<Vec<(Vec<u8>, Vec<u8>)>, InterfaceError>
-    ensures { IfOk result (λ found. shape.all_of shape.pair_of (items_view array.now)
-        ≡ Some (globals found.items)) }
-{
     let mut found = Vec::new(alloc);
     for value in array {
         let entry = global_of(alloc, value, &found)?;

@@ -6,12 +6,13 @@ ghost use Rattle.std.specs.Prelude.{◌≡◌, IfOk, IfSome};
 ghost use Rattle.vsi_conform.specs.Reference as spec;
 
 use crate::cycles::Cycle;
+use crate::globals::are_same;
 use crate::interface::Interface;
 use crate::reaching::is_among;
 use rand_core::{Rng, SeedableRng};
 use rand_xoshiro::SplitMix64;
 use std::alloc::{AllocError, Global};
-use vsi_image::{Image, Instr, Verified};
+use vsi_image::{Instr, Verified};
 use vsi_lattice::Lattice;
 use vsi_machine::{Machine, Outcome};
 use vsi_store::sees;
@@ -104,25 +105,7 @@ struct Side<'a> {
 
 /// The place of a global among others, by its name and its class.
 fn place_of(globals: &[(Vec<u8>, Vec<u8>)], global: &(Vec<u8>, Vec<u8>)) -> Option<usize> {
-    globals.iter().position(|found| {
-        found.0.as_slice() == global.0.as_slice() && found.1.as_slice() == global.1.as_slice()
-    })
-}
-
-/// The place of each of these globals in an image, up to the first that it lacks.
-fn places_in(
-    alloc: Global,
-    image: &Image,
-    globals: &[(Vec<u8>, Vec<u8>)],
-) -> Result<Vec<usize>, AllocError> {
-    let mut places = Vec::new(alloc);
-    for global in globals {
-        let Some(place) = place_of(&image.globals, global) else {
-            return Ok(places);
-        };
-        places.push(place)?;
-    }
-    Ok(places)
+    globals.iter().position(|found| are_same(found, global))
 }
 
 impl<'a> Side<'a> {
@@ -132,7 +115,13 @@ impl<'a> Side<'a> {
         verified: &'a Verified,
         globals: &[(Vec<u8>, Vec<u8>)],
     ) -> Result<Side<'a>, AllocError> {
-        let places = places_in(alloc, verified.image(), globals)?;
+        let mut places = Vec::new(alloc);
+        for global in globals {
+            let Some(place) = place_of(&verified.image().globals, global) else {
+                break;
+            };
+            places.push(place)?;
+        }
         let mut store = Vec::new(alloc);
         store.resize(verified.image().globals.len(), 0)?;
         Ok(Side {
@@ -144,20 +133,17 @@ impl<'a> Side<'a> {
 
     /// The word of a global, by its number in the interface.
     fn word(&self, number: usize) -> i64 {
-        let Some(place) = self.places.get(number) else {
-            return 0;
-        };
-        self.store.get(*place).copied().unwrap_or(0)
+        let place = self.places.get(number).copied();
+        let word = place.and_then(|place| self.store.get(place));
+        word.copied().unwrap_or(0)
     }
 
     /// Sets a global, by its number in the interface.
     fn set(&mut self, number: usize, word: i64) {
-        let Some(place) = self.places.get(number) else {
-            return;
-        };
-        let place = *place;
-        if place < self.store.len() {
-            self.store[place] = word;
+        if let Some(place) = self.places.get(number)
+            && let Some(found) = self.store.get_mut(*place)
+        {
+            *found = word;
         }
     }
 
@@ -328,7 +314,7 @@ fn tried(
     })
 }
 
-/// The numbers in the code of two images, each with its neighbours and none twice.
+/// The numbers in the code of two images, each with its neighbours and none twice, up to so many.
 fn constants_of(
     alloc: Global,
     reference: &Verified,
@@ -339,7 +325,9 @@ fn constants_of(
         for instr in image.code.iter() {
             if let Instr::Push(word) = instr {
                 for near in [*word, word.wrapping_add(1), word.wrapping_sub(1)] {
-                    add(&mut constants, near)?;
+                    if constants.len() < MOST_CONSTANTS && !constants.contains(&near) {
+                        constants.push(near)?;
+                    }
                 }
             }
         }
@@ -397,14 +385,6 @@ const MOST_CONSTANTS: usize = 512;
 
 /// The most digits of a number that is drawn by its digits.
 const MOST_DIGITS: usize = 6;
-
-/// Adds a word, unless it is there or the list is full.
-fn add(constants: &mut Vec<i64>, word: i64) -> Result<(), AllocError> {
-    if constants.len() < MOST_CONSTANTS && !constants.contains(&word) {
-        constants.push(word)?;
-    }
-    Ok(())
-}
 
 /// A random number below a bound, or 0 if the bound is 0.
 fn below(random: &mut SplitMix64, bound: usize) -> usize {

@@ -6,7 +6,7 @@ ghost use Rattle.vsi_syntax.specs.CommandView.{declared};
 ghost use Rattle.vsi_conform.specs.Shown as shown;
 ghost use Rattle.vsi_conform.specs.Rows as spec;
 
-use crate::interface::{Interface, Point, Trial};
+use crate::interface::{Interface, Point};
 use std::alloc::{AllocError, Global};
 use vsi_image::Image;
 use vsi_syntax::{Declaration, line_column};
@@ -111,11 +111,10 @@ fn declared_at<'a>(text: &[u8], found: &[Declaration<'a>], place: usize, is_clas
     } else {
         declaration.name.span.start
     };
-    let (line, column) = line_column(text, at);
     Held {
         name: declaration.name.text,
         class: declaration.class.text,
-        place: Some((line, column)),
+        place: Some(line_column(text, at)),
     }
 }
 
@@ -193,23 +192,6 @@ fn global_row(
     })
 }
 
-/// The row of a run that doesn't halt.
-fn budget_row(number: usize, trial: Option<&Trial>) -> Row
-    ensures { spec.row result
-        ≡ spec.budget_row number (option_map (λ t. t.now.budget) trial.entry) }
-{
-    let run = number.saturating_add(1);
-    let budget = match trial {
-        Some(trial) => Some(trial.budget),
-        None => None,
-    };
-    Row {
-        kind: Kind::Budget,
-        place: None,
-        detail: Detail::Budget { run, budget },
-    }
-}
-
 /// The row of a word that differs from the expected one.
 fn word_row(
     alloc: Global,
@@ -263,7 +245,14 @@ fn row_of(
             let name = Vec::from_slice(alloc, asked(interface, place).0)?;
             global_row(alloc, Kind::Order, &held, Some(name))
         }
-        Point::OutOfBudget(trial) => Ok(budget_row(trial, interface.trials.get(trial))),
+        Point::OutOfBudget(number) => Ok(Row {
+            kind: Kind::Budget,
+            place: None,
+            detail: Detail::Budget {
+                run: number.saturating_add(1),
+                budget: interface.trials.get(number).map(|trial| trial.budget),
+            },
+        }),
         Point::WrongWord {
             trial,
             wanted,
@@ -285,15 +274,13 @@ fn put_lines(
     ensures { OnOk result (map spec.row found.new.items
         ≡ map spec.row found.old.items ++ spec.lines_rows kind lines.now) }
 {
-    let Some(lines) = lines else {
-        return Ok(());
-    };
-    let lines = Vec::from_slice(alloc, lines)?;
-    found.push(Row {
-        kind,
-        place: None,
-        detail: Detail::Lines(lines),
-    })?;
+    if let Some(lines) = lines {
+        found.push(Row {
+            kind,
+            place: None,
+            detail: Detail::Lines(Vec::from_slice(alloc, lines)?),
+        })?;
+    }
     Ok(())
 }
 

@@ -1,3 +1,4 @@
+mod Behind
 mod Below
 mod Digits
 mod First

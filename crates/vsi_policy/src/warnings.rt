@@ -10,29 +10,10 @@ use vsi_conform::put_parts;
 use vsi_lattice::{Class, Classes, Lattice};
 
 /// Names for classes that everyone sees, in small letters.
-const LOW: [&[u8]; 8] = [
-    b"l",
-    b"low",
-    b"public",
-    b"open",
-    b"everyone",
-    b"guest",
-    b"unclassified",
-    b"bottom",
-];
+const LOW: &[u8] = b"l low public open everyone guest unclassified bottom";
 
 /// Names for classes that few see, in small letters.
-const HIGH: [&[u8]; 9] = [
-    b"h",
-    b"high",
-    b"secret",
-    b"topsecret",
-    b"private",
-    b"confidential",
-    b"owner",
-    b"admin",
-    b"top",
-];
+const HIGH: &[u8] = b"h high secret topsecret private confidential owner admin top";
 
 /// The end of the warning about two names.
 const ALIKE: &[u8] = b" are different classes with names that look alike\n";
@@ -80,8 +61,10 @@ fn is_word(name: &[u8], word: &[u8]) -> bool {
 }
 
 /// Whether a name is one of these, in small letters and without `_`.
-fn is_one_of(name: &[u8], words: &[&[u8]]) -> bool {
-    words.iter().any(|word| is_word(name, word))
+fn is_one_of(name: &[u8], words: &[u8]) -> bool {
+    words
+        .split(|byte| *byte == b' ')
+        .any(|word| is_word(name, word))
 }
 
 /// Adds the warnings about a class and those after it.
@@ -101,7 +84,7 @@ fn put_class(
             put_parts(text, &[b"warning: ", name, b" and ", second, ALIKE])?;
         }
         let is_seen = lattice.leq(Class::at(other as u8), Class::at(class as u8));
-        if is_seen && is_one_of(name, &LOW) && is_one_of(second, &HIGH) {
+        if is_seen && is_one_of(name, LOW) && is_one_of(second, HIGH) {
             put_parts(text, &[b"warning: ", name, b" sees ", second, REVERSED])?;
         }
     }

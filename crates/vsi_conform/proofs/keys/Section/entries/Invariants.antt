@@ -2,10 +2,10 @@ use Rattle.std.proofs.Common.{◌≡◌, drop}
 use Rattle.vsi_image.specs.Fields.{globals}
 use Rattle.vsi_conform.specs.Points.{entries}
 use Rattle.vsi_conform.specs.Reading as spec
-use Rattle.vsi_conform.proofs.keys.Section.know_names.Given as goal
+use Rattle.vsi_conform.proofs.keys.Section.entries.Given as goal
 
 -- All names are names of globals exactly if the remaining ones are.
 abbrev pub invariant-loop-entry : goal.invariant-loop-entry
 invariant-loop-entry l =
-    spec.are_named (globals l.self.globals.now) (entries (drop l.entry-index l.found))
-    ≡ spec.are_named (globals l.self.globals.now) (entries l.found)
+    spec.are_named (globals l.self.globals.now) (entries (drop l.entry-index l.found.items))
+    ≡ spec.are_named (globals l.self.globals.now) (entries l.found.items)

@@ -5,7 +5,7 @@ use Rattle.std.specs.List.{All}
 use Rattle.vsi_image.specs.Fields.{globals}
 use Rattle.vsi_lattice.proofs.ShapeLemmas.{so_far_push}
 use Rattle.vsi_conform.specs.Reading.{BoundsGlobals, cycle, cycle_of}
-use Rattle.vsi_conform.proofs.cycles.cycles_of.Goals as goal
+use Rattle.vsi_conform.proofs.cycles.cycles_in.Goals as goal
 
 pub loop-i-preserved : goal.loop-i-preserved
 loop-i-preserved c =
@@ -15,7 +15,7 @@ loop-i-preserved c =
     in
     record {
       so_far =
-          so_far_push cycle cycle_of c.args.array.now c.loop-i.cycles.items c.push.new.self.items
+          so_far_push cycle cycle_of c.in_ok-array.array.now c.loop-i.cycles.items c.push.new.self.items
           c.in_ok-cycle.cycle c.loop-i.i c.index-array-i.result c.loop-i-test.true c.index-array-i.is
           (sym c.in_ok-cycle.ensures.cycle) c.in_ok-push.ensures.items c.loop-i.invariant.so_far;
       named =

@@ -2,7 +2,7 @@ use Rattle.std.proofs.Common.{◌≡◌, ◌++◌, drop}
 use Rattle.vsi_image.specs.Fields.{globals}
 use Rattle.vsi_policy.specs.Roles.{view}
 use Rattle.vsi_policy.specs.Rows.{each_global, role_part}
-use Rattle.vsi_policy.proofs.rows.put_names.Given as goal
+use Rattle.vsi_policy.proofs.rows.put_row.Given as goal
 
 -- The text so far and the names among the remaining globals are all names.
 abbrev pub invariant-loop-variable : goal.invariant-loop-variable
