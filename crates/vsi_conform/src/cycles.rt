@@ -1,9 +1,9 @@
 //! Reads the tables `[[cycle]]` of an interface file: the boundary of each class's controllers.
 
-ghost use Rattle.std.specs.Prelude.{◌≡◌, map, codes, Some, true, false, IfOk, IfSome, option_map};
+ghost use Rattle.std.specs.Prelude.{◌≡◌, map, Some, true, false, IfOk, IfSome, option_map};
 ghost use Rattle.std.specs.List.{All};
 ghost use Rattle.std.specs.Option.{MatchOption};
-ghost use Rattle.toml.specs.Data.{as_str, as_table, get_member};
+ghost use Rattle.toml.specs.Data.{as_str, get_member};
 ghost use Rattle.toml.specs.View.{items_view, table_view, view};
 ghost use Rattle.vsi_image.specs.Fields as image;
 ghost use Rattle.vsi_lattice.specs.LatticeView.{class_named};

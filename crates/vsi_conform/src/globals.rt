@@ -1,6 +1,6 @@
 //! The globals of a text, compared with the required ones.
 
-ghost use Rattle.std.specs.Prelude.{◌≡◌, ◌++◌, IfOk, OnOk, map};
+ghost use Rattle.std.specs.Prelude.{◌≡◌, IfOk, map};
 ghost use Rattle.vsi_image.specs.Fields.{global, globals, is_taken};
 ghost use Rattle.vsi_syntax.specs.CommandView.{declared};
 ghost use Rattle.vsi_conform.specs.Points as spec;
@@ -124,13 +124,21 @@ pub(crate) fn declarations<'a>(
 {
     let tokens = match lex(alloc, text) {
         Ok(tokens) => tokens,
-        Err(LexError::Memory) => return Err(AllocError),
-        Err(_) => return Ok(Vec::new(alloc)),
+        Err(error) => {
+            return match error {
+                LexError::Memory => Err(AllocError),
+                _ => Ok(Vec::new(alloc)),
+            };
+        }
     };
     let program = match parse(alloc, &tokens) {
         Ok(program) => program,
-        Err(ParseError::Memory) => return Err(AllocError),
-        Err(_) => return Ok(Vec::new(alloc)),
+        Err(error) => {
+            return match error {
+                ParseError::Memory => Err(AllocError),
+                _ => Ok(Vec::new(alloc)),
+            };
+        }
     };
     let found = program.globals().to_vec(alloc)?;
     Ok(found)

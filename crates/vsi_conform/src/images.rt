@@ -3,13 +3,12 @@
 
 ghost use Rattle.std.specs.Prelude.{◌≡◌, IfOk, None, true, map, option_map};
 ghost use Rattle.vsi_lattice.specs.LatticeView.{class_named, order};
-ghost use Rattle.vsi_image.specs.Fields.{globals as globals_of};
 ghost use Rattle.vsi_steady.specs.Steady.{IsSteady};
 ghost use Rattle.vsi_diagnostics.specs.View.{diagnostic_of};
 ghost use Rattle.vsi_conform.specs.Bounded.{ReportsBound};
 ghost use Rattle.vsi_conform.specs.Conforms.{Fits};
 ghost use Rattle.vsi_conform.specs.Reaching.{flowing, released};
-ghost use Rattle.vsi_conform.specs.Reading.{bytes_of, cycle as cycle_of};
+ghost use Rattle.vsi_conform.specs.Reading.{cycle as cycle_of};
 ghost use Rattle.vsi_conform.specs.Rows.{row};
 ghost use Rattle.vsi_conform.specs.declared.interface.Judgement.TheVariants.{Steady};
 ghost use Rattle.vsi_conform.specs.ImageConforms.{is_conforming};
@@ -168,19 +167,6 @@ impl Answer {
     }
 }
 
-/// The names of globals.
-fn names_of(alloc: Global, globals: &[(Vec<u8>, Vec<u8>)]) -> Result<Vec<Vec<u8>>, AllocError>
-    ensures { IfOk result
-        (λ names. bytes_of names.items ≡ map (λ g. g.0) (globals_of globals.now)) }
-{
-    let mut names = Vec::new(alloc);
-    for global in globals {
-        let name = Vec::from_slice(alloc, &global.0)?;
-        names.push(name)?;
-    }
-    Ok(names)
-}
-
 /// The flows of an image between its globals; without a table if the audit doesn't read its program
 /// back.
 fn flows_of(
@@ -192,7 +178,12 @@ fn flows_of(
     ensures { IfOk result
         (λ flows. reaching_spec.AreFlowsOf lattice.now profile verified.now (flowing flows)) }
 {
-    let names = names_of(alloc, &verified.image().globals)?;
+    let mut names = Vec::new(alloc);
+    let globals = &verified.image().globals;
+    for global in globals {
+        let name = Vec::from_slice(alloc, &global.0)?;
+        names.push(name)?;
+    }
     match image_flows(alloc, profile, lattice, verified) {
         Ok(pairs) => Ok(GlobalFlows {
             names,
@@ -270,10 +261,7 @@ fn first_lines(
     ensures { IfOk result (λ lines. lines_spec.AreFirst lattice.now image.now refusal.now lines) }
 {
     match refusal {
-        Some(refusal) => {
-            let lines = refusal_lines(alloc, lattice, image, refusal)?;
-            Ok(Some(lines))
-        }
+        Some(refusal) => { Ok(Some(refusal_lines(alloc, lattice, image, refusal)?)) }
         None => Ok(None),
     }
 }
@@ -415,11 +403,6 @@ pub fn reference_line(
     Ok(text)
 }
 
-/// An answer after its beginning, if it begins so.
-fn after<'a>(answer: &'a [u8], beginning: &[u8]) -> &'a [u8] {
-    answer.strip_prefix(beginning).unwrap_or(answer)
-}
-
 /// The lines of an answer and that of a trial. If only the reference differs, there is no line
 /// `conforms`.
 pub fn lines_with(
@@ -431,7 +414,8 @@ pub fn lines_with(
     ensures begins { IfOk result (λ text. reference_spec.Begins is_alone answer.items text.items) }
 {
     let mut text = if is_alone {
-        Vec::from_slice(alloc, after(&answer, b"conforms\n"))?
+        let points = answer.strip_prefix(b"conforms\n").unwrap_or(&answer);
+        Vec::from_slice(alloc, points)?
     } else {
         answer
     };
@@ -456,7 +440,7 @@ pub fn json_with(
     let object = object.text("text", line)?.line()?;
     let mut text = Vec::new(alloc);
     if is_alone {
-        let rest = after(open, b"{\"conforms\":true");
+        let rest = open.strip_prefix(b"{\"conforms\":true").unwrap_or(open);
         put_parts(&mut text, &[b"{\"conforms\":false", rest])?;
     } else {
         text.extend_from_slice(open)?;

@@ -4,7 +4,7 @@ ghost use Rattle.std.specs.Prelude.{◌≡◌, ◌<◌, ◌≤◌, false, true, 
 ghost use Rattle.std.specs.Option.{option_copied};
 ghost use Rattle.vsi_conform.specs.declared.interface.InterfaceError.TheVariants.{Memory};
 ghost use Rattle.vsi_conform.specs.Points.{told, is_conforming};
-ghost use Rattle.vsi_conform.specs.Totals.{sum_of, total_of};
+ghost use Rattle.vsi_conform.specs.Totals.{total_of};
 ghost use Rattle.vsi_conform.specs.Bounded as spec;
 ghost use Rattle.vsi_conform.specs.Faulty as faulty_spec;
 

@@ -1,6 +1,6 @@
 //! Reads tables of an interface file: the values at their keys, the runs, and paths.
 
-ghost use Rattle.std.specs.Prelude.{◌≡◌, false, true, IfOk, MatchResult, option_map, map, codes, Some, IsTrue, IfSome, OnOk, option_and_then};
+ghost use Rattle.std.specs.Prelude.{◌≡◌, false, true, IfOk, MatchResult, option_map, map, codes, Some, IfSome};
 ghost use Rattle.std.specs.Option.{MatchOption, option_copied};
 ghost use Rattle.toml.specs.Data.{get_member, as_bool, as_table};
 ghost use Rattle.toml.specs.View.{table_view, view, items_view};
@@ -9,7 +9,6 @@ ghost use Rattle.vsi_conform.specs.Points.{entries};
 ghost use Rattle.std.specs.List.{All};
 ghost use Rattle.vsi_conform.specs.Reading as spec;
 ghost use Rattle.vsi_image.specs.Fields as image;
-ghost use Rattle.vsi_lattice.specs.Shape as shape;
 ghost use Rattle.vsi_conform.specs.Beside as beside_spec;
 
 use crate::globals::is_named;

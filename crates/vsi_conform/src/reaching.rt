@@ -8,11 +8,10 @@ ghost use Rattle.vsi_conform.specs.ReachedLines as lines_spec;
 use crate::cycles::Cycle;
 use crate::interface::Judgement;
 use crate::texts::put_parts;
-use std::alloc::{AllocError, Global as Heap};
+use std::alloc::{AllocError, Global};
 use vsi_compiler::{CompileError, Source, read_source};
 use vsi_flows::{FlowsError, Pair, flows_in};
 use vsi_lattice::Lattice;
-use vsi_scope::Global;
 use vsi_types::Profile;
 
 /// The flows of a program between its globals.
@@ -68,7 +67,7 @@ fn number_of(names: &[Vec<u8>], name: &[u8]) -> usize
 
 /// Adds a name, if it is one that counts.
 fn put_name(
-    alloc: Heap,
+    alloc: Global,
     names: &mut Vec<Vec<u8>>,
     name: &[u8],
     counts: bool,
@@ -85,7 +84,7 @@ fn put_name(
 }
 
 /// The names of the globals that reach this one.
-fn sources_of(alloc: Heap, flows: &GlobalFlows, target: usize) -> Result<Vec<Vec<u8>>, AllocError>
+fn sources_of(alloc: Global, flows: &GlobalFlows, target: usize) -> Result<Vec<Vec<u8>>, AllocError>
     ensures { IfOk result (λ found. bytes_of found.items ≡ spec.sources_of
         (spec.flowing flows.now).table target (spec.flowing flows.now).names 0) }
 {
@@ -110,7 +109,7 @@ pub fn is_among(listed: &[Vec<u8>], name: &[u8]) -> bool
 
 /// The names that aren't in a list; without a list there are none.
 fn beyond_of(
-    alloc: Heap,
+    alloc: Global,
     listed: &Option<Vec<Vec<u8>>>,
     names: &[Vec<u8>],
 ) -> Result<Vec<Vec<u8>>, AllocError>
@@ -129,7 +128,7 @@ fn beyond_of(
 
 /// A released output of a boundary.
 fn reach_of(
-    alloc: Heap,
+    alloc: Global,
     flows: &GlobalFlows,
     cycle: &Cycle,
     output: &[u8],
@@ -152,7 +151,7 @@ fn reach_of(
 /// The released outputs of boundaries, in their order, each with the globals of a program that
 /// reach it.
 pub(crate) fn reaches_of(
-    alloc: Heap,
+    alloc: Global,
     flows: &GlobalFlows,
     cycles: &[Cycle],
 ) -> Result<Vec<Reach>, AllocError>
@@ -203,21 +202,8 @@ pub fn flows_profile(judgement: Judgement) -> Profile
     }
 }
 
-/// The names of globals.
-fn names_of(alloc: Heap, globals: &[Global<'_>]) -> Result<Vec<Vec<u8>>, AllocError>
-    ensures { IfOk result
-        (λ names. bytes_of names.items ≡ map (λ g. g.name.now) globals.now) }
-{
-    let mut names = Vec::new(alloc);
-    for global in globals {
-        let name = Vec::from_slice(alloc, global.name)?;
-        names.push(name)?;
-    }
-    Ok(names)
-}
-
 /// The flows of a source text between its globals.
-fn flows_of(alloc: Heap, profile: Profile, source: &Source<'_>) -> Result<GlobalFlows, AllocError>
+fn flows_of(alloc: Global, profile: Profile, source: &Source<'_>) -> Result<GlobalFlows, AllocError>
     ensures { IfOk result (λ flows. spec.AreFlowsOf source.now.lattice profile source.now.text
         (spec.flowing flows)) }
 {
@@ -227,7 +213,12 @@ fn flows_of(alloc: Heap, profile: Profile, source: &Source<'_>) -> Result<Global
         Ok(pairs) => pairs,
         Err(FlowsError::Memory) => return Err(AllocError),
     };
-    let names = names_of(alloc, resolved.globals())?;
+    let mut names = Vec::new(alloc);
+    let globals = resolved.globals();
+    for global in globals {
+        let name = Vec::from_slice(alloc, global.name)?;
+        names.push(name)?;
+    }
     Ok(GlobalFlows {
         names,
         table: Some(pairs),
@@ -237,7 +228,7 @@ fn flows_of(alloc: Heap, profile: Profile, source: &Source<'_>) -> Result<Global
 /// The released outputs of boundaries, in their order, each with the globals of a text that reach
 /// it. A text that has no program has none. An error means that memory ran out.
 pub fn text_reaches(
-    alloc: Heap,
+    alloc: Global,
     lattice: &Lattice,
     text: &[u8],
     judgement: Judgement,
@@ -259,11 +250,20 @@ pub fn text_reaches(
     }
 }
 
-/// Adds names, each after a blank.
-fn put_spaced(text: &mut Vec<u8>, names: &[Vec<u8>]) -> Result<(), AllocError>
-    ensures { OnOk result
-        (text.new.items ≡ text.old.items ++ lines_spec.spaced (bytes_of names.now)) }
+/// Adds names, each after a blank, behind a text, or another text if there are none.
+fn put_names(
+    text: &mut Vec<u8>,
+    names: &[Vec<u8>],
+    before: &[u8],
+    none: &[u8],
+) -> Result<(), AllocError>
+    ensures { OnOk result (text.new.items
+        ≡ text.old.items ++ lines_spec.names_text before.now none.now (bytes_of names.now)) }
 {
+    if names.is_empty() {
+        return text.extend_from_slice(none);
+    }
+    text.extend_from_slice(before)?;
     for name in names {
         put_parts(text, &[b" ", name])?;
     }
@@ -280,14 +280,8 @@ fn put_line(text: &mut Vec<u8>, reach: &Reach) -> Result<(), AllocError>
         text,
         &[&reach.class, b" releases ", &reach.output, b" from"],
     )?;
-    if reach.sources.is_empty() {
-        text.extend_from_slice(b" (nothing)")?;
-    }
-    put_spaced(text, &reach.sources)?;
-    if !reach.beyond.is_empty() {
-        text.extend_from_slice(b", unexpected")?;
-    }
-    put_spaced(text, &reach.beyond)?;
+    put_names(text, &reach.sources, b"", b" (nothing)")?;
+    put_names(text, &reach.beyond, b", unexpected", b"")?;
     text.extend_from_slice(b"\n")
 }
 
@@ -335,6 +329,16 @@ fn put_objects(text: &mut Vec<u8>, reaches: &[Reach]) -> Result<(), AllocError>
     Ok(())
 }
 
+/// Adds the member of released outputs, and the end of the line.
+fn put_member(text: &mut Vec<u8>, reaches: &[Reach]) -> Result<(), AllocError>
+    ensures { OnOk result (text.new.items
+        ≡ text.old.items ++ lines_spec.released_member (map spec.released reaches.now)) }
+{
+    text.extend_from_slice(b",\"reached\":[")?;
+    put_objects(text, reaches)?;
+    put_parts(text, &[b"]}\n"])
+}
+
 /// Whether the points don't differ, and a released output does.
 fn is_overturned(fits: bool, reaches: &[Reach]) -> bool
     ensures { result ≡ lines_spec.is_overturned fits (map spec.released reaches.now) }
@@ -345,7 +349,7 @@ fn is_overturned(fits: bool, reaches: &[Reach]) -> bool
 /// The lines of an answer: those of its points and then one for each released output. If nothing
 /// but a released output differs, the line `conforms` isn't among them.
 pub fn with_reached_lines(
-    alloc: Heap,
+    alloc: Global,
     fits: bool,
     points: &[u8],
     reaches: &[Reach],
@@ -366,7 +370,7 @@ pub fn with_reached_lines(
 /// The line of JSON of an answer: that of its points, with a member for the released outputs if
 /// there are any.
 pub fn with_reached_json(
-    alloc: Heap,
+    alloc: Global,
     fits: bool,
     points: &[u8],
     reaches: &[Reach],
@@ -383,8 +387,6 @@ pub fn with_reached_json(
         points
     };
     let mut text = Vec::from_slice(alloc, &line[..line.len().saturating_sub(2)])?;
-    text.extend_from_slice(b",\"reached\":[")?;
-    put_objects(&mut text, reaches)?;
-    text.extend_from_slice(b"]}\n")?;
+    put_member(&mut text, reaches)?;
     Ok(text)
 }

@@ -5,7 +5,7 @@ ghost use Rattle.std.specs.Prelude.{IfOk, OnOk, option_map, string_bytes};
 ghost use Rattle.std.specs.Str.{IsUtf8};
 ghost use Rattle.std.specs.Str.Lossy.{utf8_lossy};
 ghost use Rattle.toml.specs.Data.{get_member};
-ghost use Rattle.toml.specs.View.{items_view, table_view, view};
+ghost use Rattle.toml.specs.View.{table_view, view};
 ghost use Rattle.vsi_image.specs.Fields.{global, globals};
 ghost use Rattle.vsi_lattice.specs.Shape as shape;
 ghost use Rattle.vsi_conform.specs.Beside.{IsInside, beside, folder};
@@ -134,14 +134,10 @@ fn policy_in(alloc: Global, table: &Table) -> Result<Policy, InterfaceError>
     ) {
         (Some(_), None, None) => {
             let path = path_at(table, "lattice").ok_or(InterfaceError::BadLattice)?;
-            let path = Vec::from_slice(alloc, path)?;
-            Ok(Policy::File(path))
+            Ok(Policy::File(Vec::from_slice(alloc, path)?))
         }
         (Some(_), _, _) | (None, None, None) => Err(InterfaceError::BadLattice),
-        (None, _, _) => {
-            let text = tables_text(alloc, table)?;
-            Ok(Policy::Tables(text))
-        }
+        (None, _, _) => Ok(Policy::Tables(tables_text(alloc, table)?)),
     }
 }
 
@@ -266,8 +262,7 @@ fn reference_in(alloc: Global, table: &Table) -> Result<Option<Vec<u8>>, Interfa
         return Ok(None);
     }
     let path = path_at(table, "reference").ok_or(InterfaceError::BadReference)?;
-    let path = Vec::from_slice(alloc, path)?;
-    Ok(Some(path))
+    Ok(Some(Vec::from_slice(alloc, path)?))
 }
 
 /// The contents of an interface file. Whether its classes are classes of the lattice isn't checked.

@@ -174,28 +174,24 @@ struct Trial<'a> {
     budget: u64,
 }
 
-/// Whether a line of a boundary's class may set a global.
-fn is_input(lattice: &Lattice, cycle: &Cycle, global: &(Vec<u8>, Vec<u8>)) -> bool {
-    if let Some(names) = &cycle.inputs {
-        return is_among(names, &global.0);
-    }
-    match lattice.class_named(&cycle.class) {
-        Some(class) => sees(lattice, class, &global.1),
-        None => false,
-    }
-}
-
-/// The boundary of a class by numbers.
+/// The boundary of a class by numbers: the globals that a line of the class may set, and those that
+/// it releases.
 fn boundary_of(
     alloc: Global,
     lattice: &Lattice,
     interface: &Interface,
     cycle: &Cycle,
 ) -> Result<Boundary, AllocError> {
+    let class = lattice.class_named(&cycle.class);
     let mut inputs = Vec::new(alloc);
     let mut outputs = Vec::new(alloc);
     for (number, global) in interface.globals.iter().enumerate() {
-        if is_input(lattice, cycle, global) {
+        let is_input = match (&cycle.inputs, class) {
+            (Some(names), _) => is_among(names, &global.0),
+            (None, Some(class)) => sees(lattice, class, &global.1),
+            (None, None) => false,
+        };
+        if is_input {
             inputs.push(number)?;
         }
         if is_among(&cycle.released, &global.0) {
@@ -231,17 +227,9 @@ impl<'a> Trial<'a> {
         self.reference.set(number, word);
     }
 
-    /// Draws most of the inputs, and leaves the others as they are.
-    fn feed(&mut self, inputs: &[usize]) {
-        for number in inputs {
-            if below(&mut self.random, 4) != 0 {
-                self.draw(*number);
-            }
-        }
-    }
-
     /// A run of both images from equal stores: how many cycles are alike, and how the next one
-    /// differs. If neither halts within the budget, the run is over.
+    /// differs. Each cycle draws most of the inputs. If neither halts within the budget, the run is
+    /// over.
     fn run(&mut self, boundary: &Boundary) -> Result<(usize, Option<Contrast>), AllocError>
         ensures { IfOk result (λ pair. IfSome pair.1 spec.IsContrast) }
     {
@@ -249,7 +237,11 @@ impl<'a> Trial<'a> {
             self.draw(number);
         }
         for cycle in 0..CYCLES {
-            self.feed(&boundary.inputs);
+            for number in &boundary.inputs {
+                if below(&mut self.random, 4) != 0 {
+                    self.draw(*number);
+                }
+            }
             let is_halted = self.image.run(self.alloc, self.budget)?;
             let contrast = match (is_halted, self.reference.run(self.alloc, self.budget)?) {
                 (true, true) => contrast_of(&self.image, &self.reference, &boundary.outputs),

@@ -1,9 +1,9 @@
 //! The lines and the JSON of an answer.
 
-ghost use Rattle.std.specs.Prelude.{◌≡◌, ◌++◌, true, codes, decimal, map, option_map, IfOk, OnOk};
+ghost use Rattle.std.specs.Prelude.{◌≡◌, ◌++◌, codes, decimal, map, option_map, IfOk, OnOk};
 ghost use Rattle.std.specs.Fmt.{signed_decimal};
 ghost use Rattle.std.specs.List.{flat_map};
-ghost use Rattle.serde_json.specs.View.{members_view, view};
+ghost use Rattle.serde_json.specs.View.{members_view};
 ghost use Rattle.vsi_conform.specs.Rows.{row};
 ghost use Rattle.vsi_conform.specs.Rows as rows_spec;
 ghost use Rattle.vsi_conform.specs.Lines as spec;
@@ -93,8 +93,7 @@ fn first_lines(
     match refusal {
         Some(error) => {
             let steady = is_steady(interface.judgement);
-            let lines = refusal_lines(alloc, lattice, text, error, steady)?;
-            Ok(Some(lines))
+            Ok(Some(refusal_lines(alloc, lattice, text, error, steady)?))
         }
         None => Ok(None),
     }
@@ -164,6 +163,40 @@ fn put_global(
     text.extend_from_slice(b"\n")
 }
 
+/// Adds the number of a run.
+fn put_run(text: &mut Vec<u8>, run: usize) -> Result<(), AllocError>
+    ensures { OnOk result (text.new.items ≡ text.old.items ++ spec.run_text run) }
+{
+    text.extend_from_slice(b"run ")?;
+    put_number(text, run)
+}
+
+/// Adds the word of a global after a run, or that there is no such global.
+fn put_found(text: &mut Vec<u8>, name: &[u8], found: Option<i64>) -> Result<(), AllocError>
+    ensures { OnOk result (text.new.items ≡ text.old.items ++ spec.found_text name.now found) }
+{
+    match found {
+        Some(word) => {
+            put_parts(text, &[b" ", name, b" = "])?;
+            put_word(text, word)
+        }
+        None => put_parts(text, &[b" no ", name]),
+    }
+}
+
+/// Adds a run that doesn't halt, and its budget.
+fn put_spent(text: &mut Vec<u8>, run: usize, budget: Option<u64>) -> Result<(), AllocError>
+    ensures { OnOk result (text.new.items ≡ text.old.items ++ spec.run_text run
+        ++ codes " out of budget " ++ spec.budget_text budget ++ codes "\n") }
+{
+    put_run(text, run)?;
+    text.extend_from_slice(b" out of budget ")?;
+    if let Some(budget) = budget {
+        put_number(text, budget as usize)?;
+    }
+    text.extend_from_slice(b"\n")
+}
+
 /// Adds a run, a name with the word that is found for it, and the word that is expected.
 fn put_ended(
     text: &mut Vec<u8>,
@@ -176,14 +209,8 @@ fn put_ended(
         ++ spec.found_text name.now found ++ codes ", expected " ++ signed_decimal expected
         ++ codes "\n") }
 {
-    put_counted(text, b"run ", run)?;
-    match found {
-        Some(word) => {
-            put_parts(text, &[b" ", name, b" = "])?;
-            put_word(text, word)?;
-        }
-        None => put_parts(text, &[b" no ", name])?,
-    }
+    put_run(text, run)?;
+    put_found(text, name, found)?;
     text.extend_from_slice(b", expected ")?;
     put_word(text, expected)?;
     text.extend_from_slice(b"\n")
@@ -201,14 +228,7 @@ fn put_detail(text: &mut Vec<u8>, kind: Kind, detail: &Detail) -> Result<(), All
             class,
             expected,
         } => put_global(text, kind, name, class, expected),
-        Detail::Budget { run, budget } => {
-            put_counted(text, b"run ", *run)?;
-            text.extend_from_slice(b" out of budget ")?;
-            if let Some(budget) = budget {
-                put_number(text, *budget as usize)?;
-            }
-            text.extend_from_slice(b"\n")
-        }
+        Detail::Budget { run, budget } => put_spent(text, *run, *budget),
         Detail::Word {
             run,
             name,

@@ -1,18 +1,16 @@
 //! Makes lattice files. The text is proposed, and the reader of lattice files determines what it
 //! declares.
 
-ghost use Rattle.std.specs.Prelude.{IfOk, IsTrue, length, ◌≡◌};
-ghost use Rattle.vsi_lattice.specs.FileFaults.{IsRead};
-ghost use Rattle.vsi_lattice.specs.LatticeView.{names, order};
+ghost use Rattle.std.specs.Prelude.{IfOk, ◌≡◌};
 ghost use Rattle.vsi_lattice.specs.NamePlaces.{texts};
-ghost use Rattle.vsi_policy.specs.Shapes.{HasClasses, HasOrder, IsShaped, IsShapedText};
+ghost use Rattle.vsi_policy.specs.Shapes.{IsShapedText};
 ghost use Rattle.vsi_policy.specs.declared.making.ShapeError.TheVariants.{Memory};
 
 use crate::shape::{Shape, has_classes, has_order, is_below};
 use std::alloc::{AllocError, AllocFailed, Global};
 use thiserror::Error;
 use vsi_conform::put_parts;
-use vsi_lattice::{Classes, Lattice, LatticeError, read_lattice};
+use vsi_lattice::{Classes, LatticeError, read_lattice};
 use vsi_syntax::is_name;
 
 /// The text of the lattice file of the shape that the first argument names, with the other
@@ -28,15 +26,23 @@ pub fn lattice_text(alloc: Global, arguments: &[&[u8]]) -> Result<Vec<u8>, Shape
     let [first, given @ ..] = arguments else {
         return Err(ShapeError::NoShape);
     };
-    let shape = Shape::named(first).ok_or(ShapeError::NoShape)?;
-    let count = shape
-        .count(given.len())
-        .ok_or(ShapeError::WrongCount(shape))?;
+    let Some(shape) = Shape::named(first) else {
+        return Err(ShapeError::NoShape);
+    };
+    let Some(count) = shape.count(given.len()) else {
+        return Err(ShapeError::WrongCount(shape));
+    };
     let classes = class_names(alloc, shape, given, count)?;
     let text = proposed(alloc, shape, given.len(), &classes)?;
     let lattice = match read_lattice(alloc, &text) {
         Ok(lattice) => lattice,
-        Err(error) => return Err(fault_of(classes, error)),
+        Err(LatticeError::DuplicateName(place)) => {
+            return match classes.into_iter().nth(place) {
+                Some(name) => Err(ShapeError::Twice(name)),
+                None => Err(ShapeError::Memory),
+            };
+        }
+        Err(_) => return Err(ShapeError::Memory),
     };
     if lattice.count() != count || !has_order(shape, given.len(), &lattice) {
         return Err(ShapeError::Memory);
@@ -64,17 +70,6 @@ fn class_names(
         classes.push(name)?;
     }
     Ok(classes)
-}
-
-/// The meaning of a refusal of the proposed text: two classes with one name, or lack of memory.
-fn fault_of(classes: Vec<Vec<u8>>, error: LatticeError) -> ShapeError {
-    let LatticeError::DuplicateName(place) = error else {
-        return ShapeError::Memory;
-    };
-    match classes.into_iter().nth(place) {
-        Some(name) => ShapeError::Twice(name),
-        None => ShapeError::Memory,
-    }
 }
 
 /// Whether a class of a shape is directly below another: at or below it, different from it, and

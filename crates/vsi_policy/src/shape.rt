@@ -1,9 +1,8 @@
 //! The shapes of lattices, and the names of their classes.
 
-ghost use Rattle.std.specs.Prelude.{◌≡◌, [], IfSome, IfOk, OnOk, ◌≤◌, option_map, length, ◌<◌, Some, IsTrue, true};
+ghost use Rattle.std.specs.Prelude.{◌≡◌, IfSome, IfOk, OnOk, ◌≤◌, option_map, length, ◌<◌, Some, IsTrue, true};
 ghost use Rattle.vsi_lattice.specs.NamePlaces.{texts};
 ghost use Rattle.vsi_lattice.specs.LatticeView.{class_named, order};
-ghost use Rattle.vsi_lattice.specs.Order.{IsClass};
 ghost use Rattle.vsi_policy.specs.Shapes as spec;
 ghost use Rattle.vsi_policy.specs.Named as named_spec;
 
@@ -48,7 +47,8 @@ impl Shape {
             Shape::Two => (names == 0).then_some(2),
             Shape::Levels => (names >= 1 && names <= 64).then_some(names),
             Shape::Diamond => (names == 4).then_some(4),
-            Shape::Powerset => set_count(names),
+            Shape::Powerset if names >= 1 && names <= 6 => Some(1 << names),
+            Shape::Powerset => None,
         }
     }
 
@@ -67,21 +67,6 @@ impl Shape {
             Shape::Levels | Shape::Diamond => Vec::from_slice(alloc, given_name(given, class)),
             Shape::Powerset => set_name(alloc, given, class),
         }
-    }
-}
-
-/// The number of sets of this many names, if a lattice file can have that many classes.
-fn set_count(names: usize) -> Option<usize>
-    ensures { result ≡ spec.set_count names }
-{
-    match names {
-        1 => Some(2),
-        2 => Some(4),
-        3 => Some(8),
-        4 => Some(16),
-        5 => Some(32),
-        6 => Some(64),
-        _ => None,
     }
 }
 

@@ -7,5 +7,5 @@ use Rattle.vsi_conform.proofs.keys.Section.entries.Given as goal
 -- All names are names of globals exactly if the remaining ones are.
 abbrev pub invariant-loop-entry : goal.invariant-loop-entry
 invariant-loop-entry l =
-    spec.are_named (globals l.self.globals.now) (entries (drop l.entry-index l.found.items))
-    ≡ spec.are_named (globals l.self.globals.now) (entries l.found.items)
+    spec.are_named (globals l.self.globals.now) (entries (drop l.entry-index l.entry-items))
+    ≡ spec.are_named (globals l.self.globals.now) (entries l.entry-items)
