@@ -14,7 +14,6 @@ ghost use Rattle.vsi_conform.specs.Bounded as bounded_spec;
 
 use crate::globals::global_points;
 use crate::interface::{Answer, Bounded, Interface, Judgement, Point, Trial, put_told};
-use crate::texts::put_counted;
 use std::alloc::{AllocError, Global};
 use vsi_answers::{BoundAnswer, bound_in, enough_budget};
 use vsi_compiler::{CompileError, Source, compile_source, read_source, unjudged_image};
@@ -22,6 +21,7 @@ use vsi_image::Verified;
 use vsi_lattice::Lattice;
 use vsi_machine::{Machine, Outcome};
 use vsi_steady::{UnsteadyError, steady_image_of};
+use vsi_syntax::put_number;
 use vsi_types::Profile;
 
 /// The differences between the globals and runs of an image and the required ones.
@@ -282,6 +282,19 @@ fn put_trial(
     }
 }
 
+/// The line of a bound above a maximum.
+fn excess_line(alloc: Global, most: u64, maximum: u64) -> Result<Vec<u8>, AllocError>
+    ensures { IfOk result (λ line. line.items ≡ bounded_spec.excess_line most maximum) }
+{
+    let mut line = Vec::new(alloc);
+    line.extend_from_slice(b"halts within ")?;
+    put_number(&mut line, most as usize)?;
+    line.extend_from_slice(b" instructions, expected at most ")?;
+    put_number(&mut line, maximum as usize)?;
+    line.extend_from_slice(b"\n")?;
+    Ok(line)
+}
+
 /// The report about a bound where one of at most `maximum` instructions is required.
 #[tactic(auto, using(crate::proofs::BoundLines::within_reported, crate::proofs::BoundLines::excess_reported, crate::proofs::BoundLines::line_reported))]
 fn report_within(
@@ -296,11 +309,7 @@ fn report_within(
             if most <= maximum {
                 return Ok(None);
             }
-            let mut line = Vec::new(alloc);
-            put_counted(&mut line, b"halts within ", most as usize)?;
-            let words = b" instructions, expected at most ";
-            put_counted(&mut line, words, maximum as usize)?;
-            line.extend_from_slice(b"\n")?;
+            let line = excess_line(alloc, most, maximum)?;
             Ok(Some(line))
         }
         Err(line) => Ok(Some(line)),

@@ -78,8 +78,7 @@ fn put_name(
     if !counts {
         return Ok(());
     }
-    let name = Vec::from_slice(alloc, name)?;
-    names.push(name)?;
+    names.push(Vec::from_slice(alloc, name)?)?;
     Ok(())
 }
 
@@ -138,11 +137,9 @@ fn reach_of(
 {
     let sources = sources_of(alloc, flows, number_of(&flows.names, output))?;
     let beyond = beyond_of(alloc, &cycle.from, &sources)?;
-    let class = Vec::from_slice(alloc, &cycle.class)?;
-    let output = Vec::from_slice(alloc, output)?;
     Ok(Reach {
-        class,
-        output,
+        class: Vec::from_slice(alloc, &cycle.class)?,
+        output: Vec::from_slice(alloc, output)?,
         sources,
         beyond,
     })
@@ -216,8 +213,7 @@ fn flows_of(alloc: Global, profile: Profile, source: &Source<'_>) -> Result<Glob
     let mut names = Vec::new(alloc);
     let globals = resolved.globals();
     for global in globals {
-        let name = Vec::from_slice(alloc, global.name)?;
-        names.push(name)?;
+        names.push(Vec::from_slice(alloc, global.name)?)?;
     }
     Ok(GlobalFlows {
         names,

@@ -179,14 +179,12 @@ fn global_row(
     ensures { IfOk result (λ made. spec.row made
         ≡ spec.global_row kind (spec.held held.now) (option_map (λ e. e.items) expected)) }
 {
-    let name = Vec::from_slice(alloc, held.name)?;
-    let class = Vec::from_slice(alloc, held.class)?;
     Ok(Row {
         kind,
         place: held.place,
         detail: Detail::Global {
-            name,
-            class,
+            name: Vec::from_slice(alloc, held.name)?,
+            class: Vec::from_slice(alloc, held.class)?,
             expected,
         },
     })
@@ -202,13 +200,12 @@ fn word_row(
     ensures { IfOk result (λ made. spec.row made
         ≡ spec.word_row number (expected.entry.0.now, expected.entry.1) found) }
 {
-    let name = Vec::from_slice(alloc, expected.0)?;
     Ok(Row {
         kind: Kind::Word,
         place: None,
         detail: Detail::Word {
             run: number.saturating_add(1),
-            name,
+            name: Vec::from_slice(alloc, expected.0)?,
             expected: expected.1,
             found,
         },

@@ -1,4 +1,3 @@
-mod Behind
 mod Below
 mod Digits
 mod First
