@@ -82,6 +82,24 @@ pub fn judgement_by(profile: Profile) -> Judgement
     }
 }
 
+/// The line of a source text that was read and is refused.
+fn source_line(
+    alloc: Global,
+    judgement: Judgement,
+    source: &Source<'_>,
+    error: &UnsteadyError,
+) -> Result<Vec<u8>, AllocError>
+    ensures { IfOk result (λ out. spec.WritesRefusal source.now.lattice judgement source.now.text
+        error.now out.items) }
+{
+    let Some(diagnostic) = unsteady_diagnostic(source.text(), error) else {
+        return Err(AllocError);
+    };
+    let lines = refusal_lines_of(alloc, source, error, is_steady(judgement))?;
+    let line = refusal_json_of(alloc, source, &diagnostic, &lines)?;
+    Ok(line)
+}
+
 /// The answer of `check_json` for a source text that was read already.
 pub fn check_json_of(
     alloc: Global,
@@ -98,9 +116,7 @@ pub fn check_json_of(
             Ok(Checked { is_accepted, line })
         }
         Err(error) => {
-            let diagnostic = unsteady_diagnostic(source.text(), &error).ok_or(AllocError)?;
-            let lines = refusal_lines_of(alloc, source, &error, is_steady(judgement))?;
-            let line = refusal_json_of(alloc, source, &diagnostic, &lines)?;
+            let line = source_line(alloc, judgement, source, &error)?;
             let is_accepted = false;
             Ok(Checked { is_accepted, line })
         }
@@ -119,7 +135,9 @@ pub fn unread_json(
         lattice.now judgement text.now (unsteady.Compile error) out.items) }
 {
     let error = UnsteadyError::Compile(error);
-    let diagnostic = unsteady_diagnostic(text, &error).ok_or(AllocError)?;
+    let Some(diagnostic) = unsteady_diagnostic(text, &error) else {
+        return Err(AllocError);
+    };
     let lines = refusal_lines(alloc, lattice, text, &error, is_steady(judgement))?;
     let line = refusal_json(alloc, lattice, text, &diagnostic, &lines)?;
     Ok(line)

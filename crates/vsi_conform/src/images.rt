@@ -3,12 +3,13 @@
 
 ghost use Rattle.std.specs.Prelude.{◌≡◌, IfOk, None, true, map, option_map};
 ghost use Rattle.vsi_lattice.specs.LatticeView.{class_named, order};
+ghost use Rattle.vsi_image.specs.Fields.{globals as globals_of};
 ghost use Rattle.vsi_steady.specs.Steady.{IsSteady};
 ghost use Rattle.vsi_diagnostics.specs.View.{diagnostic_of};
 ghost use Rattle.vsi_conform.specs.Bounded.{ReportsBound};
 ghost use Rattle.vsi_conform.specs.Conforms.{Fits};
 ghost use Rattle.vsi_conform.specs.Reaching.{flowing, released};
-ghost use Rattle.vsi_conform.specs.Reading.{cycle as cycle_of};
+ghost use Rattle.vsi_conform.specs.Reading.{bytes_of, cycle as cycle_of};
 ghost use Rattle.vsi_conform.specs.Rows.{row};
 ghost use Rattle.vsi_conform.specs.declared.interface.Judgement.TheVariants.{Steady};
 ghost use Rattle.vsi_conform.specs.ImageConforms.{is_conforming};
@@ -29,6 +30,7 @@ use std::alloc::{AllocError, Global};
 use vsi_answers::bound;
 use vsi_audit::{AuditError, audit_in, audit_text, image_flows};
 use vsi_diagnostics::{Diagnostic, Object, without_end};
+use vsi_flows::Pair;
 use vsi_image::{Image, Verified};
 use vsi_lattice::Lattice;
 use vsi_steady::{SteadyError, steady_in, steady_text};
@@ -167,8 +169,37 @@ impl Answer {
     }
 }
 
-/// The flows of an image between its globals; without a table if the audit doesn't read its program
-/// back.
+/// The names of globals.
+fn names_of(alloc: Global, globals: &[(Vec<u8>, Vec<u8>)]) -> Result<Vec<Vec<u8>>, AllocError>
+    ensures { IfOk result
+        (λ names. bytes_of names.items ≡ map (λ g. g.0) (globals_of globals.now)) }
+{
+    let mut names = Vec::new(alloc);
+    for global in globals {
+        let name = Vec::from_slice(alloc, &global.0)?;
+        names.push(name)?;
+    }
+    Ok(names)
+}
+
+/// The table of flows of an image, if the audit reads its program back.
+fn table_of(
+    alloc: Global,
+    profile: Profile,
+    lattice: &Lattice,
+    verified: &Verified,
+) -> Result<Option<Vec<Pair>>, AllocError>
+    ensures { IfOk result (λ table. reaching_spec.IsTableIn lattice.now profile verified.now
+        (option_map (λ pairs. pairs.items) table)) }
+{
+    match image_flows(alloc, profile, lattice, verified) {
+        Ok(pairs) => Ok(Some(pairs)),
+        Err(AuditError::Memory) => Err(AllocError),
+        Err(_) => Ok(None),
+    }
+}
+
+/// The flows of an image between its globals.
 fn flows_of(
     alloc: Global,
     profile: Profile,
@@ -178,20 +209,9 @@ fn flows_of(
     ensures { IfOk result
         (λ flows. reaching_spec.AreFlowsOf lattice.now profile verified.now (flowing flows)) }
 {
-    let mut names = Vec::new(alloc);
-    let globals = &verified.image().globals;
-    for global in globals {
-        let name = Vec::from_slice(alloc, &global.0)?;
-        names.push(name)?;
-    }
-    match image_flows(alloc, profile, lattice, verified) {
-        Ok(pairs) => Ok(GlobalFlows {
-            names,
-            table: Some(pairs),
-        }),
-        Err(AuditError::Memory) => Err(AllocError),
-        Err(_) => Ok(GlobalFlows { names, table: None }),
-    }
+    let names = names_of(alloc, &verified.image().globals)?;
+    let table = table_of(alloc, profile, lattice, verified)?;
+    Ok(GlobalFlows { names, table })
 }
 
 /// The released outputs of boundaries, in their order, each with the globals of an image that reach
@@ -230,6 +250,16 @@ fn refusal_lines(
     }
 }
 
+/// The refusal of an image as a value; none if memory ran out.
+fn refusal_diagnostic(refusal: &Refusal) -> Option<Diagnostic<'static>>
+    ensures { option_map diagnostic_of result ≡ lines_spec.diagnostic refusal.now }
+{
+    match refusal {
+        Refusal::Audit(error) => audit_diagnostic(error),
+        Refusal::Steady(error) => steady_diagnostic(error),
+    }
+}
+
 /// The refusal of an image that isn't as a profile requires, as a value and as lines.
 pub fn refused_image(
     alloc: Global,
@@ -243,9 +273,8 @@ pub fn refused_image(
     let Some(refusal) = refusal_of(alloc, judgement, lattice, verified)? else {
         return Ok(None);
     };
-    let diagnostic = match &refusal {
-        Refusal::Audit(error) => audit_diagnostic(error).ok_or(AllocError)?,
-        Refusal::Steady(error) => steady_diagnostic(error).ok_or(AllocError)?,
+    let Some(diagnostic) = refusal_diagnostic(&refusal) else {
+        return Err(AllocError);
     };
     let lines = refusal_lines(alloc, lattice, verified.image(), &refusal)?;
     Ok(Some((diagnostic, lines)))
@@ -261,7 +290,10 @@ fn first_lines(
     ensures { IfOk result (λ lines. lines_spec.AreFirst lattice.now image.now refusal.now lines) }
 {
     match refusal {
-        Some(refusal) => { Ok(Some(refusal_lines(alloc, lattice, image, refusal)?)) }
+        Some(refusal) => {
+            let lines = refusal_lines(alloc, lattice, image, refusal)?;
+            Ok(Some(lines))
+        }
         None => Ok(None),
     }
 }

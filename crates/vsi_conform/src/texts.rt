@@ -93,7 +93,8 @@ fn first_lines(
     match refusal {
         Some(error) => {
             let steady = is_steady(interface.judgement);
-            Ok(Some(refusal_lines(alloc, lattice, text, error, steady)?))
+            let lines = refusal_lines(alloc, lattice, text, error, steady)?;
+            Ok(Some(lines))
         }
         None => Ok(None),
     }

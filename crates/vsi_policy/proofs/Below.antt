@@ -1,5 +1,5 @@
 -- Texts of numbers, added one after another.
-use Rattle.std.proofs.Common.{◌≡◌, ℕ, suc, ◌+◌, true, false, List, [], ◌∷◌, ◌++◌, ◌∙◌, codes, is_some, refl, sym, ap, subst, append_assoc, arith}
+use Rattle.std.proofs.Common.{◌≡◌, ℕ, suc, ◌+◌, true, false, List, [], ◌∷◌, ◌++◌, ◌∙◌, codes, is_some, refl, sym, ap, append_assoc, arith}
 use Rattle.vsi_lattice.specs.declared.lattice.Lattice.{Lattice}
 use Rattle.vsi_image.specs.Fields.{Global}
 use Rattle.vsi_policy.specs.Roles.{Boundaries, table_of}
@@ -37,11 +37,12 @@ three_rows b name start one two three has sets reads releases =
 -- The warnings so far get that of a class that isn't used.
 pub more_warned : (l : Lattice) (gs : List Global) (n : ℕ) (name old new : List ℕ) → name ≡ name_at l n →
     is_used gs name ≡ false → old ≡ each_below (numbered_warning l gs) n →
-    new ≡ old ++ codes "warning: no global has the class " ++ name ++ codes "\n" →
+    new ≡ old ++ (codes "warning: no global has the class " ++ (name ++ codes "\n")) →
     new ≡ each_below (numbered_warning l gs) (n + 1)
 more_warned l gs n name old new named unused so is =
-    let line = codes "warning: no global has the class " ++ name ++ codes "\n" in
-    let own : line ≡ unused_line gs name = rw unused refl in
+    let line = codes "warning: no global has the class " ++ (name ++ codes "\n") in
+    let own : line ≡ unused_line gs name =
+    rw unused (sym (append_assoc (codes "warning: no global has the class ") name (codes "\n"))) in
     is ∙ ap (λ (t : List ℕ). t ++ line) so
     ∙ ap (λ (t : List ℕ). each_below (numbered_warning l gs) n ++ t) (own ∙ ap (unused_line gs) named)
     ∙ sym (next_below (numbered_warning l gs) n)

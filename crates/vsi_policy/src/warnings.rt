@@ -21,26 +21,21 @@ const ALIKE: &[u8] = b" are different classes with names that look alike\n";
 /// The end of the warning about a viewer and a class whose names say the opposite.
 const REVERSED: &[u8] = b": is the order reversed?\n";
 
-/// A letter as it is compared: small, and the same for those that look alike. `_` has none.
-fn plain_letter(letter: u8) -> Option<u8> {
-    match letter {
-        b'_' => None,
-        b'0' | b'O' | b'o' => Some(b'o'),
-        b'1' | b'I' | b'i' | b'L' | b'l' => Some(b'l'),
-        b'5' | b'S' | b's' => Some(b's'),
-        b'2' | b'Z' | b'z' => Some(b'z'),
-        b'8' | b'B' | b'b' => Some(b'b'),
-        other => Some(other.to_ascii_lowercase()),
-    }
-}
-
-/// A name as it is compared with others.
+/// A name as it is compared with others: its letters small, and the same for those that look alike,
+/// without `_`.
 fn plain_name(alloc: Global, name: &[u8]) -> Result<Vec<u8>, AllocError> {
     let mut plain = Vec::new(alloc);
     for letter in name {
-        if let Some(letter) = plain_letter(*letter) {
-            plain.push(letter)?;
-        }
+        let plain_letter = match *letter {
+            b'_' => continue,
+            b'0' | b'O' | b'o' => b'o',
+            b'1' | b'I' | b'i' | b'L' | b'l' => b'l',
+            b'5' | b'S' | b's' => b's',
+            b'2' | b'Z' | b'z' => b'z',
+            b'8' | b'B' | b'b' => b'b',
+            other => other.to_ascii_lowercase(),
+        };
+        plain.push(plain_letter)?;
     }
     Ok(plain)
 }
