@@ -10,3 +10,5 @@ pub mod Readable
 pub mod Allowed
 pub mod Profiles
 pub mod ImageFitting
+pub mod Released
+pub mod NoRows

@@ -9,13 +9,17 @@ use Rattle.vsi_conform.specs.Reaching.{Released, are_within, is_none}
 abbrev pub spaced : List (List ℕ) → List ℕ
 spaced names = flat_map (λ name. codes " " ++ name) names
 
+-- Names, each after a blank, behind a text, or another text if there are none.
+abbrev pub names_text : List ℕ → List ℕ → List (List ℕ) → List ℕ
+names_text before none names = if is_none names then none else before ++ spaced names
+
 -- The names of the globals that reach an output.
 abbrev pub sources_text : List (List ℕ) → List ℕ
-sources_text names = if is_none names then codes " (nothing)" else spaced names
+sources_text names = names_text [] (codes " (nothing)") names
 
 -- The names of those that aren't allowed, if there are any.
 abbrev pub beyond_text : List (List ℕ) → List ℕ
-beyond_text names = if is_none names then [] else codes ", unexpected" ++ spaced names
+beyond_text names = names_text (codes ", unexpected") [] names
 
 -- `CLASS releases NAME from NAME ..`, and then `, unexpected NAME ..` if some aren't allowed.
 abbrev pub released_line : Released → List ℕ

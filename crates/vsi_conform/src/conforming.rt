@@ -1,11 +1,10 @@
 //! Whether a text conforms to an interface.
 
-ghost use Rattle.std.specs.Prelude.{◌≡◌, IfOk, IfSome, None, true, [], IsOk, MatchResult, ◌++◌, OnOk, length};
+ghost use Rattle.std.specs.Prelude.{◌≡◌, IfOk, IfSome, None, true, [], MatchResult, ◌++◌, OnOk};
 ghost use Rattle.vsi_lattice.specs.LatticeView.{class_named, order};
 ghost use Rattle.vsi_conform.specs.Bounded.{ReportsBound};
 ghost use Rattle.vsi_conform.specs.Points.{is_conforming, points_of};
 ghost use Rattle.vsi_types.specs.declared.rules.Profile.{Profile};
-ghost use Rattle.vsi_compiler.specs.Acceptance.{IsAccepted};
 ghost use Rattle.vsi_image.specs.Fields.{global, globals};
 ghost use Rattle.vsi_answers.specs.Bounds.{TellsBound};
 ghost use Rattle.vsi_conform.specs.declared.interface.Bounded.TheVariants.{AtMost};
@@ -36,7 +35,9 @@ pub(crate) fn image_points(
     let is_ordered = interface.is_ordered;
     let found = &verified.image().globals;
     let mut points = global_points(alloc, is_ordered, &interface.globals, found)?;
-    put_trials(alloc, &mut points, verified, &interface.trials)?;
+    for (number, trial) in interface.trials.iter().enumerate() {
+        put_trial(alloc, &mut points, verified, number, trial)?;
+    }
     Ok(points)
 }
 
@@ -143,24 +144,6 @@ fn compiled_of(
     }
 }
 
-/// The steady image of a source text, or its refusal.
-fn steadily_of(
-    alloc: Global,
-    source: &Source<'_>,
-) -> Result<Result<Verified, UnsteadyError>, AllocError>
-    ensures { IfOk result (λ answer. MatchResult answer
-        (spec.IsSteadilyCompiled (class_named source.now.lattice) (order source.now.lattice)
-        source.now.text)
-        (spec.IsSteadilyRefused (class_named source.now.lattice) (order source.now.lattice)
-        source.now.text)) }
-{
-    match steady_image_of(alloc, source) {
-        Ok(verified) => Ok(Ok(verified)),
-        Err(UnsteadyError::Memory) => Err(AllocError),
-        Err(error) => Ok(Err(error)),
-    }
-}
-
 /// The image of a source text that was read and is accepted as required, or its refusal. An error
 /// means that memory ran out.
 pub fn judged_of(
@@ -177,7 +160,11 @@ pub fn judged_of(
     match judgement {
         Judgement::Base => compiled_of(alloc, Profile::Base, source),
         Judgement::Strict => compiled_of(alloc, Profile::Strict, source),
-        Judgement::Steady => steadily_of(alloc, source),
+        Judgement::Steady => match steady_image_of(alloc, source) {
+            Ok(verified) => Ok(Ok(verified)),
+            Err(UnsteadyError::Memory) => Err(AllocError),
+            Err(error) => Ok(Err(error)),
+        },
     }
 }
 
@@ -212,31 +199,12 @@ fn given_word(entries: &[(Vec<u8>, i64)], name: &[u8]) -> i64
     0
 }
 
-/// The words at the start of a run.
-fn given_words(
-    alloc: Global,
-    entries: &[(Vec<u8>, i64)],
-    variables: &[(Vec<u8>, Vec<u8>)],
-) -> Result<Vec<i64>, AllocError>
-    ensures words { IfOk result (λ words. words.items
-        ≡ points_spec.given_words (points_spec.entries entries.now) (globals variables.now)) }
-    ensures len { IfOk result (λ words. length words.items ≡ length variables.now) }
-{
-    let mut words = Vec::new(alloc);
-    for variable in variables {
-        words.push(given_word(entries, variable.0.as_slice()))?;
-    }
-    Ok(words)
-}
-
 /// The word of the global with a name.
 fn word_of(variables: &[(Vec<u8>, Vec<u8>)], words: &[i64], name: &[u8]) -> Option<i64>
     ensures { result ≡ points_spec.word_of (globals variables.now) words.now name.now }
 {
     for (i, variable) in variables.iter().enumerate() {
-        let Some(word) = words.get(i) else {
-            return None;
-        };
+        let word = words.get(i)?;
         if variable.0.as_slice() == name {
             return Some(*word);
         }
@@ -297,39 +265,21 @@ fn put_trial(
     ensures { OnOk result (points.new.items ≡ points.old.items
         ++ points_spec.trial_points verified.now number trial.now) }
 {
-    let words = given_words(alloc, &trial.store, &verified.image().globals)?;
+    let variables = verified.image().globals.as_slice();
+    let mut words = Vec::new(alloc);
+    for variable in variables {
+        words.push(given_word(&trial.store, variable.0.as_slice()))?;
+    }
     let Ok(mut machine) = Machine::new(alloc, verified, &words) else {
         return Err(AllocError);
     };
     match machine.run(trial.budget) {
-        Outcome::Halted => put_words(
-            points,
-            number,
-            &trial.expect,
-            &verified.image().globals,
-            machine.store(),
-        ),
+        Outcome::Halted => put_words(points, number, &trial.expect, variables, machine.store()),
         Outcome::OutOfBudget => {
             points.push(Point::OutOfBudget(number))?;
             Ok(())
         }
     }
-}
-
-/// Adds the points of the runs.
-pub(crate) fn put_trials(
-    alloc: Global,
-    points: &mut Vec<Point>,
-    verified: &Verified,
-    trials: &[Trial],
-) -> Result<(), AllocError>
-    ensures { OnOk result (points.new.items ≡ points.old.items
-        ++ points_spec.trials_points verified.now 0 trials.now) }
-{
-    for (number, trial) in trials.iter().enumerate() {
-        put_trial(alloc, points, verified, number, trial)?;
-    }
-    Ok(())
 }
 
 /// The line of a bound above a maximum.

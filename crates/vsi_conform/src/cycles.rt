@@ -1,9 +1,9 @@
 //! Reads the tables `[[cycle]]` of an interface file: the boundary of each class's controllers.
 
-ghost use Rattle.std.specs.Prelude.{◌≡◌, map, codes, Some, true, false, IfOk, IfSome, option_map};
+ghost use Rattle.std.specs.Prelude.{◌≡◌, map, Some, true, false, IfOk, IfSome, option_map};
 ghost use Rattle.std.specs.List.{All};
 ghost use Rattle.std.specs.Option.{MatchOption};
-ghost use Rattle.toml.specs.Data.{as_str, as_table, get_member};
+ghost use Rattle.toml.specs.Data.{as_str, get_member};
 ghost use Rattle.toml.specs.View.{items_view, table_view, view};
 ghost use Rattle.vsi_image.specs.Fields as image;
 ghost use Rattle.vsi_lattice.specs.LatticeView.{class_named};
@@ -36,21 +36,7 @@ pub struct Cycle {
 }
 
 impl Section<'_> {
-    /// The name of a value that is a text, if it is that of a global.
-    fn name(&self, value: &Value) -> Result<Vec<u8>, InterfaceError>
-        ensures name { IfOk result (λ name. as_str (view value.now) ≡ Some name.items) }
-        ensures known { IfOk result
-            (λ name. spec.IsKnown (image.globals self.now.globals.now) name.items) }
-    {
-        let name = value.as_str().ok_or(InterfaceError::BadCycle(self.number))?;
-        let known = Vec::from_slice(self.alloc, name.as_bytes())?;
-        if !is_named(self.globals, name.as_bytes()) {
-            return Err(InterfaceError::UnknownInCycle(self.number, known));
-        }
-        Ok(known)
-    }
-
-    /// The names of an array.
+    /// The names of an array of texts, if they are those of globals.
     fn names(&self, array: &[Value]) -> Result<Vec<Vec<u8>>, InterfaceError>
         ensures names { IfOk result (λ names. shape.all_of as_str (items_view array.now)
             ≡ Some (spec.bytes_of names.items)) }
@@ -59,7 +45,11 @@ impl Section<'_> {
     {
         let mut names = Vec::new(self.alloc);
         for value in array {
-            let name = self.name(value)?;
+            let text = value.as_str().ok_or(InterfaceError::BadCycle(self.number))?;
+            let name = Vec::from_slice(self.alloc, text.as_bytes())?;
+            if !is_named(self.globals, &name) {
+                return Err(InterfaceError::UnknownInCycle(self.number, name));
+            }
             names.push(name)?;
         }
         Ok(names)
@@ -108,31 +98,6 @@ impl Section<'_> {
     }
 }
 
-/// The boundaries of an array; several may have the same class.
-fn cycles_of(
-    alloc: Global,
-    array: &[Value],
-    globals: &[(Vec<u8>, Vec<u8>)],
-) -> Result<Vec<Cycle>, InterfaceError>
-    ensures cycles { IfOk result (λ cycles. shape.all_of spec.cycle_of (items_view array.now)
-        ≡ Some (map spec.cycle cycles.items)) }
-    ensures named { IfOk result (λ cycles. All (spec.BoundsGlobals (image.globals globals.now))
-        (map spec.cycle cycles.items)) }
-{
-    let mut cycles = Vec::new(alloc);
-    for (i, item) in array.iter().enumerate() {
-        let number = i.saturating_add(1);
-        let section = Section {
-            alloc,
-            number,
-            globals,
-        };
-        let cycle = section.cycle(item)?;
-        cycles.push(cycle)?;
-    }
-    Ok(cycles)
-}
-
 /// Whether one of these boundaries is that of a class.
 fn has_class(cycles: &[Cycle], class: &[u8]) -> bool
     ensures { result ≡ spec.has_class (map spec.cycle cycles.now) class.now }
@@ -174,7 +139,16 @@ pub(crate) fn cycles_in(
         (image.globals globals.now) cycles.items) }
 {
     let array = elements_at(table, "cycle").ok_or(InterfaceError::BadCycle(1))?;
-    let cycles = cycles_of(alloc, array, globals)?;
+    let mut cycles = Vec::new(alloc);
+    for (i, item) in array.iter().enumerate() {
+        let section = Section {
+            alloc,
+            number: i.saturating_add(1),
+            globals,
+        };
+        let cycle = section.cycle(item)?;
+        cycles.push(cycle)?;
+    }
     match repeated(&cycles) {
         Some(number) => Err(InterfaceError::BadCycle(number)),
         None => Ok(cycles),

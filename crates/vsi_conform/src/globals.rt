@@ -1,6 +1,6 @@
 //! The globals of a text, compared with the required ones.
 
-ghost use Rattle.std.specs.Prelude.{◌≡◌, ◌++◌, IfOk, OnOk, map};
+ghost use Rattle.std.specs.Prelude.{◌≡◌, IfOk, map};
 ghost use Rattle.vsi_image.specs.Fields.{global, globals, is_taken};
 ghost use Rattle.vsi_syntax.specs.CommandView.{declared};
 ghost use Rattle.vsi_conform.specs.Points as spec;
@@ -23,7 +23,7 @@ pub(crate) fn is_named(variables: &[(Vec<u8>, Vec<u8>)], name: &[u8]) -> bool
 }
 
 /// Whether two globals have the same name and the same class.
-fn are_same(one: &(Vec<u8>, Vec<u8>), other: &(Vec<u8>, Vec<u8>)) -> bool
+pub(crate) fn are_same(one: &(Vec<u8>, Vec<u8>), other: &(Vec<u8>, Vec<u8>)) -> bool
     ensures { result ≡ spec.are_same (global one.now) (global other.now) }
 {
     one.0.as_slice() == other.0.as_slice() && one.1.as_slice() == other.1.as_slice()

@@ -25,7 +25,7 @@ use crate::interface::{Interface, Judgement, Point};
 use crate::reaching::{GlobalFlows, Reach, flows_profile, have_released, reaches_of};
 use crate::reference::{Comparison, Contrast, Reference};
 use crate::rows::{Judged, Row, asked, numbered, rows_of};
-use crate::texts::{put_parts, rows_json, rows_text};
+use crate::texts::{put_counted, put_parts, rows_json, rows_text};
 use std::alloc::{AllocError, Global};
 use vsi_answers::bound;
 use vsi_audit::{AuditError, audit_in, audit_text, image_flows};
@@ -34,7 +34,7 @@ use vsi_flows::Pair;
 use vsi_image::{Image, Verified};
 use vsi_lattice::Lattice;
 use vsi_steady::{SteadyError, steady_in, steady_text};
-use vsi_syntax::{put_number, put_word};
+use vsi_syntax::put_word;
 use vsi_types::Profile;
 
 /// The refusal of an image under a profile, if it is refused.
@@ -385,12 +385,6 @@ fn put_contrast(
     }
 }
 
-/// Adds a text and then a number.
-fn put_counted(text: &mut Vec<u8>, words: &[u8], number: usize) -> Result<(), AllocError> {
-    text.extend_from_slice(words)?;
-    put_number(text, number)
-}
-
 /// Adds what a trial shows.
 fn put_comparison(
     text: &mut Vec<u8>,
@@ -441,11 +435,6 @@ pub fn reference_line(
     Ok(text)
 }
 
-/// An answer after its beginning, if it begins so.
-fn after<'a>(answer: &'a [u8], beginning: &[u8]) -> &'a [u8] {
-    answer.strip_prefix(beginning).unwrap_or(answer)
-}
-
 /// The lines of an answer and that of a trial. If only the reference differs, there is no line
 /// `conforms`.
 pub fn lines_with(
@@ -457,7 +446,8 @@ pub fn lines_with(
     ensures begins { IfOk result (λ text. reference_spec.Begins is_alone answer.items text.items) }
 {
     let mut text = if is_alone {
-        Vec::from_slice(alloc, after(&answer, b"conforms\n"))?
+        let points = answer.strip_prefix(b"conforms\n").unwrap_or(&answer);
+        Vec::from_slice(alloc, points)?
     } else {
         answer
     };
@@ -482,7 +472,7 @@ pub fn json_with(
     let object = object.text("text", line)?.line()?;
     let mut text = Vec::new(alloc);
     if is_alone {
-        let rest = after(open, b"{\"conforms\":true");
+        let rest = open.strip_prefix(b"{\"conforms\":true").unwrap_or(open);
         put_parts(&mut text, &[b"{\"conforms\":false", rest])?;
     } else {
         text.extend_from_slice(open)?;

@@ -4,7 +4,7 @@ ghost use Rattle.std.specs.Prelude.{◌≡◌, ◌<◌, ◌≤◌, false, true, 
 ghost use Rattle.std.specs.Option.{option_copied};
 ghost use Rattle.vsi_conform.specs.declared.interface.InterfaceError.TheVariants.{Memory};
 ghost use Rattle.vsi_conform.specs.Points.{told, is_conforming};
-ghost use Rattle.vsi_conform.specs.Totals.{sum_of, total_of};
+ghost use Rattle.vsi_conform.specs.Totals.{total_of};
 ghost use Rattle.vsi_conform.specs.Bounded as spec;
 ghost use Rattle.vsi_conform.specs.Faulty as faulty_spec;
 
@@ -164,44 +164,42 @@ impl<T: Drop> From<AllocFailed<T>> for InterfaceError {
     }
 }
 
-/// A fault: its name, the number of a run or of a boundary, or a budget, and a name or a key, or
-/// what is said of the reference.
-fn fault_parts(error: &InterfaceError) -> (&'static [u8], Option<usize>, Option<&[u8]>)
-    ensures name { result.0.now ≡ faulty_spec.name_of error.now }
-    ensures run { result.1 ≡ faulty_spec.run_of error.now }
-    ensures word { option_copied result.2 ≡ faulty_spec.word_of error.now }
-{
-    match error {
-        InterfaceError::NotToml => (b"NotToml", None, None),
-        InterfaceError::UnknownKey(word) => (b"UnknownKey", None, Some(word.as_slice())),
-        InterfaceError::BadLattice => (b"BadLattice", None, None),
-        InterfaceError::BadProfile => (b"BadProfile", None, None),
-        InterfaceError::BadOrder => (b"BadOrder", None, None),
-        InterfaceError::BadBounded => (b"BadBounded", None, None),
-        InterfaceError::BadGlobals => (b"BadGlobals", None, None),
-        InterfaceError::BadName(word) => (b"BadName", None, Some(word.as_slice())),
-        InterfaceError::RepeatedGlobal(word) => (b"RepeatedGlobal", None, Some(word.as_slice())),
-        InterfaceError::UnknownClass(word) => (b"UnknownClass", None, Some(word.as_slice())),
-        InterfaceError::BadRuns => (b"BadRuns", None, None),
-        InterfaceError::BadRun(number) => (b"BadRun", Some(*number), None),
-        InterfaceError::BadStore(number) => (b"BadStore", Some(*number), None),
-        InterfaceError::NoBudget(number) => (b"NoBudget", Some(*number), None),
-        InterfaceError::NothingExpected(number) => (b"NothingExpected", Some(*number), None),
-        InterfaceError::UnknownGlobal(number, word) => {
-            (b"UnknownGlobal", Some(*number), Some(word.as_slice()))
+impl InterfaceError {
+    /// A fault: its name, the number of a run or of a boundary, or a budget, and a name or a key, or
+    /// what is said of the reference.
+    fn parts(&self) -> (&'static [u8], Option<usize>, Option<&[u8]>)
+        ensures name { result.0.now ≡ faulty_spec.name_of self.now }
+        ensures run { result.1 ≡ faulty_spec.run_of self.now }
+        ensures word { option_copied result.2 ≡ faulty_spec.word_of self.now }
+    {
+        match self {
+            Self::NotToml => (b"NotToml", None, None),
+            Self::UnknownKey(word) => (b"UnknownKey", None, Some(word.as_slice())),
+            Self::BadLattice => (b"BadLattice", None, None),
+            Self::BadProfile => (b"BadProfile", None, None),
+            Self::BadOrder => (b"BadOrder", None, None),
+            Self::BadBounded => (b"BadBounded", None, None),
+            Self::BadGlobals => (b"BadGlobals", None, None),
+            Self::BadName(word) => (b"BadName", None, Some(word.as_slice())),
+            Self::RepeatedGlobal(word) => (b"RepeatedGlobal", None, Some(word.as_slice())),
+            Self::UnknownClass(word) => (b"UnknownClass", None, Some(word.as_slice())),
+            Self::BadRuns => (b"BadRuns", None, None),
+            Self::BadRun(number) => (b"BadRun", Some(*number), None),
+            Self::BadStore(number) => (b"BadStore", Some(*number), None),
+            Self::NoBudget(number) => (b"NoBudget", Some(*number), None),
+            Self::NothingExpected(number) => (b"NothingExpected", Some(*number), None),
+            Self::UnknownGlobal(number, word) => {
+                (b"UnknownGlobal", Some(*number), Some(word.as_slice()))
+            }
+            Self::BadCycle(number) => (b"BadCycle", Some(*number), None),
+            Self::UnknownInCycle(number, word) => {
+                (b"UnknownInCycle", Some(*number), Some(word.as_slice()))
+            }
+            Self::BadReference => (b"BadReference", None, None),
+            Self::RefusedReference(word) => (b"RefusedReference", None, Some(word.as_slice())),
+            Self::AboveBudget(budget) => (b"AboveBudget", Some(*budget as usize), None),
+            Self::Memory => (b"Memory", None, None),
         }
-        InterfaceError::BadCycle(number) => (b"BadCycle", Some(*number), None),
-        InterfaceError::UnknownInCycle(number, word) => {
-            (b"UnknownInCycle", Some(*number), Some(word.as_slice()))
-        }
-        InterfaceError::BadReference => (b"BadReference", None, None),
-        InterfaceError::RefusedReference(word) => (
-            b"RefusedReference",
-            None,
-            Some(word.as_slice()),
-        ),
-        InterfaceError::AboveBudget(budget) => (b"AboveBudget", Some(*budget as usize), None),
-        InterfaceError::Memory => (b"Memory", None, None),
     }
 }
 
@@ -209,7 +207,7 @@ fn fault_parts(error: &InterfaceError) -> (&'static [u8], Option<usize>, Option<
 pub fn fault_name(error: &InterfaceError) -> &'static [u8]
     ensures { result.now ≡ faulty_spec.name_of error.now }
 {
-    fault_parts(error).0
+    error.parts().0
 }
 
 /// The line of a refused interface: the name of the fault and, if there is one, the faulty run or
@@ -218,7 +216,7 @@ pub fn interface_text(alloc: Global, error: &InterfaceError) -> Result<Vec<u8>, 
     ensures line { IfOk result (λ text. text.items ≡ faulty_spec.interface_line error.now) }
 {
     let mut text = Vec::new(alloc);
-    let (name, number, word) = fault_parts(error);
+    let (name, number, word) = error.parts();
     put_parts(&mut text, &[b"refused interface: ", name])?;
     if let Some(number) = number {
         text.extend_from_slice(b" ")?;
@@ -285,13 +283,10 @@ impl Answer {
 pub(crate) fn put_told(points: &mut Vec<Point>, point: Option<Point>) -> Result<(), AllocError>
     ensures { OnOk result (points.new.items ≡ points.old.items ++ told point) }
 {
-    match point {
-        Some(point) => {
-            points.push(point)?;
-            Ok(())
-        }
-        None => Ok(()),
+    if let Some(point) = point {
+        points.push(point)?;
     }
+    Ok(())
 }
 
 /// Whether the runs of an interface take together at most this number of instructions.

@@ -1,6 +1,6 @@
 //! Reads tables of an interface file: the values at their keys, the runs, and paths.
 
-ghost use Rattle.std.specs.Prelude.{◌≡◌, false, true, IfOk, MatchResult, option_map, map, codes, Some, IsTrue, IfSome, OnOk, option_and_then};
+ghost use Rattle.std.specs.Prelude.{◌≡◌, false, true, IfOk, MatchResult, option_map, map, codes, Some, IfSome};
 ghost use Rattle.std.specs.Option.{MatchOption, option_copied};
 ghost use Rattle.toml.specs.Data.{get_member, as_bool, as_table};
 ghost use Rattle.toml.specs.View.{table_view, view, items_view};
@@ -9,7 +9,6 @@ ghost use Rattle.vsi_conform.specs.Points.{entries};
 ghost use Rattle.std.specs.List.{All};
 ghost use Rattle.vsi_conform.specs.Reading as spec;
 ghost use Rattle.vsi_image.specs.Fields as image;
-ghost use Rattle.vsi_lattice.specs.Shape as shape;
 ghost use Rattle.vsi_conform.specs.Beside as beside_spec;
 
 use crate::globals::is_named;
@@ -66,10 +65,7 @@ pub(crate) fn other_key<'t>(table: &'t Table, keys: &[&str]) -> Option<&'t str>
 pub(crate) fn text_at<'t>(table: &'t Table, key: &str) -> Option<&'t str>
     ensures { option_copied result ≡ spec.text_at key.now (table_view table.now) }
 {
-    match value_at(table, key) {
-        Some(value) => value.as_str(),
-        None => None,
-    }
+    value_at(table, key)?.as_str()
 }
 
 /// The table of a value, if it has no keys but these.
@@ -146,20 +142,6 @@ pub(crate) struct Section<'a> {
 }
 
 impl Section<'_> {
-    /// Whether each name is one of the globals.
-    fn know_names(&self, found: &[(Vec<u8>, i64)]) -> Result<(), InterfaceError>
-        ensures { OnOk result
-            (spec.are_named (image.globals self.now.globals.now) (entries found.now) ≡ true) }
-    {
-        for entry in found {
-            if !is_named(self.globals, &entry.0) {
-                let name = Vec::from_slice(self.alloc, &entry.0)?;
-                return Err(InterfaceError::UnknownGlobal(self.number, name));
-            }
-        }
-        Ok(())
-    }
-
     /// The entries of a table of numbers, whose names must be globals; nothing for another value.
     fn entries(&self, value: &Value) -> Result<Option<Vec<(Vec<u8>, i64)>>, InterfaceError>
         ensures entries { IfOk result (λ found. option_map (λ es. entries es.items) found
@@ -173,7 +155,12 @@ impl Section<'_> {
         let Some(found) = numbers_of(self.alloc, table)? else {
             return Ok(None);
         };
-        self.know_names(&found)?;
+        for entry in &found {
+            if !is_named(self.globals, &entry.0) {
+                let name = Vec::from_slice(self.alloc, &entry.0)?;
+                return Err(InterfaceError::UnknownGlobal(self.number, name));
+            }
+        }
         Ok(Some(found))
     }
 
@@ -242,10 +229,9 @@ pub(crate) fn trials_in(
     let array = elements_at(table, "runs").ok_or(InterfaceError::BadRuns)?;
     let mut trials = Vec::new(alloc);
     for (i, item) in array.iter().enumerate() {
-        let number = i.saturating_add(1);
         let section = Section {
             alloc,
-            number,
+            number: i.saturating_add(1),
             globals,
         };
         let trial = section.trial(item)?;
@@ -275,18 +261,15 @@ fn climbs(path: &[u8]) -> bool
     false
 }
 
-/// Whether a path leads out of the folder that it is taken in.
-fn leads_out(path: &[u8]) -> bool
-    ensures { result ≡ beside_spec.leads_out path.now }
-{
-    path.starts_with(b"/") || is_parent(path) || climbs(path)
-}
-
 /// The path at a key, if it doesn't lead out of the folder that it is taken in.
 pub(crate) fn path_at<'t>(table: &'t Table, key: &str) -> Option<&'t [u8]>
     ensures path { IfSome result (λ p. spec.text_at key.now (table_view table.now) ≡ Some p.now) }
     ensures inside { IfSome result (λ p. beside_spec.leads_out p.now ≡ false) }
 {
     let path = text_at(table, key)?.as_bytes();
-    if leads_out(path) { None } else { Some(path) }
+    if path.starts_with(b"/") || is_parent(path) || climbs(path) {
+        None
+    } else {
+        Some(path)
+    }
 }

@@ -8,11 +8,10 @@ ghost use Rattle.vsi_conform.specs.ReachedLines as lines_spec;
 use crate::cycles::Cycle;
 use crate::interface::Judgement;
 use crate::texts::put_parts;
-use std::alloc::{AllocError, Global as Heap};
+use std::alloc::{AllocError, Global};
 use vsi_compiler::{CompileError, Source, read_source};
 use vsi_flows::{FlowsError, Pair, flows_in};
 use vsi_lattice::Lattice;
-use vsi_scope::Global;
 use vsi_types::Profile;
 
 /// The flows of a program between its globals.
@@ -38,27 +37,20 @@ pub struct Reach {
     pub beyond: Vec<Vec<u8>>,
 }
 
-/// Whether a pair leads from one global to another.
-fn has_pair(pairs: &[Pair], source: usize, target: usize) -> bool
-    ensures { result ≡ spec.has_pair pairs.now source target }
+/// Whether one global reaches another: whether a pair leads from it to the other.
+fn reaches(table: &Option<Vec<Pair>>, source: usize, target: usize) -> bool
+    ensures { result
+        ≡ spec.reaches (option_map (λ pairs. pairs.items) table.now) source target }
 {
+    let Some(pairs) = table else {
+        return source != target;
+    };
     for pair in pairs {
         if pair.source.0 as usize == source && pair.target.0 as usize == target {
             return true;
         }
     }
     false
-}
-
-/// Whether one global reaches another.
-fn reaches(table: &Option<Vec<Pair>>, source: usize, target: usize) -> bool
-    ensures { result
-        ≡ spec.reaches (option_map (λ pairs. pairs.items) table.now) source target }
-{
-    match table {
-        Some(pairs) => has_pair(pairs, source, target),
-        None => source != target,
-    }
 }
 
 /// The number of the first global with this name, or the number of globals if there is none.
@@ -75,7 +67,7 @@ fn number_of(names: &[Vec<u8>], name: &[u8]) -> usize
 
 /// Adds a name, if it is one that counts.
 fn put_name(
-    alloc: Heap,
+    alloc: Global,
     names: &mut Vec<Vec<u8>>,
     name: &[u8],
     counts: bool,
@@ -86,13 +78,12 @@ fn put_name(
     if !counts {
         return Ok(());
     }
-    let name = Vec::from_slice(alloc, name)?;
-    names.push(name)?;
+    names.push(Vec::from_slice(alloc, name)?)?;
     Ok(())
 }
 
 /// The names of the globals that reach this one.
-fn sources_of(alloc: Heap, flows: &GlobalFlows, target: usize) -> Result<Vec<Vec<u8>>, AllocError>
+fn sources_of(alloc: Global, flows: &GlobalFlows, target: usize) -> Result<Vec<Vec<u8>>, AllocError>
     ensures { IfOk result (λ found. bytes_of found.items ≡ spec.sources_of
         (spec.flowing flows.now).table target (spec.flowing flows.now).names 0) }
 {
@@ -115,36 +106,28 @@ pub fn is_among(listed: &[Vec<u8>], name: &[u8]) -> bool
     false
 }
 
-/// The names that aren't in a list.
-fn unlisted(alloc: Heap, listed: &[Vec<u8>], names: &[Vec<u8>]) -> Result<Vec<Vec<u8>>, AllocError>
-    ensures { IfOk result (λ found. bytes_of found.items
-        ≡ spec.unlisted (bytes_of listed.now) (bytes_of names.now)) }
-{
-    let mut found = Vec::new(alloc);
-    for name in names {
-        put_name(alloc, &mut found, name, !is_among(listed, name))?;
-    }
-    Ok(found)
-}
-
 /// The names that aren't in a list; without a list there are none.
 fn beyond_of(
-    alloc: Heap,
+    alloc: Global,
     listed: &Option<Vec<Vec<u8>>>,
     names: &[Vec<u8>],
 ) -> Result<Vec<Vec<u8>>, AllocError>
     ensures { IfOk result (λ found. bytes_of found.items ≡ spec.beyond_of
         (option_map (λ names. bytes_of names.items) listed.now) (bytes_of names.now)) }
 {
-    match listed {
-        Some(listed) => unlisted(alloc, listed, names),
-        None => Ok(Vec::new(alloc)),
+    let mut found = Vec::new(alloc);
+    let Some(allowed) = listed else {
+        return Ok(found);
+    };
+    for name in names {
+        put_name(alloc, &mut found, name, !is_among(allowed, name))?;
     }
+    Ok(found)
 }
 
 /// A released output of a boundary.
 fn reach_of(
-    alloc: Heap,
+    alloc: Global,
     flows: &GlobalFlows,
     cycle: &Cycle,
     output: &[u8],
@@ -154,37 +137,18 @@ fn reach_of(
 {
     let sources = sources_of(alloc, flows, number_of(&flows.names, output))?;
     let beyond = beyond_of(alloc, &cycle.from, &sources)?;
-    let class = Vec::from_slice(alloc, &cycle.class)?;
-    let output = Vec::from_slice(alloc, output)?;
     Ok(Reach {
-        class,
-        output,
+        class: Vec::from_slice(alloc, &cycle.class)?,
+        output: Vec::from_slice(alloc, output)?,
         sources,
         beyond,
     })
 }
 
-/// Adds the released outputs of a boundary.
-fn put_reaches(
-    alloc: Heap,
-    reaches: &mut Vec<Reach>,
-    flows: &GlobalFlows,
-    cycle: &Cycle,
-) -> Result<(), AllocError>
-    ensures { OnOk result (map spec.released reaches.new.items ≡ map spec.released reaches.old.items
-        ++ spec.released_by (spec.flowing flows.now) (cycle_of cycle.now)) }
-{
-    for output in &cycle.released {
-        let reach = reach_of(alloc, flows, cycle, output)?;
-        reaches.push(reach)?;
-    }
-    Ok(())
-}
-
 /// The released outputs of boundaries, in their order, each with the globals of a program that
 /// reach it.
 pub(crate) fn reaches_of(
-    alloc: Heap,
+    alloc: Global,
     flows: &GlobalFlows,
     cycles: &[Cycle],
 ) -> Result<Vec<Reach>, AllocError>
@@ -193,7 +157,10 @@ pub(crate) fn reaches_of(
 {
     let mut reaches = Vec::new(alloc);
     for cycle in cycles {
-        put_reaches(alloc, &mut reaches, flows, cycle)?;
+        for output in &cycle.released {
+            let reach = reach_of(alloc, flows, cycle, output)?;
+            reaches.push(reach)?;
+        }
     }
     Ok(reaches)
 }
@@ -232,21 +199,8 @@ pub fn flows_profile(judgement: Judgement) -> Profile
     }
 }
 
-/// The names of globals.
-fn names_of(alloc: Heap, globals: &[Global<'_>]) -> Result<Vec<Vec<u8>>, AllocError>
-    ensures { IfOk result
-        (λ names. bytes_of names.items ≡ map (λ g. g.name.now) globals.now) }
-{
-    let mut names = Vec::new(alloc);
-    for global in globals {
-        let name = Vec::from_slice(alloc, global.name)?;
-        names.push(name)?;
-    }
-    Ok(names)
-}
-
 /// The flows of a source text between its globals.
-fn flows_of(alloc: Heap, profile: Profile, source: &Source<'_>) -> Result<GlobalFlows, AllocError>
+fn flows_of(alloc: Global, profile: Profile, source: &Source<'_>) -> Result<GlobalFlows, AllocError>
     ensures { IfOk result (λ flows. spec.AreFlowsOf source.now.lattice profile source.now.text
         (spec.flowing flows)) }
 {
@@ -256,7 +210,11 @@ fn flows_of(alloc: Heap, profile: Profile, source: &Source<'_>) -> Result<Global
         Ok(pairs) => pairs,
         Err(FlowsError::Memory) => return Err(AllocError),
     };
-    let names = names_of(alloc, resolved.globals())?;
+    let mut names = Vec::new(alloc);
+    let globals = resolved.globals();
+    for global in globals {
+        names.push(Vec::from_slice(alloc, global.name)?)?;
+    }
     Ok(GlobalFlows {
         names,
         table: Some(pairs),
@@ -266,7 +224,7 @@ fn flows_of(alloc: Heap, profile: Profile, source: &Source<'_>) -> Result<Global
 /// The released outputs of boundaries, in their order, each with the globals of a text that reach
 /// it. A text that has no program has none. An error means that memory ran out.
 pub fn text_reaches(
-    alloc: Heap,
+    alloc: Global,
     lattice: &Lattice,
     text: &[u8],
     judgement: Judgement,
@@ -288,42 +246,28 @@ pub fn text_reaches(
     }
 }
 
-/// Adds names, each after a blank.
-fn put_spaced(text: &mut Vec<u8>, names: &[Vec<u8>]) -> Result<(), AllocError>
-    ensures { OnOk result
-        (text.new.items ≡ text.old.items ++ lines_spec.spaced (bytes_of names.now)) }
+/// Adds names, each after a blank, behind a text, or another text if there are none.
+fn put_names(
+    text: &mut Vec<u8>,
+    names: &[Vec<u8>],
+    before: &[u8],
+    none: &[u8],
+) -> Result<(), AllocError>
+    ensures { OnOk result (text.new.items
+        ≡ text.old.items ++ lines_spec.names_text before.now none.now (bytes_of names.now)) }
 {
+    if names.is_empty() {
+        return text.extend_from_slice(none);
+    }
+    text.extend_from_slice(before)?;
     for name in names {
         put_parts(text, &[b" ", name])?;
     }
     Ok(())
 }
 
-/// Adds the names of the globals that reach an output.
-fn put_sources(text: &mut Vec<u8>, names: &[Vec<u8>]) -> Result<(), AllocError>
-    ensures { OnOk result
-        (text.new.items ≡ text.old.items ++ lines_spec.sources_text (bytes_of names.now)) }
-{
-    if names.is_empty() {
-        text.extend_from_slice(b" (nothing)")
-    } else {
-        put_spaced(text, names)
-    }
-}
-
-/// Adds the names of the globals that aren't allowed, if there are any.
-fn put_beyond(text: &mut Vec<u8>, names: &[Vec<u8>]) -> Result<(), AllocError>
-    ensures { OnOk result
-        (text.new.items ≡ text.old.items ++ lines_spec.beyond_text (bytes_of names.now)) }
-{
-    if names.is_empty() {
-        return Ok(());
-    }
-    text.extend_from_slice(b", unexpected")?;
-    put_spaced(text, names)
-}
-
-/// Adds the line of a released output.
+/// Adds the line of a released output: the globals that reach it, and those of them that aren't
+/// allowed.
 fn put_line(text: &mut Vec<u8>, reach: &Reach) -> Result<(), AllocError>
     ensures { OnOk result
         (text.new.items ≡ text.old.items ++ lines_spec.released_line (spec.released reach.now)) }
@@ -332,8 +276,8 @@ fn put_line(text: &mut Vec<u8>, reach: &Reach) -> Result<(), AllocError>
         text,
         &[&reach.class, b" releases ", &reach.output, b" from"],
     )?;
-    put_sources(text, &reach.sources)?;
-    put_beyond(text, &reach.beyond)?;
+    put_names(text, &reach.sources, b"", b" (nothing)")?;
+    put_names(text, &reach.beyond, b", unexpected", b"")?;
     text.extend_from_slice(b"\n")
 }
 
@@ -356,21 +300,14 @@ fn put_quoted(text: &mut Vec<u8>, names: &[Vec<u8>]) -> Result<(), AllocError>
     Ok(())
 }
 
-/// Adds the first two members of the object of a released output.
-fn put_first_members(text: &mut Vec<u8>, reach: &Reach) -> Result<(), AllocError>
+/// Adds the object of a released output.
+fn put_object(text: &mut Vec<u8>, reach: &Reach) -> Result<(), AllocError>
     ensures { OnOk result
-        (text.new.items ≡ text.old.items ++ lines_spec.first_members (spec.released reach.now)) }
+        (text.new.items ≡ text.old.items ++ lines_spec.released_object (spec.released reach.now)) }
 {
     text.extend_from_slice(b"{\"beyond\":[")?;
     put_quoted(text, &reach.beyond)?;
-    put_parts(text, &[b"],\"class\":\"", &reach.class, b"\""])
-}
-
-/// Adds the other two.
-fn put_last_members(text: &mut Vec<u8>, reach: &Reach) -> Result<(), AllocError>
-    ensures { OnOk result
-        (text.new.items ≡ text.old.items ++ lines_spec.last_members (spec.released reach.now)) }
-{
+    put_parts(text, &[b"],\"class\":\"", &reach.class, b"\""])?;
     text.extend_from_slice(b",\"from\":[")?;
     put_quoted(text, &reach.sources)?;
     put_parts(text, &[b"],\"output\":\"", &reach.output, b"\"}"])
@@ -383,8 +320,7 @@ fn put_objects(text: &mut Vec<u8>, reaches: &[Reach]) -> Result<(), AllocError>
 {
     for (i, reach) in reaches.iter().enumerate() {
         text.extend_from_slice(comma(i))?;
-        put_first_members(text, reach)?;
-        put_last_members(text, reach)?;
+        put_object(text, reach)?;
     }
     Ok(())
 }
@@ -409,7 +345,7 @@ fn is_overturned(fits: bool, reaches: &[Reach]) -> bool
 /// The lines of an answer: those of its points and then one for each released output. If nothing
 /// but a released output differs, the line `conforms` isn't among them.
 pub fn with_reached_lines(
-    alloc: Heap,
+    alloc: Global,
     fits: bool,
     points: &[u8],
     reaches: &[Reach],
@@ -430,7 +366,7 @@ pub fn with_reached_lines(
 /// The line of JSON of an answer: that of its points, with a member for the released outputs if
 /// there are any.
 pub fn with_reached_json(
-    alloc: Heap,
+    alloc: Global,
     fits: bool,
     points: &[u8],
     reaches: &[Reach],

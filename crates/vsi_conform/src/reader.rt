@@ -5,7 +5,7 @@ ghost use Rattle.std.specs.Prelude.{IfOk, OnOk, option_map, string_bytes};
 ghost use Rattle.std.specs.Str.{IsUtf8};
 ghost use Rattle.std.specs.Str.Lossy.{utf8_lossy};
 ghost use Rattle.toml.specs.Data.{get_member};
-ghost use Rattle.toml.specs.View.{items_view, table_view, view};
+ghost use Rattle.toml.specs.View.{table_view, view};
 ghost use Rattle.vsi_image.specs.Fields.{global, globals};
 ghost use Rattle.vsi_lattice.specs.Shape as shape;
 ghost use Rattle.vsi_conform.specs.Beside.{IsInside, beside, folder};
@@ -121,33 +121,23 @@ fn put_copy(alloc: Global, tables: &mut Table, table: &Table, key: &str) -> Resu
     Ok(())
 }
 
-/// Whether a table has one of the keys of a lattice file.
-fn has_tables(table: &Table) -> bool
-    ensures classes { result ≡ false → get_member (codes "classes") (table_view table.now) ≡ None }
-    ensures below { result ≡ false → get_member (codes "below") (table_view table.now) ≡ None }
-{
-    if value_at(table, "classes").is_some() {
-        return true;
-    }
-    value_at(table, "below").is_some()
-}
-
 /// The place of the lattice.
 fn policy_in(alloc: Global, table: &Table) -> Result<Policy, InterfaceError>
     ensures policy { IfOk result (spec.IsPolicy (table_view table.now)) }
     ensures inside { IfOk result IsInside }
 {
-    match (value_at(table, "lattice").is_some(), has_tables(table)) {
-        (true, false) => {
+    let lattice = value_at(table, "lattice");
+    match (
+        lattice,
+        value_at(table, "classes"),
+        value_at(table, "below"),
+    ) {
+        (Some(_), None, None) => {
             let path = path_at(table, "lattice").ok_or(InterfaceError::BadLattice)?;
-            let path = Vec::from_slice(alloc, path)?;
-            Ok(Policy::File(path))
+            Ok(Policy::File(Vec::from_slice(alloc, path)?))
         }
-        (false, true) => {
-            let text = tables_text(alloc, table)?;
-            Ok(Policy::Tables(text))
-        }
-        _ => Err(InterfaceError::BadLattice),
+        (Some(_), _, _) | (None, None, None) => Err(InterfaceError::BadLattice),
+        (None, _, _) => Ok(Policy::Tables(tables_text(alloc, table)?)),
     }
 }
 
@@ -233,18 +223,11 @@ fn globals_in(alloc: Global, table: &Table) -> Result<Vec<(Vec<u8>, Vec<u8>)>, I
         (λ found. spec.globals_at (table_view table.now) ≡ Some (globals found.items)) }
 {
     let value = value_at(table, "globals").ok_or(InterfaceError::BadGlobals)?;
-    let array = value.as_array().ok_or(InterfaceError::BadGlobals)?;
+    let values = value.as_array().ok_or(InterfaceError::BadGlobals)?;
+    let array = values.as_slice();
     if array.len() > MOST_GLOBALS {
         return Err(InterfaceError::BadGlobals);
     }
-    globals_of(alloc, array.as_slice())
-}
-
-/// The globals of an array.
-fn globals_of(alloc: Global, array: &[Value]) -> Result<Vec<(Vec<u8>, Vec<u8>)>, InterfaceError>
-    ensures { IfOk result (λ found. shape.all_of shape.pair_of (items_view array.now)
-        ≡ Some (globals found.items)) }
-{
     let mut found = Vec::new(alloc);
     for value in array {
         let entry = global_of(alloc, value, &found)?;
@@ -279,8 +262,7 @@ fn reference_in(alloc: Global, table: &Table) -> Result<Option<Vec<u8>>, Interfa
         return Ok(None);
     }
     let path = path_at(table, "reference").ok_or(InterfaceError::BadReference)?;
-    let path = Vec::from_slice(alloc, path)?;
-    Ok(Some(path))
+    Ok(Some(Vec::from_slice(alloc, path)?))
 }
 
 /// The contents of an interface file. Whether its classes are classes of the lattice isn't checked.

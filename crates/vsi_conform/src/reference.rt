@@ -6,12 +6,13 @@ ghost use Rattle.std.specs.Prelude.{◌≡◌, IfOk, IfSome};
 ghost use Rattle.vsi_conform.specs.Reference as spec;
 
 use crate::cycles::Cycle;
+use crate::globals::are_same;
 use crate::interface::Interface;
 use crate::reaching::is_among;
 use rand_core::{Rng, SeedableRng};
 use rand_xoshiro::SplitMix64;
 use std::alloc::{AllocError, Global};
-use vsi_image::{Image, Instr, Verified};
+use vsi_image::{Instr, Verified};
 use vsi_lattice::Lattice;
 use vsi_machine::{Machine, Outcome};
 use vsi_store::sees;
@@ -104,25 +105,7 @@ struct Side<'a> {
 
 /// The place of a global among others, by its name and its class.
 fn place_of(globals: &[(Vec<u8>, Vec<u8>)], global: &(Vec<u8>, Vec<u8>)) -> Option<usize> {
-    globals.iter().position(|found| {
-        found.0.as_slice() == global.0.as_slice() && found.1.as_slice() == global.1.as_slice()
-    })
-}
-
-/// The place of each of these globals in an image, up to the first that it lacks.
-fn places_in(
-    alloc: Global,
-    image: &Image,
-    globals: &[(Vec<u8>, Vec<u8>)],
-) -> Result<Vec<usize>, AllocError> {
-    let mut places = Vec::new(alloc);
-    for global in globals {
-        let Some(place) = place_of(&image.globals, global) else {
-            return Ok(places);
-        };
-        places.push(place)?;
-    }
-    Ok(places)
+    globals.iter().position(|found| are_same(found, global))
 }
 
 impl<'a> Side<'a> {
@@ -132,7 +115,13 @@ impl<'a> Side<'a> {
         verified: &'a Verified,
         globals: &[(Vec<u8>, Vec<u8>)],
     ) -> Result<Side<'a>, AllocError> {
-        let places = places_in(alloc, verified.image(), globals)?;
+        let mut places = Vec::new(alloc);
+        for global in globals {
+            let Some(place) = place_of(&verified.image().globals, global) else {
+                break;
+            };
+            places.push(place)?;
+        }
         let mut store = Vec::new(alloc);
         store.resize(verified.image().globals.len(), 0)?;
         Ok(Side {
@@ -144,20 +133,17 @@ impl<'a> Side<'a> {
 
     /// The word of a global, by its number in the interface.
     fn word(&self, number: usize) -> i64 {
-        let Some(place) = self.places.get(number) else {
-            return 0;
-        };
-        self.store.get(*place).copied().unwrap_or(0)
+        let place = self.places.get(number).copied();
+        let word = place.and_then(|place| self.store.get(place));
+        word.copied().unwrap_or(0)
     }
 
     /// Sets a global, by its number in the interface.
     fn set(&mut self, number: usize, word: i64) {
-        let Some(place) = self.places.get(number) else {
-            return;
-        };
-        let place = *place;
-        if place < self.store.len() {
-            self.store[place] = word;
+        if let Some(place) = self.places.get(number)
+            && let Some(found) = self.store.get_mut(*place)
+        {
+            *found = word;
         }
     }
 
@@ -188,28 +174,24 @@ struct Trial<'a> {
     budget: u64,
 }
 
-/// Whether a line of a boundary's class may set a global.
-fn is_input(lattice: &Lattice, cycle: &Cycle, global: &(Vec<u8>, Vec<u8>)) -> bool {
-    if let Some(names) = &cycle.inputs {
-        return is_among(names, &global.0);
-    }
-    match lattice.class_named(&cycle.class) {
-        Some(class) => sees(lattice, class, &global.1),
-        None => false,
-    }
-}
-
-/// The boundary of a class by numbers.
+/// The boundary of a class by numbers: the globals that a line of the class may set, and those that
+/// it releases.
 fn boundary_of(
     alloc: Global,
     lattice: &Lattice,
     interface: &Interface,
     cycle: &Cycle,
 ) -> Result<Boundary, AllocError> {
+    let class = lattice.class_named(&cycle.class);
     let mut inputs = Vec::new(alloc);
     let mut outputs = Vec::new(alloc);
     for (number, global) in interface.globals.iter().enumerate() {
-        if is_input(lattice, cycle, global) {
+        let is_input = match (&cycle.inputs, class) {
+            (Some(names), _) => is_among(names, &global.0),
+            (None, Some(class)) => sees(lattice, class, &global.1),
+            (None, None) => false,
+        };
+        if is_input {
             inputs.push(number)?;
         }
         if is_among(&cycle.released, &global.0) {
@@ -245,17 +227,9 @@ impl<'a> Trial<'a> {
         self.reference.set(number, word);
     }
 
-    /// Draws most of the inputs, and leaves the others as they are.
-    fn feed(&mut self, inputs: &[usize]) {
-        for number in inputs {
-            if below(&mut self.random, 4) != 0 {
-                self.draw(*number);
-            }
-        }
-    }
-
     /// A run of both images from equal stores: how many cycles are alike, and how the next one
-    /// differs. If neither halts within the budget, the run is over.
+    /// differs. Each cycle draws most of the inputs. If neither halts within the budget, the run is
+    /// over.
     fn run(&mut self, boundary: &Boundary) -> Result<(usize, Option<Contrast>), AllocError>
         ensures { IfOk result (λ pair. IfSome pair.1 spec.IsContrast) }
     {
@@ -263,7 +237,11 @@ impl<'a> Trial<'a> {
             self.draw(number);
         }
         for cycle in 0..CYCLES {
-            self.feed(&boundary.inputs);
+            for number in &boundary.inputs {
+                if below(&mut self.random, 4) != 0 {
+                    self.draw(*number);
+                }
+            }
             let is_halted = self.image.run(self.alloc, self.budget)?;
             let contrast = match (is_halted, self.reference.run(self.alloc, self.budget)?) {
                 (true, true) => contrast_of(&self.image, &self.reference, &boundary.outputs),
@@ -328,7 +306,7 @@ fn tried(
     })
 }
 
-/// The numbers in the code of two images, each with its neighbours and none twice.
+/// The numbers in the code of two images, each with its neighbours and none twice, up to so many.
 fn constants_of(
     alloc: Global,
     reference: &Verified,
@@ -339,7 +317,9 @@ fn constants_of(
         for instr in image.code.iter() {
             if let Instr::Push(word) = instr {
                 for near in [*word, word.wrapping_add(1), word.wrapping_sub(1)] {
-                    add(&mut constants, near)?;
+                    if constants.len() < MOST_CONSTANTS && !constants.contains(&near) {
+                        constants.push(near)?;
+                    }
                 }
             }
         }
@@ -397,14 +377,6 @@ const MOST_CONSTANTS: usize = 512;
 
 /// The most digits of a number that is drawn by its digits.
 const MOST_DIGITS: usize = 6;
-
-/// Adds a word, unless it is there or the list is full.
-fn add(constants: &mut Vec<i64>, word: i64) -> Result<(), AllocError> {
-    if constants.len() < MOST_CONSTANTS && !constants.contains(&word) {
-        constants.push(word)?;
-    }
-    Ok(())
-}
 
 /// A random number below a bound, or 0 if the bound is 0.
 fn below(random: &mut SplitMix64, bound: usize) -> usize {

@@ -6,7 +6,7 @@ ghost use Rattle.vsi_syntax.specs.CommandView.{declared};
 ghost use Rattle.vsi_conform.specs.Shown as shown;
 ghost use Rattle.vsi_conform.specs.Rows as spec;
 
-use crate::interface::{Interface, Point, Trial};
+use crate::interface::{Interface, Point};
 use std::alloc::{AllocError, Global};
 use vsi_image::Image;
 use vsi_syntax::{Declaration, line_column};
@@ -111,11 +111,10 @@ fn declared_at<'a>(text: &[u8], found: &[Declaration<'a>], place: usize, is_clas
     } else {
         declaration.name.span.start
     };
-    let (line, column) = line_column(text, at);
     Held {
         name: declaration.name.text,
         class: declaration.class.text,
-        place: Some((line, column)),
+        place: Some(line_column(text, at)),
     }
 }
 
@@ -180,34 +179,15 @@ fn global_row(
     ensures { IfOk result (λ made. spec.row made
         ≡ spec.global_row kind (spec.held held.now) (option_map (λ e. e.items) expected)) }
 {
-    let name = Vec::from_slice(alloc, held.name)?;
-    let class = Vec::from_slice(alloc, held.class)?;
     Ok(Row {
         kind,
         place: held.place,
         detail: Detail::Global {
-            name,
-            class,
+            name: Vec::from_slice(alloc, held.name)?,
+            class: Vec::from_slice(alloc, held.class)?,
             expected,
         },
     })
-}
-
-/// The row of a run that doesn't halt.
-fn budget_row(number: usize, trial: Option<&Trial>) -> Row
-    ensures { spec.row result
-        ≡ spec.budget_row number (option_map (λ t. t.now.budget) trial.entry) }
-{
-    let run = number.saturating_add(1);
-    let budget = match trial {
-        Some(trial) => Some(trial.budget),
-        None => None,
-    };
-    Row {
-        kind: Kind::Budget,
-        place: None,
-        detail: Detail::Budget { run, budget },
-    }
 }
 
 /// The row of a word that differs from the expected one.
@@ -220,13 +200,12 @@ fn word_row(
     ensures { IfOk result (λ made. spec.row made
         ≡ spec.word_row number (expected.entry.0.now, expected.entry.1) found) }
 {
-    let name = Vec::from_slice(alloc, expected.0)?;
     Ok(Row {
         kind: Kind::Word,
         place: None,
         detail: Detail::Word {
             run: number.saturating_add(1),
-            name,
+            name: Vec::from_slice(alloc, expected.0)?,
             expected: expected.1,
             found,
         },
@@ -263,7 +242,14 @@ fn row_of(
             let name = Vec::from_slice(alloc, asked(interface, place).0)?;
             global_row(alloc, Kind::Order, &held, Some(name))
         }
-        Point::OutOfBudget(trial) => Ok(budget_row(trial, interface.trials.get(trial))),
+        Point::OutOfBudget(number) => Ok(Row {
+            kind: Kind::Budget,
+            place: None,
+            detail: Detail::Budget {
+                run: number.saturating_add(1),
+                budget: interface.trials.get(number).map(|trial| trial.budget),
+            },
+        }),
         Point::WrongWord {
             trial,
             wanted,
@@ -285,15 +271,13 @@ fn put_lines(
     ensures { OnOk result (map spec.row found.new.items
         ≡ map spec.row found.old.items ++ spec.lines_rows kind lines.now) }
 {
-    let Some(lines) = lines else {
-        return Ok(());
-    };
-    let lines = Vec::from_slice(alloc, lines)?;
-    found.push(Row {
-        kind,
-        place: None,
-        detail: Detail::Lines(lines),
-    })?;
+    if let Some(lines) = lines {
+        found.push(Row {
+            kind,
+            place: None,
+            detail: Detail::Lines(Vec::from_slice(alloc, lines)?),
+        })?;
+    }
     Ok(())
 }
 

@@ -1,9 +1,9 @@
 //! The lines and the JSON of an answer.
 
-ghost use Rattle.std.specs.Prelude.{◌≡◌, ◌++◌, true, codes, map, option_map, IfOk, OnOk};
+ghost use Rattle.std.specs.Prelude.{◌≡◌, ◌++◌, codes, decimal, map, option_map, IfOk, OnOk};
 ghost use Rattle.std.specs.Fmt.{signed_decimal};
 ghost use Rattle.std.specs.List.{flat_map};
-ghost use Rattle.serde_json.specs.View.{members_view, view};
+ghost use Rattle.serde_json.specs.View.{members_view};
 ghost use Rattle.vsi_conform.specs.Rows.{row};
 ghost use Rattle.vsi_conform.specs.Rows as rows_spec;
 ghost use Rattle.vsi_conform.specs.Lines as spec;
@@ -126,17 +126,12 @@ pub fn text_rows(
     Ok(found)
 }
 
-/// Adds a position, if there is one.
-fn put_place(text: &mut Vec<u8>, place: Option<(usize, usize)>) -> Result<(), AllocError>
-    ensures { OnOk result (text.new.items ≡ text.old.items ++ spec.begun place) }
+/// Adds a text and then a number.
+pub(crate) fn put_counted(text: &mut Vec<u8>, words: &[u8], number: usize) -> Result<(), AllocError>
+    ensures { OnOk result (text.new.items ≡ text.old.items ++ words.now ++ decimal number) }
 {
-    match place {
-        Some((line, column)) => {
-            put_line_column(text, line, column)?;
-            text.extend_from_slice(b" ")
-        }
-        None => Ok(()),
-    }
+    text.extend_from_slice(words)?;
+    put_number(text, number)
 }
 
 /// Adds the class of a global. A point about the order names none.
@@ -146,27 +141,6 @@ fn put_class(text: &mut Vec<u8>, kind: Kind, class: &[u8]) -> Result<(), AllocEr
     match kind {
         Kind::Order => Ok(()),
         _ => put_parts(text, &[b" : ", class]),
-    }
-}
-
-/// Adds the number of a run.
-fn put_run(text: &mut Vec<u8>, run: usize) -> Result<(), AllocError>
-    ensures { OnOk result (text.new.items ≡ text.old.items ++ spec.run_text run) }
-{
-    text.extend_from_slice(b"run ")?;
-    put_number(text, run)
-}
-
-/// Adds the word of a global after a run, or that there is no such global.
-fn put_found(text: &mut Vec<u8>, name: &[u8], found: Option<i64>) -> Result<(), AllocError>
-    ensures { OnOk result (text.new.items ≡ text.old.items ++ spec.found_text name.now found) }
-{
-    match found {
-        Some(word) => {
-            put_parts(text, &[b" ", name, b" = "])?;
-            put_word(text, word)
-        }
-        None => put_parts(text, &[b" no ", name]),
     }
 }
 
@@ -188,6 +162,27 @@ fn put_global(
         put_parts(text, &[b", expected ", expected])?;
     }
     text.extend_from_slice(b"\n")
+}
+
+/// Adds the number of a run.
+fn put_run(text: &mut Vec<u8>, run: usize) -> Result<(), AllocError>
+    ensures { OnOk result (text.new.items ≡ text.old.items ++ spec.run_text run) }
+{
+    text.extend_from_slice(b"run ")?;
+    put_number(text, run)
+}
+
+/// Adds the word of a global after a run, or that there is no such global.
+fn put_found(text: &mut Vec<u8>, name: &[u8], found: Option<i64>) -> Result<(), AllocError>
+    ensures { OnOk result (text.new.items ≡ text.old.items ++ spec.found_text name.now found) }
+{
+    match found {
+        Some(word) => {
+            put_parts(text, &[b" ", name, b" = "])?;
+            put_word(text, word)
+        }
+        None => put_parts(text, &[b" no ", name]),
+    }
 }
 
 /// Adds a run that doesn't halt, and its budget.
@@ -248,7 +243,10 @@ fn put_detail(text: &mut Vec<u8>, kind: Kind, detail: &Detail) -> Result<(), All
 pub fn put_row(text: &mut Vec<u8>, point: &Row) -> Result<(), AllocError>
     ensures line { OnOk result (text.new.items ≡ text.old.items ++ spec.line (row point.now)) }
 {
-    put_place(text, point.place)?;
+    if let Some((line, column)) = point.place {
+        put_line_column(text, line, column)?;
+        text.extend_from_slice(b" ")?;
+    }
     put_detail(text, point.kind, &point.detail)
 }
 
@@ -256,7 +254,7 @@ pub fn put_row(text: &mut Vec<u8>, point: &Row) -> Result<(), AllocError>
 pub(crate) fn rows_text(alloc: Global, rows: &[Row]) -> Result<Vec<u8>, AllocError>
     ensures text { IfOk result (λ out. out.items ≡ spec.rows_text (map row rows.now)) }
 {
-    if let [] = rows {
+    if rows.is_empty() {
         return Vec::from_slice(alloc, b"conforms\n");
     }
     let mut lines = Vec::new(alloc);
@@ -283,37 +281,6 @@ pub fn points_text(
     Ok(lines)
 }
 
-/// The object with a position, if there is one.
-fn with_place(made: Object, place: Option<(usize, usize)>) -> Result<Object, AllocError>
-    ensures { IfOk result (λ all. members_view all ≡ json_spec.with_place place (members_view made)) }
-{
-    match place {
-        Some((line, column)) => made.natural("line", line)?.natural("column", column),
-        None => Ok(made),
-    }
-}
-
-/// The object with what is expected, if anything is.
-fn with_expected(made: Object, expected: &Option<Vec<u8>>) -> Result<Object, AllocError>
-    ensures { IfOk result (λ all. members_view all ≡ json_spec.with_expected
-        (option_map (λ e. e.items) expected.now) (members_view made)) }
-{
-    match expected {
-        Some(expected) => made.text("expected", expected),
-        None => Ok(made),
-    }
-}
-
-/// The object with a budget, if it is known.
-fn with_budget(made: Object, budget: Option<u64>) -> Result<Object, AllocError>
-    ensures { IfOk result (λ all. members_view all ≡ json_spec.with_budget budget (members_view made)) }
-{
-    match budget {
-        Some(budget) => made.natural("budget", budget as usize),
-        None => Ok(made),
-    }
-}
-
 /// The object of a row.
 fn row_object(alloc: Global, point: &Row) -> Result<Object, AllocError>
     ensures { IfOk result (λ made. members_view made ≡ json_spec.members (row point.now)) }
@@ -326,10 +293,22 @@ fn row_object(alloc: Global, point: &Row) -> Result<Object, AllocError>
             class,
             expected,
         } => {
-            let made = made.text("name", name)?.text("class", class)?;
-            with_expected(with_place(made, point.place)?, expected)
+            let mut made = made.text("name", name)?.text("class", class)?;
+            if let Some((line, column)) = point.place {
+                made = made.natural("line", line)?.natural("column", column)?;
+            }
+            match expected {
+                Some(expected) => made.text("expected", expected),
+                None => Ok(made),
+            }
         }
-        Detail::Budget { run, budget } => with_budget(made.natural("run", *run)?, *budget),
+        Detail::Budget { run, budget } => {
+            let made = made.natural("run", *run)?;
+            match budget {
+                Some(budget) => made.natural("budget", *budget as usize),
+                None => Ok(made),
+            }
+        }
         Detail::Word {
             run,
             name,
@@ -344,35 +323,17 @@ fn row_object(alloc: Global, point: &Row) -> Result<Object, AllocError>
     }
 }
 
-/// The objects of rows, in their order.
-fn row_objects(alloc: Global, rows: &[Row]) -> Result<Objects, AllocError>
-    ensures { IfOk result (λ found. map view found ≡ json_spec.objects (map row rows.now)) }
-{
-    let mut found = Objects::new(alloc);
-    for point in rows {
-        found.push(row_object(alloc, point)?)?;
-    }
-    Ok(found)
-}
-
-/// Whether there are no rows.
-fn are_none(rows: &[Row]) -> bool
-    ensures { result ≡ json_spec.is_none (map row rows.now) }
-{
-    match rows {
-        [] => true,
-        [_, ..] => false,
-    }
-}
-
 /// The line of JSON of an answer with these rows: an object with `conforms`, whether there are
 /// none, and `points`, an array with an object for each.
 pub(crate) fn rows_json(alloc: Global, rows: &[Row]) -> Result<Vec<u8>, AllocError>
     ensures json { IfOk result (λ out. out.items ≡ json_spec.rows_json (map row rows.now)) }
 {
-    let objects = row_objects(alloc, rows)?;
+    let mut objects = Objects::new(alloc);
+    for point in rows {
+        objects.push(row_object(alloc, point)?)?;
+    }
     Object::new(alloc)
-        .flag("conforms", are_none(rows))?
+        .flag("conforms", rows.is_empty())?
         .array("points", objects)?
         .line()
 }

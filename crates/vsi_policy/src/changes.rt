@@ -47,23 +47,14 @@ impl Change<'_> {
         Ok(())
     }
 
-    /// Adds the line of a class that may drive.
-    fn put_drive(&self, text: &mut Vec<u8>, class: &[u8]) -> Result<(), AllocError>
-        ensures { OnOk result (text.new.items ≡ text.old.items ++ spec.drive_line
-            self.now.adverb.now (view self.now.side.now) (view self.now.other.now) class.now) }
-    {
-        if !may_drive(self.side, class) || may_drive(self.other, class) {
-            return Ok(());
-        }
-        put_parts(text, &[class, b" may", self.adverb, b"drive\n"])
-    }
-
-    /// Adds the lines of a class.
+    /// Adds the lines of a class: whether it may drive, and what it may do.
     fn put_class(&self, text: &mut Vec<u8>, class: &[u8]) -> Result<(), AllocError>
         ensures { OnOk result (text.new.items ≡ text.old.items ++ spec.class_lines
             self.now.adverb.now (view self.now.side.now) (view self.now.other.now) class.now) }
     {
-        self.put_drive(text, class)?;
+        if may_drive(self.side, class) && !may_drive(self.other, class) {
+            put_parts(text, &[class, b" may", self.adverb, b"drive\n"])?;
+        }
         self.put_role(text, Role::Sets, class)?;
         self.put_role(text, Role::Reads, class)?;
         self.put_role(text, Role::Releases, class)

@@ -1,18 +1,16 @@
 //! Makes lattice files. The text is proposed, and the reader of lattice files determines what it
 //! declares.
 
-ghost use Rattle.std.specs.Prelude.{IfOk, IsTrue, length, ◌≡◌};
-ghost use Rattle.vsi_lattice.specs.FileFaults.{IsRead};
-ghost use Rattle.vsi_lattice.specs.LatticeView.{names, order};
+ghost use Rattle.std.specs.Prelude.{IfOk, ◌≡◌};
 ghost use Rattle.vsi_lattice.specs.NamePlaces.{texts};
-ghost use Rattle.vsi_policy.specs.Shapes.{HasClasses, HasOrder, IsShaped, IsShapedText};
+ghost use Rattle.vsi_policy.specs.Shapes.{IsShapedText};
 ghost use Rattle.vsi_policy.specs.declared.making.ShapeError.TheVariants.{Memory};
 
 use crate::shape::{Shape, has_classes, has_order, is_below};
 use std::alloc::{AllocError, AllocFailed, Global};
 use thiserror::Error;
 use vsi_conform::put_parts;
-use vsi_lattice::{Classes, Lattice, LatticeError, read_lattice};
+use vsi_lattice::{Classes, LatticeError, read_lattice};
 use vsi_syntax::is_name;
 
 /// The text of the lattice file of the shape that the first argument names, with the other
@@ -28,17 +26,9 @@ pub fn lattice_text(alloc: Global, arguments: &[&[u8]]) -> Result<Vec<u8>, Shape
     let [first, given @ ..] = arguments else {
         return Err(ShapeError::NoShape);
     };
-    match Shape::named(first) {
-        Some(shape) => shaped_text(alloc, shape, given),
-        None => Err(ShapeError::NoShape),
-    }
-}
-
-/// The text of the lattice file of a shape with these names.
-fn shaped_text(alloc: Global, shape: Shape, given: &[&[u8]]) -> Result<Vec<u8>, ShapeError>
-    ensures { IfOk result (λ text. (l : Lattice) × IsRead text.items (names l) (order l)
-        × IsShaped shape (texts given.now) l) }
-{
+    let Some(shape) = Shape::named(first) else {
+        return Err(ShapeError::NoShape);
+    };
     let Some(count) = shape.count(given.len()) else {
         return Err(ShapeError::WrongCount(shape));
     };
@@ -46,29 +36,22 @@ fn shaped_text(alloc: Global, shape: Shape, given: &[&[u8]]) -> Result<Vec<u8>, 
     let text = proposed(alloc, shape, given.len(), &classes)?;
     let lattice = match read_lattice(alloc, &text) {
         Ok(lattice) => lattice,
-        Err(error) => return Err(fault_of(classes, error)),
+        Err(LatticeError::DuplicateName(place)) => {
+            return match classes.into_iter().nth(place) {
+                Some(name) => Err(ShapeError::Twice(name)),
+                None => Err(ShapeError::Memory),
+            };
+        }
+        Err(_) => return Err(ShapeError::Memory),
     };
-    if lattice.count() == count && is_shaped(alloc, shape, given, &lattice)? {
+    if lattice.count() != count || !has_order(shape, given.len(), &lattice) {
+        return Err(ShapeError::Memory);
+    }
+    if has_classes(alloc, shape, given, &lattice)? {
         Ok(text)
     } else {
         Err(ShapeError::Memory)
     }
-}
-
-/// Whether a lattice has the classes and the order of the shape with these names.
-fn is_shaped(
-    alloc: Global,
-    shape: Shape,
-    given: &[&[u8]],
-    lattice: &Lattice,
-) -> Result<bool, AllocError>
-    ensures { IfOk result (λ is. IsTrue is → HasClasses shape (texts given.now) lattice.now
-        × HasOrder shape (length given.now) (order lattice.now)) }
-{
-    if !has_order(shape, given.len(), lattice) {
-        return Ok(false);
-    }
-    has_classes(alloc, shape, given, lattice)
 }
 
 /// The names of the classes, if they are valid names.
@@ -89,30 +72,12 @@ fn class_names(
     Ok(classes)
 }
 
-/// The meaning of a refusal of the proposed text: two classes with one name, or lack of memory.
-fn fault_of(classes: Vec<Vec<u8>>, error: LatticeError) -> ShapeError {
-    let LatticeError::DuplicateName(place) = error else {
-        return ShapeError::Memory;
-    };
-    match classes.into_iter().nth(place) {
-        Some(name) => ShapeError::Twice(name),
-        None => ShapeError::Memory,
-    }
-}
-
 /// Whether a class of a shape is directly below another: at or below it, different from it, and
 /// with none between.
 fn is_direct(shape: Shape, names: usize, count: usize, low: usize, high: usize) -> bool {
-    if low == high || !is_below(shape, names, low, high) {
-        return false;
-    }
-    for middle in 0..count {
-        let is_other = middle != low && middle != high;
-        if is_other && is_below(shape, names, low, middle) && is_below(shape, names, middle, high) {
-            return false;
-        }
-    }
-    true
+    let is_below = |low: usize, high: usize| low != high && is_below(shape, names, low, high);
+    let mut others = 0..count;
+    is_below(low, high) && !others.any(|middle| is_below(low, middle) && is_below(middle, high))
 }
 
 /// A proposed text for the lattice file of a shape with classes of these names.
@@ -131,28 +96,14 @@ fn proposed(
     }
     text.extend_from_slice(b"]\nbelow = [\n")?;
     for (low, name) in classes.iter().enumerate() {
-        put_pairs(&mut text, shape, names, classes, low, name)?;
+        for (high, other) in classes.iter().enumerate() {
+            if is_direct(shape, names, classes.len(), low, high) {
+                put_parts(&mut text, &[b"  [\"", name, b"\", \"", other, b"\"],\n"])?;
+            }
+        }
     }
     text.extend_from_slice(b"]\n")?;
     Ok(text)
-}
-
-/// Adds the lines of the pairs of a class, which has this name, and those directly above it.
-fn put_pairs(
-    text: &mut Vec<u8>,
-    shape: Shape,
-    names: usize,
-    classes: &[Vec<u8>],
-    low: usize,
-    name: &[u8],
-) -> Result<(), AllocError> {
-    for (high, other) in classes.iter().enumerate() {
-        if is_direct(shape, names, classes.len(), low, high) {
-            put_parts(text, &[b"  [\"", name])?;
-            put_parts(text, &[b"\", \"", other, b"\"],\n"])?;
-        }
-    }
-    Ok(())
 }
 
 /// Why arguments make no lattice.

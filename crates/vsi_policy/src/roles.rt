@@ -114,10 +114,7 @@ pub(crate) fn has_table(side: &Side, class: &[u8]) -> bool
 pub(crate) fn has_tables(side: &Side) -> bool
     ensures { result ≡ spec.has_tables (spec.view side.now).tables }
 {
-    match side.cycles {
-        [] => false,
-        [_, ..] => true,
-    }
+    !side.cycles.is_empty()
 }
 
 /// Whether a class may drive.
@@ -143,27 +140,21 @@ fn allows(role: Role, cycle: &Cycle, is_seen: bool, name: &[u8]) -> bool
     }
 }
 
-/// Whether the tables of an interface, or their absence, let a class do this with a global.
-fn is_allowed(role: Role, side: &Side, class: &[u8], is_seen: bool, name: &[u8]) -> bool
-    ensures { result ≡ spec.is_allowed role (spec.view side.now).tables class.now is_seen name.now }
+/// Whether a class may do this with a global, by the tables or their absence. No table changes what
+/// a class sees.
+pub(crate) fn may(role: Role, side: &Side, class: &[u8], name: &[u8]) -> bool
+    ensures { result ≡ spec.may role (spec.view side.now) class.now name.now }
 {
+    let is_seen = sees(side, class, name);
+    if matches!(role, Role::Sees) {
+        return is_seen;
+    }
     if !has_tables(side) {
         return is_seen && !matches!(role, Role::Releases);
     }
     match table_of(side.cycles, class) {
         Some(cycle) => allows(role, cycle, is_seen, name),
         None => false,
-    }
-}
-
-/// Whether a class may do this with a global. No table changes what a class sees.
-pub(crate) fn may(role: Role, side: &Side, class: &[u8], name: &[u8]) -> bool
-    ensures { result ≡ spec.may role (spec.view side.now) class.now name.now }
-{
-    let is_seen = sees(side, class, name);
-    match role {
-        Role::Sees => is_seen,
-        _ => is_allowed(role, side, class, is_seen, name),
     }
 }
 

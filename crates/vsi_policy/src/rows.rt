@@ -38,27 +38,18 @@ pub(crate) fn own_globals(
     Ok(found)
 }
 
-/// Adds the names of the globals with which the class may do this.
-fn put_names(text: &mut Vec<u8>, role: Role, side: &Side, class: &[u8]) -> Result<(), AllocError>
-    ensures { OnOk result (text.new.items ≡ text.old.items
-        ++ spec.each_global (spec.role_part role (view side.now) class.now) (view side.now).globals) }
-{
-    for variable in side.globals {
-        if may(role, side, class, variable.0.as_slice()) {
-            put_parts(text, &[b" ", variable.0.as_slice()])?;
-        }
-    }
-    Ok(())
-}
-
-/// Adds the row of a class and a role.
+/// Adds the row of a class and a role: the names of the globals with which the class may do this.
 fn put_row(text: &mut Vec<u8>, role: Role, side: &Side, class: &[u8]) -> Result<(), AllocError>
     ensures { OnOk result
         (text.new.items ≡ text.old.items ++ spec.role_row role (view side.now) class.now) }
 {
     put_parts(text, &[class, b" "])?;
     text.extend_from_slice(verb(role))?;
-    put_names(text, role, side, class)?;
+    for variable in side.globals {
+        if may(role, side, class, variable.0.as_slice()) {
+            put_parts(text, &[b" ", variable.0.as_slice()])?;
+        }
+    }
     text.extend_from_slice(b"\n")
 }
 
@@ -72,25 +63,18 @@ fn put_seen(text: &mut Vec<u8>, side: &Side) -> Result<(), AllocError>
     Ok(())
 }
 
-/// Adds the rows of the table of a class, if it has one.
-fn put_class(text: &mut Vec<u8>, side: &Side, class: &[u8]) -> Result<(), AllocError>
-    ensures { OnOk result
-        (text.new.items ≡ text.old.items ++ spec.class_rows (view side.now) class.now) }
-{
-    if !has_table(side, class) {
-        return Ok(());
-    }
-    put_row(text, Role::Sets, side, class)?;
-    put_row(text, Role::Reads, side, class)?;
-    put_row(text, Role::Releases, side, class)
-}
-
 /// Adds the rows of all classes with tables.
 fn put_cycles(text: &mut Vec<u8>, side: &Side) -> Result<(), AllocError>
     ensures { OnOk result (text.new.items ≡ text.old.items ++ spec.cycle_rows (view side.now)) }
 {
     for class in 0..side.lattice.count() {
-        put_class(text, side, name_of(side.lattice, class))?;
+        let name = name_of(side.lattice, class);
+        if !has_table(side, name) {
+            continue;
+        }
+        put_row(text, Role::Sets, side, name)?;
+        put_row(text, Role::Reads, side, name)?;
+        put_row(text, Role::Releases, side, name)?;
     }
     Ok(())
 }
@@ -136,21 +120,6 @@ fn is_used(variables: &[(Vec<u8>, Vec<u8>)], class: &[u8]) -> bool
     false
 }
 
-/// Adds the warning about a class, if no global has it.
-fn put_unused(
-    text: &mut Vec<u8>,
-    variables: &[(Vec<u8>, Vec<u8>)],
-    class: &[u8],
-) -> Result<(), AllocError>
-    ensures { OnOk result (text.new.items
-        ≡ text.old.items ++ spec.unused_line (globals variables.now) class.now) }
-{
-    if is_used(variables, class) {
-        return Ok(());
-    }
-    put_parts(text, &[b"warning: no global has the class ", class, b"\n"])
-}
-
 /// The warnings about the classes of an interface's lattice that no global of it has. Such a class
 /// is often a mistake. An error means that memory ran out.
 pub fn unused_warnings(
@@ -163,10 +132,13 @@ pub fn unused_warnings(
 {
     let mut text = Vec::new(alloc);
     for class in 0..lattice.count() {
-        put_unused(
+        let name = name_of(lattice, class);
+        if is_used(&interface.globals, name) {
+            continue;
+        }
+        put_parts(
             &mut text,
-            interface.globals.as_slice(),
-            name_of(lattice, class),
+            &[b"warning: no global has the class ", name, b"\n"],
         )?;
     }
     Ok(text)

@@ -1,9 +1,8 @@
 //! The shapes of lattices, and the names of their classes.
 
-ghost use Rattle.std.specs.Prelude.{◌≡◌, [], IfSome, IfOk, OnOk, ◌≤◌, option_map, length, ◌<◌, Some, IsTrue, true};
+ghost use Rattle.std.specs.Prelude.{◌≡◌, IfSome, IfOk, OnOk, ◌≤◌, option_map, length, ◌<◌, Some, IsTrue, true};
 ghost use Rattle.vsi_lattice.specs.NamePlaces.{texts};
 ghost use Rattle.vsi_lattice.specs.LatticeView.{class_named, order};
-ghost use Rattle.vsi_lattice.specs.Order.{IsClass};
 ghost use Rattle.vsi_policy.specs.Shapes as spec;
 ghost use Rattle.vsi_policy.specs.Named as named_spec;
 
@@ -45,10 +44,11 @@ impl Shape {
         ensures { result ≡ spec.count_of self names }
     {
         match self {
-            Shape::Two => only(names == 0, 2),
-            Shape::Levels => only(names >= 1 && names <= 64, names),
-            Shape::Diamond => only(names == 4, 4),
-            Shape::Powerset => set_count(names),
+            Shape::Two => (names == 0).then_some(2),
+            Shape::Levels => (names >= 1 && names <= 64).then_some(names),
+            Shape::Diamond => (names == 4).then_some(4),
+            Shape::Powerset if names >= 1 && names <= 6 => Some(1 << names),
+            Shape::Powerset => None,
         }
     }
 
@@ -67,28 +67,6 @@ impl Shape {
             Shape::Levels | Shape::Diamond => Vec::from_slice(alloc, given_name(given, class)),
             Shape::Powerset => set_name(alloc, given, class),
         }
-    }
-}
-
-/// The count if the condition holds.
-fn only(holds: bool, count: usize) -> Option<usize>
-    ensures { result ≡ spec.only holds count }
-{
-    if holds { Some(count) } else { None }
-}
-
-/// The number of sets of this many names, if a lattice file can have that many classes.
-fn set_count(names: usize) -> Option<usize>
-    ensures { result ≡ spec.set_count names }
-{
-    match names {
-        1 => Some(2),
-        2 => Some(4),
-        3 => Some(8),
-        4 => Some(16),
-        5 => Some(32),
-        6 => Some(64),
-        _ => None,
     }
 }
 
@@ -112,20 +90,9 @@ fn join(front: &mut Vec<u8>, name: &[u8]) -> Result<(), AllocError>
     front.extend_from_slice(name)
 }
 
-/// The name of a set of names.
+/// The name of a set of names: those that belong to it, joined.
 fn set_name(alloc: Global, given: &[&[u8]], set: usize) -> Result<Vec<u8>, AllocError>
     ensures { IfOk result (λ name. name.items ≡ spec.set_name (texts given.now) set) }
-{
-    let name = members(alloc, given, set)?;
-    if name.is_empty() {
-        return Vec::from_slice(alloc, b"none");
-    }
-    Ok(name)
-}
-
-/// The names that belong to a set, joined.
-fn members(alloc: Global, given: &[&[u8]], set: usize) -> Result<Vec<u8>, AllocError>
-    ensures { IfOk result (λ name. name.items ≡ spec.members [] (texts given.now) set) }
 {
     let mut front = Vec::new(alloc);
     let mut rest = given;
@@ -136,6 +103,9 @@ fn members(alloc: Global, given: &[&[u8]], set: usize) -> Result<Vec<u8>, AllocE
         }
         rest = behind;
         digits /= 2;
+    }
+    if front.is_empty() {
+        return Vec::from_slice(alloc, b"none");
     }
     Ok(front)
 }
@@ -148,7 +118,7 @@ pub fn named_policy(text: &[u8]) -> Option<&[u8]>
     ensures { option_map (λ path. path.now) result ≡ named_spec.named_policy text.now }
 {
     let comment = first_comment(text)?;
-    let path = behind(START, comment)?;
+    let path = comment.strip_prefix(START)?;
     Some(&path[..line_length(path)])
 }
 
@@ -164,25 +134,6 @@ fn first_comment(text: &[u8]) -> Option<&[u8]>
         rest = behind;
     }
     None
-}
-
-/// The text after a prefix, if it begins with the prefix.
-fn behind<'a>(start: &[u8], text: &'a [u8]) -> Option<&'a [u8]>
-    ensures { option_map (λ rest. rest.now) result ≡ named_spec.behind start.now text.now }
-{
-    let mut left = start;
-    let mut rest = text;
-    while let [wanted, more @ ..] = left {
-        let [byte, behind @ ..] = rest else {
-            return None;
-        };
-        if *byte != *wanted {
-            return None;
-        }
-        left = more;
-        rest = behind;
-    }
-    Some(rest)
 }
 
 /// The number of bytes before the first line feed or carriage return.
@@ -231,27 +182,16 @@ pub(crate) fn is_below(shape: Shape, names: usize, low: usize, high: usize) -> b
     }
 }
 
-/// Whether a class of a lattice is below the same classes as in the shape.
-fn agrees_above(shape: Shape, names: usize, lattice: &Lattice, low: usize) -> bool
-    requires { IsClass (order lattice.now) low }
-    ensures { IsTrue result → spec.AgreesAbove shape names (order lattice.now) low }
-{
-    for high in 0..lattice.count() {
-        let is = lattice.leq(Class::at(low as u8), Class::at(high as u8));
-        if is != is_below(shape, names, low, high) {
-            return false;
-        }
-    }
-    true
-}
-
 /// Whether a lattice has the order of the shape with this many names.
 pub(crate) fn has_order(shape: Shape, names: usize, lattice: &Lattice) -> bool
     ensures { IsTrue result → spec.HasOrder shape names (order lattice.now) }
 {
     for low in 0..lattice.count() {
-        if !agrees_above(shape, names, lattice, low) {
-            return false;
+        for high in 0..lattice.count() {
+            let is = lattice.leq(Class::at(low as u8), Class::at(high as u8));
+            if is != is_below(shape, names, low, high) {
+                return false;
+            }
         }
     }
     true

@@ -10,29 +10,10 @@ use vsi_conform::put_parts;
 use vsi_lattice::{Class, Classes, Lattice};
 
 /// Names for classes that everyone sees, in small letters.
-const LOW: [&[u8]; 8] = [
-    b"l",
-    b"low",
-    b"public",
-    b"open",
-    b"everyone",
-    b"guest",
-    b"unclassified",
-    b"bottom",
-];
+const LOW: &[u8] = b"l low public open everyone guest unclassified bottom";
 
 /// Names for classes that few see, in small letters.
-const HIGH: [&[u8]; 9] = [
-    b"h",
-    b"high",
-    b"secret",
-    b"topsecret",
-    b"private",
-    b"confidential",
-    b"owner",
-    b"admin",
-    b"top",
-];
+const HIGH: &[u8] = b"h high secret topsecret private confidential owner admin top";
 
 /// The end of the warning about two names.
 const ALIKE: &[u8] = b" are different classes with names that look alike\n";
@@ -40,26 +21,21 @@ const ALIKE: &[u8] = b" are different classes with names that look alike\n";
 /// The end of the warning about a viewer and a class whose names say the opposite.
 const REVERSED: &[u8] = b": is the order reversed?\n";
 
-/// A letter as it is compared: small, and the same for those that look alike. `_` has none.
-fn plain_letter(letter: u8) -> Option<u8> {
-    match letter {
-        b'_' => None,
-        b'0' | b'O' | b'o' => Some(b'o'),
-        b'1' | b'I' | b'i' | b'L' | b'l' => Some(b'l'),
-        b'5' | b'S' | b's' => Some(b's'),
-        b'2' | b'Z' | b'z' => Some(b'z'),
-        b'8' | b'B' | b'b' => Some(b'b'),
-        other => Some(other.to_ascii_lowercase()),
-    }
-}
-
-/// A name as it is compared with others.
+/// A name as it is compared with others: its letters small, and the same for those that look alike,
+/// without `_`.
 fn plain_name(alloc: Global, name: &[u8]) -> Result<Vec<u8>, AllocError> {
     let mut plain = Vec::new(alloc);
     for letter in name {
-        if let Some(letter) = plain_letter(*letter) {
-            plain.push(letter)?;
-        }
+        let plain_letter = match *letter {
+            b'_' => continue,
+            b'0' | b'O' | b'o' => b'o',
+            b'1' | b'I' | b'i' | b'L' | b'l' => b'l',
+            b'5' | b'S' | b's' => b's',
+            b'2' | b'Z' | b'z' => b'z',
+            b'8' | b'B' | b'b' => b'b',
+            other => other.to_ascii_lowercase(),
+        };
+        plain.push(plain_letter)?;
     }
     Ok(plain)
 }
@@ -80,8 +56,10 @@ fn is_word(name: &[u8], word: &[u8]) -> bool {
 }
 
 /// Whether a name is one of these, in small letters and without `_`.
-fn is_one_of(name: &[u8], words: &[&[u8]]) -> bool {
-    words.iter().any(|word| is_word(name, word))
+fn is_one_of(name: &[u8], words: &[u8]) -> bool {
+    words
+        .split(|byte| *byte == b' ')
+        .any(|word| is_word(name, word))
 }
 
 /// Adds the warnings about a class and those after it.
@@ -101,7 +79,7 @@ fn put_class(
             put_parts(text, &[b"warning: ", name, b" and ", second, ALIKE])?;
         }
         let is_seen = lattice.leq(Class::at(other as u8), Class::at(class as u8));
-        if is_seen && is_one_of(name, &LOW) && is_one_of(second, &HIGH) {
+        if is_seen && is_one_of(name, LOW) && is_one_of(second, HIGH) {
             put_parts(text, &[b"warning: ", name, b" sees ", second, REVERSED])?;
         }
     }

@@ -1,7 +1,0 @@
-use Rattle.std.proofs.Common.{◌≡◌, ℕ, ◌<◌}
-use Rattle.vsi_lattice.specs.LatticeView.{order}
-use Rattle.vsi_policy.specs.Shapes.{is_below}
-use Rattle.vsi_policy.proofs.shape.agrees_above.Given as goal
-
-abbrev pub invariant-loop-high : goal.invariant-loop-high
-invariant-loop-high l = (k : ℕ) → k < l.high → (order l.lattice).leq l.low k ≡ is_below l.shape l.names l.low k
