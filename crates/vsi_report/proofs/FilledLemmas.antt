@@ -19,7 +19,8 @@ part_stated (q ∷ qs) (suc n) d p lt e h =
     part_stated qs n d p (omega (arith, lt)) e (both (is_stated q) (are_stated qs) h).1
 
 -- The words at a place are those of the part there.
-pub part_words : (ps : List Part) (n : ℕ) (d p : Part) → n < length ps → p ≡ get_or ps n d → words p ≡ text_at (texts_of ps) n
+pub part_words : (ps : List Part) (n : ℕ) (d p : Part) → n < length ps → p ≡ get_or ps n d →
+    words p ≡ text_at (texts_of ps) n
 part_words [] n d p lt e = absurd (omega (arith, lt))
 part_words (q ∷ qs) zero d p lt e = ap words e
 part_words (q ∷ qs) (suc n) d p lt e = part_words qs n d p (omega (arith, lt)) e

@@ -78,17 +78,25 @@ fn put_node<'x>(
     fill(text, NODE, &parts)
 }
 
+/// Adds the node of the variable with a number.
+fn put_variable(text: &mut Vec<u8>, drawn: &Drawn<'_>, number: u16) -> Added
+    ensures { OnOk result
+        (text.new.items ≡ text.old.items ++ spec.variable_line (shown drawn.now) number) }
+{
+    let variable = variable_at(drawn, number);
+    let name = variable_name(drawn.program, variable);
+    let dashes = box_words(declared_class(drawn.lattice, drawn.program, variable));
+    let class = class_shown(drawn, variable);
+    put_node(text, drawn.order, number, name, dashes, class)
+}
+
 /// Adds the nodes of the first variables.
 fn put_variables(text: &mut Vec<u8>, drawn: &Drawn<'_>, count: u16) -> Added
     ensures { OnOk result (text.new.items ≡ text.old.items
         ++ flat_map (spec.variable_line (shown drawn.now)) (count_from 0 count)) }
 {
     for number in 0..count {
-        let variable = variable_at(drawn, number);
-        let name = variable_name(drawn.program, variable);
-        let dashes = box_words(declared_class(drawn.lattice, drawn.program, variable));
-        let class = class_shown(drawn, variable);
-        put_node(text, drawn.order, number, name, dashes, class)?;
+        put_variable(text, drawn, number)?;
     }
     Ok(())
 }
@@ -106,21 +114,11 @@ fn style(rule: Rule) -> &'static [u8]
     }
 }
 
-/// Adds the edge from a variable to another by a rule, if there is such a flow.
-fn put_edge(
-    text: &mut Vec<u8>,
-    drawn: &Drawn<'_>,
-    flows: &Flows,
-    source: u16,
-    target: u16,
-    rule: Rule,
-) -> Added
+/// Adds an edge.
+fn put_edge(text: &mut Vec<u8>, drawn: &Drawn<'_>, source: u16, target: u16, rule: Rule) -> Added
     ensures { OnOk result (text.new.items ≡ text.old.items
-        ++ spec.line_by (shown drawn.now) (flows_in_rows flows.now) source target rule) }
+        ++ spec.flow_line (shown drawn.now) source target rule) }
 {
-    if !has_flow(flows, rule, source as usize, target as usize) {
-        return Ok(());
-    }
     let number = step_number(drawn, rule, source, target);
     let parts = [
         Number(source as usize),
@@ -131,6 +129,25 @@ fn put_edge(
         Bytes(edge_words(number, is_upward(drawn, source, target))),
     ];
     fill(text, EDGE, &parts)
+}
+
+/// Adds the edge from a variable to another by a rule, if there is such a flow.
+fn put_edge_by(
+    text: &mut Vec<u8>,
+    drawn: &Drawn<'_>,
+    flows: &Flows,
+    source: u16,
+    target: u16,
+    rule: Rule,
+) -> Added
+    ensures { OnOk result (text.new.items ≡ text.old.items
+        ++ spec.line_by (shown drawn.now) (flows_in_rows flows.now) source target rule) }
+{
+    if has_flow(flows, rule, source as usize, target as usize) {
+        put_edge(text, drawn, source, target, rule)
+    } else {
+        Ok(())
+    }
 }
 
 /// Adds the edges from a variable to another, one for each rule.
@@ -144,11 +161,11 @@ fn put_edges(
     ensures { OnOk result (text.new.items ≡ text.old.items
         ++ spec.lines_between (shown drawn.now) (flows_in_rows flows.now) source target) }
 {
-    put_edge(text, drawn, flows, source, target, Rule::Assign)?;
-    put_edge(text, drawn, flows, source, target, Rule::If)?;
-    put_edge(text, drawn, flows, source, target, Rule::While)?;
-    put_edge(text, drawn, flows, source, target, Rule::Letvar)?;
-    put_edge(text, drawn, flows, source, target, Rule::Loop)?;
+    put_edge_by(text, drawn, flows, source, target, Rule::Assign)?;
+    put_edge_by(text, drawn, flows, source, target, Rule::If)?;
+    put_edge_by(text, drawn, flows, source, target, Rule::While)?;
+    put_edge_by(text, drawn, flows, source, target, Rule::Letvar)?;
+    put_edge_by(text, drawn, flows, source, target, Rule::Loop)?;
     Ok(())
 }
 

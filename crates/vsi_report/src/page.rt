@@ -165,7 +165,8 @@ fn put_part(page: &mut Vec<u8>, part: &Part<'_>) -> Added
 /// Adds the part with the number that a digit names.
 fn put_hole(page: &mut Vec<u8>, parts: &[Part<'_>], digit: u8) -> Added
     ensures { are_stated parts.now ≡ true
-        → OnOk result (page.new.items ≡ page.old.items ++ text_at (texts_of parts.now) (digit - 48)) }
+        → OnOk result (page.new.items
+        ≡ page.old.items ++ text_at (texts_of parts.now) (digit - 48)) }
 {
     match parts.get(digit.saturating_sub(b'0') as usize) {
         Some(part) => put_part(page, part),
@@ -194,7 +195,8 @@ fn put_next(page: &mut Vec<u8>, parts: &[Part<'_>], is_hole: bool, byte: u8) -> 
 /// Adds markup in which `%0` is a hole for the first part, and so on.
 pub(crate) fn fill(page: &mut Vec<u8>, markup: &'static [u8], parts: &[Part<'_>]) -> Added
     ensures { are_stated parts.now ≡ true
-        → OnOk result (page.new.items ≡ page.old.items ++ filling.fill markup.now (texts_of parts.now)) }
+        → OnOk result (page.new.items
+        ≡ page.old.items ++ filling.fill markup.now (texts_of parts.now)) }
 {
     let mut is_hole = false;
     for byte in markup {
@@ -234,8 +236,8 @@ impl Page {
 
     /// Adds a piece of markup from the code, in which `%0` is a hole for the first part, and so on.
     pub(crate) fn fill(&mut self, markup: &'static [u8], parts: &[Part<'_>]) -> Added
-        ensures { are_stated parts.now ≡ true → OnOk result
-            (self.new.text.items ≡ self.old.text.items ++ filling.fill markup.now (texts_of parts.now)) }
+        ensures { are_stated parts.now ≡ true → OnOk result (self.new.text.items
+            ≡ self.old.text.items ++ filling.fill markup.now (texts_of parts.now)) }
     {
         fill(&mut self.text, markup, parts)
     }

@@ -192,6 +192,14 @@ fn put_end(page: &mut Vec<u8>, parts: &[Tagged], number: usize, at: usize) -> Ma
     Ok(number.saturating_add(1))
 }
 
+/// Adds the beginning of a part.
+fn put_tag(page: &mut Vec<u8>, part: &Tagged) -> Added
+    ensures { (t : List ℕ) → Shows page.old.items t → OnOk result (Shows page.new.items t) }
+{
+    put_open(page, part.kind, &part.label, &part.steps)?;
+    Ok(())
+}
+
 /// Adds the beginning of the part with a number, if it begins at a position.
 fn put_begin(page: &mut Vec<u8>, parts: &[Tagged], number: usize, at: usize) -> Added
     ensures { (t : List ℕ) → Shows page.old.items t → OnOk result (Shows page.new.items t) }
@@ -202,8 +210,7 @@ fn put_begin(page: &mut Vec<u8>, parts: &[Tagged], number: usize, at: usize) -> 
     if part.start != at {
         return Ok(());
     }
-    put_open(page, part.kind, &part.label, &part.steps)?;
-    Ok(())
+    put_tag(page, part)
 }
 
 /// Adds a byte of a source text and, if it ends a line, the beginning of the line with a number.
@@ -216,6 +223,18 @@ fn put_source_byte(page: &mut Vec<u8>, byte: u8, is_ending: bool, next: usize) -
         put_next(page, next)?;
     }
     Ok(())
+}
+
+/// Whether a line that isn't the last one ends with the byte at a position.
+fn ends_line(source: &[u8], at: usize) -> bool
+    requires { at < length source.now }
+{
+    source[at] == b'\n' && at + 1 < source.len()
+}
+
+/// The number of the line after a byte.
+fn line_after(is_ending: bool, line: usize, next: usize) -> usize {
+    if is_ending { next } else { line }
 }
 
 /// A place in a panel: the part that begins or ends next, and the number of the line.
@@ -239,12 +258,12 @@ fn put_at(
 {
     let part = put_end(page, parts, place.part, at)?;
     put_begin(page, parts, part, at)?;
-    let is_ending = source[at] == b'\n' && at + 1 < source.len();
+    let is_ending = ends_line(source, at);
     let next = place.line.saturating_add(1);
     put_source_byte(page, source[at], is_ending, next)?;
     Ok(Place {
         part,
-        line: if is_ending { next } else { place.line },
+        line: line_after(is_ending, place.line, next),
     })
 }
 

@@ -84,8 +84,8 @@ branch assigns %1, at %5. No value is copied, but %1 then depends on %0.</p>\n",
 and the body assigns %1, at %5. No value is copied, but %1 then depends on %0.</p>\n",
     b"<p>The value of %0, at %4, goes into the initial value of %1, at %5: %1 then depends on \
 %0.</p>\n",
-    b"<p>The guard of a loop reads %0, at %4, so whether the loop ends depends on it. Whether a run \
-ends is visible at every class: %1 then depends on %0.</p>\n",
+    b"<p>The guard of a loop reads %0, at %4, so whether the loop ends depends on it. Whether a \
+run ends is visible at every class: %1 then depends on %0.</p>\n",
 ];
 
 /// The names and the classes of two variables, and a number.

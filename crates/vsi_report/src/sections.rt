@@ -19,8 +19,8 @@ const CLASSES: &[u8] = b"<table><thead><tr><th scope=\"col\">Class</th>\
 const LATTICE: &[u8] = b"<section%0 aria-labelledby=\"lattice\"><h2 id=\"lattice\">Lattice</h2>\n";
 /// The end of the picture, and the beginning of the table of its arrows.
 const ARROWS: &[u8] =
-    b"</figure>\n<details class=\"spare\"><summary>The arrows as a table</summary>\n<table><thead><tr>\
-<th scope=\"col\">From</th><th scope=\"col\">To</th><th scope=\"col\">By</th></tr></thead>\n\
+    b"</figure>\n<details class=\"spare\"><summary>The arrows as a table</summary>\n<table><thead>\
+<tr><th scope=\"col\">From</th><th scope=\"col\">To</th><th scope=\"col\">By</th></tr></thead>\n\
 <tbody>\n";
 /// The name and the length of a file, up to its checksum.
 const FILE: &[u8] = b"<dt>%0</dt><dd><code>%1</code>, %2 bytes</dd>\n\
