@@ -1,6 +1,6 @@
 -- The beginning of a page.
 use Rattle.std.proofs.Common.{◌≡◌, ◌≢◌, refl, ℕ, List, [], ◌++◌, ap, sym, subst, length, ◌∙◌, append_assoc, append-nil, Result}
-use Rattle.std.specs.Prelude.{IfOk}
+use Rattle.std.specs.Prelude.{IfOk, codes}
 use Rattle.std.specs.Global.{Vec}
 use Rattle.std.proofs.lemmas.Result.{IfOk-weaker}
 use Rattle.vsi_lattice.specs.declared.lattice.Lattice.{Lattice}
@@ -15,13 +15,15 @@ use Rattle.vsi_compiler.specs.declared.error.CompileError.TheVariants.{Memory, L
 use Rattle.vsi_compiler.specs.Stands.{Stands}
 use Rattle.vsi_flows.specs.declared.table.Pair.{Pair}
 use Rattle.vsi_flows.specs.Table.{IsTable}
-use Rattle.vsi_report.specs.Banner.{HasBanner, HasLead, beginning}
+use Rattle.vsi_report.specs.Banner.{HasBanner, HasLead, banner, beginning, first_lines, title, untagged}
+use Rattle.vsi_report.specs.Escape.{escaped}
+use Rattle.vsi_report.specs.Page.{HasPanel, panel_begin, panel_end}
+use Rattle.vsi_report.specs.Reading.{Shows}
 use Rattle.vsi_report.specs.Lead.{HasTrueLead, IsLead, allowed_words, lead_words}
 use Rattle.vsi_report.specs.Verdict.{HasVerdict, IsVerdict, Tells, verdict_of}
 use Rattle.vsi_report.specs.declared.banner.Lead.{Lead}
 use Rattle.vsi_report.specs.declared.page.Verdict.{Verdict}
 use Rattle.vsi_report.specs.declared.page.Verdict.TheVariants.{Accepted, Refused}
-use Rattle.vsi_report.proofs.EscapeLemmas.{parts_so}
 
 -- The pairs are the table of flows of the text's program.
 pub record AreFlows (l : Lattice) (P : Profile) (text : List ℕ) (pairs : List Pair) : Type 0 where
@@ -29,42 +31,78 @@ pub record AreFlows (l : Lattice) (P : Profile) (text : List ℕ) (pairs : List 
   pub stands : Stands (class_named l) text resolved
   pub table : IsTable (order l) P (program resolved) pairs
 
--- Seven parts appended one after another to nothing are the whole.
-pub seven_so : (a b c d e f g t0 t1 t2 t3 t4 t5 t6 t7 : List ℕ) → t0 ≡ [] → t1 ≡ t0 ++ a → t2 ≡ t1 ++ b →
-    t3 ≡ t2 ++ c → t4 ≡ t3 ++ d → t5 ≡ t4 ++ e → t6 ≡ t5 ++ f → t7 ≡ t6 ++ g → t7 ≡ a ++ b ++ c ++ d ++ e ++ f ++ g
-seven_so a b c d e f g t0 t1 t2 t3 t4 t5 t6 t7 h0 h1 h2 h3 h4 h5 h6 h7 =
-    h7 ∙ ap (λ x. x ++ g) (h6 ∙ ap (λ x. x ++ f) (h5 ∙ ap (λ x. x ++ e) (h4 ∙ ap (λ x. x ++ d)
-    (h3 ∙ ap (λ x. x ++ c) (h2 ∙ ap (λ x. x ++ b) (h1 ∙ ap (λ x. x ++ a) h0))))))
+-- The tags before the panel of a source that aren't part of it.
+abbrev pub source_begin : List ℕ
+source_begin =
+    codes "<div class=\"beside\">\n<section aria-labelledby=\"source\"><h2 id=\"source\">Source</h2>\n"
 
--- Five parts appended one after another to a beginning are the whole.
-pub five_so : (s b o p e f t0 t u v w : List ℕ) → t0 ≡ s ++ b → t ≡ t0 ++ o → u ≡ t ++ p → v ≡ u ++ e → w ≡ v ++ f →
-    w ≡ s ++ (b ++ (o ++ (p ++ (e ++ f))))
-five_so s b o p e f t0 t u v w h0 h1 h2 h3 h4 =
-    parts_so (s ++ b) o p e f t u v w (h1 ∙ ap (λ x. x ++ o) h0) h2 h3 h4
-    ∙ append_assoc s b (o ++ (p ++ (e ++ f)))
+-- The end of a page.
+abbrev pub page_end : List ℕ
+page_end = codes "</div>\n</main>\n</body>\n</html>\n"
 
--- A text that is the beginning of a page and first sentences begins with both.
-pub lead_alone : (v : Verdict) (name style lead text : List ℕ) → text ≡ beginning v name style ++ lead →
-    HasLead v lead text
-lead_alone v name style lead text h =
+-- What follows the first sentences of a page.
+abbrev pub after_lead : List ℕ → List ℕ → List ℕ → List ℕ
+after_lead before panel after =
+    before ++ (source_begin ++ (panel_begin ++ (panel ++ (panel_end ++ (after ++ page_end)))))
+
+-- A page with this title, name, style, heading and rest, part after part.
+abbrev pub page_of : List ℕ → List ℕ → List ℕ → List ℕ → List ℕ → List ℕ → List ℕ → List ℕ → List ℕ
+page_of title name style heading lead before panel after =
+    first_lines ++ (title ++ (name ++ (codes "</title>\n<style>\n" ++ (style
+    ++ (codes "</style>\n</head>\n<body>\n<main>\n" ++ (heading ++ (lead ++ after_lead before panel after)))))))
+
+-- Seven parts before a rest, grouped from the left as the beginning of a page is.
+begun_so : (a b c d e f g x : List ℕ) →
+    a ++ (b ++ (c ++ (d ++ (e ++ (f ++ (g ++ x)))))) ≡ (a ++ b ++ c ++ d ++ e ++ f ++ g) ++ x
+begun_so a b c d e f g x =
+    sym (append_assoc (a ++ b ++ c ++ d ++ e ++ f) g x ∙ append_assoc (a ++ b ++ c ++ d ++ e) f (g ++ x)
+    ∙ append_assoc (a ++ b ++ c ++ d) e (f ++ (g ++ x)) ∙ append_assoc (a ++ b ++ c) d (e ++ (f ++ (g ++ x)))
+    ∙ append_assoc (a ++ b) c (d ++ (e ++ (f ++ (g ++ x)))) ∙ append_assoc a b (c ++ (d ++ (e ++ (f ++ (g ++ x))))))
+
+-- Four parts before a rest, as one part.
+before_so : (a b c d x : List ℕ) → a ++ (b ++ (c ++ (d ++ x))) ≡ (a ++ (b ++ (c ++ d))) ++ x
+before_so a b c d x =
+    sym (append_assoc a (b ++ (c ++ d)) x ∙ ap (λ y. a ++ y) (append_assoc b (c ++ d) x
+    ∙ ap (λ y. b ++ y) (append_assoc c d x)))
+
+-- A page that is made part after part begins with the beginning of a page.
+page_so : (v : Verdict) (page made top name style heading lead before panel after : List ℕ) →
+    page ≡ made ++ page_of top (escaped name) (untagged style) heading lead before panel after → made ≡ [] →
+    top ≡ title v → heading ≡ banner v →
+    page ≡ beginning v name style ++ (lead ++ after_lead before panel after)
+page_so v page made top name style heading lead before panel after h e t b =
+    h ∙ ap (λ x. x ++ page_of top (escaped name) (untagged style) heading lead before panel after) e
+    ∙ ap (λ x. page_of x (escaped name) (untagged style) heading lead before panel after) t
+    ∙ ap (λ x. page_of (title v) (escaped name) (untagged style) x lead before panel after) b
+    ∙ begun_so first_lines (title v) (escaped name) (codes "</title>\n<style>\n") (untagged style)
+    (codes "</style>\n</head>\n<body>\n<main>\n") (banner v) (lead ++ after_lead before panel after)
+
+-- Such a page has its first sentences.
+pub page_led : (v : Verdict) (page made top name style heading lead before panel after : List ℕ) →
+    page ≡ made ++ page_of top (escaped name) (untagged style) heading lead before panel after → made ≡ [] →
+    top ≡ title v → heading ≡ banner v → HasLead v lead page
+page_led v page made top name style heading lead before panel after h e t b =
     record {
       name = name;
       style = style;
-      rest = [];
-      parts = h ∙ ap (λ x. beginning v name style ++ x) (sym (append-nil lead));
+      rest = after_lead before panel after;
+      parts = page_so v page made top name style heading lead before panel after h e t b;
     }
 
--- A page that goes on after its first sentences has them.
-pub lead_more : (v : Verdict) (lead text rest page : List ℕ) → page ≡ text ++ rest → HasLead v lead text →
-    HasLead v lead page
-lead_more v lead text rest page h b =
+-- Such a page has its panel.
+pub page_shows : (v : Verdict) (page made top name style heading lead before panel after source : List ℕ) →
+    page ≡ made ++ page_of top (escaped name) (untagged style) heading lead before panel after → made ≡ [] →
+    top ≡ title v → heading ≡ banner v → Shows panel source → HasPanel page source
+page_shows v page made top name style heading lead before panel after source h e t b shows =
+    let start = beginning v name style in
     record {
-      name = b.name;
-      style = b.style;
-      rest = b.rest ++ rest;
+      before = start ++ (lead ++ (before ++ source_begin));
+      panel = panel;
+      after = after ++ page_end;
       parts =
-          h ∙ ap (λ x. x ++ rest) b.parts ∙ append_assoc (beginning v b.name b.style) (lead ++ b.rest) rest
-          ∙ ap (λ x. beginning v b.name b.style ++ x) (append_assoc lead b.rest rest);
+          page_so v page made top name style heading lead before panel after h e t b
+          ∙ before_so start lead before source_begin (panel_begin ++ (panel ++ (panel_end ++ (after ++ page_end))));
+      shows = shows;
     }
 
 -- A page with first sentences has the banner before them.

@@ -86,10 +86,3 @@ more_shows a b t ha hb rest =
 -- The end of the last line shows nothing.
 pub end_shows : Shows (codes "</span>") []
 end_shows rest = refl
-
--- Four parts appended one after another are the whole.
-pub parts_so : (a o p e f t u v w : List ℕ) → t ≡ a ++ o → u ≡ t ++ p → v ≡ u ++ e → w ≡ v ++ f →
-    w ≡ a ++ (o ++ (p ++ (e ++ f)))
-parts_so a o p e f t u v w h1 h2 h3 h4 =
-    h4 ∙ ap (λ x. x ++ f) (h3 ∙ ap (λ x. x ++ e) (h2 ∙ ap (λ x. x ++ p) h1))
-    ∙ append_assoc ((a ++ o) ++ p) e f ∙ append_assoc (a ++ o) p (e ++ f) ∙ append_assoc a o (p ++ (e ++ f))

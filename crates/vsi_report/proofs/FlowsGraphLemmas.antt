@@ -1,6 +1,7 @@
 -- Lines for one number after another, and the lines of equal flows.
-use Rattle.std.proofs.Common.{◌≡◌, ℕ, zero, suc, ◌+◌, ◌<◌, ◌≤◌, cond, List, [], ◌∷◌, ◌++◌, refl, sym, ap, ◌∙◌, arith, append_assoc, append-nil}
+use Rattle.std.proofs.Common.{◌≡◌, ℕ, zero, suc, ◌+◌, ◌<◌, ◌≤◌, cond, List, [], ◌∷◌, ◌++◌, length, get_or, take, refl, sym, ap, ◌∙◌, arith, append_assoc, append-nil}
 use Rattle.std.specs.List.{flat_map}
+use Rattle.std.proofs.lemmas.List.{take_more}
 use Rattle.std.proofs.lemmas.List.Concat.{flat_map-append}
 use Rattle.vsi_types.specs.declared.rules.Profile.{Profile}
 use Rattle.vsi_types.specs.declared.rules.Rule.{Rule}
@@ -27,6 +28,18 @@ more_lines f start before after i b a =
     ∙ ap (λ l. start ++ l) (sym (flat_map-append f (count_from 0 i) (i ∷ [])))
     ∙ ap (λ m. start ++ flat_map f (count_from 0 i ++ m ∷ [])) e
     ∙ ap (λ l. start ++ flat_map f l) (sym (count_more 0 i))
+
+-- The lines of one more item of a list are added.
+pub more_items : {A : Type 0} (f : A → List ℕ) (xs : List A) (start before after : List ℕ) (i : ℕ) (d : A) →
+    i < length xs → before ≡ start ++ flat_map f (take i xs) → after ≡ before ++ f (get_or xs i d) →
+    after ≡ start ++ flat_map f (take (i + 1) xs)
+more_items f xs start before after i d lt b a =
+    let x = get_or xs i d in
+    let so = flat_map f (take i xs) in
+    a ∙ ap (λ l. l ++ f x) b ∙ append_assoc start so (f x)
+    ∙ ap (λ l. start ++ (so ++ l)) (sym (append-nil (f x)))
+    ∙ ap (λ l. start ++ l) (sym (flat_map-append f (take i xs) (x ∷ [])))
+    ∙ ap (λ l. start ++ flat_map f l) (sym (take_more xs i d lt))
 
 -- One more text is appended.
 pub added : (t x b u v : List ℕ) → u ≡ t ++ x → v ≡ u ++ b → v ≡ t ++ (x ++ b)

@@ -4,3 +4,4 @@ pub mod NameLemmas
 pub mod FlowsGraphLemmas
 pub mod BannerLemmas
 pub mod ReachedLemmas
+pub mod FilledLemmas

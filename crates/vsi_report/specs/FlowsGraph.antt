@@ -1,5 +1,5 @@
 -- The flows of a text in the language of Graphviz.
-use Rattle.std.specs.Prelude.{◌≡◌, ◌⊎◌, ℕ, suc, ◌+◌, ◌-◌, cond, nat_lt, Bool, false, List, [], ◌∷◌, ◌++◌, length, Option, Some, None, codes, decimal, slice_get}
+use Rattle.std.specs.Prelude.{◌≡◌, ◌⊎◌, ℕ, suc, ◌+◌, ◌-◌, cond, nat_lt, Bool, true, false, List, [], ◌∷◌, ◌++◌, length, Option, Some, None, codes, decimal, slice_get}
 use Rattle.std.specs.List.{flat_map}
 use Rattle.vsi_lattice.specs.Order.{Lattice}
 use Rattle.vsi_lattice.specs.declared.lattice.Lattice.{Lattice as Declared}
@@ -17,10 +17,9 @@ use Rattle.vsi_infer.specs.Flowing.{size_of, variable_at}
 use Rattle.vsi_infer.specs.Inference.{IsLeast, IsShortest}
 use Rattle.vsi_infer.specs.StepsBetween.{has_step_by, leads_by}
 use Rattle.vsi_compiler.specs.Stands.{Stands}
-use Rattle.vsi_report.specs.declared.dot.Course.{Course}
-use Rattle.vsi_report.specs.declared.dot.Course.TheVariants.{Upward, Against, Unclear}
 use Rattle.vsi_report.specs.Covering.{HasJust, IsCoveringPair}
-use Rattle.vsi_report.specs.Graph.{AreLatticeLines, graph, name_at, paint}
+use Rattle.vsi_report.specs.Filled.{fill, prefix}
+use Rattle.vsi_report.specs.Graph.{AreLatticeLines, colour, graph, name_at}
 
 -- The classes of the letvars are the least typable choice, or the program is refused: then they have none, and the
 -- walk is a bad one such that no bad walk has fewer steps.
@@ -58,38 +57,24 @@ class_declared s v = declared_class s.lattice (program s.resolved) v
 abbrev pub class_shown : Shown → ℕ → Option ℕ
 class_shown s v = either_class (class_declared s v) (slice_get s.chosen (v - length (program s.resolved).globals))
 
--- The text of a class after a name.
-abbrev pub class_words : List (List ℕ) → Option ℕ → List ℕ
-class_words ns None = []
-class_words ns (Some c) = codes " : " ++ name_at ns c
-
--- The attributes of a node whose variable has this class.
-abbrev pub paint_words : Option ℕ → List ℕ
-paint_words None = []
-paint_words (Some c) = codes ", " ++ paint c
-
 -- The attribute of a node whose variable has this declared class; if it has none, its box is dashed.
 abbrev pub box_words : Option ℕ → List ℕ
 box_words None = codes ", style=\"rounded,dashed\""
 box_words (Some c) = []
 
--- A number between two texts.
-abbrev pub numbered : List ℕ → ℕ → List ℕ → List ℕ
-numbered before n after = before ++ (decimal n ++ after)
+-- The line of a numbered node with this name, these attributes of its box, and this class, of classes with these names.
+abbrev pub node_line : List (List ℕ) → ℕ → List ℕ → List ℕ → Option ℕ → List ℕ
+node_line ns b name dashes None =
+    fill (codes "  \"v.%0\" [label=\"%1\"%2];\n") (decimal b ∷ name ∷ dashes ∷ [])
+node_line ns b name dashes (Some c) =
+    fill (codes "  \"v.%0\" [label=\"%1 : %3\", color=\"%4\", fontcolor=\"%4\"%2];\n")
+    (decimal b ∷ name ∷ dashes ∷ name_at ns c ∷ colour c ∷ [])
 
--- The label of a variable: its name and, if it has one, its class.
-abbrev pub label : Shown → ℕ → List ℕ
-label s v = name_of s.resolved v ++ class_words s.names (class_shown s v)
-
--- The attributes of the node of a variable after its label.
-abbrev pub attributes : Shown → ℕ → List ℕ
-attributes s v = paint_words (class_shown s v) ++ box_words (class_declared s v)
-
--- The line of a numbered node.
+-- The line of a variable: its label is its name and, if it has one, its class.
 abbrev pub variable_line : Shown → ℕ → List ℕ
 variable_line s b =
-    numbered (codes "  \"v.") b (codes "\" [label=\"") ++ label s (variable_at (size s) b) ++ codes "\""
-    ++ attributes s (variable_at (size s) b) ++ codes "];\n"
+    let v = variable_at (size s) b in
+    node_line s.names b (name_of s.resolved v) (box_words (class_declared s v)) (class_shown s v)
 
 -- The number of nodes; the ending of loops has one under the strict profile only.
 abbrev pub nodes_shown : Profile → ℕ → ℕ
@@ -98,34 +83,33 @@ nodes_shown Strict k = k + 1
 
 -- The line of a class's two points, below and above its variables.
 abbrev pub points_line : ℕ → List ℕ
-points_line c = numbered (codes "  \"below.") c (codes "\" -> ") ++ numbered (codes "\"above.") c (codes "\";\n")
+points_line c = fill (codes "  \"below.%0\" -> \"above.%0\";\n") (decimal c ∷ [])
 
 -- The line that keeps a class above another one.
 abbrev pub above_line : ℕ × ℕ → List ℕ
 above_line p =
-    numbered (codes "  \"above.") p.0 (codes "\" -> ") ++ numbered (codes "\"below.") p.1 (codes "\" [minlen=0];\n")
+    fill (codes "  \"above.%0\" -> \"below.%1\" [minlen=0];\n") (decimal p.0 ∷ decimal p.1 ∷ [])
 
 -- The line that keeps a numbered node between the points of its class.
 abbrev pub between_line : Option ℕ → ℕ → List ℕ
 between_line None b = []
 between_line (Some c) b =
-    numbered (codes "  \"below.") c (codes "\" -> ") ++ numbered (codes "\"v.") b (codes "\" -> ")
-    ++ numbered (codes "\"above.") c (codes "\";\n")
+    fill (codes "  \"below.%0\" -> \"v.%1\" -> \"above.%0\";\n") (decimal c ∷ decimal b ∷ [])
 
 -- The line that keeps a numbered node above the lower classes and below the higher ones.
 abbrev pub kept_line : Shown → ℕ → List ℕ
 kept_line s b = between_line (class_shown s (variable_at (size s) b)) b
 
--- The lines that keep all nodes above the lower classes and below the higher ones.
-abbrev pub held_lines : Profile → Shown → List ℕ
-held_lines P s = flat_map (kept_line s) (count_from 0 (nodes_shown P (size s)))
+-- The lines that keep the first n nodes above the lower classes and below the higher ones.
+abbrev pub kept_lines : Shown → ℕ → List ℕ
+kept_lines s n = flat_map (kept_line s) (count_from 0 n)
 
--- The invisible lines that keep the variables of higher classes above those of lower ones.
-abbrev pub frame_lines : Profile → Shown → List (ℕ × ℕ) → List ℕ
-frame_lines P s pairs =
+-- The invisible lines that keep the first n variables of higher classes above those of lower ones.
+abbrev pub frame_lines : Shown → ℕ → List (ℕ × ℕ) → List ℕ
+frame_lines s n pairs =
     codes "  {\n  node [shape=point, style=invis];\n  edge [style=invis];\n"
     ++ flat_map points_line (count_from 0 (length s.names)) ++ flat_map above_line pairs
-    ++ held_lines P s ++ codes "  }\n"
+    ++ kept_lines s n ++ codes "  }\n"
 
 -- The style of an edge.
 abbrev pub style_text : Rule → List ℕ
@@ -139,16 +123,16 @@ style_text Loop = codes "\"dashed,bold\""
 abbrev pub is_ordered : Lattice → ℕ → ℕ → Bool
 is_ordered L low high = cond (nat_lt low L.count) (cond (nat_lt high L.count) (L.leq low high) false) false
 
--- The course of a flow from one class to another.
-abbrev pub course_between : Lattice → Option ℕ → Option ℕ → Course
-course_between L None high = Unclear
-course_between L (Some low) None = Unclear
-course_between L (Some low) (Some high) = cond (is_ordered L low high) Upward Against
+-- Whether a flow from one class to another keeps the order, if both are known.
+abbrev pub keeps_order : Lattice → Option ℕ → Option ℕ → Option Bool
+keeps_order L None high = None
+keeps_order L (Some low) None = None
+keeps_order L (Some low) (Some high) = Some (is_ordered L low high)
 
--- The course of the flow from a number to another.
-abbrev pub flow_course : Shown → ℕ → ℕ → Course
-flow_course s a b =
-    course_between s.lattice (class_shown s (variable_at (size s) a)) (class_shown s (variable_at (size s) b))
+-- Whether the flow from a number to another keeps the order, if the classes of both are known.
+abbrev pub is_upward : Shown → ℕ → ℕ → Option Bool
+is_upward s a b =
+    keeps_order s.lattice (class_shown s (variable_at (size s) a)) (class_shown s (variable_at (size s) b))
 
 -- The number of the first step from a to b by the rule, if the first step of the list has the number n.
 abbrev pub number_from : ℕ → List Step → Rule → ℕ → ℕ → Option ℕ
@@ -159,34 +143,23 @@ number_from n (s ∷ rest) R a b = cond (leads_by R a b s) (Some n) (number_from
 abbrev pub step_number : Shown → Rule → ℕ → ℕ → Option ℕ
 step_number s R a b = number_from 1 s.walk R (variable_at (size s) a) (variable_at (size s) b)
 
--- The beginning of a label: blanks and, for a step of the refused walk, its number.
-abbrev pub number_words : Option ℕ → List ℕ
-number_words None = codes "  "
-number_words (Some n) = codes "  " ++ decimal n ++ codes " "
-
 -- The attributes of an edge: a step of the refused walk is thick and red, any other flow against the order red, and
 -- only flows upwards place the nodes.
-abbrev pub edge_words : Option ℕ → Course → List ℕ
-edge_words None Upward = []
-edge_words None Against = codes ", color=\"#b01e1e\", fontcolor=\"#b01e1e\", constraint=false"
-edge_words None Unclear = codes ", constraint=false"
-edge_words (Some n) Upward = codes ", color=\"#b01e1e\", fontcolor=\"#b01e1e\", penwidth=4"
-edge_words (Some n) Against =
+abbrev pub edge_words : Option ℕ → Option Bool → List ℕ
+edge_words None (Some true) = []
+edge_words None (Some false) = codes ", color=\"#b01e1e\", fontcolor=\"#b01e1e\", constraint=false"
+edge_words None None = codes ", constraint=false"
+edge_words (Some n) (Some true) = codes ", color=\"#b01e1e\", fontcolor=\"#b01e1e\", penwidth=4"
+edge_words (Some n) (Some false) =
     codes ", color=\"#b01e1e\", fontcolor=\"#b01e1e\", penwidth=4, constraint=false"
-edge_words (Some n) Unclear =
-    codes ", color=\"#b01e1e\", fontcolor=\"#b01e1e\", penwidth=4, constraint=false"
+edge_words (Some n) None = codes ", color=\"#b01e1e\", fontcolor=\"#b01e1e\", penwidth=4, constraint=false"
 
--- The label and the attributes of an edge.
-abbrev pub looks : Shown → ℕ → ℕ → Rule → List ℕ
-looks s a b R =
-    number_words (step_number s R a b) ++ rule_text R ++ codes "\", style=" ++ style_text R
-    ++ edge_words (step_number s R a b) (flow_course s a b)
-
--- The line of an edge.
+-- The line of an edge; a step of the refused walk has its number before its rule.
 abbrev pub flow_line : Shown → ℕ → ℕ → Rule → List ℕ
 flow_line s a b R =
-    numbered (codes "  \"v.") a (codes "\" -> ") ++ numbered (codes "\"v.") b (codes "\" [label=\"")
-    ++ looks s a b R ++ codes "];\n"
+    fill (codes "  \"v.%0\" -> \"v.%1\" [label=\"  %2%3\", style=%4%5];\n")
+    (decimal a ∷ decimal b ∷ prefix (step_number s R a b) ∷ rule_text R ∷ style_text R
+    ∷ edge_words (step_number s R a b) (is_upward s a b) ∷ [])
 
 -- The flows, each by a rule from one number to another.
 abbrev pub Flowing : Type 0
@@ -218,7 +191,7 @@ numbers_drawn k = cond (nat_lt 200 k) 0 (k + 1)
 -- the program has a step from one to the other.
 abbrev pub flows_lines : Profile → Shown → List (ℕ × ℕ) → List ℕ
 flows_lines P s pairs =
-    flat_map (variable_line s) (count_from 0 (nodes_shown P (size s))) ++ frame_lines P s pairs
+    flat_map (variable_line s) (count_from 0 (nodes_shown P (size s))) ++ frame_lines s (nodes_shown P (size s)) pairs
     ++ edge_lines s (flows_by_step P (program s.resolved)) (numbers_drawn (size s))
 
 -- The lines are those of the program.
@@ -242,17 +215,13 @@ pub record IsFlowsGraph (l : Declared) (P : Profile) (text out : List ℕ) : Typ
   pub of_flows : AreFlowsLines l P text lines
   pub whole : out ≡ graph (codes "flows") lines
 
--- The lines of a part of a graph, drawn in a box of its own under its name.
-abbrev pub cluster : List ℕ → List ℕ → List ℕ
-cluster name lines =
-    (codes "subgraph cluster_" ++ (name ++ codes " {\n"))
-    ++ (codes "  label=\"" ++ (name ++ codes "\";\n  labelloc=b;\n  color=\"#d3dae1\";\n"))
-    ++ (lines ++ codes "}\n")
-
--- The graph with the lines of a lattice in one box and those of flows in another.
+-- The graph with the lines of a lattice in one box and those of flows in another, each box under its name.
 abbrev pub joined : List ℕ → List ℕ → List ℕ
 joined classes flows =
-    graph (codes "policy") (cluster (codes "lattice") classes ++ cluster (codes "flows") flows)
+    graph (codes "policy") (fill
+    (codes "subgraph cluster_lattice {\n  label=\"lattice\";\n  labelloc=b;\n  color=\"#d3dae1\";\n%0}\n"
+    ++ codes "subgraph cluster_flows {\n  label=\"flows\";\n  labelloc=b;\n  color=\"#d3dae1\";\n%1}\n")
+    (classes ∷ flows ∷ []))
 
 -- The graph has the lattice in one box and the text's flows in another.
 pub record IsPolicyGraph (l : Declared) (P : Profile) (text out : List ℕ) : Type 0 where

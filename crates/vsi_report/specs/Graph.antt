@@ -1,26 +1,24 @@
 -- A lattice in the language of Graphviz.
-use Rattle.std.specs.Prelude.{◌≡◌, ◌==◌, ◌%◌, if◌then◌else◌, ℕ, List, ◌++◌, [], map, codes, length, slice_get, unwrap_or}
+use Rattle.std.specs.Prelude.{◌≡◌, ◌==◌, ◌%◌, if◌then◌else◌, ℕ, List, [], ◌∷◌, ◌++◌, map, codes, length, slice_get, unwrap_or}
 use Rattle.std.specs.List.{flat_map}
 use Rattle.std.specs.Global.{Vec}
 use Rattle.vsi_lattice.specs.declared.lattice.Lattice.{Lattice}
 use Rattle.vsi_lattice.specs.LatticeView.{names, order}
 use Rattle.vsi_types.specs.Security.{count_from}
 use Rattle.vsi_report.specs.Covering.{HasJust, IsCoveringPair}
+use Rattle.vsi_report.specs.Filled.{fill}
 
 -- The texts of the code.
 abbrev pub texts : List (Vec ℕ) → List (List ℕ)
 texts vs = map (λ v. v.items) vs
 
--- The first lines of a graph with this name: what is higher is drawn above.
-abbrev pub head_lines : List ℕ → List ℕ
-head_lines name =
-    (codes "digraph " ++ (name ++ codes " {\n"))
-    ++ (codes "  rankdir=BT;\n  ranksep=0.35;\n" ++ (codes "  node [shape=box, style=rounded, penwidth=2];\n"
-    ++ codes "  edge [color=\"#57606a\", fontcolor=\"#57606a\", fontsize=11];\n"))
-
--- The graph with this name and these lines.
+-- The graph with this name and these lines: what is higher is drawn above.
 abbrev pub graph : List ℕ → List ℕ → List ℕ
-graph name lines = head_lines name ++ lines ++ codes "}\n"
+graph name lines =
+    fill
+    (codes "digraph %0 {\n  rankdir=BT;\n  ranksep=0.35;\n  node [shape=box, style=rounded, penwidth=2];\n"
+    ++ codes "  edge [color=\"#57606a\", fontcolor=\"#57606a\", fontsize=11];\n%1}\n")
+    (name ∷ lines ∷ [])
 
 -- The colour of one of eight kinds of class.
 abbrev pub kind_colour : ℕ → List ℕ
@@ -33,21 +31,18 @@ kind_colour n =
 abbrev pub colour : ℕ → List ℕ
 colour c = kind_colour (c % 8)
 
--- The attributes that give a node the colour of a class.
-abbrev pub paint : ℕ → List ℕ
-paint c = codes "color=\"" ++ colour c ++ codes "\", fontcolor=\"" ++ colour c ++ codes "\""
-
 -- The name of a class.
 abbrev pub name_at : List (List ℕ) → ℕ → List ℕ
 name_at names n = unwrap_or (slice_get names n) []
 
 -- The line of a class.
 abbrev pub node_line : List (List ℕ) → ℕ → List ℕ
-node_line names c = codes "  \"" ++ name_at names c ++ codes "\" [" ++ paint c ++ codes "];\n"
+node_line names c =
+    fill (codes "  \"%0\" [color=\"%1\", fontcolor=\"%1\"];\n") (name_at names c ∷ colour c ∷ [])
 
 -- The line of a pair of classes, the lower one first.
 abbrev pub edge_line : List (List ℕ) → ℕ × ℕ → List ℕ
-edge_line names p = codes "  \"" ++ name_at names p.0 ++ codes "\" -> \"" ++ name_at names p.1 ++ codes "\";\n"
+edge_line names p = fill (codes "  \"%0\" -> \"%1\";\n") (name_at names p.0 ∷ name_at names p.1 ∷ [])
 
 -- The lines of these classes and pairs.
 abbrev pub lattice_lines : List (List ℕ) → List (ℕ × ℕ) → List ℕ

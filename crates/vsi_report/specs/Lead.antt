@@ -18,54 +18,33 @@ use Rattle.vsi_report.specs.declared.banner.Lead.{Lead}
 use Rattle.vsi_report.specs.declared.page.Verdict.TheVariants as verdicts
 use Rattle.vsi_report.specs.Banner.{HasLead}
 use Rattle.vsi_report.specs.Escape.{escaped}
+use Rattle.vsi_report.specs.Filled.{fill}
 use Rattle.vsi_report.specs.Graph.{name_at}
-
--- A number in a page.
-abbrev pub number : ℕ → List ℕ
-number n = escaped (decimal n)
 
 -- The first text for one thing, the second for several.
 abbrev pub plural : ℕ → List ℕ → List ℕ → List ℕ
 plural n one more = if n == 1 then one else more
 
--- The name of a variable at an end of a walk.
-abbrev pub name_words : End → List ℕ
-name_words e =
-    codes "<b class=\"k" ++ number (e.class % 8) ++ codes "\">" ++ escaped e.name.now ++ codes "</b> "
-
--- The class of a variable at an end of a walk.
-abbrev pub chip_words : End → List ℕ
-chip_words e =
-    codes "<span class=\"chip k" ++ number (e.class % 8) ++ codes "\">" ++ escaped e.class_name.now
-    ++ codes "</span>"
-
--- A variable at an end of a walk, and its class.
-abbrev pub end_words : End → List ℕ
-end_words e = name_words e ++ chip_words e
-
--- The number of steps.
-abbrev pub steps_words : ℕ → List ℕ
-steps_words n = codes " in " ++ number n ++ plural n (codes " step.\n") (codes " steps.\n")
-
--- The number of refused pairs, of all pairs.
-abbrev pub share_words : ℕ → ℕ → List ℕ
-share_words refused pairs =
-    number refused ++ codes " of " ++ number pairs ++ plural pairs (codes " flow ") (codes " flows ")
-
--- The counts of the pairs.
-abbrev pub counts_words : ℕ → ℕ → List ℕ
-counts_words refused pairs =
-    share_words refused pairs ++ plural refused (codes "is refused.</p>\n") (codes "are refused.</p>\n")
-
--- The ends of a walk.
+-- The first sentence about a refused text: the ends of the walk, each with its class, and the number of its steps.
 abbrev pub ends_words : Lead → List ℕ
 ends_words l =
-    codes "<p class=\"lead\">" ++ end_words l.source ++ codes " reaches " ++ end_words l.target
+    fill
+    (codes "<p class=\"lead\"><b class=\"k%0\">%1</b> <span class=\"chip k%0\">%2</span> "
+    ++ codes "reaches <b class=\"k%3\">%4</b> <span class=\"chip k%3\">%5</span> in %6%7")
+    (decimal (l.source.class % 8) ∷ escaped l.source.name.now ∷ escaped l.source.class_name.now
+    ∷ decimal (l.target.class % 8) ∷ escaped l.target.name.now ∷ escaped l.target.class_name.now
+    ∷ decimal l.steps ∷ plural l.steps (codes " step.\n") (codes " steps.\n") ∷ [])
+
+-- The second sentence: the counts of the pairs.
+abbrev pub counts_words : Lead → List ℕ
+counts_words l =
+    fill (codes "%0 of %1 %2 %3 refused.</p>\n")
+    (decimal l.refused ∷ decimal l.pairs ∷ plural l.pairs (codes "flow") (codes "flows")
+    ∷ plural l.refused (codes "is") (codes "are") ∷ [])
 
 -- The first sentences about a refused text.
 abbrev pub lead_words : Lead → List ℕ
-lead_words l =
-    ends_words l ++ steps_words l.steps ++ counts_words l.refused l.pairs
+lead_words l = ends_words l ++ counts_words l
 
 -- The sentence about the pairs of an accepted text.
 abbrev pub allowed_words : ℕ → List ℕ
@@ -74,7 +53,7 @@ allowed_words n =
     codes "<p class=\"lead\">No declared variable flows to another: if runs halt, no global depends on another.</p>\n"
     else if n == 1 then
     codes "<p class=\"lead\">The only flow is allowed.</p>\n"
-    else codes "<p class=\"lead\">All " ++ number n ++ codes " flows are allowed.</p>\n"
+    else fill (codes "<p class=\"lead\">All %0 flows are allowed.</p>\n") (decimal n ∷ [])
 
 -- The first variable of a walk.
 abbrev pub first_of : List Step → ℕ

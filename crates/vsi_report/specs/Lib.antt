@@ -7,6 +7,8 @@ pub mod Graph
 pub mod ByRule
 pub mod FlowsGraph
 pub mod Banner
+pub mod Filled
+pub mod Parts
 pub mod Verdict
 pub mod Drawn
 pub mod Lead

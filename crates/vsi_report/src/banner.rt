@@ -1,6 +1,6 @@
 //! The banner of a page: its first sentences, and what follows them.
 
-ghost use Rattle.std.specs.Prelude.{◌≡◌, ◌++◌, ℕ, Some, OnOk};
+ghost use Rattle.std.specs.Prelude.{◌≡◌, ◌++◌, ℕ, Some, IfOk, OnOk};
 ghost use Rattle.vsi_lattice.specs.LatticeView.{names, order as order_of_lattice};
 ghost use Rattle.vsi_types.specs.Security.{program as program_of};
 ghost use Rattle.vsi_types.specs.Walks.{declared_class as declared_class_of};
@@ -9,11 +9,12 @@ ghost use Rattle.vsi_report.specs.Graph.{texts};
 ghost use Rattle.vsi_report.specs.Lead as spec;
 
 use crate::order::{Order, name_of};
-use crate::page::{Added, Page, Part};
+use crate::page::Part::{Markup, Name, Number, Position, Text};
+use crate::page::{Added, Made, Page, either};
 use crate::panel::{ends_at, hidden_at};
 use crate::report::View;
 use crate::sections::{leaf, profile_text};
-use std::alloc::AllocError;
+use std::alloc::{AllocError, Global};
 use vsi_compiler::CompileError;
 use vsi_diagnostics::refusal_diagnostic;
 use vsi_flows::Pair;
@@ -25,6 +26,25 @@ use vsi_scope::{Resolved, Var};
 use vsi_steady::{SteadyError, steady_in};
 use vsi_syntax::line_column;
 use vsi_types::{LOOP, Step};
+
+/// The most bytes of a line that the banner quotes.
+const QUOTED: usize = 160;
+/// The beginning of a quoted line, with its number.
+const QUOTE: &[u8] = b"<p class=\"quote\"><a href=\"#L%0\">%0</a> <code>";
+/// The name of the file, the sentence about the profile, and the end of the banner.
+const BY: &[u8] =
+    b"<p class=\"by\">Source text: <code>%0</code>. Judged by the %1.</p>\n</header>\n";
+/// The most steps whose variables the strip shows at each end of a long walk.
+const SHOWN: usize = 12;
+/// A variable of the strip, with a link to the step that reaches it.
+const STOP: &[u8] = b"<li><a href=\"#s%1\">%0</a></li>";
+/// The first sentence about a refused text, and the beginning of the second one.
+const LEAD: &[u8] = b"<p class=\"lead\"><b class=\"k%0\">%1</b> <span class=\"chip k%0\">%2</span> \
+reaches <b class=\"k%3\">%4</b> <span class=\"chip k%3\">%5</span> in %6%7";
+/// The sentence about an accepted text without a pair.
+const NO_PAIR: &[u8] =
+    b"<p class=\"lead\">No declared variable flows to another: if runs halt, no global depends on \
+another.</p>\n";
 
 /// A variable at an end of a walk: its name, and its class with the name of that.
 #[derive(Clone, Copy)]
@@ -52,97 +72,41 @@ pub(crate) fn number_word(count: usize, one: &'static [u8], several: &'static [u
     if count == 1 { one } else { several }
 }
 
-/// Adds the name of a variable at an end of a walk.
-fn put_name(page: &mut Page, end: &End<'_>) -> Added
-    ensures { OnOk result (page.new.text.items ≡ page.old.text.items ++ spec.name_words end.now) }
-{
-    page.put(b"<b class=\"k")?;
-    page.number(end.class % 8)?;
-    page.put(b"\">")?;
-    page.tell(end.name)?;
-    page.put(b"</b> ")?;
-    Ok(())
-}
-
-/// Adds the class of a variable at an end of a walk.
-fn put_chip(page: &mut Page, end: &End<'_>) -> Added
-    ensures { OnOk result (page.new.text.items ≡ page.old.text.items ++ spec.chip_words end.now) }
-{
-    page.put(b"<span class=\"chip k")?;
-    page.number(end.class % 8)?;
-    page.put(b"\">")?;
-    page.tell(end.class_name)?;
-    page.put(b"</span>")
-}
-
-/// Adds a variable at an end of a walk, and its class.
-fn put_end(page: &mut Page, end: &End<'_>) -> Added
-    ensures { OnOk result (page.new.text.items ≡ page.old.text.items ++ spec.end_words end.now) }
-{
-    put_name(page, end)?;
-    put_chip(page, end)
-}
-
-/// Adds the number of steps.
-fn put_steps(page: &mut Page, steps: usize) -> Added
-    ensures { OnOk result
-        (page.new.text.items ≡ page.old.text.items ++ spec.steps_words steps) }
-{
-    page.put(b" in ")?;
-    page.number(steps)?;
-    page.put(number_word(steps, b" step.\n", b" steps.\n"))
-}
-
-/// Adds the number of refused pairs, of all pairs.
-fn put_share(page: &mut Page, refused: usize, pairs: usize) -> Added
-    ensures { OnOk result
-        (page.new.text.items ≡ page.old.text.items ++ spec.share_words refused pairs) }
-{
-    page.number(refused)?;
-    page.put(b" of ")?;
-    page.number(pairs)?;
-    page.put(number_word(pairs, b" flow ", b" flows "))
-}
-
-/// Adds the counts of the pairs.
-fn put_counts(page: &mut Page, refused: usize, pairs: usize) -> Added
-    ensures { OnOk result
-        (page.new.text.items ≡ page.old.text.items ++ spec.counts_words refused pairs) }
-{
-    put_share(page, refused, pairs)?;
-    page.put(number_word(refused, b"is refused.</p>\n", b"are refused.</p>\n"))?;
-    Ok(())
-}
-
-/// Adds the ends of a walk.
+/// Adds the sentence about the ends and the number of steps of a refused walk.
 fn put_ends(page: &mut Page, lead: &Lead<'_>) -> Added
     ensures { OnOk result (page.new.text.items ≡ page.old.text.items ++ spec.ends_words lead.now) }
 {
-    page.put(b"<p class=\"lead\">")?;
-    put_end(page, &lead.source)?;
-    page.put(b" reaches ")?;
-    put_end(page, &lead.target)
+    let parts = [
+        Number(lead.source.class % 8),
+        Text(lead.source.name),
+        Text(lead.source.class_name),
+        Number(lead.target.class % 8),
+        Text(lead.target.name),
+        Text(lead.target.class_name),
+        Number(lead.steps),
+        Markup(number_word(lead.steps, b" step.\n", b" steps.\n")),
+    ];
+    page.fill(LEAD, &parts)
 }
 
-/// Adds the first sentences about a refused text.
-pub(crate) fn put_lead(page: &mut Page, lead: &Lead<'_>) -> Added
-    ensures { OnOk result
-        (page.new.text.items ≡ page.old.text.items ++ spec.lead_words lead.now) }
+/// The first sentences about a refused text.
+pub(crate) fn refused_lead(alloc: Global, lead: &Lead<'_>) -> Made<Page>
+    ensures { IfOk result (λ page. page.text.items ≡ spec.lead_words lead.now) }
 {
-    put_ends(page, lead)?;
-    put_steps(page, lead.steps)?;
-    put_counts(page, lead.refused, lead.pairs)
+    let mut page = Page::new(alloc);
+    put_ends(&mut page, lead)?;
+    let parts = [
+        Number(lead.refused),
+        Number(lead.pairs),
+        Markup(number_word(lead.pairs, b"flow", b"flows")),
+        Markup(number_word(lead.refused, b"is", b"are")),
+    ];
+    page.fill(b"%0 of %1 %2 %3 refused.</p>\n", &parts)?;
+    Ok(page)
 }
-
-/// The sentence about an accepted text without a pair.
-const NO_PAIR: &[u8] =
-    b"<p class=\"lead\">No declared variable flows to another: if runs halt, no global depends on \
-another.</p>\n";
-/// The sentence about the only pair of an accepted text.
-const ONE_PAIR: &[u8] = b"<p class=\"lead\">The only flow is allowed.</p>\n";
 
 /// Adds the sentence about the pairs of an accepted text.
-pub(crate) fn put_allowed(page: &mut Page, pairs: usize) -> Added
+fn put_allowed(page: &mut Page, pairs: usize) -> Added
     ensures { OnOk result
         (page.new.text.items ≡ page.old.text.items ++ spec.allowed_words pairs) }
 {
@@ -150,11 +114,19 @@ pub(crate) fn put_allowed(page: &mut Page, pairs: usize) -> Added
         return page.put(NO_PAIR);
     }
     if pairs == 1 {
-        return page.put(ONE_PAIR);
+        return page.put(b"<p class=\"lead\">The only flow is allowed.</p>\n");
     }
-    page.put(b"<p class=\"lead\">All ")?;
-    page.number(pairs)?;
-    page.put(b" flows are allowed.</p>\n")
+    let markup = b"<p class=\"lead\">All %0 flows are allowed.</p>\n";
+    page.fill(markup, &[Number(pairs)])
+}
+
+/// The first sentences about an accepted text.
+pub(crate) fn allowed_lead(alloc: Global, pairs: usize) -> Made<Page>
+    ensures { IfOk result (λ page. page.text.items ≡ spec.allowed_words pairs) }
+{
+    let mut page = Page::new(alloc);
+    put_allowed(&mut page, pairs)?;
+    Ok(page)
 }
 
 /// The number of refused pairs.
@@ -261,23 +233,15 @@ pub(crate) fn lead_of<'a>(
     }
 }
 
-/// The most bytes of a line that the banner quotes.
-const QUOTED: usize = 160;
-/// The beginning of a quoted line, with its number.
-const QUOTE: &[u8] = b"<p class=\"quote\"><a href=\"#L%0\">%0</a> <code>";
-
 /// Adds the line of the source text with the byte at a position, with a link to it. Characters that
 /// aren't visible are replaced, and a long line begins at that byte.
 fn put_quote(page: &mut Page, source: &[u8], at: usize) -> Added {
     let (line, column) = line_column(source, at);
-    let first = if column > QUOTED {
-        at
-    } else {
-        at.saturating_sub(column.saturating_sub(1))
-    };
+    let back = column.saturating_sub(1);
+    let first = at.saturating_sub(if back < QUOTED { back } else { 0 });
     let last = source.len().min(first.saturating_add(QUOTED));
     let mut next = first;
-    page.fill(QUOTE, &[], &[line])?;
+    page.fill(QUOTE, &[Number(line)])?;
     for place in first..last {
         if ends_at(source, place) {
             break;
@@ -297,19 +261,9 @@ fn put_quote(page: &mut Page, source: &[u8], at: usize) -> Added {
 
 /// Adds the name of the file, the sentence about the profile, and the end of the banner.
 fn put_judged(page: &mut Page, view: &View<'_>) -> Added {
-    let file = Part::Text(leaf(view.filing.source));
-    let profile = Part::Markup(profile_text(view.profile));
-    page.fill(
-        b"<p class=\"by\">Source text: <code>%0</code>. Judged by the %1.</p>\n</header>\n",
-        &[file, profile],
-        &[],
-    )
+    let profile = Markup(profile_text(view.profile));
+    page.fill(BY, &[Text(leaf(view.filing.source)), profile])
 }
-
-/// The most steps whose variables the strip shows at each end of a long walk.
-const SHOWN: usize = 12;
-/// A variable of the strip, with a link to the step that reaches it.
-const STOP: &[u8] = b"<li><a href=\"#s%1\">%0</a></li>";
 
 /// Adds the first and the last line of the refused walk, and its variables in order, each with a
 /// link to its step.
@@ -321,13 +275,12 @@ pub(crate) fn put_refused(page: &mut Page, view: &View<'_>) -> Added {
     }
     page.put(b"<nav aria-label=\"The steps of the refused flow\"><ol class=\"strip\">")?;
     if let Some(step) = view.walk.first() {
-        let name = Part::Name(view.facts, view.facts.number(step.source));
-        page.fill(STOP, &[name], &[1])?;
+        page.fill(STOP, &[Name(view.facts.of(step.source)), Number(1)])?;
     }
     for (place, step) in view.walk.iter().enumerate() {
         if place < SHOWN || view.walk.len().saturating_sub(place) <= SHOWN {
-            let name = Part::Name(view.facts, view.facts.number(step.target));
-            page.fill(STOP, &[name], &[place.saturating_add(1)])?;
+            let number = Number(place.saturating_add(1));
+            page.fill(STOP, &[Name(view.facts.of(step.target)), number])?;
         } else if place == SHOWN {
             page.put(b"<li>\xe2\x80\xa6</li>")?;
         }
@@ -341,16 +294,11 @@ fn put_bound(page: &mut Page, bound: Bound) -> Added {
     let Bound::Halts { least, most } = bound else {
         return page.put(b"<li>No bound on the number of instructions is known.</li>\n");
     };
+    let word = number_word(most as usize, b"instruction", b"instructions");
+    let parts = [Markup(word), Number(most as usize), Number(least as usize)];
     page.put(b"<li>Bound: from every store it halts, after ")?;
-    if least < most {
-        page.fill(b"%0 to ", &[], &[least as usize])?;
-    }
-    page.number(most as usize)?;
-    page.put(number_word(
-        most as usize,
-        b" instruction.</li>\n",
-        b" instructions.</li>\n",
-    ))
+    page.fill(either(least < most, b"%2 to %1 %0", b"%1 %0"), &parts)?;
+    page.put(b".</li>\n")
 }
 
 /// Adds the facts known of the runs of an accepted text's image: its bound and its steadiness.
@@ -386,13 +334,12 @@ fn fault_text(code: usize) -> &'static [u8] {
 
 /// Adds the banner of a text whose flows aren't judged, with the line of its fault.
 pub(crate) fn put_faulty(page: &mut Page, view: &View<'_>, error: &CompileError) -> Added {
-    let text = match refusal_diagnostic(view.source, error) {
-        Some(fault) => fault_text(fault.code),
-        None => b"",
-    };
-    page.fill(b"<p class=\"lead\">%0", &[Part::Markup(text)], &[])?;
+    page.put(b"<p class=\"lead\">")?;
+    if let Some(fault) = refusal_diagnostic(view.source, error) {
+        page.put(fault_text(fault.code))?;
+    }
     if let Some(at) = view.fault {
-        page.fill(b": see %0", &[Part::Place(view.source, at)], &[])?;
+        page.fill(b": see %0", &[Position(view.source, at)])?;
     }
     page.put(b". Its flows aren't judged.</p>\n")?;
     if let Some(at) = view.fault {

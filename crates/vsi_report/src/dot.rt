@@ -13,51 +13,37 @@ ghost use Rattle.vsi_report.specs.Graph as classes_spec;
 ghost use Rattle.vsi_report.specs.FlowsGraph as spec;
 
 use crate::order::{Order, name_of, order_of};
-use crate::page::{Added, Made};
+use crate::page::Part::{Bytes, Markup, Number};
+use crate::page::{Added, Made, fill};
 use std::alloc::{AllocError, Global};
 use vsi_flows::declarations;
 use vsi_infer::{declared_class, same_rule};
 use vsi_lattice::{Class, Classes, Lattice};
 use vsi_scope::{Resolved, Var};
-use vsi_syntax::put_number;
 use vsi_types::{LOOP, Profile, Rule, Step};
 
-/// Adds a text between two others.
-pub(crate) fn put_between(text: &mut Vec<u8>, before: &[u8], middle: &[u8], after: &[u8]) -> Added
-    ensures { OnOk result
-        (text.new.items ≡ text.old.items ++ (before.now ++ (middle.now ++ after.now))) }
-{
-    text.extend_from_slice(before)?;
-    text.extend_from_slice(middle)?;
-    text.extend_from_slice(after)
-}
-
-/// Adds the first lines of a graph.
-fn put_head(text: &mut Vec<u8>, name: &[u8]) -> Added
-    ensures { OnOk result (text.new.items ≡ text.old.items ++ classes_spec.head_lines name.now) }
-{
-    put_between(text, b"digraph ", name, b" {\n")?;
-    put_between(
-        text,
-        b"  rankdir=BT;\n  ranksep=0.35;\n",
-        b"  node [shape=box, style=rounded, penwidth=2];\n",
-        b"  edge [color=\"#57606a\", fontcolor=\"#57606a\", fontsize=11];\n",
-    )?;
-    Ok(())
-}
+/// A graph with a name and the lines of its body.
+const GRAPH: &[u8] = b"digraph %0 {\n  rankdir=BT;\n  ranksep=0.35;\n  \
+node [shape=box, style=rounded, penwidth=2];\n  \
+edge [color=\"#57606a\", fontcolor=\"#57606a\", fontsize=11];\n%1}\n";
+/// The node of a class.
+const CLASS: &[u8] = b"  \"%0\" [color=\"%1\", fontcolor=\"%1\"];\n";
+/// The line that keeps a class above another one.
+const ABOVE: &[u8] = b"  \"above.%0\" -> \"below.%1\" [minlen=0];\n";
+/// The line that keeps a node between the points of a class.
+const BETWEEN: &[u8] = b"  \"below.%0\" -> \"v.%1\" -> \"above.%0\";\n";
 
 /// The graph with a name and the lines of its body.
 pub(crate) fn graph_text(alloc: Global, name: &[u8], lines: &[u8]) -> Made<Vec<u8>>
     ensures { IfOk result (λ text. text.items ≡ classes_spec.graph name.now lines.now) }
 {
     let mut text = Vec::new(alloc);
-    put_head(&mut text, name)?;
-    put_between(&mut text, b"", lines, b"}\n")?;
+    fill(&mut text, GRAPH, &[Bytes(name), Bytes(lines)])?;
     Ok(text)
 }
 
 /// The colour of a class, that of the pages in light.
-fn colour(class: usize) -> &'static [u8]
+pub(crate) fn colour(class: usize) -> &'static [u8]
     ensures { result.now ≡ classes_spec.colour class }
 {
     match class % 8 {
@@ -72,24 +58,6 @@ fn colour(class: usize) -> &'static [u8]
     }
 }
 
-/// Adds the attributes that give a node the colour of a class.
-pub(crate) fn put_paint(text: &mut Vec<u8>, class: usize) -> Added
-    ensures { OnOk result (text.new.items ≡ text.old.items ++ classes_spec.paint class) }
-{
-    put_between(text, b"color=\"", colour(class), b"\", fontcolor=\"")?;
-    put_between(text, b"", colour(class), b"\"")
-}
-
-/// Adds the node of a class.
-fn put_class(text: &mut Vec<u8>, order: &Order, class: usize) -> Added
-    ensures { OnOk result (text.new.items ≡ text.old.items
-        ++ classes_spec.node_line (texts order.now.names.items) class) }
-{
-    put_between(text, b"  \"", name_of(order, class), b"\" [")?;
-    put_paint(text, class)?;
-    text.extend_from_slice(b"];\n")
-}
-
 /// Adds the nodes of the classes.
 fn put_classes(text: &mut Vec<u8>, order: &Order) -> Added
     ensures { OnOk result (text.new.items ≡ text.old.items
@@ -97,18 +65,10 @@ fn put_classes(text: &mut Vec<u8>, order: &Order) -> Added
         (count_from 0 (length (texts order.now.names.items)))) }
 {
     for class in 0..order.names.len() {
-        put_class(text, order, class)?;
+        let parts = [Bytes(name_of(order, class)), Markup(colour(class))];
+        fill(text, CLASS, &parts)?;
     }
     Ok(())
-}
-
-/// Adds the edge of a covering pair.
-fn put_cover(text: &mut Vec<u8>, order: &Order, pair: (usize, usize)) -> Added
-    ensures { OnOk result (text.new.items ≡ text.old.items
-        ++ classes_spec.edge_line (texts order.now.names.items) pair) }
-{
-    put_between(text, b"  \"", name_of(order, pair.0), b"\" -> \"")?;
-    put_between(text, b"", name_of(order, pair.1), b"\";\n")
 }
 
 /// Adds the edges of the covering pairs.
@@ -117,7 +77,8 @@ fn put_covering(text: &mut Vec<u8>, order: &Order) -> Added
         ++ flat_map (classes_spec.edge_line (texts order.now.names.items)) order.now.covers.items) }
 {
     for pair in &order.covers {
-        put_cover(text, order, *pair)?;
+        let parts = [Bytes(name_of(order, pair.0)), Bytes(name_of(order, pair.1))];
+        fill(text, b"  \"%0\" -> \"%1\";\n", &parts)?;
     }
     Ok(())
 }
@@ -157,17 +118,6 @@ pub(crate) struct Drawn<'a> {
     pub(crate) walk: &'a [Step],
 }
 
-/// The course of a flow from one class to another.
-#[derive(Clone, Copy)]
-pub(crate) enum Course {
-    /// The first class is at or below the second.
-    Upward,
-    /// It isn't.
-    Against,
-    /// One of them isn't known.
-    Unclear,
-}
-
 /// The variable with a number; the last number belongs to the ending of loops.
 pub(crate) fn variable_at(drawn: &Drawn<'_>, number: u16) -> Var
     ensures { result ≡ variable_at_of (spec.size (shown drawn.now)) number }
@@ -203,29 +153,23 @@ fn is_ordered(lattice: &Lattice, low: Class, high: Class) -> bool
     lattice.leq(low, high)
 }
 
-/// The course of a flow from one class to another.
-fn course_between(lattice: &Lattice, low: Option<Class>, high: Option<Class>) -> Course
-    ensures { result ≡ spec.course_between (order_of_lattice lattice.now) low high }
+/// Whether a flow from one class to another keeps the order, if both are known.
+fn keeps_order(lattice: &Lattice, low: Option<Class>, high: Option<Class>) -> Option<bool>
+    ensures { result ≡ spec.keeps_order (order_of_lattice lattice.now) low high }
 {
     match (low, high) {
-        (Some(low), Some(high)) => {
-            if is_ordered(lattice, low, high) {
-                Course::Upward
-            } else {
-                Course::Against
-            }
-        }
-        _ => Course::Unclear,
+        (Some(low), Some(high)) => Some(is_ordered(lattice, low, high)),
+        _ => None,
     }
 }
 
-/// The course of the flow from a number to another.
-pub(crate) fn flow_course(drawn: &Drawn<'_>, source: u16, target: u16) -> Course
-    ensures { result ≡ spec.flow_course (shown drawn.now) source target }
+/// Whether the flow from a number to another keeps the order, if the classes of both are known.
+pub(crate) fn is_upward(drawn: &Drawn<'_>, source: u16, target: u16) -> Option<bool>
+    ensures { result ≡ spec.is_upward (shown drawn.now) source target }
 {
     let low = class_shown(drawn, variable_at(drawn, source));
     let high = class_shown(drawn, variable_at(drawn, target));
-    course_between(drawn.lattice, low, high)
+    keeps_order(drawn.lattice, low, high)
 }
 
 /// Whether a step goes from a variable to another by a rule.
@@ -259,31 +203,19 @@ pub(crate) fn step_number(drawn: &Drawn<'_>, rule: Rule, source: u16, target: u1
     number_in(drawn.walk, rule, source, variable_at(drawn, target))
 }
 
-/// The attributes of an edge.
-pub(crate) fn edge_words(number: Option<usize>, course: Course) -> &'static [u8]
-    ensures { result.now ≡ spec.edge_words number course }
+/// The attributes of an edge, by the number of its step and by whether it keeps the order.
+pub(crate) fn edge_words(number: Option<usize>, is_upward: Option<bool>) -> &'static [u8]
+    ensures { result.now ≡ spec.edge_words number is_upward }
 {
-    match (number, course) {
-        (None, Course::Upward) => b"",
-        (None, Course::Against) => {
-            b", color=\"#b01e1e\", fontcolor=\"#b01e1e\", constraint=false"
-        }
-        (None, Course::Unclear) => b", constraint=false",
-        (Some(_), Course::Upward) => { b", color=\"#b01e1e\", fontcolor=\"#b01e1e\", penwidth=4" }
+    match (number, is_upward) {
+        (None, Some(true)) => b"",
+        (None, Some(false)) => { b", color=\"#b01e1e\", fontcolor=\"#b01e1e\", constraint=false" }
+        (None, None) => b", constraint=false",
+        (Some(_), Some(true)) => { b", color=\"#b01e1e\", fontcolor=\"#b01e1e\", penwidth=4" }
         (Some(_), _) => {
             b", color=\"#b01e1e\", fontcolor=\"#b01e1e\", penwidth=4, constraint=false"
         }
     }
-}
-
-/// Adds a number between two texts.
-pub(crate) fn put_numbered(text: &mut Vec<u8>, before: &[u8], number: usize, after: &[u8]) -> Added
-    ensures { OnOk result
-        (text.new.items ≡ text.old.items ++ spec.numbered before.now number after.now) }
-{
-    text.extend_from_slice(before)?;
-    put_number(text, number)?;
-    text.extend_from_slice(after)
 }
 
 /// The number of nodes; the ending of loops has one under the strict profile only.
@@ -297,94 +229,61 @@ pub(crate) fn nodes_shown(profile: Profile, last: u16) -> u16
     }
 }
 
-/// Adds the line of a class's two points.
-fn put_points(text: &mut Vec<u8>, class: usize) -> Added
-    ensures { OnOk result (text.new.items ≡ text.old.items ++ spec.points_line class) }
-{
-    put_numbered(text, b"  \"below.", class, b"\" -> ")?;
-    put_numbered(text, b"\"above.", class, b"\";\n")
-}
-
-/// Adds the lines of the points of all classes.
-fn put_all_points(text: &mut Vec<u8>, order: &Order) -> Added
+/// Adds the lines of the points of all classes, one below and one above the variables of each.
+fn put_points(text: &mut Vec<u8>, order: &Order) -> Added
     ensures { OnOk result (text.new.items ≡ text.old.items
         ++ flat_map spec.points_line (count_from 0 (length (texts order.now.names.items)))) }
 {
     for class in 0..order.names.len() {
-        put_points(text, class)?;
+        fill(text, b"  \"below.%0\" -> \"above.%0\";\n", &[Number(class)])?;
     }
     Ok(())
 }
 
-/// Adds the line that keeps a class above another one.
-fn put_above(text: &mut Vec<u8>, pair: (usize, usize)) -> Added
-    ensures { OnOk result (text.new.items ≡ text.old.items ++ spec.above_line pair) }
-{
-    put_numbered(text, b"  \"above.", pair.0, b"\" -> ")?;
-    put_numbered(text, b"\"below.", pair.1, b"\" [minlen=0];\n")?;
-    Ok(())
-}
-
 /// Adds the lines that keep each class above those that it covers.
-fn put_all_above(text: &mut Vec<u8>, order: &Order) -> Added
+fn put_above(text: &mut Vec<u8>, order: &Order) -> Added
     ensures { OnOk result (text.new.items ≡ text.old.items
         ++ flat_map spec.above_line order.now.covers.items) }
 {
     for pair in &order.covers {
-        put_above(text, *pair)?;
+        let parts = [Number(pair.0), Number(pair.1)];
+        fill(text, ABOVE, &parts)?;
     }
     Ok(())
 }
 
 /// Adds the line that keeps a numbered node between the points of a class.
-fn put_between_points(text: &mut Vec<u8>, class: Option<Class>, number: u16) -> Added
+fn put_between(text: &mut Vec<u8>, class: Option<Class>, number: u16) -> Added
     ensures { OnOk result (text.new.items ≡ text.old.items ++ spec.between_line class number) }
 {
     let Some(class) = class else {
         return Ok(());
     };
-    put_numbered(text, b"  \"below.", class.index(), b"\" -> ")?;
-    put_numbered(text, b"\"v.", number as usize, b"\" -> ")?;
-    put_numbered(text, b"\"above.", class.index(), b"\";\n")
-}
-
-/// Adds the line that keeps a numbered node above the lower classes and below the higher ones.
-fn put_kept(text: &mut Vec<u8>, drawn: &Drawn<'_>, number: u16) -> Added
-    ensures { OnOk result
-        (text.new.items ≡ text.old.items ++ spec.kept_line (shown drawn.now) number) }
-{
-    put_between_points(text, class_shown(drawn, variable_at(drawn, number)), number)
+    let parts = [Number(class.index()), Number(number as usize)];
+    fill(text, BETWEEN, &parts)
 }
 
 /// Adds the lines that keep the first nodes between the points of their classes.
-fn put_all_kept(text: &mut Vec<u8>, drawn: &Drawn<'_>, count: u16) -> Added
+fn put_kept(text: &mut Vec<u8>, drawn: &Drawn<'_>, count: u16) -> Added
     ensures { OnOk result (text.new.items ≡ text.old.items
-        ++ flat_map (spec.kept_line (shown drawn.now)) (count_from 0 count)) }
+        ++ spec.kept_lines (shown drawn.now) count) }
 {
     for number in 0..count {
-        put_kept(text, drawn, number)?;
+        put_between(text, class_shown(drawn, variable_at(drawn, number)), number)?;
     }
     Ok(())
 }
 
-/// Adds the lines that keep all nodes between the points of their classes.
-fn put_held(text: &mut Vec<u8>, profile: Profile, drawn: &Drawn<'_>) -> Added
+/// Adds the invisible lines that keep the first variables of higher classes above those of lower
+/// ones.
+pub(crate) fn put_frame(text: &mut Vec<u8>, drawn: &Drawn<'_>, count: u16) -> Added
     ensures { OnOk result (text.new.items ≡ text.old.items
-        ++ spec.held_lines profile (shown drawn.now)) }
-{
-    let count = nodes_shown(profile, declarations(drawn.program));
-    put_all_kept(text, drawn, count)
-}
-
-/// Adds the invisible lines that keep the variables of higher classes above those of lower ones.
-pub(crate) fn put_frame(text: &mut Vec<u8>, profile: Profile, drawn: &Drawn<'_>) -> Added
-    ensures { OnOk result (text.new.items ≡ text.old.items
-        ++ spec.frame_lines profile (shown drawn.now) drawn.now.order.now.covers.items) }
+        ++ spec.frame_lines (shown drawn.now) count drawn.now.order.now.covers.items) }
 {
     text.extend_from_slice(b"  {\n  node [shape=point, style=invis];\n  edge [style=invis];\n")?;
-    put_all_points(text, drawn.order)?;
-    put_all_above(text, drawn.order)?;
-    put_held(text, profile, drawn)?;
+    put_points(text, drawn.order)?;
+    put_above(text, drawn.order)?;
+    put_kept(text, drawn, count)?;
     text.extend_from_slice(b"  }\n")?;
     Ok(())
 }

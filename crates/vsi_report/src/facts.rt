@@ -75,34 +75,21 @@ pub(crate) fn has_flow(flows: &Flows, rule: Rule, source: usize, target: usize) 
     rows.has(source, target)
 }
 
-/// The classes of the letvars of an accepted program, or the steps of a refused walk.
-#[derive(Drop)]
-pub(crate) struct Judged {
-    pub(crate) chosen: Vec<Class>,
-    pub(crate) walk: Vec<Step>,
-}
-
-/// The classes of the letvars, or the walk for which the program is refused.
+/// The classes of the letvars of a program, or the steps of the walk for which it is refused.
 pub(crate) fn judged_classes(
     alloc: Global,
     profile: Profile,
     lattice: &Lattice,
     program: &Resolved<'_>,
-) -> Made<Judged>
+) -> Made<(Vec<Class>, Vec<Step>)>
     requires globals { All (IsClass (order_of lattice.now)) (program_of program.now).globals }
     requires declared { AreClasses (order_of lattice.now) (program_of program.now).declared }
     ensures { IfOk result (λ judged. AreShown (order_of lattice.now) profile
-        (program_of program.now) judged.chosen.items judged.walk.items) }
+        (program_of program.now) judged.0.items judged.1.items) }
 {
     match infer_in(alloc, profile, lattice, program) {
-        Ok(chosen) => Ok(Judged {
-            chosen,
-            walk: Vec::new(alloc),
-        }),
-        Err(InferError::Refused(walk)) => Ok(Judged {
-            chosen: Vec::new(alloc),
-            walk: walk.steps,
-        }),
+        Ok(chosen) => Ok((chosen, Vec::new(alloc))),
+        Err(InferError::Refused(walk)) => Ok((Vec::new(alloc), walk.steps)),
         Err(InferError::Memory) => Err(AllocError),
     }
 }
@@ -213,92 +200,66 @@ pub(crate) const MOST_DRAWN: usize = 200;
 /// The most variables of a program whose flows are drawn on a page.
 pub(crate) const MOST_BOXES: usize = 40;
 
-/// A variable: its name, its label in the panel, its class, and whether the text declares that.
-#[derive(Drop)]
-pub(crate) struct Variable {
-    pub(crate) name: Vec<u8>,
-    pub(crate) label: Vec<u8>,
+/// A variable: its name, its class with the name of that, and whether the text declares the class.
+#[derive(Clone, Copy)]
+pub(crate) struct Variable<'a> {
+    pub(crate) name: &'a [u8],
     pub(crate) class: usize,
+    pub(crate) class_name: &'a [u8],
     pub(crate) is_declared: bool,
 }
 
 /// The variables of a program by their numbers, with the ending of loops last; the positions of
 /// their names; the flows of one step, unless there are too many variables; and the table of flows.
 #[derive(Drop)]
-pub(crate) struct Facts {
-    pub(crate) variables: Vec<Variable>,
+pub(crate) struct Facts<'a> {
+    pub(crate) variables: Vec<Variable<'a>>,
     pub(crate) mentions: Vec<Mention>,
     pub(crate) flows: Option<Flows>,
     pub(crate) pairs: Vec<Pair>,
 }
 
-/// A variable; its label is the name of its class, with a star if the text doesn't declare that.
-fn variable_of(
-    alloc: Global,
-    order: &Order,
-    name: &[u8],
-    class: Class,
-    is_declared: bool,
-) -> Made<Variable> {
-    let mut label = name_of(order, class.index()).to_vec(alloc)?;
-    label.extend_from_slice(if is_declared { b"" } else { b"*" })?;
-    Ok(Variable {
-        name: name.to_vec(alloc)?,
-        label,
+/// A variable with a name and a class.
+fn variable_of<'a>(order: &'a Order, name: &'a [u8], class: Class, declared: bool) -> Variable<'a> {
+    Variable {
+        name,
         class: class.index(),
-        is_declared,
-    })
+        class_name: name_of(order, class.index()),
+        is_declared: declared,
+    }
 }
 
 /// The variables of a program, with their declared or inferred classes, the ending of loops last.
-fn variables_of(
+fn variables_of<'a>(
     alloc: Global,
-    order: &Order,
-    program: &Resolved<'_>,
+    order: &'a Order,
+    program: &Resolved<'a>,
     inferred: &[Class],
     bottom: Class,
-) -> Made<Vec<Variable>> {
+) -> Made<Vec<Variable<'a>>> {
     let mut variables = Vec::new(alloc);
     for global in program.globals() {
-        variables.push(variable_of(alloc, order, global.name, global.class, true)?)?;
+        variables.push(variable_of(order, global.name, global.class, true))?;
     }
     for (number, entry) in program.letvars().iter().enumerate() {
         let least = inferred.get(number).copied().unwrap_or(bottom);
         let class = entry.class.unwrap_or(least);
-        variables.push(variable_of(alloc, order, entry.name, class, entry.class.is_some())?)?;
+        variables.push(variable_of(order, entry.name, class, entry.class.is_some()))?;
     }
-    variables.push(variable_of(alloc, order, b"(loop)", bottom, true)?)?;
+    variables.push(variable_of(order, b"(loop)", bottom, true))?;
     Ok(variables)
 }
 
-/// The table of flows.
-fn pairs_of(
-    alloc: Global,
-    profile: Profile,
-    lattice: &Lattice,
-    program: &Resolved<'_>,
-) -> Made<Vec<Pair>>
-    requires globals { All (IsClass (order_of lattice.now)) (program_of program.now).globals }
-    requires declared { AreClasses (order_of lattice.now) (program_of program.now).declared }
-    ensures { IfOk result (λ pairs.
-        IsTable (order_of lattice.now) profile (program_of program.now) pairs.items) }
-{
-    match flows_in(alloc, profile, lattice, program) {
-        Ok(pairs) => Ok(pairs),
-        Err(FlowsError::Memory) => Err(AllocError),
-    }
-}
-
 /// The facts of a program, with these classes of its letvars, and these names in its text.
-pub(crate) fn facts_of(
+pub(crate) fn facts_of<'a>(
     alloc: Global,
     profile: Profile,
     lattice: &Lattice,
-    order: &Order,
-    program: &Resolved<'_>,
+    order: &'a Order,
+    program: &Resolved<'a>,
     chosen: &[Class],
     mentions: Vec<Mention>,
-) -> Made<Facts>
+) -> Made<Facts<'a>>
     requires globals { All (IsClass (order_of lattice.now)) (program_of program.now).globals }
     requires declared { AreClasses (order_of lattice.now) (program_of program.now).declared }
     ensures { IfOk result (λ facts.
@@ -309,59 +270,49 @@ pub(crate) fn facts_of(
     if variables.len() <= MOST_BOXES + 1 {
         flows = Some(flows_of(alloc, profile, program)?);
     }
-    let pairs = pairs_of(alloc, profile, lattice, program)?;
-    Ok(Facts {
-        variables,
-        mentions,
-        flows,
-        pairs,
-    })
+    match flows_in(alloc, profile, lattice, program) {
+        Ok(pairs) => Ok(Facts {
+            variables,
+            mentions,
+            flows,
+            pairs,
+        }),
+        Err(FlowsError::Memory) => Err(AllocError),
+    }
 }
 
-impl Facts {
+/// The facts of a text whose flows aren't judged.
+pub(crate) fn no_facts(alloc: Global) -> Facts<'static> {
+    Facts {
+        variables: Vec::new(alloc),
+        mentions: Vec::new(alloc),
+        flows: None,
+        pairs: Vec::new(alloc),
+    }
+}
+
+/// The variable with a number past the last one.
+const NO_VARIABLE: Variable<'static> = Variable {
+    name: b"",
+    class: 0,
+    class_name: b"",
+    is_declared: true,
+};
+
+impl<'a> Facts<'a> {
     /// The number of a variable; the ending of loops has the last number.
     pub(crate) fn number(&self, variable: Var) -> usize {
         (variable.0 as usize).min(self.variables.len().saturating_sub(1))
     }
 
-    /// The name of a variable.
-    pub(crate) fn name(&self, number: usize) -> &[u8] {
-        match self.variables.get(number) {
-            Some(variable) => variable.name.as_slice(),
-            None => b"",
-        }
+    /// The variable with a number.
+    pub(crate) fn variable(&self, number: usize) -> Variable<'a> {
+        self.variables.get(number).copied().unwrap_or(NO_VARIABLE)
     }
 
-    /// The label of a variable in the panel of the source text.
-    pub(crate) fn label(&self, number: usize) -> &[u8] {
-        match self.variables.get(number) {
-            Some(variable) => variable.label.as_slice(),
-            None => b"",
-        }
-    }
-
-    /// The class of a variable.
-    pub(crate) fn class(&self, number: usize) -> usize {
-        match self.variables.get(number) {
-            Some(variable) => variable.class,
-            None => 0,
-        }
-    }
-
-    /// Whether the class of a variable was inferred.
-    pub(crate) fn is_inferred(&self, number: usize) -> bool {
-        match self.variables.get(number) {
-            Some(variable) => !variable.is_declared,
-            None => false,
-        }
-    }
-
-    /// Whether a variable flows to another by a rule in one step.
-    pub(crate) fn flows_between(&self, source: usize, target: usize, rule: Rule) -> bool {
-        match &self.flows {
-            Some(flows) => target <= MOST_BOXES && has_flow(flows, rule, source, target),
-            None => false,
-        }
+    /// A variable with its class.
+    pub(crate) fn of(&self, variable: Var) -> Variable<'a> {
+        self.variable(self.number(variable))
     }
 }
 

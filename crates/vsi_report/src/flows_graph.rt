@@ -15,45 +15,32 @@ ghost use Rattle.vsi_compiler.specs.Refusal.{RefusesProgram};
 ghost use Rattle.vsi_report.specs.ByRule.{flows_in_rows};
 ghost use Rattle.vsi_report.specs.Drawn.{shown};
 ghost use Rattle.vsi_report.specs.FlowsGraph as spec;
+ghost use Rattle.vsi_report.specs.Graph.{texts};
 
 use crate::dot::{
-    Drawn, class_shown, edge_words, flow_course, graph_text, lattice_lines, nodes_shown,
-    put_between, put_frame, put_numbered, put_paint, step_number, variable_at,
+    Drawn, class_shown, colour, edge_words, graph_text, is_upward, lattice_lines, nodes_shown,
+    put_frame, step_number, variable_at,
 };
 use crate::facts::{Flows, MOST_DRAWN, flows_of, has_flow, judged_classes};
-use crate::order::{name_of, order_of};
-use crate::page::{Added, Made};
+use crate::order::{Order, name_of, order_of};
+use crate::page::Part::{Bytes, Number, Prefix};
+use crate::page::{Added, Made, fill};
 use std::alloc::Global;
 use vsi_compiler::{CompileError, resolved_program};
 use vsi_flows::declarations;
 use vsi_infer::{declared_class, rule_text, variable_name};
 use vsi_lattice::{Class, Lattice};
-use vsi_scope::{Resolved, Var};
+use vsi_scope::Resolved;
 use vsi_types::{Profile, Rule};
 
-/// Adds a class after a name.
-fn put_class(text: &mut Vec<u8>, drawn: &Drawn<'_>, class: Option<Class>) -> Added
-    ensures { OnOk result (text.new.items ≡ text.old.items
-        ++ spec.class_words (shown drawn.now).names class) }
-{
-    match class {
-        Some(class) => put_between(text, b" : ", name_of(drawn.order, class.index()), b""),
-        None => Ok(()),
-    }
-}
-
-/// Adds the attributes of a node whose variable has this class.
-fn put_colour(text: &mut Vec<u8>, class: Option<Class>) -> Added
-    ensures { OnOk result (text.new.items ≡ text.old.items ++ spec.paint_words class) }
-{
-    match class {
-        Some(class) => {
-            text.extend_from_slice(b", ")?;
-            put_paint(text, class.index())
-        }
-        None => Ok(()),
-    }
-}
+/// The node of a variable with a class.
+const NODE: &[u8] = b"  \"v.%0\" [label=\"%1 : %3\", color=\"%4\", fontcolor=\"%4\"%2];\n";
+/// An edge.
+const EDGE: &[u8] = b"  \"v.%0\" -> \"v.%1\" [label=\"  %2%3\", style=%4%5];\n";
+/// The lines of a lattice and those of a text's flows, each in a box of their own.
+const BOXES: &[u8] = b"subgraph cluster_lattice {\n  label=\"lattice\";\n  labelloc=b;\n  \
+color=\"#d3dae1\";\n%0}\nsubgraph cluster_flows {\n  label=\"flows\";\n  labelloc=b;\n  \
+color=\"#d3dae1\";\n%1}\n";
 
 /// The attribute of a node whose variable has this declared class.
 fn box_words(declared: Option<Class>) -> &'static [u8]
@@ -65,38 +52,45 @@ fn box_words(declared: Option<Class>) -> &'static [u8]
     }
 }
 
-/// Adds the label of a variable: its name and, if it has one, its class.
-fn put_label(text: &mut Vec<u8>, drawn: &Drawn<'_>, variable: Var) -> Added
-    ensures { OnOk result
-        (text.new.items ≡ text.old.items ++ spec.label (shown drawn.now) variable) }
+/// Adds the node of a variable with this number, name, attribute of its box and class.
+fn put_node<'x>(
+    text: &mut Vec<u8>,
+    order: &'x Order,
+    number: u16,
+    name: &'x [u8],
+    dashes: &'x [u8],
+    class: Option<Class>,
+) -> Added
+    ensures { OnOk result (text.new.items ≡ text.old.items
+        ++ spec.node_line (texts order.now.names.items) number name.now dashes.now class) }
 {
-    text.extend_from_slice(variable_name(drawn.program, variable))?;
-    put_class(text, drawn, class_shown(drawn, variable))
+    let Some(class) = class else {
+        let parts = [Number(number as usize), Bytes(name), Bytes(dashes)];
+        return fill(text, b"  \"v.%0\" [label=\"%1\"%2];\n", &parts);
+    };
+    let parts = [
+        Number(number as usize),
+        Bytes(name),
+        Bytes(dashes),
+        Bytes(name_of(order, class.index())),
+        Bytes(colour(class.index())),
+    ];
+    fill(text, NODE, &parts)
 }
 
-/// Adds the attributes of the node of a variable after its label.
-fn put_attributes(text: &mut Vec<u8>, drawn: &Drawn<'_>, variable: Var) -> Added
-    ensures { OnOk result
-        (text.new.items ≡ text.old.items ++ spec.attributes (shown drawn.now) variable) }
-{
-    put_colour(text, class_shown(drawn, variable))?;
-    text.extend_from_slice(box_words(declared_class(drawn.lattice, drawn.program, variable)))
-}
-
-/// Adds the line of a numbered node.
+/// Adds the node of the variable with a number.
 fn put_variable(text: &mut Vec<u8>, drawn: &Drawn<'_>, number: u16) -> Added
     ensures { OnOk result
         (text.new.items ≡ text.old.items ++ spec.variable_line (shown drawn.now) number) }
 {
     let variable = variable_at(drawn, number);
-    put_numbered(text, b"  \"v.", number as usize, b"\" [label=\"")?;
-    put_label(text, drawn, variable)?;
-    text.extend_from_slice(b"\"")?;
-    put_attributes(text, drawn, variable)?;
-    text.extend_from_slice(b"];\n")
+    let name = variable_name(drawn.program, variable);
+    let dashes = box_words(declared_class(drawn.lattice, drawn.program, variable));
+    let class = class_shown(drawn, variable);
+    put_node(text, drawn.order, number, name, dashes, class)
 }
 
-/// Adds the first nodes.
+/// Adds the nodes of the first variables.
 fn put_variables(text: &mut Vec<u8>, drawn: &Drawn<'_>, count: u16) -> Added
     ensures { OnOk result (text.new.items ≡ text.old.items
         ++ flat_map (spec.variable_line (shown drawn.now)) (count_from 0 count)) }
@@ -120,36 +114,21 @@ fn style(rule: Rule) -> &'static [u8]
     }
 }
 
-/// Adds the beginning of a label: blanks and, for a step of the refused walk, its number.
-fn put_step_number(text: &mut Vec<u8>, number: Option<usize>) -> Added
-    ensures { OnOk result (text.new.items ≡ text.old.items ++ spec.number_words number) }
-{
-    match number {
-        Some(number) => put_numbered(text, b"  ", number, b" "),
-        None => text.extend_from_slice(b"  "),
-    }
-}
-
-/// Adds the attributes of an edge.
-fn put_looks(text: &mut Vec<u8>, drawn: &Drawn<'_>, source: u16, target: u16, rule: Rule) -> Added
-    ensures { OnOk result (text.new.items ≡ text.old.items
-        ++ spec.looks (shown drawn.now) source target rule) }
-{
-    let number = step_number(drawn, rule, source, target);
-    put_step_number(text, number)?;
-    put_between(text, rule_text(rule), b"\", style=", style(rule))?;
-    text.extend_from_slice(edge_words(number, flow_course(drawn, source, target)))
-}
-
 /// Adds an edge.
 fn put_edge(text: &mut Vec<u8>, drawn: &Drawn<'_>, source: u16, target: u16, rule: Rule) -> Added
     ensures { OnOk result (text.new.items ≡ text.old.items
         ++ spec.flow_line (shown drawn.now) source target rule) }
 {
-    put_numbered(text, b"  \"v.", source as usize, b"\" -> ")?;
-    put_numbered(text, b"\"v.", target as usize, b"\" [label=\"")?;
-    put_looks(text, drawn, source, target, rule)?;
-    text.extend_from_slice(b"];\n")
+    let number = step_number(drawn, rule, source, target);
+    let parts = [
+        Number(source as usize),
+        Number(target as usize),
+        Prefix(number),
+        Bytes(rule_text(rule)),
+        Bytes(style(rule)),
+        Bytes(edge_words(number, is_upward(drawn, source, target))),
+    ];
+    fill(text, EDGE, &parts)
 }
 
 /// Adds the edge from a variable to another by a rule, if there is such a flow.
@@ -249,7 +228,7 @@ fn drawn_lines(alloc: Global, profile: Profile, drawn: &Drawn<'_>) -> Made<Vec<u
     let count = nodes_shown(profile, last);
     let mut lines = Vec::new(alloc);
     put_variables(&mut lines, drawn, count)?;
-    put_frame(&mut lines, profile, drawn)?;
+    put_frame(&mut lines, drawn, count)?;
     put_flows(alloc, &mut lines, profile, drawn, last)?;
     Ok(lines)
 }
@@ -275,8 +254,8 @@ fn program_lines(
         lattice,
         order: &order,
         program,
-        chosen: &judged.chosen,
-        walk: &judged.walk,
+        chosen: &judged.0,
+        walk: &judged.1,
     };
     drawn_lines(alloc, profile, &drawn)
 }
@@ -323,28 +302,12 @@ pub fn flows_dot(
     Ok(graph_text(alloc, b"flows", &lines)?)
 }
 
-/// Adds a part of a graph, drawn in a box of its own under its name.
-fn put_cluster(text: &mut Vec<u8>, name: &[u8], lines: &[u8]) -> Added
-    ensures { OnOk result (text.new.items ≡ text.old.items ++ spec.cluster name.now lines.now) }
-{
-    put_between(text, b"subgraph cluster_", name, b" {\n")?;
-    put_between(
-        text,
-        b"  label=\"",
-        name,
-        b"\";\n  labelloc=b;\n  color=\"#d3dae1\";\n",
-    )?;
-    put_between(text, b"", lines, b"}\n")?;
-    Ok(())
-}
-
 /// The graph of a lattice's lines and those of a text's flows.
 fn joined(alloc: Global, classes: &[u8], flows: &[u8]) -> Made<Vec<u8>>
     ensures { IfOk result (λ text. text.items ≡ spec.joined classes.now flows.now) }
 {
     let mut both = Vec::new(alloc);
-    put_cluster(&mut both, b"lattice", classes)?;
-    put_cluster(&mut both, b"flows", flows)?;
+    fill(&mut both, BOXES, &[Bytes(classes), Bytes(flows)])?;
     graph_text(alloc, b"policy", &both)
 }
 

@@ -7,9 +7,9 @@ ghost use Rattle.vsi_lattice.specs.Order.{IsClass};
 ghost use Rattle.vsi_leak.specs.Leaks.{IsFinding, IsLeak};
 
 use crate::order::is_below;
-use crate::page::{Added, Made, Page, Part};
+use crate::page::Part::{Block, Markup, Number, Text, Word};
+use crate::page::{Added, Made, Page};
 use crate::report::View;
-use std::alloc::Global;
 use vsi_compiler::{Source, image_of};
 use vsi_image::{Image, Verified};
 use vsi_lattice::{Class, Classes, Lattice};
@@ -17,10 +17,42 @@ use vsi_leak::{Effort, Finding, Leak, Sign, check_leak, classes_upwards, find_le
 use vsi_store::RunEnding;
 use vsi_types::Profile;
 
+/// The signs of a leak: words, and the ending of a run, which is one under the strict profile only.
+const SIGNS: [Sign; 2] = [Sign::Words, Sign::Endings];
+/// The most instructions of a run in the search for a leak.
+const BUDGET: u64 = 10_000;
+/// The number of pairs of stores that are drawn for all classes together: for one at most half of
+/// them, and at least 8.
+const TRIES: u64 = 600;
+/// The most variables of a table that shows all of them.
+const MOST_ROWS: usize = 12;
+/// The row of a variable: its name, its values in both runs, and whether these differ.
+const ROW: &[u8] = b"<tr%4><th scope=\"row\">%0</th><td>%1</td><td>%2</td><td>%3</td></tr>\n";
+/// The variables with equal values, which open on request.
+const ALIKE: &[u8] = b"<details class=\"spare\"><summary>The other variables have equal values\
+</summary>\n<p>%0</p></details>\n";
+/// The beginning of a table of two stores, with its caption.
+const STORES: &[u8] = b"<table class=\"runs\"><caption>%0\
+</caption>\n<thead><tr><th scope=\"col\">Variable</th><th scope=\"col\">First run</th>\
+<th scope=\"col\">Second run</th><th scope=\"col\">Differs</th></tr></thead>\n<tbody>\n";
+/// The numbers of instructions of two runs that halt.
+const TAKES: &[u8] = b"<p>The first run takes %0 instructions, the second %1.</p>\n";
+/// The section for pairs of runs that show no leak.
+const NO_LEAK: &[u8] = b"<section aria-labelledby=\"leak\"><h2 id=\"leak\">No leak was found</h2>\n\
+<p>In %0 pairs of runs from stores that agree on everything that a class sees, no final stores \
+differed in something that it sees. This says nothing about other pairs: the text is judged, not a \
+run, and a text that reveals nothing may be refused.</p></section>\n";
+/// The beginning of the section of a leak.
+const LEAK: &[u8] = b"<section aria-labelledby=\"leak\"><h2 id=\"leak\">A leak</h2>\n\
+<p>Two runs of the text, from stores that agree on everything that an observer at %0 sees, and \
+that the observer can tell apart.</p>\n";
+/// The text of a leak, which opens on request.
+const TEXT: &[u8] = b"<details><summary>What the observer sees, as <code>vsi leak</code> prints \
+it</summary>\n<pre class=\"leak\"><code>%0</code></pre></details>\n</section>\n";
+
 /// A search: the lattice, the image, the first variable of the refused flow, and the signs.
 #[derive(Clone, Copy)]
 struct Search<'a> {
-    alloc: Global,
     view: &'a View<'a>,
     lattice: &'a Lattice,
     verified: &'a Verified,
@@ -36,9 +68,9 @@ fn leak_of_source(search: &Search<'_>, sign: Sign, class: Class) -> Made<Option<
         (order search.now.lattice.now) search.now.verified.now search.now.effort.budget)) }
 {
     let count = search.verified.image().globals.len();
-    let mut first = Vec::new(search.alloc);
+    let mut first = Vec::new(search.view.alloc);
     first.resize(count, 0)?;
-    let mut second = first.to_vec(search.alloc)?;
+    let mut second = first.to_vec(search.view.alloc)?;
     match second.get_mut(search.source) {
         Some(word) => *word = 1,
         None => return Ok(None),
@@ -46,7 +78,15 @@ fn leak_of_source(search: &Search<'_>, sign: Sign, class: Class) -> Made<Option<
     let stores = (first.as_slice(), second.as_slice());
     let (lattice, verified) = (search.lattice, search.verified);
     let budget = search.effort.budget;
-    check_leak(search.alloc, lattice, verified, sign, class, stores, budget)
+    check_leak(
+        search.view.alloc,
+        lattice,
+        verified,
+        sign,
+        class,
+        stores,
+        budget,
+    )
 }
 
 /// The first leak by a sign at a class. The first variable of the refused flow is changed first.
@@ -58,8 +98,8 @@ fn found_at(search: &Search<'_>, sign: Sign, class: Class) -> Made<Finding>
     if let Some(leak) = leak_of_source(search, sign, class)? {
         return Ok(Finding::Leak(leak));
     }
-    let (lattice, verified) = (search.lattice, search.verified);
-    find_leak(search.alloc, lattice, verified, sign, class, search.effort)
+    let (alloc, lattice, verified) = (search.view.alloc, search.lattice, search.verified);
+    find_leak(alloc, lattice, verified, sign, class, search.effort)
 }
 
 /// The first leak at one of the classes, by the first sign that shows one.
@@ -81,20 +121,6 @@ fn found_in(search: &Search<'_>, classes: &[Class]) -> Made<Finding>
     Ok(Finding::Nothing { pairs: done })
 }
 
-/// The signs of a leak: words, and the ending of a run, which is one under the strict profile only.
-const SIGNS: [Sign; 2] = [Sign::Words, Sign::Endings];
-/// The most instructions of a run in the search for a leak.
-const BUDGET: u64 = 10_000;
-/// The number of pairs of stores that are drawn for all classes together: for one at most half of
-/// them, and at least 8.
-const TRIES: u64 = 600;
-
-/// The section for pairs of runs that show no leak.
-const NO_LEAK: &[u8] = b"<section aria-labelledby=\"leak\"><h2 id=\"leak\">No leak was found</h2>\n\
-<p>In %0 pairs of runs from stores that agree on everything that a class sees, no final stores \
-differed in something that it sees. This says nothing about other pairs: the text is judged, not a \
-run, and a text that reveals nothing may be refused.</p></section>\n";
-
 /// Adds a leak, at the class where the refused flow ends if there is one, or that none was found.
 fn put_search(page: &mut Page, search: &Search<'_>, class: usize) -> Added {
     let mut done: u64 = 0;
@@ -104,11 +130,11 @@ fn put_search(page: &mut Page, search: &Search<'_>, class: usize) -> Added {
             Finding::Nothing { pairs } => done = pairs,
         }
     }
-    let classes = classes_upwards(search.alloc, search.lattice)?;
+    let classes = classes_upwards(search.view.alloc, search.lattice)?;
     match found_in(search, &classes)? {
         Finding::Leak(leak) => put_shown(page, search, &leak),
         Finding::Nothing { pairs } => {
-            page.fill(NO_LEAK, &[], &[done.saturating_add(pairs) as usize])
+            page.fill(NO_LEAK, &[Number(done.saturating_add(pairs) as usize)])
         }
     }
 }
@@ -122,15 +148,13 @@ pub(crate) fn put_leak(page: &mut Page, view: &View<'_>, read: &Source<'_>) -> A
     let lattice = read.lattice();
     let count = lattice.count().max(1) as u64;
     let search = Search {
-        alloc: view.alloc,
         view,
         lattice,
         verified: &verified,
         source: first.source.0 as usize,
-        signs: if view.profile == Profile::Strict {
-            &SIGNS
-        } else {
-            &SIGNS[..1]
+        signs: match view.profile {
+            Profile::Base => &SIGNS[..1],
+            Profile::Strict => &SIGNS,
         },
         effort: Effort {
             budget: BUDGET,
@@ -138,12 +162,8 @@ pub(crate) fn put_leak(page: &mut Page, view: &View<'_>, read: &Source<'_>) -> A
             seed: 0,
         },
     };
-    let class = view.facts.class(view.facts.number(last.target));
-    put_search(page, &search, class)
+    put_search(page, &search, view.facts.of(last.target).class)
 }
-
-/// The most variables of a table that shows all of them.
-const MOST_ROWS: usize = 12;
 
 /// Two stores of an image, with the caption of their table and the class of an observer.
 #[derive(Clone, Copy)]
@@ -156,113 +176,72 @@ struct Stores<'a> {
     second: &'a [i64],
 }
 
-impl Stores<'_> {
-    /// The words of both stores at an index.
-    fn words(self, index: usize) -> (i64, i64) {
-        let first = self.first.get(index).copied().unwrap_or(0);
-        (first, self.second.get(index).copied().unwrap_or(0))
-    }
-}
-
-/// The row of a variable: its name, its values in both runs, and whether these differ.
-const ROW: &[u8] = b"<tr%4><th scope=\"row\">%0</th><td>%1</td><td>%2</td><td>%3</td></tr>\n";
-
-/// The variables with equal values, which open on request.
-const ALIKE: &[u8] = b"<details class=\"spare\"><summary>The other variables have equal values\
-</summary>\n<p>%0</p></details>\n";
-
-/// The beginning of a table of two stores, with its caption.
-const STORES: &[u8] = b"<table class=\"runs\"><caption>%0\
-</caption>\n<thead><tr><th scope=\"col\">Variable</th><th scope=\"col\">First run</th>\
-<th scope=\"col\">Second run</th><th scope=\"col\">Differs</th></tr></thead>\n<tbody>\n";
-
-/// Adds the row of a variable.
-fn put_row(page: &mut Page, stores: Stores<'_>, index: usize, name: &[u8]) -> Added {
-    let view = stores.view;
-    let (one, other) = stores.words(index);
-    let (tint, difference): (&[u8], &[u8]) = if one == other {
-        (b"", b"")
-    } else if is_below(view.order, view.facts.class(index), stores.class) {
-        (b" class=\"apart\"", b"differs")
-    } else {
-        (b"", b"differs, not seen")
-    };
-    let (name, first, second) = (Part::Text(name), Part::Word(one), Part::Word(other));
-    let parts = [
-        name,
-        first,
-        second,
-        Part::Markup(difference),
-        Part::Markup(tint),
-    ];
-    page.fill(ROW, &parts, &[])
-}
-
 /// Adds the table of two stores; if there are many variables, those with equal values are below it.
 fn put_stores(page: &mut Page, stores: Stores<'_>) -> Added {
-    let mut alike = Page::new(stores.view.alloc);
-    page.fill(STORES, &[Part::Markup(stores.caption)], &[])?;
+    let view = stores.view;
+    let mut alike = Page::new(view.alloc);
+    page.fill(STORES, &[Markup(stores.caption)])?;
     for (index, global) in stores.image.globals.iter().enumerate() {
-        let (one, other) = stores.words(index);
+        let one = stores.first.get(index).copied().unwrap_or(0);
+        let other = stores.second.get(index).copied().unwrap_or(0);
+        let name = Text(&global.0);
         if one == other && stores.image.globals.len() > MOST_ROWS {
-            alike.fill(b"%0 = %1 ", &[Part::Text(&global.0), Part::Word(one)], &[])?;
-        } else {
-            put_row(page, stores, index, &global.0)?;
+            alike.fill(b"%0 = %1 ", &[name, Word(one)])?;
+            continue;
         }
+        let is_seen = is_below(view.order, view.facts.variable(index).class, stores.class);
+        let (tint, difference): (&[u8], &[u8]) = if one == other {
+            (b"", b"")
+        } else if is_seen {
+            (b" class=\"apart\"", b"differs")
+        } else {
+            (b"", b"differs, not seen")
+        };
+        let (tint, difference) = (Markup(tint), Markup(difference));
+        page.fill(ROW, &[name, Word(one), Word(other), difference, tint])?;
     }
     page.put(b"</tbody></table>\n")?;
     if alike.text.is_empty() {
         return Ok(());
     }
-    page.fill(ALIKE, &[Part::Page(&alike)], &[])
+    page.fill(ALIKE, &[Block(&alike)])
 }
-
-/// The numbers of instructions of two runs that halt.
-const TAKES: &[u8] = b"<p>The first run takes %0 instructions, the second %1.</p>\n";
 
 /// Adds the table of the final stores and the numbers of instructions, if both runs halt.
 fn put_endings<'a>(page: &mut Page, before: Stores<'a>, leak: &'a Leak) -> Added {
     let (one, other) = (&leak.first.ending, &leak.second.ending);
-    if let (RunEnding::OutOfBudget, RunEnding::OutOfBudget) = (one, other) {
-        return page.put(b"<p>Both runs are out of budget.</p>\n");
-    }
-    if let RunEnding::Halted {
-        instructions: count,
-        words: first,
-    } = one
-    {
-        if let RunEnding::Halted {
-            instructions: more,
-            words: second,
-        } = other
-        {
+    match (one, other) {
+        (
+            RunEnding::Halted {
+                instructions: count,
+                words: first,
+            },
+            RunEnding::Halted {
+                instructions: more,
+                words: second,
+            },
+        ) => {
             let mut stores = before;
             stores.caption = b"After the runs";
             stores.first = first;
             stores.second = second;
             put_stores(page, stores)?;
-            return page.fill(TAKES, &[], &[*count as usize, *more as usize]);
+            page.fill(TAKES, &[Number(*count as usize), Number(*more as usize)])
         }
+        (RunEnding::OutOfBudget, RunEnding::OutOfBudget) => {
+            page.put(b"<p>Both runs are out of budget.</p>\n")
+        }
+        _ => page.put(b"<p>One of the runs halts, and the other is out of budget.</p>\n"),
     }
-    page.put(b"<p>One of the runs halts, and the other is out of budget.</p>\n")
 }
-
-/// The beginning of the section of a leak.
-const LEAK: &[u8] = b"<section aria-labelledby=\"leak\"><h2 id=\"leak\">A leak</h2>\n\
-<p>Two runs of the text, from stores that agree on everything that an observer at %0 sees, and \
-that the observer can tell apart.</p>\n";
-
-/// The text of a leak, which opens on request.
-const TEXT: &[u8] = b"<details><summary>What the observer sees, as <code>vsi leak</code> prints \
-it</summary>\n<pre class=\"leak\"><code>%0</code></pre></details>\n</section>\n";
 
 /// Adds a leak: its class, its stores, its endings, and the text of `vsi leak`.
 fn put_shown(page: &mut Page, search: &Search<'_>, leak: &Leak) -> Added
     requires { IsClass (order search.now.lattice.now) leak.now.class }
 {
     let image = search.verified.image();
-    let text = leak_text(search.alloc, search.lattice, image, leak)?;
-    page.fill(LEAK, &[Part::Text(search.lattice.name(leak.class))], &[])?;
+    let text = leak_text(search.view.alloc, search.lattice, image, leak)?;
+    page.fill(LEAK, &[Text(search.lattice.name(leak.class))])?;
     let stores = Stores {
         caption: b"Before the runs",
         view: search.view,
@@ -273,5 +252,5 @@ fn put_shown(page: &mut Page, search: &Search<'_>, leak: &Leak) -> Added
     };
     put_stores(page, stores)?;
     put_endings(page, stores, leak)?;
-    page.fill(TEXT, &[Part::Text(&text)], &[])
+    page.fill(TEXT, &[Text(&text)])
 }

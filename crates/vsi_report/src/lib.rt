@@ -7,9 +7,9 @@
 //! enters a page through `put_escaped`, and the panel of a source text shows the text (`Shows` of
 //! `specs/Reading`).
 //!
-//! To be believed: `specs/Banner`, `specs/Covering`, `specs/Escape`, `specs/FlowsGraph`,
-//! `specs/Graph`, `specs/Lead`, `specs/Page`, `specs/Reading` and `specs/Verdict`; the other files
-//! of `specs/` are only steps of proofs.
+//! To be believed: `specs/Banner`, `specs/Covering`, `specs/Escape`, `specs/Filled`,
+//! `specs/FlowsGraph`, `specs/Graph`, `specs/Lead`, `specs/Page`, `specs/Reading` and
+//! `specs/Verdict`; the other files of `specs/` are only steps of proofs.
 #![tactic(auto)]
 
 mod banner;

@@ -100,24 +100,17 @@ fn single(number: usize) -> u64 {
     1u64 << (number % 64)
 }
 
-/// The set of the classes at or above a class.
-fn set_above(lattice: &Lattice, low: Class) -> u64
-    requires { IsClass (order lattice.now) low }
-{
-    let mut set: u64 = 0;
-    for class in 0..lattice.count() {
-        if lattice.leq(low, Class::at(class as u8)) {
-            set |= single(class);
-        }
-    }
-    set
-}
-
 /// For each class the set of the classes at or above it.
 fn sets_above(alloc: Global, lattice: &Lattice) -> Made<Vec<u64>> {
     let mut sets = Vec::new(alloc);
     for low in 0..lattice.count() {
-        sets.push(set_above(lattice, Class::at(low as u8)))?;
+        let mut set: u64 = 0;
+        for class in 0..lattice.count() {
+            if lattice.leq(Class::at(low as u8), Class::at(class as u8)) {
+                set |= single(class);
+            }
+        }
+        sets.push(set)?;
     }
     Ok(sets)
 }

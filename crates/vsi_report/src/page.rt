@@ -1,25 +1,30 @@
-//! The parts of a page, the writer that appends them, and the beginning of a page.
+//! The parts of a page, the writer that fills markup with them, and the first words of a page.
 
-ghost use Rattle.std.specs.Prelude.{◌≡◌, ◌++◌, OnOk, decimal, ℕ, List, [], IfOk};
+ghost use Rattle.std.specs.Prelude.{◌≡◌, ◌++◌, ◌∷◌, ◌-◌, OnOk, IfOk, List, ℕ, [], true};
+ghost use Rattle.vsi_report.specs.Banner.{untagged};
+ghost use Rattle.vsi_report.specs.Banner as spec;
 ghost use Rattle.vsi_report.specs.Escape.{escape, escaped};
-ghost use Rattle.vsi_report.specs.Banner.{untagged_byte, untagged, HasLead};
+ghost use Rattle.vsi_report.specs.Filled.{filled, prefix, text_at};
+ghost use Rattle.vsi_report.specs.Filled as filling;
 ghost use Rattle.vsi_report.specs.Page.{HasPanel};
 ghost use Rattle.vsi_report.specs.Reading.{Shows};
-ghost use Rattle.vsi_report.specs.declared.page.Verdict.{Verdict as Shown};
-ghost use Rattle.vsi_report.specs.Banner as spec;
+ghost use Rattle.vsi_report.specs.Parts.{are_stated, is_stated, texts_of, words};
 
-use crate::facts::{Facts, colour};
-use crate::order::name_of;
-use crate::report::View;
+use crate::facts::{Variable, colour};
 use itoa::Buffer;
 use std::alloc::{AllocError, Global};
-use vsi_syntax::line_column;
+use vsi_syntax::{line_column, put_number};
 
 /// The result of an addition to a page or a picture.
 pub(crate) type Added = Result<(), AllocError>;
 
 /// The result of a function that needs memory.
 pub(crate) type Made<T> = Result<T, AllocError>;
+
+/// The first piece if a condition holds, otherwise the second one.
+pub(crate) fn either(holds: bool, first: &'static [u8], second: &'static [u8]) -> &'static [u8] {
+    if holds { first } else { second }
+}
 
 /// Adds an escaped byte.
 pub(crate) fn put_byte(page: &mut Vec<u8>, byte: u8) -> Added
@@ -46,59 +51,158 @@ pub fn put_escaped(page: &mut Vec<u8>, text: &[u8]) -> Result<(), AllocError>
     Ok(())
 }
 
-/// Adds a number in decimal.
-pub(crate) fn put_number(page: &mut Vec<u8>, number: usize) -> Added
-    ensures { OnOk result (page.new.items ≡ page.old.items ++ escaped (decimal number)) }
-{
-    let mut buffer = Buffer::new();
-    put_escaped(page, buffer.format(number).as_bytes())
-}
-
-/// Adds a word of the machine in decimal.
-pub(crate) fn put_word(page: &mut Vec<u8>, word: i64) -> Added {
-    let mut buffer = Buffer::new();
-    put_escaped(page, buffer.format(word).as_bytes())
-}
-
-/// Adds a byte of a style sheet, unless it could begin a tag.
-fn put_untagged_byte(page: &mut Vec<u8>, byte: u8) -> Added
-    ensures { OnOk result (page.new.items ≡ page.old.items ++ untagged_byte byte) }
-{
-    match byte {
-        b'<' => page.extend_from_slice(b""),
-        other => page.extend_from_slice(&[other]),
-    }
-}
-
 /// Adds a style sheet, without the bytes that could begin a tag.
-pub(crate) fn put_untagged(page: &mut Vec<u8>, style: &[u8]) -> Added
+fn put_style(page: &mut Vec<u8>, style: &[u8]) -> Added
     ensures { OnOk result (page.new.items ≡ page.old.items ++ untagged style.now) }
 {
     for byte in style {
-        put_untagged_byte(page, *byte)?;
+        if *byte != b'<' {
+            page.extend_from_slice(&[*byte])?;
+        }
     }
     Ok(())
 }
 
-/// A part of a page, for a hole of its markup.
+/// A part of a page or a graph, for a hole of its markup.
 #[derive(Clone, Copy)]
 pub(crate) enum Part<'a> {
     /// A piece of markup from the code.
     Markup(&'static [u8]),
+    /// Bytes of a graph, or a panel, as they are.
+    Bytes(&'a [u8]),
+    /// A part of a page.
+    Block(&'a Page),
     /// A text, escaped.
     Text(&'a [u8]),
+    /// A style sheet, without the bytes that could begin a tag.
+    Style(&'a [u8]),
+    /// A number in decimal.
+    Number(usize),
+    /// A number and a blank, if there is one.
+    Prefix(Option<usize>),
     /// A text, escaped; one of more than 24 letters keeps its first and last letters.
     Short(&'a [u8]),
     /// A word of the machine.
     Word(i64),
-    /// A part of a page.
-    Page(&'a Page),
-    /// The name of a variable with this number, in the colour of its class.
-    Name(&'a Facts, usize),
-    /// The class of a variable with this number, and whether it was inferred.
-    Chip(&'a View<'a>, usize),
+    /// The name of a variable, in the colour of its class.
+    Name(Variable<'a>),
+    /// The class of a variable, and whether it was inferred.
+    Chip(Variable<'a>),
     /// The line and the column of a byte of a text, as a link to the line.
-    Place(&'a [u8], usize),
+    Position(&'a [u8], usize),
+}
+
+/// Adds a number and a blank, if there is one.
+fn put_prefix(text: &mut Vec<u8>, number: Option<usize>) -> Added
+    ensures { OnOk result (text.new.items ≡ text.old.items ++ prefix number) }
+{
+    let Some(number) = number else {
+        return Ok(());
+    };
+    put_number(text, number)?;
+    text.extend_from_slice(b" ")
+}
+
+/// Adds a text as shown in a box: one of more than 24 letters keeps its first and last letters.
+fn put_short(page: &mut Vec<u8>, text: &[u8]) -> Added {
+    if text.len() <= 24 {
+        return put_escaped(page, text);
+    }
+    let last = text.len() - 11;
+    put_escaped(page, &text[..12])?;
+    page.extend_from_slice(b"\xe2\x80\xa6")?;
+    put_escaped(page, &text[last..])
+}
+
+/// Adds a text in the colour of a class, after the beginning of a tag.
+fn put_tinted(page: &mut Vec<u8>, begin: &'static [u8], class: usize, text: &[u8]) -> Added {
+    page.extend_from_slice(begin)?;
+    page.extend_from_slice(colour(class))?;
+    page.extend_from_slice(b"\">")?;
+    put_escaped(page, text)
+}
+
+/// Adds a position in a source text, as a link to its line.
+fn put_position(page: &mut Vec<u8>, source: &[u8], at: usize) -> Added {
+    let (line, column) = line_column(source, at);
+    page.extend_from_slice(b"<a href=\"#L")?;
+    put_number(page, line)?;
+    page.extend_from_slice(b"\">line ")?;
+    put_number(page, line)?;
+    page.extend_from_slice(b", column ")?;
+    put_number(page, column)?;
+    page.extend_from_slice(b"</a>")
+}
+
+/// Adds a part.
+fn put_part(page: &mut Vec<u8>, part: &Part<'_>) -> Added
+    ensures { is_stated part.now ≡ true
+        → OnOk result (page.new.items ≡ page.old.items ++ words part.now) }
+{
+    match part {
+        Part::Markup(bytes) => page.extend_from_slice(bytes),
+        Part::Bytes(bytes) => page.extend_from_slice(bytes),
+        Part::Block(block) => page.extend_from_slice(&block.text),
+        Part::Text(text) => put_escaped(page, text),
+        Part::Style(style) => put_style(page, style),
+        Part::Number(number) => put_number(page, *number),
+        Part::Prefix(number) => put_prefix(page, *number),
+        Part::Short(text) => put_short(page, text),
+        Part::Word(word) => put_escaped(page, Buffer::new().format(*word).as_bytes()),
+        Part::Name(of) => {
+            put_tinted(page, b"<b class=\"", of.class, of.name)?;
+            page.extend_from_slice(b"</b>")
+        }
+        Part::Chip(of) => {
+            put_tinted(page, b"<span class=\"chip ", of.class, of.class_name)?;
+            let inferred = b"</span> <small>inferred</small>";
+            page.extend_from_slice(either(of.is_declared, b"</span>", inferred))
+        }
+        Part::Position(source, at) => put_position(page, source, *at),
+    }
+}
+
+/// Adds the part with the number that a digit names.
+fn put_hole(page: &mut Vec<u8>, parts: &[Part<'_>], digit: u8) -> Added
+    ensures { are_stated parts.now ≡ true
+        → OnOk result (page.new.items
+        ≡ page.old.items ++ text_at (texts_of parts.now) (digit - 48)) }
+{
+    match parts.get(digit.saturating_sub(b'0') as usize) {
+        Some(part) => put_part(page, part),
+        None => Ok(()),
+    }
+}
+
+/// Adds a byte of markup, or the part for a hole, and answers whether the next byte is the digit of
+/// a hole.
+fn put_next(page: &mut Vec<u8>, parts: &[Part<'_>], is_hole: bool, byte: u8) -> Made<bool>
+    ensures { are_stated parts.now ≡ true → IfOk result (λ next. (rest : List ℕ)
+        → page.new.items ++ filled (texts_of parts.now) next rest
+        ≡ page.old.items ++ filled (texts_of parts.now) is_hole (byte ∷ rest)) }
+{
+    if is_hole {
+        put_hole(page, parts, byte)?;
+        return Ok(false);
+    }
+    if byte == b'%' {
+        return Ok(true);
+    }
+    page.extend_from_slice(&[byte])?;
+    Ok(false)
+}
+
+/// Adds markup in which `%0` is a hole for the first part, and so on.
+pub(crate) fn fill(page: &mut Vec<u8>, markup: &'static [u8], parts: &[Part<'_>]) -> Added
+    ensures { are_stated parts.now ≡ true
+        → OnOk result (page.new.items
+        ≡ page.old.items ++ filling.fill markup.now (texts_of parts.now)) }
+{
+    let mut is_hole = false;
+    for byte in markup {
+        is_hole = put_next(page, parts, is_hole, *byte)?;
+    }
+    Ok(())
 }
 
 /// The bytes of a page. They consist only of pieces of this crate's code, texts that `put_escaped`
@@ -126,134 +230,16 @@ impl Page {
     }
 
     /// Adds a text, escaped.
-    pub(crate) fn tell(&mut self, text: &[u8]) -> Added
-        ensures { OnOk result (self.new.text.items ≡ self.old.text.items ++ escaped text.now) }
-    {
+    pub(crate) fn tell(&mut self, text: &[u8]) -> Added {
         put_escaped(&mut self.text, text)
     }
 
-    /// Adds a part of a page.
-    pub(crate) fn put_page(&mut self, part: &Page) -> Added
-        ensures { OnOk result
-            (self.new.text.items ≡ self.old.text.items ++ part.now.text.items) }
+    /// Adds a piece of markup from the code, in which `%0` is a hole for the first part, and so on.
+    pub(crate) fn fill(&mut self, markup: &'static [u8], parts: &[Part<'_>]) -> Added
+        ensures { are_stated parts.now ≡ true → OnOk result (self.new.text.items
+            ≡ self.old.text.items ++ filling.fill markup.now (texts_of parts.now)) }
     {
-        self.text.extend_from_slice(&part.text)
-    }
-
-    /// Adds a style sheet, without the bytes that could begin a tag.
-    pub(crate) fn put_style(&mut self, style: &[u8]) -> Added
-        ensures { OnOk result (self.new.text.items ≡ self.old.text.items ++ untagged style.now) }
-    {
-        put_untagged(&mut self.text, style)
-    }
-
-    /// Adds a number, escaped.
-    pub(crate) fn number(&mut self, number: usize) -> Added
-        ensures { OnOk result
-            (self.new.text.items ≡ self.old.text.items ++ escaped (decimal number)) }
-    {
-        put_number(&mut self.text, number)
-    }
-
-    /// Adds a text as shown in a box: one of more than 24 letters keeps its first and last letters.
-    fn put_short(&mut self, text: &[u8]) -> Added {
-        if text.len() <= 24 {
-            return self.tell(text);
-        }
-        let last = text.len() - 11;
-        self.tell(&text[..12])?;
-        self.put(b"\xe2\x80\xa6")?;
-        self.tell(&text[last..])
-    }
-
-    /// Adds the name of a variable.
-    fn put_name(&mut self, facts: &Facts, number: usize) -> Added {
-        self.put(b"<b class=\"")?;
-        self.put(colour(facts.class(number)))?;
-        self.put(b"\">")?;
-        self.tell(facts.name(number))?;
-        self.put(b"</b>")
-    }
-
-    /// Adds the class of a variable, and whether it was inferred.
-    fn put_chip(&mut self, view: &View<'_>, number: usize) -> Added {
-        let class = view.facts.class(number);
-        self.put(b"<span class=\"chip ")?;
-        self.put(colour(class))?;
-        self.put(b"\">")?;
-        self.tell(name_of(view.order, class))?;
-        self.put(if view.facts.is_inferred(number) {
-            b"</span> <small>inferred</small>"
-        } else {
-            b"</span>"
-        })
-    }
-
-    /// Adds a position in a source text, as a link to its line.
-    fn put_place(&mut self, source: &[u8], at: usize) -> Added {
-        let (line, column) = line_column(source, at);
-        self.put(b"<a href=\"#L")?;
-        self.number(line)?;
-        self.put(b"\">line ")?;
-        self.number(line)?;
-        self.put(b", column ")?;
-        self.number(column)?;
-        self.put(b"</a>")
-    }
-
-    /// Adds a part.
-    fn put_part(&mut self, part: Part<'_>) -> Added {
-        match part {
-            Part::Markup(piece) => self.put(piece),
-            Part::Text(text) => self.tell(text),
-            Part::Short(text) => self.put_short(text),
-            Part::Word(word) => put_word(&mut self.text, word),
-            Part::Page(page) => self.put_page(page),
-            Part::Name(facts, number) => self.put_name(facts, number),
-            Part::Chip(view, number) => self.put_chip(view, number),
-            Part::Place(source, at) => self.put_place(source, at),
-        }
-    }
-
-    /// Adds a piece of markup from the code, in which `%0` is a hole for the first part, and so on,
-    /// and then for the first number.
-    pub(crate) fn fill(
-        &mut self,
-        markup: &'static [u8],
-        parts: &[Part<'_>],
-        numbers: &[usize],
-    ) -> Added {
-        let mut is_hole = false;
-        for byte in markup {
-            if is_hole {
-                let index = byte.saturating_sub(b'0') as usize;
-                let rest = index.saturating_sub(parts.len());
-                match parts.get(index) {
-                    Some(part) => self.put_part(*part)?,
-                    None => self.number(numbers.get(rest).copied().unwrap_or(0))?,
-                }
-            } else if *byte != b'%' {
-                self.text.extend_from_slice(&[*byte])?;
-            }
-            is_hole = !is_hole && *byte == b'%';
-        }
-        Ok(())
-    }
-
-    /// This part and the next one, then the panel of a source text, and then the last part.
-    pub(crate) fn with_panel(self, before: &Page, panel: &Vec<u8>, after: &Page) -> Made<Vec<u8>>
-        ensures panel { (source : List ℕ) → Shows panel.now.items source
-            → IfOk result (λ page. HasPanel page.items source) }
-        ensures led { (v : Shown) (lead : List ℕ) → HasLead v lead self.text.items
-            → IfOk result (λ page. HasLead v lead page.items) }
-    {
-        let Page { mut text } = self;
-        text.extend_from_slice(&before.text)?;
-        text.extend_from_slice(b"<pre class=\"source\"><code>")?;
-        text.extend_from_slice(panel)?;
-        text.extend_from_slice(b"</code></pre>")?;
-        text.extend_from_slice(&after.text)?;
-        Ok(text)
+        fill(&mut self.text, markup, parts)
     }
 }
 
@@ -283,7 +269,7 @@ fn title(verdict: Verdict) -> &'static [u8]
 }
 
 /// The beginning of the banner of a page, with its heading.
-fn banner(verdict: Verdict) -> &'static [u8]
+fn heading(verdict: Verdict) -> &'static [u8]
     ensures { result.now ≡ spec.banner verdict }
 {
     match verdict {
@@ -294,31 +280,44 @@ fn banner(verdict: Verdict) -> &'static [u8]
     }
 }
 
-/// The first lines of a page.
-const FIRST: &[u8] = b"<!DOCTYPE html>\n<html lang=\"en\">\n<head>\n<meta charset=\"utf-8\">\n\
+/// A page: its head, the first sentences and the rest of its banner, and its parts before and after
+/// the panel of the source text.
+const PAGE: &[u8] = b"<!DOCTYPE html>\n<html lang=\"en\">\n<head>\n<meta charset=\"utf-8\">\n\
 <meta name=\"viewport\" content=\"width=device-width, initial-scale=1\">\n\
 <meta http-equiv=\"Content-Security-Policy\" \
 content=\"default-src 'none'; style-src 'unsafe-inline'\">\n\
-<meta name=\"color-scheme\" content=\"light dark\">\n";
+<meta name=\"color-scheme\" content=\"light dark\">\n\
+%0%1</title>\n<style>\n%2</style>\n</head>\n<body>\n<main>\n%3%4%5<div class=\"beside\">\n\
+<section aria-labelledby=\"source\"><h2 id=\"source\">Source</h2>\n\
+<pre class=\"source\"><code>%6</code></pre>%7</div>\n</main>\n</body>\n</html>\n";
 
-/// The beginning of a page, up to the first sentences of its banner.
-pub(crate) fn begun_page(
+/// The page with this verdict, name of its text, style and first sentences of its banner, and with
+/// these parts before and after this panel of its source.
+pub(crate) fn whole_page<'x>(
     alloc: Global,
     verdict: Verdict,
-    name: &[u8],
-    style: &[u8],
-    lead: &Page,
-) -> Made<Page>
-    ensures { IfOk result (λ page. spec.HasLead verdict lead.now.text.items page.text.items) }
+    name: &'x [u8],
+    style: &'x Page,
+    lead: &'x Page,
+    before: &'x Page,
+    panel: &'x [u8],
+    after: &'x Page,
+) -> Made<Vec<u8>>
+    ensures panel { (source : List ℕ) → Shows panel.now source
+        → IfOk result (λ page. HasPanel page.items source) }
+    ensures led { IfOk result (λ page. spec.HasLead verdict lead.now.text.items page.items) }
 {
-    let mut page = Page::new(alloc);
-    page.put(FIRST)?;
-    page.put(title(verdict))?;
-    page.tell(name)?;
-    page.put(b"</title>\n<style>\n")?;
-    page.put_style(style)?;
-    page.put(b"</style>\n</head>\n<body>\n<main>\n")?;
-    page.put(banner(verdict))?;
-    page.put_page(lead)?;
+    let mut page = Vec::new(alloc);
+    let parts = [
+        Part::Markup(title(verdict)),
+        Part::Text(name),
+        Part::Style(&style.text),
+        Part::Markup(heading(verdict)),
+        Part::Block(lead),
+        Part::Block(before),
+        Part::Bytes(panel),
+        Part::Block(after),
+    ];
+    fill(&mut page, PAGE, &parts)?;
     Ok(page)
 }

@@ -7,8 +7,10 @@ ghost use Rattle.vsi_report.specs.Reading.{Shows};
 ghost use Rattle.vsi_report.specs.Panel.{attribute, line_tag, next_tag, open_tag};
 
 use crate::facts::colour;
-use crate::page::{Added, Made, put_byte, put_escaped, put_number};
+use crate::page::Part::{Markup, Number};
+use crate::page::{Added, Made, either, fill, put_byte, put_escaped};
 use crate::report::View;
+use itoa::Buffer;
 use std::alloc::{AllocError, Global};
 use vsi_client::Mention;
 use vsi_syntax::{Kind, LexError, Token, lex};
@@ -126,11 +128,11 @@ fn mark_at(
 
 /// A part of a source text: its first byte, the byte after it, its kind, and its two labels.
 #[derive(Drop)]
-pub(crate) struct Tagged<'a> {
+pub(crate) struct Tagged {
     pub(crate) start: usize,
     pub(crate) stop: usize,
     pub(crate) kind: &'static [u8],
-    pub(crate) label: &'a [u8],
+    pub(crate) label: Vec<u8>,
     pub(crate) steps: Vec<u8>,
 }
 
@@ -139,7 +141,7 @@ fn put_line(page: &mut Vec<u8>, number: usize) -> Added
     ensures { OnOk result (page.new.items ≡ page.old.items ++ line_tag number) }
 {
     page.extend_from_slice(b"<span class=\"line\" id=\"L")?;
-    put_number(page, number)?;
+    put_escaped(page, Buffer::new().format(number).as_bytes())?;
     page.extend_from_slice(b"\">")
 }
 
@@ -177,7 +179,7 @@ fn put_open(page: &mut Vec<u8>, kind: &[u8], class: &[u8], step: &[u8]) -> Added
 }
 
 /// Ends the part with a number, if it ends at a position, and answers which part comes next.
-fn put_end(page: &mut Vec<u8>, parts: &[Tagged<'_>], number: usize, at: usize) -> Made<usize>
+fn put_end(page: &mut Vec<u8>, parts: &[Tagged], number: usize, at: usize) -> Made<usize>
     ensures { (t : List ℕ) → Shows page.old.items t → OnOk result (Shows page.new.items t) }
 {
     let Some(part) = parts.get(number) else {
@@ -191,15 +193,15 @@ fn put_end(page: &mut Vec<u8>, parts: &[Tagged<'_>], number: usize, at: usize) -
 }
 
 /// Adds the beginning of a part.
-fn put_tag(page: &mut Vec<u8>, part: &Tagged<'_>) -> Added
+fn put_tag(page: &mut Vec<u8>, part: &Tagged) -> Added
     ensures { (t : List ℕ) → Shows page.old.items t → OnOk result (Shows page.new.items t) }
 {
-    put_open(page, part.kind, part.label, &part.steps)?;
+    put_open(page, part.kind, &part.label, &part.steps)?;
     Ok(())
 }
 
 /// Adds the beginning of the part with a number, if it begins at a position.
-fn put_begin(page: &mut Vec<u8>, parts: &[Tagged<'_>], number: usize, at: usize) -> Added
+fn put_begin(page: &mut Vec<u8>, parts: &[Tagged], number: usize, at: usize) -> Added
     ensures { (t : List ℕ) → Shows page.old.items t → OnOk result (Shows page.new.items t) }
 {
     let Some(part) = parts.get(number) else {
@@ -246,7 +248,7 @@ struct Place {
 fn put_at(
     page: &mut Vec<u8>,
     source: &[u8],
-    parts: &[Tagged<'_>],
+    parts: &[Tagged],
     at: usize,
     place: Place,
 ) -> Made<Place>
@@ -266,7 +268,7 @@ fn put_at(
 }
 
 /// The panel of a text, with these parts set apart, which are in order.
-pub(crate) fn panel_of(alloc: Global, source: &[u8], parts: &[Tagged<'_>]) -> Made<Vec<u8>>
+pub(crate) fn panel_of(alloc: Global, source: &[u8], parts: &[Tagged]) -> Made<Vec<u8>>
     ensures { IfOk result (λ page. Shows page.items source.now) }
 {
     let mut page = Vec::new(alloc);
@@ -281,54 +283,34 @@ pub(crate) fn panel_of(alloc: Global, source: &[u8], parts: &[Tagged<'_>]) -> Ma
 }
 
 /// A part without steps.
-fn plain<'a>(
+fn plain(
     alloc: Global,
     start: usize,
     stop: usize,
     kind: &'static [u8],
-    label: &'a [u8],
-) -> Tagged<'a> {
-    let steps = Vec::new(alloc);
-    Tagged {
+    label: &'static [u8],
+) -> Made<Tagged> {
+    Ok(Tagged {
         start,
         stop,
         kind,
-        label,
-        steps,
-    }
-}
-
-/// Adds the number of a step and a preposition, after a comma unless it is the first.
-fn put_step(label: &mut Vec<u8>, number: usize, preposition: &[u8]) -> Added {
-    if !label.is_empty() {
-        label.extend_from_slice(b", ")?;
-    }
-    put_number(label, number)?;
-    label.extend_from_slice(preposition)
+        label: label.to_vec(alloc)?,
+        steps: Vec::new(alloc),
+    })
 }
 
 /// The label of the steps of the walk that read or write at a position.
 fn steps_at(view: &View<'_>, start: usize) -> Made<Vec<u8>> {
     let mut label = Vec::new(view.alloc);
     for (place, step) in view.walk.iter().enumerate() {
-        let number = place.saturating_add(1);
-        if step.read.start == start {
-            put_step(&mut label, number, b" from")?;
-        } else if step.written.start == start {
-            put_step(&mut label, number, b" to")?;
+        if step.read.start == start || step.written.start == start {
+            let comma = Markup(either(label.is_empty(), b"", b", "));
+            let end = Markup(either(step.read.start == start, b" from", b" to"));
+            let parts = [comma, Number(place.saturating_add(1)), end];
+            fill(&mut label, b"%0%1%2", &parts)?;
         }
     }
     Ok(label)
-}
-
-/// The variable whose name starts at a position; `next` is the first name that can match.
-fn variable_at(mentions: &[Mention], next: usize, start: usize) -> Option<usize> {
-    let found = mentions.get(next)?;
-    if found.span.start == start {
-        Some(found.variable)
-    } else {
-        None
-    }
 }
 
 /// The end of what is marked as a fault at a position: a name, or a character.
@@ -344,7 +326,7 @@ fn fault_end(source: &[u8], at: usize) -> usize {
 }
 
 /// Adds the comments from a position up to another, characters that aren't visible, and a fault.
-fn put_marks<'a>(parts: &mut Vec<Tagged<'a>>, view: &View<'a>, from: usize, stop: usize) -> Added {
+fn put_marks(parts: &mut Vec<Tagged>, view: &View<'_>, from: usize, stop: usize) -> Added {
     let fault = view.fault.unwrap_or(usize::MAX);
     let mut at = from;
     let mut is_comment = false;
@@ -360,7 +342,7 @@ fn put_marks<'a>(parts: &mut Vec<Tagged<'a>>, view: &View<'a>, from: usize, stop
             kind = b"fault";
         }
         if !kind.is_empty() {
-            parts.push(plain(view.alloc, at, end, kind, label))?;
+            parts.push(plain(view.alloc, at, end, kind, label)?)?;
         }
         at = end;
     }
@@ -384,34 +366,36 @@ pub(crate) fn is_large(view: &View<'_>) -> bool {
     view.facts.mentions.len() > MOST_NAMES
 }
 
-/// The part with the name of a variable, if it is shown; its label is its class.
-fn name_part<'a>(
-    view: &View<'a>,
+/// The part with the name of a variable, if it is shown; its label is its class, with a star if the
+/// text doesn't declare that.
+fn name_part(
+    view: &View<'_>,
     variable: usize,
     token: &Token<'_>,
     has_label: bool,
-) -> Made<Option<Tagged<'a>>> {
-    let facts = view.facts;
+) -> Made<Option<Tagged>> {
+    let found = view.facts.variable(variable);
     let steps = steps_at(view, token.span.start)?;
     if is_large(view) && steps.is_empty() {
         return Ok(None);
     }
+    let mut label = Vec::new(view.alloc);
+    if has_label {
+        label.extend_from_slice(found.class_name)?;
+        label.extend_from_slice(either(found.is_declared, b"", b"*"))?;
+    }
     Ok(Some(Tagged {
         start: token.span.start,
         stop: token.span.stop,
-        kind: colour(facts.class(variable)),
-        label: if has_label {
-            facts.label(variable)
-        } else {
-            b""
-        },
+        kind: colour(found.class),
+        label,
         steps,
     }))
 }
 
 /// Adds the parts of a text with these tokens. A name has its class where a line has it first,
 /// unless the text says the class there.
-fn put_parts<'a>(parts: &mut Vec<Tagged<'a>>, view: &View<'a>, tokens: &[Token<'_>]) -> Added {
+fn put_parts(parts: &mut Vec<Tagged>, view: &View<'_>, tokens: &[Token<'_>]) -> Added {
     let mut at: usize = 0;
     let mut next: usize = 0;
     let mut labelled = Vec::new(view.alloc);
@@ -422,12 +406,13 @@ fn put_parts<'a>(parts: &mut Vec<Tagged<'a>>, view: &View<'a>, tokens: &[Token<'
             labelled.clear();
         }
         at = start;
-        if let Some(variable) = variable_at(&view.facts.mentions, next, start) {
+        if let Some(found) = view.facts.mentions.get(next)
+            && found.span.start == start
+        {
+            let variable = found.variable;
             next = next.saturating_add(1);
-            let says_class = match tokens.get(index.saturating_add(1)) {
-                Some(after) => after.kind == Kind::Colon,
-                None => false,
-            };
+            let after = tokens.get(index.saturating_add(1));
+            let says_class = matches!(&after, Some(sign) if sign.kind == Kind::Colon);
             let has_label = !says_class && !labelled.contains(&variable);
             if let Some(part) = name_part(view, variable, token, has_label)? {
                 at = stop;
@@ -436,7 +421,7 @@ fn put_parts<'a>(parts: &mut Vec<Tagged<'a>>, view: &View<'a>, tokens: &[Token<'
             }
         } else if is_keyword(token.kind) && !is_large(view) && view.fault != Some(start) {
             at = stop;
-            parts.push(plain(view.alloc, start, stop, b"word", b""))?;
+            parts.push(plain(view.alloc, start, stop, b"word", b"")?)?;
         }
     }
     put_marks(parts, view, at, view.source.len())

@@ -13,11 +13,12 @@ ghost use Rattle.vsi_report.specs.Verdict.{HasVerdict, verdict_of};
 ghost use Rattle.vsi_report.specs.declared.page.Verdict.{Verdict as Shown};
 ghost use Rattle.vsi_report.specs.declared.page.Verdict.TheVariants as verdicts;
 
-use crate::banner::{Lead, lead_of, put_accepted, put_allowed, put_faulty, put_lead, put_refused};
-use crate::facts::{Facts, facts_of, reached_classes};
+use crate::banner::{allowed_lead, lead_of, put_accepted, put_faulty, put_refused, refused_lead};
+use crate::facts::{Facts, facts_of, no_facts, reached_classes};
 use crate::leak::put_leak;
 use crate::order::{Order, order_of};
-use crate::page::{Made, Page, Part, Verdict, begun_page};
+use crate::page::Part::{Block, Text};
+use crate::page::{Made, Page, Verdict, either, whole_page};
 use crate::panel::{is_large, source_panel};
 use crate::picture::scene_of;
 use crate::refusal::{put_fault, put_fixes, put_walk, refused_walks};
@@ -32,6 +33,19 @@ use vsi_lattice::{Class, Lattice};
 use vsi_scope::Resolved;
 use vsi_types::{Profile, Step};
 
+/// The listing of an image, which opens on request.
+const IMAGE: &[u8] = b"<section class=\"wide\" aria-labelledby=\"image\">\
+<h2 id=\"image\">Image</h2>\n<details><summary>The listing of the image</summary>\n\
+<pre class=\"listing\"><code>%0</code></pre></details>\n</section>\n";
+/// The text about the classes in the panel of the source text.
+const HINT: &[u8] =
+    b"\n<p class=\"hint\">A name is followed by its class where a line has it first, \
+except where that is declared. A star marks the least class that is possible for a variable whose \
+class the text doesn't declare.</p>\n</section>\n";
+/// The text about the panel of a large source text.
+const LARGE: &[u8] = b"\n<p class=\"hint\">The classes of the names aren't shown, since there are \
+too many names: <code>vsi classes</code> prints them.</p>\n</section>\n";
+
 /// The contents of a page. A text whose flows aren't judged has neither facts nor a walk, but
 /// perhaps the position of its fault; an accepted text has no walk.
 #[derive(Clone, Copy)]
@@ -42,13 +56,10 @@ pub(crate) struct View<'a> {
     pub(crate) lattice: &'a Lattice,
     pub(crate) order: &'a Order,
     pub(crate) source: &'a [u8],
-    pub(crate) facts: &'a Facts,
+    pub(crate) facts: &'a Facts<'a>,
     pub(crate) walk: &'a [Step],
     pub(crate) fault: Option<usize>,
 }
-
-/// The page of a text.
-type Paged = Made<Vec<u8>>;
 
 /// A request for a page: the profile, and the files of the page.
 #[derive(Clone, Copy)]
@@ -58,40 +69,19 @@ struct Task<'a> {
     filing: &'a Filing<'a>,
 }
 
-/// The markup before the panel of the source text.
-const SOURCE: &[u8] = b"<div class=\"beside\">\n\
-<section aria-labelledby=\"source\"><h2 id=\"source\">Source</h2>\n";
-
-/// The listing of an image, which opens on request.
-const IMAGE: &[u8] = b"<section class=\"wide\" aria-labelledby=\"image\">\
-<h2 id=\"image\">Image</h2>\n<details><summary>The listing of the image</summary>\n\
-<pre class=\"listing\"><code>%0</code></pre></details>\n</section>\n";
-
-/// The text about the classes in the panel of the source text.
-const HINT: &[u8] =
-    b"\n<p class=\"hint\">A name is followed by its class where a line has it first, \
-except where that is declared. A star marks the least class that is possible for a variable whose \
-class the text doesn't declare.</p>\n</section>\n";
-
-/// The text about the panel of a large source text.
-const LARGE: &[u8] = b"\n<p class=\"hint\">The classes of the names aren't shown, since there are \
-too many names: <code>vsi classes</code> prints them.</p>\n</section>\n";
-
 /// The parts of the page of an accepted text, before and after the panel of the source.
 fn accepted_sides(view: &View<'_>, verified: &Verified, lines: &[u8]) -> Made<(Page, Page)> {
     let (mut before, mut after) = (Page::new(view.alloc), Page::new(view.alloc));
     let (lattice, is_wide) = lattice_section(view)?;
     let scene = scene_of(view)?;
     put_accepted(&mut before, view, verified)?;
-    before.put(SOURCE)?;
-    after.put(if is_large(view) { LARGE } else { HINT })?;
+    after.put(either(is_large(view), LARGE, HINT))?;
     after.put(b"<div>\n")?;
     put_promise(&mut after, view.profile)?;
-    after.put(if is_wide { b"</div>\n" } else { b"" })?;
-    after.put_page(&lattice)?;
-    after.put(if is_wide { b"" } else { b"</div>\n" })?;
+    let markup = either(is_wide, b"</div>\n%0", b"%0</div>\n");
+    after.fill(markup, &[Block(&lattice)])?;
     put_all_flows(&mut after, view, &scene, &[])?;
-    after.fill(IMAGE, &[Part::Text(lines)], &[])?;
+    after.fill(IMAGE, &[Text(lines)])?;
     Ok((before, after))
 }
 
@@ -101,20 +91,15 @@ fn refused_sides(view: &View<'_>, read: &Source<'_>) -> Made<(Page, Page)> {
     let (lattice, is_wide) = lattice_section(view)?;
     let scene = scene_of(view)?;
     put_refused(&mut before, view)?;
-    before.put(SOURCE)?;
-    after.put(if is_large(view) { LARGE } else { HINT })?;
+    after.put(either(is_large(view), LARGE, HINT))?;
     after.put(b"<div class=\"side\">\n")?;
     put_walk(&mut after, view, scene.is_some())?;
-    if !is_wide {
-        after.put_page(&lattice)?;
-    }
+    let lattice = [Block(&lattice)];
+    after.fill(either(is_wide, b"", b"%0"), &lattice)?;
     after.put(b"</div>\n<div>\n")?;
     put_fixes(&mut after, view, read)?;
     put_leak(&mut after, view, read)?;
-    after.put(b"</div>\n")?;
-    if is_wide {
-        after.put_page(&lattice)?;
-    }
+    after.fill(either(is_wide, b"</div>\n%0", b"</div>\n"), &lattice)?;
     let walks = refused_walks(view, read)?;
     put_all_flows(&mut after, view, &scene, &walks)?;
     Ok((before, after))
@@ -125,9 +110,7 @@ fn faulty_sides(view: &View<'_>, error: &CompileError) -> Made<(Page, Page)> {
     let (mut before, mut after) = (Page::new(view.alloc), Page::new(view.alloc));
     put_faulty(&mut before, view, error)?;
     put_fault(&mut before, view, error)?;
-    before.put(SOURCE)?;
-    after.put(b"\n</section>\n")?;
-    after.put_page(&lattice_section(view)?.0)?;
+    after.fill(b"\n</section>\n%0", &[Block(&lattice_section(view)?.0)])?;
     Ok((before, after))
 }
 
@@ -156,46 +139,20 @@ fn joined(
     lead: &Page,
     sides: (Page, Page),
     panel: &Vec<u8>,
-) -> Paged
+) -> Made<Vec<u8>>
     requires { Shows panel.now.items view.now.source.now }
     ensures panel { IfOk result (λ page. HasPanel page.items view.now.source.now) }
     ensures led { IfOk result (λ page. HasLead verdict lead.now.text.items page.items) }
 {
     let (before, mut after) = sides;
     put_filing(&mut after, view)?;
-    after.put(b"</div>\n</main>\n</body>\n</html>\n")?;
+    let (alloc, name) = (view.alloc, leaf(view.filing.source));
     let style = style_of(view)?;
-    let begun = begun_page(
-        view.alloc,
-        verdict,
-        leaf(view.filing.source),
-        &style.text,
-        lead,
-    )?;
-    let whole = begun.with_panel(&before, panel, &after)?;
-    Ok(whole)
-}
-
-/// The first sentences about an accepted text.
-fn allowed_lead(alloc: Global, pairs: usize) -> Made<Page>
-    ensures { IfOk result (λ page. page.text.items ≡ allowed_words pairs) }
-{
-    let mut page = Page::new(alloc);
-    put_allowed(&mut page, pairs)?;
-    Ok(page)
-}
-
-/// The first sentences about a refused text.
-fn refused_lead(alloc: Global, lead: &Lead<'_>) -> Made<Page>
-    ensures { IfOk result (λ page. page.text.items ≡ lead_words lead.now) }
-{
-    let mut page = Page::new(alloc);
-    put_lead(&mut page, lead)?;
-    Ok(page)
+    whole_page(alloc, verdict, name, &style, lead, &before, panel, &after)
 }
 
 /// The page of an accepted text, with its image and the listing of that.
-fn page_with_image(view: &View<'_>, verified: &Verified, lines: &[u8]) -> Paged
+fn page_with_image(view: &View<'_>, verified: &Verified, lines: &[u8]) -> Made<Vec<u8>>
     ensures panel { IfOk result (λ page. HasPanel page.items view.now.source.now) }
     ensures led { IfOk result (λ page. HasLead verdicts.Accepted
         (allowed_words (length view.now.facts.now.pairs.items)) page.items) }
@@ -207,7 +164,7 @@ fn page_with_image(view: &View<'_>, verified: &Verified, lines: &[u8]) -> Paged
 }
 
 /// The page of an accepted text, with the classes of its letvars.
-fn accepted_page(task: &Task<'_>, read: &Source<'_>, chosen: &[Class]) -> Paged
+fn accepted_page(task: &Task<'_>, read: &Source<'_>, chosen: &[Class]) -> Made<Vec<u8>>
     requires { IsAccepted (class_named read.now.lattice)
         (order_of_lattice read.now.lattice) task.now.profile read.now.text }
     ensures panel { IfOk result (λ page. HasPanel page.items read.now.text) }
@@ -238,7 +195,7 @@ fn accepted_page(task: &Task<'_>, read: &Source<'_>, chosen: &[Class]) -> Paged
 }
 
 /// The page of a text with a refused flow, with its program.
-fn page_with_walk(view: &View<'_>, read: &Source<'_>, program: &Resolved<'_>) -> Paged
+fn page_with_walk(view: &View<'_>, read: &Source<'_>, program: &Resolved<'_>) -> Made<Vec<u8>>
     requires { texts view.now.order.now.names.items ≡ names view.now.lattice.now }
     ensures panel { IfOk result (λ page. HasPanel page.items view.now.source.now) }
     ensures led { IfOk result (λ page. HasTrueLead view.now.lattice.now program.now
@@ -258,7 +215,7 @@ fn page_with_walk(view: &View<'_>, read: &Source<'_>, program: &Resolved<'_>) ->
 }
 
 /// The page of a text with a refused flow.
-fn refused_page(task: &Task<'_>, read: &Source<'_>, walk: &[Step]) -> Paged
+fn refused_page(task: &Task<'_>, read: &Source<'_>, walk: &[Step]) -> Made<Vec<u8>>
     ensures panel { IfOk result (λ page. HasPanel page.items read.now.text) }
     ensures verdict { HasShortestBadWalk (class_named read.now.lattice)
         (order_of_lattice read.now.lattice) task.now.profile read.now.text walk.now
@@ -298,7 +255,12 @@ fn verdict_for(error: &CompileError) -> Verdict
 }
 
 /// The page of a text whose flows aren't judged.
-fn faulty_page(task: &Task<'_>, lattice: &Lattice, source: &[u8], error: &CompileError) -> Paged
+fn faulty_page(
+    task: &Task<'_>,
+    lattice: &Lattice,
+    source: &[u8],
+    error: &CompileError,
+) -> Made<Vec<u8>>
     ensures panel { IfOk result (λ page. HasPanel page.items source.now) }
     ensures verdict { RefusesProgram (class_named lattice.now) source.now error.now
         → IfOk result (λ page. HasVerdict lattice.now task.now.profile source.now page.items) }
@@ -308,12 +270,7 @@ fn faulty_page(task: &Task<'_>, lattice: &Lattice, source: &[u8], error: &Compil
     }
     let (alloc, profile) = (task.alloc, task.profile);
     let order = order_of(alloc, lattice)?;
-    let facts = Facts {
-        variables: Vec::new(alloc),
-        mentions: Vec::new(alloc),
-        flows: None,
-        pairs: Vec::new(alloc),
-    };
+    let facts: Facts<'static> = no_facts(alloc);
     let view = View {
         alloc,
         profile,
@@ -332,7 +289,7 @@ fn faulty_page(task: &Task<'_>, lattice: &Lattice, source: &[u8], error: &Compil
 }
 
 /// The page of a text that has a program.
-fn read_page(task: &Task<'_>, read: &Source<'_>) -> Paged
+fn read_page(task: &Task<'_>, read: &Source<'_>) -> Made<Vec<u8>>
     ensures panel { IfOk result (λ page. HasPanel page.items read.now.text) }
     ensures verdict { IfOk result (λ page.
         HasVerdict read.now.lattice task.now.profile read.now.text page.items) }

@@ -19,7 +19,7 @@ returns c =
     (record { names = ns; lattice = order l; resolved = r; chosen = found; walk = steps })
     pairs)
     (λ lines. AreProgramLines l c.args.profile r lines.items)
-    (λ lines e. program_lines_so l c.args.profile r ns c.in_ok-judged.judged.chosen.items found
-    c.in_ok-judged.judged.walk.items steps pairs lines.items c.in_ok-order.ensures.names c.deref.ensures.value
+    (λ lines e. program_lines_so l c.args.profile r ns c.in_ok-judged.judged.0.items found
+    c.in_ok-judged.judged.1.items steps pairs lines.items c.in_ok-order.ensures.names c.deref.ensures.value
     c.deref-2.ensures.value c.in_ok-judged.ensures c.in_ok-order.ensures.covers e)
     c.drawn_lines.ensures

@@ -1,7 +1,11 @@
+use Rattle.std.proofs.Common.{sym, subst}
+use Rattle.vsi_report.specs.Reading.{Shows}
 use Rattle.vsi_report.proofs.report.joined.Goals as goal
 
 pub returns-clause-panel : goal.returns-clause-panel
-returns-clause-panel c = c.in_ok-whole.ensures.panel c.args.view.now.source.now c.requires
+returns-clause-panel c =
+    let s = c.args.view.now.source.now in
+    c.whole_page.ensures.panel s (subst (λ x. Shows x s) (sym c.deref.ensures.value) c.requires)
 
 pub returns-clause-led : goal.returns-clause-led
-returns-clause-led c = c.in_ok-whole.ensures.led c.args.verdict c.args.lead.now.text.items c.in_ok-begun.ensures
+returns-clause-led c = c.whole_page.ensures.led

@@ -1,7 +1,7 @@
 use Rattle.std.proofs.Common.{◌≡◌, ◌++◌, take}
 use Rattle.std.specs.List.{flat_map}
 use Rattle.vsi_report.specs.FlowsGraph.{above_line}
-use Rattle.vsi_report.proofs.dot.put_all_above.Given as goal
+use Rattle.vsi_report.proofs.dot.put_above.Given as goal
 
 -- The text has the lines of the pairs so far.
 abbrev pub invariant-loop-pair : goal.invariant-loop-pair

@@ -3,7 +3,7 @@ use Rattle.std.specs.List.{flat_map}
 use Rattle.vsi_types.specs.Security.{count_from}
 use Rattle.vsi_report.specs.Drawn.{shown}
 use Rattle.vsi_report.specs.FlowsGraph.{kept_line}
-use Rattle.vsi_report.proofs.dot.put_all_kept.Given as goal
+use Rattle.vsi_report.proofs.dot.put_kept.Given as goal
 
 -- The text has the lines of the numbers so far.
 abbrev pub invariant-loop-number : goal.invariant-loop-number
