@@ -9,7 +9,7 @@ use Rattle.vsi_conform.specs.Reaching.{Released, are_within, is_none}
 abbrev pub spaced : List (List ℕ) → List ℕ
 spaced names = flat_map (λ name. codes " " ++ name) names
 
--- Names, each after a blank, behind a text, or another text if there are none.
+-- A text and names, each after a blank, or another text if there are no names.
 abbrev pub names_text : List ℕ → List ℕ → List (List ℕ) → List ℕ
 names_text before none names = if is_none names then none else before ++ spaced names
 

@@ -246,7 +246,7 @@ pub fn text_reaches(
     }
 }
 
-/// Adds names, each after a blank, behind a text, or another text if there are none.
+/// Adds a text and names, each after a blank, or another text if there are no names.
 fn put_names(
     text: &mut Vec<u8>,
     names: &[Vec<u8>],

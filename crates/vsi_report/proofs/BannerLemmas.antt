@@ -40,7 +40,7 @@ source_begin =
 abbrev pub page_end : List ℕ
 page_end = codes "</div>\n</main>\n</body>\n</html>\n"
 
--- What follows the first sentences of a page.
+-- The text after the first sentences of a page.
 abbrev pub after_lead : List ℕ → List ℕ → List ℕ → List ℕ
 after_lead before panel after =
     before ++ (source_begin ++ (panel_begin ++ (panel ++ (panel_end ++ (after ++ page_end)))))

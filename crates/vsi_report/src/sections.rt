@@ -50,10 +50,10 @@ a thin red arrow goes against the order of the classes.";
 /// The text about flows without a picture.
 const NO_FLOWS: &[u8] = b"<p>No picture is drawn, since it would have too many variables or arrows \
 to be read.</p>\n";
-/// What the base profile leaves open.
+/// The limits of the base profile.
 const BASE: &[u8] = b"The base profile promises neither whether a run halts nor the number of its \
 instructions.";
-/// What the strict profile promises besides.
+/// The promise that the strict profile adds.
 const STRICT: &[u8] = b"Whether a run halts is promised too: from two stores that agree on each \
 global of the least class, either both runs halt or neither does. The number of instructions isn't \
 promised by the profile.";
