@@ -1,4 +1,4 @@
-use Rattle.std.proofs.Common.{false, subst}
+use Rattle.std.proofs.Common.{false, subst, true}
 use Rattle.std.proofs.lemmas.Result.{on_ok_weaker}
 use Rattle.std.specs.Io.KnownBytes.{Appends}
 use Rattle.vsi_devices.specs.Counted.{device_of}
@@ -36,18 +36,18 @@ returns-then-has_walks-clause-failed g c = rw c.if-has_walks.true
     c.write_text.result c.write_text.ensures.failed)
 
 pub returns-in_err-lines-clause-left : goal.returns-in_err-lines-clause-left
-returns-in_err-lines-clause-left g c = kept_leaves _ 4 _ c.from_residual.result
+returns-in_err-lines-clause-left g c = kept_leaves _ 4 _ c.from_residual-in_err-lines.result
 
 pub returns-in_err-lines-clause-failed : goal.returns-in_err-lines-clause-failed
 returns-in_err-lines-clause-failed g c = rw c.if-has_walks.false
     (handed (FailsBy (RefusesFiles (g.F.Files.holds c.args.subject.now.files.now) c.args.compilation
-    (AsksFlows false c.args.compilation.is_strict)) NoOther) c.in_err-lines.field-0.0 c.from_residual.result
-    c.from_residual.ensures.1 c.in_err-lines.ensures.failed)
+    (AsksFlows false c.args.compilation.is_strict)) NoOther) c.in_err-lines.field-0.0 c.from_residual-in_err-lines.result
+    c.from_residual-in_err-lines.ensures.1 c.in_err-lines.ensures.failed)
 
 pub returns-clause-left : goal.returns-clause-left
 returns-clause-left g c = rw c.if-has_walks.false
-    (fault_leaves (AnswersFlows false (g.F.Files.holds c.args.subject.now.files.now) c.args.compilation) _ _ c.as_slice.result.now
-    c.write.result (c.in_ok-lines.lines, c.in_ok-lines.ensures.told, c.as_slice.ensures.value) c.write.ensures.failure
+    (fault_leaves (AnswersFlows false (g.F.Files.holds c.args.subject.now.files.now) c.args.compilation) _ _ c.as_slice-2.result.now
+    c.write.result (c.in_ok-lines.lines, c.in_ok-lines.ensures.told, c.as_slice-2.ensures.value) c.write.ensures.failure
     c.write.ensures.part)
 
 pub returns-clause-performed : goal.returns-clause-performed
@@ -57,7 +57,7 @@ returns-clause-performed g c = rw c.if-has_walks.false
       text = c.in_ok-lines.lines;
       is = c.in_ok-lines.ensures.told;
       written = subst (Appends (g.W.Write.contents (device_of c.args.output.now))
-          (g.W.Write.contents (device_of c.write.new.output))) c.as_slice.ensures.value whole;
+          (g.W.Write.contents (device_of c.write.new.output))) c.as_slice-2.ensures.value whole;
     })
     c.write.ensures.whole)
 
