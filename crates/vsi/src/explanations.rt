@@ -263,9 +263,22 @@ impl Explaining {
         let Some(kept) = inputs.last(InputKind::Interface) else {
             return Ok(Vec::new(inputs.alloc));
         };
-        let lattice = read_policy(inputs)?;
-        let reason = vsi_advice::Reason::Interface(lattice.as_ref(), error);
-        self.advice_on(inputs.alloc, kept, reason)
+        match read_policy(inputs)? {
+            Some(lattice) => self.interface_advice(inputs.alloc, kept, Some(&lattice), error),
+            None => self.interface_advice(inputs.alloc, kept, None, error),
+        }
+    }
+
+    /// The explanation of this refused interface, with its lattice if that was read.
+    fn interface_advice<'d>(
+        self,
+        alloc: Global,
+        kept: &'d Kept,
+        lattice: Option<&'d Lattice>,
+        error: &'d InterfaceError,
+    ) -> Result<Vec<u8>, AllocError> {
+        let reason = vsi_advice::Reason::Interface(lattice, error);
+        self.advice_on(alloc, kept, reason)
     }
 
     /// The explanation of a run that doesn't begin.
