@@ -21,9 +21,8 @@ fn first_lattice<'a, F: Files>(
         (FailsBy (RefusesLattice (F.holds subject.now.files.now) path.now) NoOther) }
 {
     let bytes = subject.bytes_in(InputKind::Lattice, path)?;
-    // No lattice file begins as an image, whose version is a control byte.
-    let is_image = matches!(bytes.as_slice(), [b'V', b'S', b'I', version, ..] if *version < b' ');
-    if is_drive && is_image {
+    let is_exchanged = is_drive && begins_image(bytes.as_slice());
+    if is_exchanged {
         return Err(exchanged(subject.alloc));
     }
     declared_lattice(subject.alloc, bytes.as_slice())
@@ -37,6 +36,12 @@ Usage: vsi drive [OPTIONS] --class <C> <LATTICE> <IMAGE>
 
 For more information, try '--help'.
 ";
+
+/// Whether bytes begin as those of an image do, with its magic bytes and its version. No lattice
+/// file does, since a version is a control byte.
+fn begins_image(bytes: &[u8]) -> bool {
+    matches!(bytes, [b'V', b'S', b'I', version, ..] if *version < b' ')
+}
 
 /// The failure for an image in place of the lattice file.
 fn exchanged<'a>(alloc: Global) -> Failure<'a>

@@ -1,9 +1,10 @@
 //! Texts tried and judged by their own lattices, and the language server.
 
 ghost use Rattle.std.specs.Prelude.{◌≡◌, IfErr, IfOk, IfSome, Ok, Err, length, ◌<◌, OnOk};
-ghost use Rattle.vsi_subject.specs.Refusals.{NoOther, FailsBy};
-ghost use Rattle.vsi_subject.specs.Reasons.{LacksTried, RefusesRun, RefusesUnder, WhyTry};
-ghost use Rattle.vsi_subject.specs.Tried.{BeginsSet, IsTriedUnder, RunsMade, ShowsTo, TriesFile};
+ghost use Rattle.vsi_subject.specs.Refusals.{NoOther, RefusesLattice, FailsBy};
+ghost use Rattle.vsi_subject.specs.Reasons.{LacksTried, RefusesNamed, RefusesRun, RefusesUnder, WhyTry};
+ghost use Rattle.vsi_subject.specs.Tried.{BeginsSet, IsNamedLattice, IsTriedUnder, RunsMade, ShowsTo, TriesFile, policy_path};
+ghost use Rattle.vsi_subject.specs.Holding.{IsLatticeAt};
 ghost use Rattle.vsi_lattice.specs.LatticeView.{order};
 ghost use Rattle.vsi_lattice.specs.Order.{IsClass};
 ghost use Rattle.vsi_subject.specs.Partly.{Partly};
@@ -12,6 +13,7 @@ ghost use Rattle.vsi_subject.specs.Served.{Serves, unended_line};
 ghost use Rattle.vsi_subject.specs.Failures.{TellsFault, status_of};
 ghost use Rattle.vsi_devices.specs.Counted.{device_of, faults_of};
 ghost use Rattle.vsi_client.specs.Frames.{AreFrames};
+ghost use Rattle.vsi_policy.specs.Named as named;
 
 use crate::running::keep_settings;
 use std::alloc::{AllocError, Global};
@@ -28,8 +30,39 @@ use vsi_subject::{
     made_image, profile, two_classes, viewer_of, whole_in, write,
 };
 
-/// The lattice that a text is tried under: that of the given file, else that of the file that the
-/// text names, or `L` below `H` if it names none.
+/// The lattice of a file that is named beside a source text.
+fn lattice_beside<'a, F: Files>(
+    subject: &Subject<'_, F>,
+    source: &str,
+    path: &[u8],
+) -> Fallible<'a, Lattice>
+    ensures read { IfOk result
+        (IsLatticeAt (F.holds subject.now.files.now) (policy_path source.now path.now)) }
+    ensures failed { IfErr result (FailsBy (RefusesLattice (F.holds subject.now.files.now)
+        (policy_path source.now path.now)) NoOther) }
+{
+    let bytes = subject.named_bytes(source, path)?;
+    declared_lattice(subject.alloc, bytes.as_slice())
+}
+
+/// The lattice of the file that a text names, or `L` below `H` if it names none.
+fn own_lattice<'a, F: Files>(
+    subject: &Subject<'_, F>,
+    source: &str,
+    text: &[u8],
+) -> Fallible<'a, Lattice>
+    ensures declared { IfOk result
+        (IsNamedLattice (F.holds subject.now.files.now) source.now (named.named_policy text.now)) }
+    ensures failed { IfErr result (FailsBy (RefusesNamed (F.holds subject.now.files.now) source.now
+        (named.named_policy text.now)) NoOther) }
+{
+    match named_policy(text) {
+        Some(path) => lattice_beside(subject, source, path),
+        None => two_classes(subject.alloc),
+    }
+}
+
+/// The lattice that a text is tried under: that of the given file, or else the text's own.
 fn lattice_for<'a, F: Files>(
     subject: &Subject<'_, F>,
     lattice: Option<&'a str>,
@@ -41,14 +74,10 @@ fn lattice_for<'a, F: Files>(
     ensures failed { IfErr result (FailsBy
         (RefusesUnder (F.holds subject.now.files.now) lattice.entry source.now text.now) NoOther) }
 {
-    if let Some(path) = lattice {
-        return subject.lattice_in(path);
+    match lattice {
+        Some(path) => subject.lattice_in(path),
+        None => own_lattice(subject, source, text),
     }
-    let Some(named) = named_policy(text) else {
-        return two_classes(subject.alloc);
-    };
-    let bytes = subject.named_bytes(source, named)?;
-    declared_lattice(subject.alloc, bytes.as_slice())
 }
 
 /// The output of the run of the source text.
@@ -251,13 +280,32 @@ fn serve_bytes<'a, F: Files, W: Write>(
         let Some(message) = server.next_message()? else {
             return Ok(());
         };
-        let bytes = replies(alloc, server, &message, files)?;
-        write(&bytes, output)?;
+        serve_message(alloc, server, &message, files, output)?;
         if server.has_exited() {
             return Ok(());
         }
     }
     Ok(())
+}
+
+/// Carries out a message, and writes the messages that it causes.
+fn serve_message<'a, F: Files, W: Write>(
+    alloc: Global,
+    server: &mut Server,
+    message: &[u8],
+    files: &F,
+    output: &mut Counted<W>,
+) -> Fallible<'a, ()>
+    requires output { faults_of output.old < u64.MAX }
+    ensures fault { TellsFault (faults_of output.old) (faults_of output.new) result }
+    ensures failure { IfErr result (λ failure. 3 < status_of failure) }
+    ensures served { OnOk result
+        (Serves (W.contents (device_of output.old)) (W.contents (device_of output.new))) }
+    ensures cut { IfErr result (λ _. Partly AreFrames
+        (W.contents (device_of output.old)) (W.contents (device_of output.new))) }
+{
+    let bytes = replies(alloc, server, message, files)?;
+    write(&bytes, output)
 }
 
 /// Carries out a message, and returns the messages that it causes.
