@@ -7,13 +7,13 @@
 //! a file is refused. `command` carries out the arguments of a command line. The types inside
 //! errors, such as `LexError` or a `Walk` of `Step`s, are exported here too.
 //!
-//! To be believed: `specs/Laws`, and of `specs/` of `vsi_subject` `Words`, `Holding`, `Loading`,
-//! `Driven`, `State`, `Tried`, `Shaping`, `Seeing`, `Laying`, `Raises`, `Documents`, `Admitted`,
-//! `Served`, `Files`, `Interfaces`, `Filed`, `Visible`, `Boundaries`, `Steering`, `Feeding`,
-//! `Viewing`, `Performed`, `Refusals`, `Undriven`, `Reasons`, `Partly`, `FaultyFiles`, `Diagnosing`,
-//! `Done`, `Screen`, `Objections`, `Works` and `Input`, of `Failures` all but `FailsFor`, of `Noted`
-//! all but `Notes` and `NotesAnswer`, and of `Saved` its second part; its first part and `Walked`
-//! are stepping stones of proofs.
+//! To be believed: `specs/Laws`, and these files of `vsi_subject/specs`: `Words`, `Holding`,
+//! `Loading`, `Driven`, `State`, `Tried`, `Shaping`, `Seeing`, `Laying`, `Raises`, `Documents`,
+//! `Admitted`, `Served`, `Files`, `Interfaces`, `Filed`, `Visible`, `Boundaries`, `Steering`,
+//! `Feeding`, `Viewing`, `Performed`, `Refusals`, `Undriven`, `Reasons`, `Partly`, `FaultyFiles`,
+//! `Diagnosing`, `Done`, `Screen`, `Objections`, `Works`, `Input`, `Failures` but `FailsFor`, `Noted`
+//! but `Notes` and `NotesAnswer`, and the second part of `Saved`. Its first part and `Walked` are
+//! lemmas of the proofs.
 #![tactic(auto)]
 
 mod answers;

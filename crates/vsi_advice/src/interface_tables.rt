@@ -188,7 +188,7 @@ impl<'t> Interface<'t> {
         None
     }
 
-    /// Explains a table of words that isn't valid.
+    /// Explains the faulty table at a key of a run, whose values should be whole numbers.
     fn bad_words(self, telling: &mut Telling<'_>, number: usize, key: &'t str) -> Told {
         let (within, counted) = (Part::Quoted(key.as_bytes()), Part::Number(number));
         if let Some(name) = self.faulty_word(number, key) {

@@ -113,7 +113,8 @@ type Rule = (
 
 /// Rules, as rows.
 macro_rules! rules {
-    ($($subcommand:literal $argument:literal $needs:ident [$($other:literal)*] $mistake:literal;)*) => {
+    ($($subcommand:literal $argument:literal $needs:ident
+    [$($other:literal)*] $mistake:literal;)*) => {
         [$(($subcommand, $argument, stringify!($needs), &[$($other),*], $mistake)),*]
     };
 }
