@@ -101,21 +101,23 @@ const NUMBERS: [(&str, &str); 4] = numbers! {
 const BUDGET_OR_AUTO: &str =
     "--budget takes `auto`, or a number from 0 to 18446744073709551615, in digits alone";
 
-/// A subcommand, or `*` for each that has the arguments; an argument; whether it `needs` one of some
-/// others or is `without` them all; these; and the mistake if it isn't so.
+/// A subcommand, or `*` for each that has the arguments; an argument; whether it needs one of the
+/// others, or goes with none of them; the others; and the mistake if the rule is broken.
 type Rule = (
     &'static str,
     &'static str,
-    &'static str,
+    bool,
     &'static [&'static str],
     &'static str,
 );
 
 /// Rules, as rows.
 macro_rules! rules {
+    (@ needs) => { true };
+    (@ without) => { false };
     ($($subcommand:literal $argument:literal $needs:ident
     [$($other:literal)*] $mistake:literal;)*) => {
-        [$(($subcommand, $argument, stringify!($needs), &[$($other),*], $mistake)),*]
+        [$(($subcommand, $argument, rules! { @ $needs }, &[$($other),*], $mistake)),*]
     };
 }
 
@@ -168,7 +170,7 @@ fn broken_rule(name: &str, matches: &ArgMatches<'_>) -> Option<&'static str> {
     for (subcommand, argument, needs, others, mistake) in &RULES {
         if (*subcommand == "*" || *subcommand == name)
             && is_given(matches, argument)
-            && others.iter().any(|other| is_given(matches, other)) != (*needs == "needs")
+            && others.iter().any(|other| is_given(matches, other)) != *needs
         {
             return Some(*mistake);
         }
