@@ -14,11 +14,11 @@ use Rattle.vsi_types.specs.declared.rules.Profile.{Profile}
 use Rattle.vsi_image.specs.declared.instr.Image.{Image}
 use Rattle.vsi_image.specs.Fields.{Fields, fields, global}
 use Rattle.vsi_store.specs.View.{Views}
-use Rattle.vsi_store.specs.declared.views.View.TheVariants.{Text}
+use Rattle.vsi_store.specs.declared.endings.View.TheVariants.{Text}
 use Rattle.vsi_compiler.specs.Observation.{AgreeAt, IsStoreOf}
 use Rattle.vsi_drive.specs.Starts.{Begins}
-use Rattle.vsi_devices.specs.Building.{IsBuilt}
-use Rattle.vsi_devices.specs.Engine.{IsReadFrom}
+use Rattle.vsi_drive.specs.Building.{IsBuilt}
+use Rattle.vsi_drive.specs.Engine.{IsReadFrom}
 use Rattle.vsi_answers.specs.Judged.{AreImage, Declares}
 use Rattle.vsi_answers.specs.Requests.{BuildsTo, ViewsTo}
 use Rattle.vsi_answers.proofs.Agreement as answers

@@ -12,7 +12,7 @@ use Rattle.vsi_image.proofs.Globals.{name_short}
 use Rattle.vsi_lattice.specs.Order.{Lattice}
 use Rattle.vsi_lattice.specs.Known.{Known}
 use Rattle.vsi_types.specs.declared.rules.Profile.{Profile}
-use Rattle.vsi_devices.specs.Building.{IsBuilt}
+use Rattle.vsi_drive.specs.Building.{IsBuilt}
 use Rattle.vsi_subject.specs.Holding.{Holding, HoldsAt, IsReadAt}
 
 -- An instruction has nine bytes at most.

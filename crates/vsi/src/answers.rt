@@ -9,14 +9,14 @@ ghost use Rattle.std.specs.Io.KnownBytes.{Appends};
 ghost use Rattle.vsi_subject.specs.Failures.{TellsFault, status_of};
 ghost use Rattle.vsi_subject.specs.Partly.{WritesPart, AnswersText, Leaves};
 ghost use Rattle.vsi_subject.specs.Works.{Puts, Stays, out_of, cut_of, document_spends, end_of, spends};
-ghost use Rattle.vsi_devices.specs.Counted.{device_of, faults_of};
+ghost use Rattle.vsi_drive.specs.Counted.{device_of, faults_of};
 ghost use Rattle.vsi_subject.specs.Works as spec;
 
 use std::alloc::Global;
 use std::io::Write;
 use vsi_arguments::{Audit, Document, Request};
-use vsi_devices::Counted;
 use vsi_documents::Reply;
+use vsi_drive::Counted;
 use vsi_lattice::Lattice;
 use vsi_requests::{
     audit, audit_document, bound, built, check, checked_sarif, classes, classes_line, conform,

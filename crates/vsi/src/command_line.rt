@@ -10,7 +10,7 @@ ghost use Rattle.vsi_subject.specs.Saved.{KeepsStateOf};
 ghost use Rattle.vsi_subject.specs.Screen.{tamed, tamed as tamed_text};
 ghost use Rattle.vsi_subject.specs.Failures.{note_after, status_of, text_of_failure, Gets, IsStreamFault, FailsFor, TellsFault};
 ghost use Rattle.vsi_answers.specs.Requests.{RunsSourceTo};
-ghost use Rattle.vsi_devices.specs.Counted.{device_of, faults_of};
+ghost use Rattle.vsi_drive.specs.Counted.{device_of, faults_of};
 ghost use Rattle.vsi_subject.specs.Screen as screen_spec;
 ghost use Rattle.vsi_subject.specs.Words as spec;
 ghost use Rattle.vsi_telling.specs.Safe as safe;
@@ -18,7 +18,7 @@ ghost use Rattle.vsi_telling.specs.Safe as safe;
 use crate::requests::carry_out;
 use std::alloc::{AllocError, Global};
 use std::io::{Read, Write};
-use vsi_devices::{Counted, read_all, write_out};
+use vsi_drive::{Counted, read_all, write_out};
 use vsi_lattice::Lattice;
 use vsi_subject::{Failure, Fallible, Files, STREAM, answered, device_failure, two_classes, write};
 

@@ -4,7 +4,7 @@ ghost use Rattle.std.specs.Prelude.{◌≡◌, ◌<◌, ◌⊎◌, true, IfSome,
 ghost use Rattle.std.specs.Io.KnownBytes.{Appends};
 ghost use Rattle.vsi_subject.specs.Failures.{status_of};
 ghost use Rattle.vsi_subject.specs.Partly.{WritesPart};
-ghost use Rattle.vsi_devices.specs.Counted.{device_of, faults_of};
+ghost use Rattle.vsi_drive.specs.Counted.{device_of, faults_of};
 ghost use Rattle.vsi_subject.specs.FaultyFiles.{IsRefusalBy};
 ghost use Rattle.vsi_diagnostics.specs.View.{diagnostic_of};
 ghost use Rattle.vsi_subject.specs.Diagnosing as spec;
@@ -15,10 +15,9 @@ use std::io::Write;
 use vsi_answers::Cause;
 use vsi_arguments::{AnswerForm, Document, Request};
 use vsi_conform::{audit_diagnostic, steady_diagnostic, unsteady_diagnostic};
-use vsi_devices::Counted;
 use vsi_diagnostics::{Diagnostic, Field, fault_diagnostic, line_text, refusal_diagnostic};
 use vsi_documents::{refused_interface_json, refused_json};
-use vsi_drive::{BoundaryFault, LineFault, StartFault};
+use vsi_drive::{BoundaryFault, Counted, LineFault, StartFault};
 use vsi_subject::{Failure, Inputs, source_of, write};
 
 /// The refusal of a setting.

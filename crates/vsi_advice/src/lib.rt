@@ -6,18 +6,16 @@
 #![tactic(auto)]
 
 ghost use Rattle.std.specs.Prelude.{◌≡◌, IfOk, true};
-ghost use Rattle.vsi_telling.specs.declared.colour_mode.ColourMode.TheVariants.{Plain};
+ghost use Rattle.vsi_telling.specs.declared.place.ColourMode.TheVariants.{Plain};
 ghost use Rattle.vsi_telling.specs.Safe.{all_plain};
 
-mod audits;
+mod images;
 mod interface_tables;
 mod interfaces;
-mod shared;
 mod starts;
 
-use audits::Judged;
+use images::{Judged, of_shared};
 use interfaces::of_interface;
-use shared::of_shared;
 use starts::of_start;
 use std::alloc::{AllocError, Global};
 use vsi_audit::AuditError;

@@ -7,7 +7,7 @@ use Rattle.vsi_image.specs.Fields.{Fields, fields, global, globals}
 use Rattle.vsi_image.proofs.Images.{spelled-is_read}
 use Rattle.vsi_image.specs.Reading.{image_of}
 use Rattle.vsi_compiler.proofs.Profiles.{strict_implies_base}
-use Rattle.vsi_devices.proofs.Seen as devices
+use Rattle.vsi_drive.proofs.Seen as devices
 use Rattle.vsi_answers.specs.declared.unanswered.Cause.TheVariants.{Source, File, Start, Steady, Raised}
 use Rattle.vsi_answers.specs.Laws.{AcceptedIsAccepted, BuiltIsAccepted, SameView, StrictIsBase}
 use Rattle.vsi_answers.proofs.Views.{same_fields, view_moved}

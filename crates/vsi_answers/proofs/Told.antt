@@ -1,10 +1,10 @@
 -- A refusal for one error is a refusal for each kind to which the error belongs.
 use Rattle.std.proofs.Common.{◌≡◌, ◌≢◌, ◌⊎◌, ℕ, List, Ok, Err, inl, inr, refl, sym, subst, ◌∙◌}
 use Rattle.vsi_lattice.specs.declared.lattice.Lattice.{Lattice}
-use Rattle.vsi_compiler.specs.declared.error.CompileError.{CompileError}
-use Rattle.vsi_compiler.specs.declared.error.CompileError.TheVariants as compiler
+use Rattle.vsi_compiler.specs.declared.source.CompileError.{CompileError}
+use Rattle.vsi_compiler.specs.declared.source.CompileError.TheVariants as compiler
 use Rattle.vsi_diagnostics.specs.declared.diagnostic.Fault.{Fault}
-use Rattle.vsi_drive.specs.declared.starts.StartFault.{StartFault}
+use Rattle.vsi_drive.specs.declared.boundary.StartFault.{StartFault}
 use Rattle.vsi_answers.specs.declared.unanswered.Unanswered.{Unanswered}
 use Rattle.vsi_answers.specs.declared.unanswered.Unanswered.TheVariants.{Refused, OutOfBudget, Memory}
 use Rattle.vsi_answers.specs.declared.unanswered.Cause.TheVariants.{Source, File, Start, Steady, Raised}
@@ -23,7 +23,7 @@ use Rattle.vsi_compiler.specs.Refusal.{RefusesProgram}
 use Rattle.vsi_compiler.specs.Source.{Reads}
 use Rattle.vsi_compiler.proofs.Held.{program_refused}
 use Rattle.vsi_steady.specs.Source.{RefusesSteady}
-use Rattle.vsi_steady.specs.declared.unsteady.UnsteadyError.TheVariants as unsteady
+use Rattle.vsi_steady.specs.declared.source.UnsteadyError.TheVariants as unsteady
 use Rattle.vsi_diagnostics.specs.Texts.{IsRefusalText}
 use Rattle.vsi_answers.specs.Judged.{IsCompileFault, IsSteadyText, TellsFault, TellsRaised, TellsSource}
 use Rattle.vsi_answers.specs.Requests.{Answer, RunsSourceTo, RunsTo, zeros}

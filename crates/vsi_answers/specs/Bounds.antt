@@ -8,8 +8,8 @@ use Rattle.vsi_scope.specs.Meaning.{Store}
 use Rattle.vsi_machine.specs.Bound.{AlwaysHalts, Answers}
 use Rattle.vsi_machine.specs.declared.bound.Bound.{Bound}
 use Rattle.vsi_machine.specs.declared.bound.Bound.TheVariants.{Halts, Endless, Unstructured, TooLarge}
-use Rattle.vsi_machine.specs.declared.reasons.Reason.{Reason}
-use Rattle.vsi_machine.specs.declared.reasons.Reason.TheVariants.{Guard, Start, Step, Wraps}
+use Rattle.vsi_machine.specs.declared.bound.Reason.{Reason}
+use Rattle.vsi_machine.specs.declared.bound.Reason.TheVariants.{Guard, Start, Step, Wraps}
 use Rattle.vsi_answers.specs.declared.bounds.BoundAnswer.{BoundAnswer}
 use Rattle.vsi_answers.specs.declared.bounds.Place.{Place}
 

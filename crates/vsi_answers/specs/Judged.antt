@@ -5,8 +5,8 @@ use Rattle.vsi_lattice.specs.FileFaults.{ExplainsLattice, IsAccepted, IsRead}
 use Rattle.vsi_lattice.specs.LatticeView.{class_named, names, order}
 use Rattle.vsi_lattice.specs.Shape.{File, IsFile}
 use Rattle.vsi_lattice.specs.declared.lattice.Lattice.{Lattice}
-use Rattle.vsi_lattice.specs.declared.fault.LatticeError.{LatticeError}
-use Rattle.vsi_lattice.specs.declared.fault.LatticeError.TheVariants as lattice
+use Rattle.vsi_lattice.specs.declared.reader.LatticeError.{LatticeError}
+use Rattle.vsi_lattice.specs.declared.reader.LatticeError.TheVariants as lattice
 use Rattle.vsi_types.specs.declared.rules.Profile.{Profile}
 use Rattle.vsi_image.specs.declared.instr.Image.{Image}
 use Rattle.vsi_image.specs.declared.decoder.DecodeError.TheVariants as decoder
@@ -17,21 +17,21 @@ use Rattle.vsi_image.specs.Valid.{IsValid}
 use Rattle.vsi_store.specs.File.{IsRefusal}
 use Rattle.vsi_store.specs.View.{first_unknown}
 use Rattle.vsi_store.specs.declared.reader.StoreError.TheVariants as store
-use Rattle.vsi_store.specs.declared.views.ViewError.TheVariants as views
+use Rattle.vsi_store.specs.declared.endings.ViewError.TheVariants as views
 use Rattle.vsi_compiler.specs.Headline.{IsImageOf}
 use Rattle.vsi_compiler.specs.Readable.{HasProgram}
 use Rattle.vsi_compiler.specs.Refusal.{IsRefused, RefusesProgram, RefusesTree}
 use Rattle.vsi_compiler.specs.Source.{Reads}
-use Rattle.vsi_compiler.specs.declared.error.CompileError.{CompileError}
-use Rattle.vsi_compiler.specs.declared.error.CompileError.TheVariants as compiler
+use Rattle.vsi_compiler.specs.declared.source.CompileError.{CompileError}
+use Rattle.vsi_compiler.specs.declared.source.CompileError.TheVariants as compiler
 use Rattle.vsi_types.specs.declared.rules.Step.{Step}
 use Rattle.vsi_steady.specs.Source.{ExplainsLoopedWalk}
 use Rattle.vsi_steady.specs.Telling.{IsUnsteadyText}
-use Rattle.vsi_steady.specs.declared.error.SteadyError.{SteadyError}
-use Rattle.vsi_steady.specs.declared.unsteady.UnsteadyError.{UnsteadyError}
-use Rattle.vsi_steady.specs.declared.unsteady.UnsteadyError.TheVariants as unsteady
+use Rattle.vsi_steady.specs.declared.check.SteadyError.{SteadyError}
+use Rattle.vsi_steady.specs.declared.source.UnsteadyError.{UnsteadyError}
+use Rattle.vsi_steady.specs.declared.source.UnsteadyError.TheVariants as unsteady
 use Rattle.vsi_drive.specs.Starts.{IsStartFault, start_fault_line}
-use Rattle.vsi_drive.specs.declared.starts.StartFault.{StartFault}
+use Rattle.vsi_drive.specs.declared.boundary.StartFault.{StartFault}
 use Rattle.vsi_diagnostics.specs.Files.{fault_diagnostic}
 use Rattle.vsi_diagnostics.specs.Texts.{IsRefusalText, text_of}
 use Rattle.vsi_diagnostics.specs.declared.diagnostic.Fault.{Fault}

@@ -14,7 +14,7 @@ use Rattle.vsi_store.specs.Compare.{Compares}
 use Rattle.vsi_store.specs.Text.{store_text_of}
 use Rattle.vsi_store.specs.View.{Views}
 use Rattle.vsi_store.specs.declared.comparing.Comparison.{Comparison}
-use Rattle.vsi_store.specs.declared.views.View.TheVariants as view
+use Rattle.vsi_store.specs.declared.endings.View.TheVariants as view
 use Rattle.vsi_compiler.specs.Acceptance.{IsAccepted}
 use Rattle.vsi_compiler.specs.Classes.{IsClassText}
 use Rattle.vsi_compiler.specs.Headline.{IsCompiled}
@@ -22,7 +22,7 @@ use Rattle.vsi_compiler.specs.Source.{IsCanonicalText}
 use Rattle.vsi_steady.specs.Source.{HasSteadyFlows, RefusesSteady}
 use Rattle.vsi_steady.specs.Steady.{IsSteady}
 use Rattle.vsi_drive.specs.Starts.{Begins}
-use Rattle.vsi_devices.specs.Building.{IsBuilt}
+use Rattle.vsi_drive.specs.Building.{IsBuilt}
 use Rattle.vsi_flows.specs.Text.{IsTableText, IsWalksText}
 use Rattle.vsi_flows.specs.Answers.{IsRaiseText, IsRaisedText, RefusesRaise, RefusesRaised}
 use Rattle.vsi_answers.specs.declared.unanswered.Unanswered.{Unanswered}

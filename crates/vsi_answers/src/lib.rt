@@ -9,14 +9,13 @@
 
 mod bounds;
 pub mod laws;
-mod runs;
 mod texts;
 mod unanswered;
 
 pub use bounds::{
-    BoundAnswer, Place, bound, bound_in, declared_lattice, enough_budget, judged_image, list,
+    BoundAnswer, Place, bound, bound_in, compare, declared_lattice, enough_budget, judged_image,
+    list, run, run_source, start_words, view,
 };
-pub use runs::{compare, run, run_source, start_words, view};
 pub use texts::{
     apply, build, check, check_steady, classes, flows, format, image_text, image_text_of,
     looped_text, looped_text_of, mend,

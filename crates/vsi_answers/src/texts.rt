@@ -4,7 +4,7 @@ ghost use Rattle.std.specs.Prelude.{◌≡◌, ◌≢◌, IfOk};
 ghost use Rattle.vsi_lattice.specs.LatticeView.{class_named, order};
 ghost use Rattle.vsi_types.specs.declared.rules.Profile.{Profile};
 ghost use Rattle.vsi_compiler.specs.Refusal.{RefusesProgram};
-ghost use Rattle.vsi_compiler.specs.declared.error.CompileError.TheVariants.{Memory};
+ghost use Rattle.vsi_compiler.specs.declared.source.CompileError.TheVariants.{Memory};
 ghost use Rattle.vsi_steady.specs.Source.{RefusesSteady};
 ghost use Rattle.vsi_flows.specs.Answers.{RefusesRaisedText};
 ghost use Rattle.vsi_answers.specs.Answers.{Because};
@@ -16,8 +16,8 @@ use std::alloc::{AllocError, Global};
 use vsi_compiler::{
     CompileError, Source, classes_text_of, format_text, image_of, judge, read_source,
 };
-use vsi_devices::{EngineError, image_bytes_of};
 use vsi_diagnostics::{refusal_text, refusal_text_of};
+use vsi_drive::{EngineError, image_bytes_of};
 use vsi_flows::{RaisedError, flows_text_in, raise_lines_in, raised_text_in};
 use vsi_infer::Walk;
 use vsi_lattice::Lattice;

@@ -6,14 +6,12 @@ ghost use Rattle.vsi_arguments.specs.Pages as pages_spec;
 ghost use Rattle.vsi_arguments.specs.Refusals as spec;
 
 mod image;
-mod lattice;
 mod store;
 mod subjects;
 mod text;
 
 use crate::arguments::number_in;
-use image::IMAGE;
-use lattice::LATTICE;
+use image::{IMAGE, LATTICE};
 use store::STORE;
 pub use subjects::subject_page;
 use text::TEXT;

@@ -13,7 +13,6 @@ mod arguments;
 mod explained;
 pub mod laws;
 mod manner;
-mod message;
 mod pages;
 mod programs;
 mod request;

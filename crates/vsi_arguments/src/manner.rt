@@ -2,9 +2,8 @@
 
 use crate::arguments::number_in;
 use crate::explained::named_page;
-use crate::message::message;
 use crate::request::{Colour, Manner, Reporting};
-use crate::usage::program;
+use crate::usage::{message, program};
 use clap::ArgMatches;
 use clap::error::ErrorKind;
 use clap::parser::ValueSource;

@@ -4,8 +4,8 @@ use Rattle.std.proofs.lemmas.Bool.{cases_lt, cases_order}
 use Rattle.std.proofs.lemmas.Option.{slice_get_within, get_or_from_slice_get}
 use Rattle.vsi_image.specs.declared.instr.Instr.{Instr}
 use Rattle.vsi_image.specs.declared.instr.Instr.TheVariants.{Push, Load, Store, Jz, Jmp, Halt}
-use Rattle.vsi_syntax.specs.declared.operator.Op.{Op}
-use Rattle.vsi_syntax.specs.declared.operator.Op.TheVariants as o
+use Rattle.vsi_syntax.specs.declared.tree.Op.{Op}
+use Rattle.vsi_syntax.specs.declared.tree.Op.TheVariants as o
 use Rattle.vsi_syntax.specs.declared.token.Span.{Span}
 use Rattle.vsi_scope.specs.Language.{Expression, Number, Location, Operator, Command, Skip, Assign, Sequence, If, While, Letvar, HasLocations, HasPlaces, expression_size, expression_depth, expressions_depth, nesting, size, depth, letvars}
 use Rattle.vsi_code.specs.Layout.{op_code, expression_code, code_at}

@@ -2,7 +2,7 @@
 use Rattle.std.specs.Prelude.{◌≡◌, ℕ, ◌+◌, ◌-◌, ◌<◌, ◌≤◌, List, length, slice_get, Option, Some, None, Bool, true, false, ℤ, ◌==◌}
 use Rattle.vsi_image.specs.declared.instr.Instr.{Instr}
 use Rattle.vsi_image.specs.declared.instr.Instr.TheVariants as i
-use Rattle.vsi_syntax.specs.declared.operator.Op.{Op}
+use Rattle.vsi_syntax.specs.declared.tree.Op.{Op}
 use Rattle.vsi_scope.specs.Language.{Command, HasPlaces, size, nesting, expressions_depth, letvars}
 use Rattle.vsi_code.specs.Layout.{op_code, code_at}
 use Rattle.vsi_audit.specs.Coding.{StandsAt}

@@ -1,23 +1,22 @@
-//! The judgement of an image.
+//! The judgement of an image, whose commands are within the limits of a resolved program.
 
-ghost use Rattle.std.specs.Prelude.{◌≡◌, ℕ, ◌+◌, ◌≤◌, true, None, All, IfOk, IfErr, OnOk, length};
+ghost use Rattle.std.specs.Prelude.{◌≡◌, true, IfSome, ℕ, ◌+◌, ◌≤◌, None, All, IfOk, IfErr, OnOk, length};
+ghost use Rattle.vsi_scope.specs.View.{expression, command, sequence};
+ghost use Rattle.vsi_audit.specs.Fitting.{Fits, FitsExpression};
 ghost use Rattle.vsi_image.specs.Fields.{fields, Spells};
 ghost use Rattle.vsi_image.specs.Valid.{IsValid};
 ghost use Rattle.vsi_lattice.specs.LatticeView.{class_named, order};
 ghost use Rattle.vsi_scope.specs.Language.{size};
 ghost use Rattle.vsi_scope.specs.Program.{IsResolved};
 ghost use Rattle.vsi_scope.specs.Resolving.{AreBelow, HasClassesBelow};
-ghost use Rattle.vsi_scope.specs.View.{sequence};
 ghost use Rattle.vsi_types.specs.declared.rules.Profile.TheVariants.{Strict};
 ghost use Rattle.vsi_code.specs.Behaves.{Behaves};
 ghost use Rattle.vsi_compiler.specs.Observation.{IsNoninterfering, EndsAlike};
-ghost use Rattle.vsi_audit.specs.Fitting.{Fits};
 ghost use Rattle.vsi_audit.specs.Refusal.{Refuses};
 ghost use Rattle.vsi_audit.specs.Standing.{HasKnownClasses, HaveClasses, StandsFor};
 ghost use Rattle.vsi_audit.specs.Unread.{IsUnread};
 
 use crate::builder::{Commands, MAX_DECLARATIONS, commands_of};
-use crate::fitting::fit_all;
 use crate::flow::{AuditError, Unread};
 use crate::lasting::lasting_commands;
 use crate::names::{declarations, declared_program, unknown_class};
@@ -27,9 +26,87 @@ use vsi_code::generate;
 use vsi_image::{EncodeError, Image, Verified, encode};
 use vsi_infer::{InferError, infer_in};
 use vsi_lattice::Lattice;
-use vsi_scope::{Cmd, Entry, Resolved, size};
+use vsi_scope::{Cmd, Entry, Ex, Resolved, size};
 use vsi_syntax::MAX_DEPTH;
 use vsi_types::Profile;
+
+/// Whether an expression reads only the first slots and is no deeper than the room.
+fn fits_expression(e: &Ex, scope: u16, room: u16) -> bool
+    ensures { result ≡ true → FitsExpression scope room (expression e.now) }
+{
+    match e {
+        Ex::Num(_) => true,
+        Ex::Loc(location, _) => *location < scope,
+        Ex::Op(_, left, right) => {
+            if room == 0 {
+                return false;
+            }
+            if !fits_expression(left, scope, room - 1) {
+                return false;
+            }
+            fits_expression(right, scope, room - 1)
+        }
+    }
+}
+
+/// The number of letvars of commands, if their locations exist with `scope` slots in scope and they
+/// are no deeper than the room; none otherwise.
+#[cycle(fitting)]
+pub(crate) fn fit_all(body: &[Cmd], scope: u16, room: u16) -> Option<u32>
+    ensures { IfSome result (λ n. Fits scope room n (sequence body.now)) }
+{
+    let mut letvars: u32 = 0;
+    for c in body {
+        let more = fit_one(c, scope, room)?;
+        letvars = letvars.checked_add(more)?;
+    }
+    Some(letvars)
+}
+
+#[cycle(fitting)]
+fn fit_one(c: &Cmd, scope: u16, room: u16) -> Option<u32>
+    ensures { IfSome result (λ n. Fits scope room n (command c.now)) }
+{
+    match c {
+        Cmd::Assign { loc, value, .. } => {
+            if *loc >= scope {
+                return None;
+            }
+            if !fits_expression(value, scope, room) {
+                return None;
+            }
+            Some(0)
+        }
+        Cmd::If { guard, yes, no } => {
+            let inner = room.checked_sub(1)?;
+            if !fits_expression(guard, scope, inner) {
+                return None;
+            }
+            let first = fit_all(yes, scope, inner)?;
+            let second = fit_all(no, scope, inner)?;
+            let letvars = first.checked_add(second)?;
+            Some(letvars)
+        }
+        Cmd::While { guard, body } => {
+            let inner = room.checked_sub(1)?;
+            if !fits_expression(guard, scope, inner) {
+                return None;
+            }
+            let letvars = fit_all(body, scope, inner)?;
+            Some(letvars)
+        }
+        Cmd::Letvar { value, body } => {
+            let inner = room.checked_sub(1)?;
+            if !fits_expression(value, scope, inner) {
+                return None;
+            }
+            let above = scope.checked_add(1)?;
+            let inside = fit_all(body, above, inner)?;
+            let letvars = inside.checked_add(1)?;
+            Some(letvars)
+        }
+    }
+}
 
 /// The largest size of a program's body.
 const MAX_SIZE: u32 = 65_534;

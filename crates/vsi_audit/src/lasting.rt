@@ -4,7 +4,7 @@
 ghost use Rattle.std.specs.Prelude.{◌≡◌, ℕ, [], ◌∷◌, ◌+◌, ◌-◌, ◌<◌, ◌≤◌, None, Some, true, IfSome, IfOk, IfErr, length, slice_get};
 ghost use Rattle.vsi_scope.specs.Language.{expression_size, letvars};
 ghost use Rattle.vsi_scope.specs.View.{expression, command, sequence};
-ghost use Rattle.vsi_syntax.specs.declared.operator.Op.{Op as Operator};
+ghost use Rattle.vsi_syntax.specs.declared.tree.Op.{Op as Operator};
 ghost use Rattle.vsi_code.specs.Layout.{expression_code};
 ghost use Rattle.vsi_audit.specs.Coding.{StandsAt};
 ghost use Rattle.vsi_audit.specs.Fitting.{FitsExpression};

@@ -16,8 +16,6 @@
 
 mod audit;
 mod builder;
-mod coding;
-mod fitting;
 mod flow;
 mod lasting;
 pub mod laws;

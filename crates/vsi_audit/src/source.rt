@@ -6,10 +6,9 @@ ghost use Rattle.vsi_scope.specs.View.{sequence};
 ghost use Rattle.vsi_audit.specs.Text.{IsWritten, IsSourceText};
 
 use crate::builder::{Commands, commands_of};
-use crate::coding::is_code_of;
 use crate::flow::AuditError;
 use crate::names::{Names, declares, put_declarations};
-use crate::writing::{InScope, check_all};
+use crate::writing::{InScope, check_all, is_code_of};
 use std::alloc::{AllocError, Global};
 use vsi_image::{Image, Verified};
 use vsi_scope::{Cmd, Ex};

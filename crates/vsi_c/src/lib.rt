@@ -10,6 +10,3 @@
 #![tactic(auto)]
 
 mod calls;
-mod cells;
-mod loading;
-mod turns;

@@ -1,7 +1,7 @@
 -- A text with a name in place of each mention of a variable.
 use Rattle.std.specs.Prelude.{ℕ, ◌-◌, ◌==◌, ◌≤◌, List, [], ◌∷◌, ◌++◌, map, filter, take, drop}
 use Rattle.vsi_syntax.specs.declared.token.Span.{Span}
-use Rattle.vsi_client.specs.declared.mentions.Mention.{Mention}
+use Rattle.vsi_client.specs.declared.renaming.Mention.{Mention}
 
 -- The parts of a text that mention a variable.
 abbrev pub parts_of : ℕ → List Mention → List Span

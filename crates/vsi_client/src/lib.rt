@@ -18,15 +18,11 @@
 #![tactic(auto)]
 
 mod changes;
-mod marks;
-mod mentions;
 mod pieces;
 mod places;
 mod renaming;
 
 pub use changes::{Change, changed_by};
-pub use marks::Marked;
-pub use mentions::{Mention, mentions_of};
 pub use pieces::{Piece, next_piece, path_beside};
-pub use places::{Encoding, Place, Range, offset_of, place_of, range_of};
-pub use renaming::rename;
+pub use places::{Encoding, Marked, Place, Range, offset_of, place_of, range_of};
+pub use renaming::{Mention, mentions_of, rename};

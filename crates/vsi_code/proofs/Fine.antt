@@ -11,8 +11,8 @@ use Rattle.vsi_image.specs.declared.instr.Image.{Image}
 use Rattle.vsi_image.specs.Effects.{takes, left, slot_of, target_of, leaves_none, goes_off, depth_after, depth_at}
 use Rattle.vsi_image.specs.Fields.{fields, IsAllowed}
 use Rattle.vsi_image.specs.Valid.{IsFine, IsValid}
-use Rattle.vsi_syntax.specs.declared.operator.Op.{Op}
-use Rattle.vsi_syntax.specs.declared.operator.Op.TheVariants.{Add, Sub, Mul, Eq, Lt}
+use Rattle.vsi_syntax.specs.declared.tree.Op.{Op}
+use Rattle.vsi_syntax.specs.declared.tree.Op.TheVariants.{Add, Sub, Mul, Eq, Lt}
 use Rattle.vsi_scope.specs.Language.{Expression, Number, Location, Operator, Command, Skip, Assign, Sequence, If, While, Letvar, HasLocations, HasPlaces, expression_size, size, nesting}
 use Rattle.vsi_code.specs.Needs.{IsGreatestDepth, expression_height, height}
 use Rattle.vsi_code.specs.Layout.{op_code, expression_code, code_at, whole_code}

@@ -11,8 +11,8 @@ use Rattle.vsi_image.specs.declared.instr.Instr.{Instr}
 use Rattle.vsi_image.specs.declared.instr.Instr.TheVariants.{Push, Load, Store, Jz, Jmp}
 use Rattle.vsi_image.specs.Meaning.{State, going, acted}
 use Rattle.vsi_syntax.specs.Operators.{apply}
-use Rattle.vsi_syntax.specs.declared.operator.Op.{Op}
-use Rattle.vsi_syntax.specs.declared.operator.Op.TheVariants.{Add, Sub, Mul, Eq, Lt}
+use Rattle.vsi_syntax.specs.declared.tree.Op.{Op}
+use Rattle.vsi_syntax.specs.declared.tree.Op.TheVariants.{Add, Sub, Mul, Eq, Lt}
 use Rattle.vsi_scope.specs.Language.{Expression, Number, Location, Operator, Command, Skip, Assign, Sequence, If, While, Letvar, HasLocations, HasPlaces, expression_size, size, nesting}
 use Rattle.vsi_scope.specs.Meaning.{Store as Words, value, and_then, drop_past, turns, runs}
 use Rattle.vsi_scope.proofs.Evaluation.{zero_cases, at_other, at_none, length_kept}

@@ -1,19 +1,79 @@
-//! The verified image of a resolved program.
+//! The verified image of a resolved program. It counts operands and letvars.
 
-ghost use Rattle.std.specs.Prelude.{◌≡◌, ◌+◌, IfOk, length};
+ghost use Rattle.std.specs.Prelude.{◌≡◌, min, ◌+◌, IfOk, length};
+ghost use Rattle.vsi_code.specs.Needs.{expression_height, height, IsGreatestDepth, slots_of};
+ghost use Rattle.vsi_scope.specs.Language.{nesting, size};
+ghost use Rattle.vsi_scope.specs.View.{expression, command, sequence};
 ghost use Rattle.vsi_code.specs.Behaves.{Behaves};
 ghost use Rattle.vsi_code.specs.Layout.{whole_code};
-ghost use Rattle.vsi_code.specs.Needs.{IsGreatestDepth, height, slots_of};
 ghost use Rattle.vsi_code.specs.Names.{all_named};
 ghost use Rattle.vsi_image.specs.Fields as fields;
-ghost use Rattle.vsi_scope.specs.Language.{size};
-ghost use Rattle.vsi_scope.specs.View.{sequence};
 
 use crate::emission::whole_code;
-use crate::measure::{height, letvar_nesting};
 use std::alloc::{AllocError, Global as Heap};
 use vsi_image::{Image, Verified};
-use vsi_scope::{Global, Resolved};
+use vsi_scope::{Cmd, Ex, Global, Resolved};
+
+/// The greatest number of operands that an expression has at a time, at most 65,535.
+fn expression_height(e: &Ex) -> u16
+    ensures { result ≡ min (expression_height (expression e.now)) 65535 }
+{
+    match e {
+        Ex::Num(_) => 1,
+        Ex::Loc(_, _) => 1,
+        Ex::Op(_, left, right) => expression_height(left).max(expression_height(
+            right,
+        ).saturating_add(1)),
+    }
+}
+
+/// The greatest number of operands that commands have at a time, at most 65,535.
+#[cycle(heights)]
+pub(crate) fn height(body: &[Cmd]) -> u16
+    ensures { result ≡ min (height (sequence body.now)) 65535 }
+{
+    let mut most: u16 = 0;
+    for c in body {
+        most = most.max(height_of_one(c));
+    }
+    most
+}
+
+#[cycle(heights)]
+fn height_of_one(c: &Cmd) -> u16
+    ensures { result ≡ min (height (command c.now)) 65535 }
+{
+    match c {
+        Cmd::Assign { value, .. } => expression_height(value),
+        Cmd::If { guard, yes, no } => expression_height(guard).max(height(yes).max(height(no))),
+        Cmd::While { guard, body } => expression_height(guard).max(height(body)),
+        Cmd::Letvar { value, body } => expression_height(value).max(height(body)),
+    }
+}
+
+/// The deepest nesting of letvars, at most 65,535.
+#[cycle(nestings)]
+pub(crate) fn letvar_nesting(body: &[Cmd]) -> u16
+    ensures { result ≡ min (nesting (sequence body.now)) 65535 }
+{
+    let mut most: u16 = 0;
+    for c in body {
+        most = most.max(nesting_of_one(c));
+    }
+    most
+}
+
+#[cycle(nestings)]
+fn nesting_of_one(c: &Cmd) -> u16
+    ensures { result ≡ min (nesting (command c.now)) 65535 }
+{
+    match c {
+        Cmd::Assign { .. } => 0,
+        Cmd::If { yes, no, .. } => letvar_nesting(yes).max(letvar_nesting(no)),
+        Cmd::While { body, .. } => letvar_nesting(body),
+        Cmd::Letvar { body, .. } => letvar_nesting(body).saturating_add(1),
+    }
+}
 
 /// Copies of the names and class names of globals.
 fn copied(alloc: Heap, globals: &[Global]) -> Result<Vec<(Vec<u8>, Vec<u8>)>, AllocError>

@@ -9,6 +9,5 @@
 
 mod emission;
 mod generator;
-mod measure;
 
 pub use generator::generate;

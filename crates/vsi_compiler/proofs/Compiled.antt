@@ -32,9 +32,9 @@ use Rattle.vsi_compiler.specs.Acceptance.{IsAccepted, program_of}
 use Rattle.vsi_compiler.specs.Headline.{HasGlobals, KeepsMeaning, IsImageOf, IsNoLarger, declared_global}
 use Rattle.vsi_compiler.specs.Refusal.{HasShortestBadWalk, Refuses}
 use Rattle.vsi_compiler.specs.Errors.{flowing}
-use Rattle.vsi_compiler.specs.declared.error.CompileError.TheVariants.{Memory}
-use Rattle.vsi_infer.specs.declared.error.InferError.{InferError}
-use Rattle.vsi_infer.specs.declared.error.InferError.TheVariants as infer
+use Rattle.vsi_compiler.specs.declared.source.CompileError.TheVariants.{Memory}
+use Rattle.vsi_infer.specs.declared.inference.InferError.{InferError}
+use Rattle.vsi_infer.specs.declared.inference.InferError.TheVariants as infer
 use Rattle.vsi_infer.specs.Inference as inference
 use Rattle.vsi_compiler.proofs.Programs.{program_is, names_are, count_is, body_is, global_classes, declared_classes}
 

@@ -13,11 +13,11 @@ use Rattle.vsi_types.specs.declared.rules.Profile.TheVariants.{Strict}
 use Rattle.vsi_image.specs.declared.instr.Image.{Image}
 use Rattle.vsi_infer.specs.Inference.{AreClasses}
 use Rattle.vsi_infer.specs.Inference as inference
-use Rattle.vsi_infer.specs.declared.error.InferError.{InferError}
-use Rattle.vsi_infer.specs.declared.error.InferError.TheVariants as infer
+use Rattle.vsi_infer.specs.declared.inference.InferError.{InferError}
+use Rattle.vsi_infer.specs.declared.inference.InferError.TheVariants as infer
 use Rattle.vsi_compiler.specs.Acceptance.{IsAccepted}
-use Rattle.vsi_compiler.specs.declared.error.CompileError.{CompileError}
-use Rattle.vsi_compiler.specs.declared.error.CompileError.TheVariants as compiler
+use Rattle.vsi_compiler.specs.declared.source.CompileError.{CompileError}
+use Rattle.vsi_compiler.specs.declared.source.CompileError.TheVariants as compiler
 use Rattle.vsi_compiler.specs.Errors.{flowing}
 use Rattle.vsi_compiler.specs.Headline.{HasGlobals, KeepsMeaning, IsCoded, IsImageOf, IsNoLarger, IsCompiled}
 use Rattle.vsi_compiler.specs.Observation.{IsNoninterfering, EndsAlike}

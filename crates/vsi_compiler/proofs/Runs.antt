@@ -13,8 +13,8 @@ use Rattle.vsi_compiler.specs.Headline.{HasGlobals, KeepsMeaning, IsCoded, IsIma
 use Rattle.vsi_compiler.specs.Observation.{IsNoninterfering, IsStoreOf}
 use Rattle.vsi_compiler.specs.Refusal.{Refuses, IsRefused}
 use Rattle.vsi_compiler.specs.Run.{compiling, starting, RefusesRun}
-use Rattle.vsi_compiler.specs.declared.error.CompileError.{CompileError}
-use Rattle.vsi_compiler.specs.declared.error.CompileError.TheVariants as compiler
+use Rattle.vsi_compiler.specs.declared.source.CompileError.{CompileError}
+use Rattle.vsi_compiler.specs.declared.source.CompileError.TheVariants as compiler
 
 -- The profiles differ.
 base_is_not_strict : ◌≡◌ {A = Profile} Base Strict → ⊥

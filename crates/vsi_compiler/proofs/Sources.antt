@@ -11,7 +11,7 @@ use Rattle.vsi_syntax.specs.Tree.{Whole, Lexeme, IsProgram, write_program}
 use Rattle.vsi_syntax.specs.Given.{Fails}
 use Rattle.vsi_syntax.specs.Spelling.{word_at}
 use Rattle.vsi_syntax.proofs.Unique.{one_cut}
-use Rattle.vsi_compiler.specs.declared.error.CompileError.TheVariants.{Memory}
+use Rattle.vsi_compiler.specs.declared.source.CompileError.TheVariants.{Memory}
 use Rattle.vsi_compiler.specs.Errors.{lexical, syntactic}
 use Rattle.vsi_compiler.specs.Source.{Reads}
 use Rattle.vsi_compiler.specs.Refusal.{HasNoTree, RefusesTree}

@@ -5,10 +5,10 @@ use Rattle.vsi_syntax.specs.declared.parser.ParseError.{ParseError}
 use Rattle.vsi_syntax.specs.declared.parser.ParseError.TheVariants as parser
 use Rattle.vsi_scope.specs.declared.resolution.ScopeError.{ScopeError}
 use Rattle.vsi_scope.specs.declared.resolution.ScopeError.TheVariants as scope
-use Rattle.vsi_infer.specs.declared.error.InferError.{InferError}
-use Rattle.vsi_infer.specs.declared.error.InferError.TheVariants as infer
-use Rattle.vsi_compiler.specs.declared.error.CompileError.{CompileError}
-use Rattle.vsi_compiler.specs.declared.error.CompileError.TheVariants.{Lex, Parse, Scope, Flow, Memory}
+use Rattle.vsi_infer.specs.declared.inference.InferError.{InferError}
+use Rattle.vsi_infer.specs.declared.inference.InferError.TheVariants as infer
+use Rattle.vsi_compiler.specs.declared.source.CompileError.{CompileError}
+use Rattle.vsi_compiler.specs.declared.source.CompileError.TheVariants.{Lex, Parse, Scope, Flow, Memory}
 
 -- An error of the lexer.
 abbrev pub lexical : LexError → CompileError

@@ -9,8 +9,8 @@ use Rattle.vsi_types.specs.Security.{Program}
 use Rattle.vsi_infer.specs.Inference.{IsShortest}
 use Rattle.vsi_syntax.specs.Cut as cut
 use Rattle.vsi_syntax.specs.Tree.{Whole}
-use Rattle.vsi_compiler.specs.declared.error.CompileError.{CompileError}
-use Rattle.vsi_compiler.specs.declared.error.CompileError.TheVariants.{Lex, Parse, Scope, Flow, Memory}
+use Rattle.vsi_compiler.specs.declared.source.CompileError.{CompileError}
+use Rattle.vsi_compiler.specs.declared.source.CompileError.TheVariants.{Lex, Parse, Scope, Flow, Memory}
 use Rattle.vsi_syntax.specs.declared.lexer.LexError.TheVariants as lexer
 use Rattle.vsi_syntax.specs.declared.parser.ParseError.TheVariants as parser
 use Rattle.vsi_scope.specs.declared.resolution.ScopeError.TheVariants as scope

@@ -9,8 +9,8 @@ use Rattle.vsi_machine.specs.declared.interpreter.Outcome.{Outcome}
 use Rattle.vsi_machine.specs.declared.interpreter.StartError.{StartError}
 use Rattle.vsi_machine.specs.declared.interpreter.StartError.TheVariants as start
 use Rattle.vsi_machine.specs.Runs.{outcome_of, globals_of, run_of}
-use Rattle.vsi_compiler.specs.declared.error.CompileError.{CompileError}
-use Rattle.vsi_compiler.specs.declared.error.CompileError.TheVariants as compiler
+use Rattle.vsi_compiler.specs.declared.source.CompileError.{CompileError}
+use Rattle.vsi_compiler.specs.declared.source.CompileError.TheVariants as compiler
 use Rattle.vsi_compiler.specs.declared.run.RunError.{RunError}
 use Rattle.vsi_compiler.specs.declared.run.RunError.TheVariants.{Compile, Start, Memory}
 use Rattle.vsi_compiler.specs.Headline.{IsCompiled}

@@ -6,7 +6,7 @@ ghost use Rattle.vsi_compiler.specs.Run.{Ran, RefusesRun};
 ghost use Rattle.vsi_compiler.specs.declared.run.RunError.TheVariants.{Memory};
 
 use crate::compiler::compile;
-use crate::error::CompileError;
+use crate::source::CompileError;
 use std::alloc::{AllocError, AllocFailed, Global};
 use thiserror::Error;
 use vsi_lattice::Lattice;

@@ -9,16 +9,13 @@ ghost use Rattle.vsi_syntax.specs.CommandView.{declared};
 ghost use Rattle.vsi_types.specs.Security.{program as program_of};
 ghost use Rattle.vsi_types.specs.declared.rules.Profile.TheVariants.{Base};
 ghost use Rattle.vsi_syntax.specs.Tree.{Whole};
-ghost use Rattle.vsi_compiler.specs.declared.error.CompileError.TheVariants.{Memory};
+ghost use Rattle.vsi_compiler.specs.declared.source.CompileError.TheVariants.{Memory};
 ghost use Rattle.vsi_compiler.specs.Acceptance.{IsAccepted};
 ghost use Rattle.vsi_compiler.specs.Classes.{class_line, global_lines, letvar_lines, IsClassText};
 ghost use Rattle.vsi_compiler.specs.Refusal.{Refuses, RefusesFlow, RefusesTree};
 ghost use Rattle.vsi_compiler.specs.Source.{Reads, IsCanonicalText};
 
-use crate::error::CompileError;
-use crate::judging::judge;
-use crate::reading::{read_program, read_source};
-use crate::source::Source;
+use crate::source::{CompileError, Source, judge, read_program, read_source};
 use std::alloc::{AllocError, Global};
 use vsi_lattice::{Class, Lattice};
 use vsi_scope::Entry;

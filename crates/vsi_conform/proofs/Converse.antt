@@ -9,8 +9,8 @@ use Rattle.vsi_lattice.specs.Known.{Known}
 use Rattle.vsi_types.specs.declared.rules.Profile.{Profile}
 use Rattle.vsi_types.specs.declared.rules.Profile.TheVariants as profile
 use Rattle.vsi_compiler.specs.Headline as compiler
-use Rattle.vsi_steady.specs.declared.unsteady.UnsteadyError.{UnsteadyError}
-use Rattle.vsi_steady.specs.declared.unsteady.UnsteadyError.TheVariants as unsteady
+use Rattle.vsi_steady.specs.declared.source.UnsteadyError.{UnsteadyError}
+use Rattle.vsi_steady.specs.declared.source.UnsteadyError.TheVariants as unsteady
 use Rattle.vsi_image.specs.declared.instr.Image.{Image}
 use Rattle.vsi_image.specs.Fields.{Fields, global, globals, fields}
 use Rattle.vsi_image.specs.Meaning.{State, after, going}

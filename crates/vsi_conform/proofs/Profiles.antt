@@ -10,13 +10,13 @@ use Rattle.vsi_types.specs.declared.rules.Profile.TheVariants as profile
 use Rattle.vsi_scope.specs.Language.{Command}
 use Rattle.vsi_scope.specs.Resolving.{IsResolution}
 use Rattle.vsi_syntax.specs.Tree.{Whole}
-use Rattle.vsi_compiler.specs.declared.error.CompileError.{CompileError}
-use Rattle.vsi_compiler.specs.declared.error.CompileError.TheVariants as compiler
+use Rattle.vsi_compiler.specs.declared.source.CompileError.{CompileError}
+use Rattle.vsi_compiler.specs.declared.source.CompileError.TheVariants as compiler
 use Rattle.vsi_compiler.specs.Refusal.{RefusesProgram}
 use Rattle.vsi_compiler.specs.Source.{Reads}
 use Rattle.vsi_compiler.proofs.Held.{program_refused}
-use Rattle.vsi_steady.specs.declared.unsteady.UnsteadyError.{UnsteadyError}
-use Rattle.vsi_steady.specs.declared.unsteady.UnsteadyError.TheVariants as unsteady
+use Rattle.vsi_steady.specs.declared.source.UnsteadyError.{UnsteadyError}
+use Rattle.vsi_steady.specs.declared.source.UnsteadyError.TheVariants as unsteady
 use Rattle.vsi_diagnostics.proofs.Begins.{begins}
 use Rattle.vsi_answers.proofs.Told.{steadily_told}
 use Rattle.vsi_conform.specs.declared.interface.Judgement.{Judgement}

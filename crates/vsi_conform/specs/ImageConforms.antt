@@ -14,7 +14,7 @@ use Rattle.vsi_audit.specs.declared.flow.AuditError.{AuditError}
 use Rattle.vsi_audit.specs.declared.flow.AuditError.TheVariants as error
 use Rattle.vsi_steady.specs.Steady.{IsSteady}
 use Rattle.vsi_steady.specs.Refusal as steady
-use Rattle.vsi_steady.specs.declared.error.SteadyError.TheVariants as unsteady
+use Rattle.vsi_steady.specs.declared.check.SteadyError.TheVariants as unsteady
 use Rattle.vsi_conform.specs.declared.interface.Interface.{Interface}
 use Rattle.vsi_conform.specs.declared.interface.Judgement.{Judgement}
 use Rattle.vsi_conform.specs.declared.interface.Judgement.TheVariants.{Base, Strict, Steady}

@@ -5,10 +5,10 @@ use Rattle.std.specs.Global.{Vec}
 use Rattle.std.specs.List.{flat_map}
 use Rattle.vsi_syntax.specs.Tree.{Declared}
 use Rattle.vsi_lattice.specs.declared.lattice.Lattice.{Lattice}
-use Rattle.vsi_compiler.specs.declared.error.CompileError.{CompileError}
-use Rattle.vsi_compiler.specs.declared.error.CompileError.TheVariants as compiler
-use Rattle.vsi_steady.specs.declared.unsteady.UnsteadyError.{UnsteadyError}
-use Rattle.vsi_steady.specs.declared.unsteady.UnsteadyError.TheVariants as unsteady
+use Rattle.vsi_compiler.specs.declared.source.CompileError.{CompileError}
+use Rattle.vsi_compiler.specs.declared.source.CompileError.TheVariants as compiler
+use Rattle.vsi_steady.specs.declared.source.UnsteadyError.{UnsteadyError}
+use Rattle.vsi_steady.specs.declared.source.UnsteadyError.TheVariants as unsteady
 use Rattle.vsi_diagnostics.specs.Texts.{IsRefusalText}
 use Rattle.vsi_answers.specs.Judged.{IsImageText, IsLoopedText}
 use Rattle.vsi_conform.specs.declared.interface.Interface.{Interface}

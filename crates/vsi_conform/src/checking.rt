@@ -2,7 +2,7 @@
 
 ghost use Rattle.std.specs.Prelude.{◌≡◌, IfOk, option_map};
 ghost use Rattle.vsi_diagnostics.specs.View.{diagnostic_of};
-ghost use Rattle.vsi_steady.specs.declared.unsteady.UnsteadyError.TheVariants as unsteady;
+ghost use Rattle.vsi_steady.specs.declared.source.UnsteadyError.TheVariants as unsteady;
 ghost use Rattle.vsi_conform.specs.Checking as spec;
 
 use crate::conforming::judged_of;

@@ -1,18 +1,20 @@
-//! Whether a text conforms to an interface.
+//! Whether a text conforms to an interface: its globals, its classes and its runs.
 
-ghost use Rattle.std.specs.Prelude.{◌≡◌, IfOk, IfSome, None, true, [], MatchResult, ◌++◌, OnOk};
+ghost use Rattle.std.specs.Prelude.{◌≡◌, IfOk, map, IfSome, None, true, [], MatchResult, ◌++◌, OnOk};
+ghost use Rattle.vsi_image.specs.Fields.{global, globals, is_taken};
+ghost use Rattle.vsi_syntax.specs.CommandView.{declared};
 ghost use Rattle.vsi_lattice.specs.LatticeView.{class_named, order};
 ghost use Rattle.vsi_conform.specs.Bounded.{ReportsBound};
 ghost use Rattle.vsi_conform.specs.Points.{is_conforming, points_of};
 ghost use Rattle.vsi_types.specs.declared.rules.Profile.{Profile};
-ghost use Rattle.vsi_image.specs.Fields.{global, globals};
 ghost use Rattle.vsi_answers.specs.Bounds.{TellsBound};
 ghost use Rattle.vsi_conform.specs.declared.interface.Bounded.TheVariants.{AtMost};
-ghost use Rattle.vsi_conform.specs.Conforms as spec;
+ghost use Rattle.vsi_conform.specs.Points as spec;
+ghost use Rattle.vsi_conform.specs.Shown as shown_spec;
+ghost use Rattle.vsi_conform.specs.Conforms as conforms_spec;
 ghost use Rattle.vsi_conform.specs.Points as points_spec;
 ghost use Rattle.vsi_conform.specs.Bounded as bounded_spec;
 
-use crate::globals::global_points;
 use crate::interface::{Answer, Bounded, Interface, Judgement, Point, Trial, put_told};
 use std::alloc::{AllocError, Global};
 use vsi_answers::{BoundAnswer, bound_in, enough_budget};
@@ -21,8 +23,142 @@ use vsi_image::Verified;
 use vsi_lattice::Lattice;
 use vsi_machine::{Machine, Outcome};
 use vsi_steady::{UnsteadyError, steady_image_of};
-use vsi_syntax::put_number;
+use vsi_syntax::{Declaration, LexError, ParseError, lex, parse, put_number};
 use vsi_types::Profile;
+
+/// Whether a global has this name.
+pub(crate) fn is_named(variables: &[(Vec<u8>, Vec<u8>)], name: &[u8]) -> bool
+    ensures { result ≡ is_taken (globals variables.now) name.now }
+{
+    for variable in variables {
+        if variable.0.as_slice() == name {
+            return true;
+        }
+    }
+    false
+}
+
+/// Whether two globals have the same name and the same class.
+pub(crate) fn are_same(one: &(Vec<u8>, Vec<u8>), other: &(Vec<u8>, Vec<u8>)) -> bool
+    ensures { result ≡ spec.are_same (global one.now) (global other.now) }
+{
+    one.0.as_slice() == other.0.as_slice() && one.1.as_slice() == other.1.as_slice()
+}
+
+/// Required globals, and those found beside them, each by its name and its class.
+#[derive(Clone, Copy)]
+struct Beside<'a> {
+    wanted: &'a [(Vec<u8>, Vec<u8>)],
+    found: &'a [(Vec<u8>, Vec<u8>)],
+}
+
+impl Beside<'_> {
+    /// The point of one required global.
+    fn entry_point(&self, number: usize, wanted: &(Vec<u8>, Vec<u8>)) -> Option<Point>
+        ensures { result
+            ≡ spec.entry_point number (global wanted.now) 0 (globals self.now.found.now) }
+    {
+        for (place, variable) in self.found.iter().enumerate() {
+            if variable.0.as_slice() == wanted.0.as_slice() {
+                if variable.1.as_slice() == wanted.1.as_slice() {
+                    return None;
+                }
+                let wanted = number;
+                return Some(Point::WrongClass { place, wanted });
+            }
+        }
+        Some(Point::Missing(number))
+    }
+
+    /// The points of the globals, apart from their order.
+    fn set_points(&self, alloc: Global) -> Result<Vec<Point>, AllocError>
+        ensures { IfOk result (λ points. points.items
+            ≡ spec.set_points (globals self.now.wanted.now) (globals self.now.found.now)) }
+    {
+        let mut points = Vec::new(alloc);
+        for (number, entry) in self.wanted.iter().enumerate() {
+            put_told(&mut points, self.entry_point(number, entry))?;
+        }
+        for (place, variable) in self.found.iter().enumerate() {
+            if !is_named(self.wanted, variable.0.as_slice()) {
+                points.push(Point::Unexpected(place))?;
+            }
+        }
+        Ok(points)
+    }
+
+    /// The position of the first difference.
+    fn first_difference(&self) -> Option<usize>
+        ensures { result ≡ spec.first_difference 0 (globals self.now.wanted.now)
+            (globals self.now.found.now) }
+    {
+        for (place, entry) in self.wanted.iter().enumerate() {
+            let Some(variable) = self.found.get(place) else {
+                return Some(place);
+            };
+            if !are_same(entry, variable) {
+                return Some(place);
+            }
+        }
+        let Some(_more) = self.found.get(self.wanted.len()) else {
+            return None;
+        };
+        Some(self.wanted.len())
+    }
+}
+
+/// The points of the globals.
+pub(crate) fn global_points(
+    alloc: Global,
+    is_ordered: bool,
+    wanted: &[(Vec<u8>, Vec<u8>)],
+    found: &[(Vec<u8>, Vec<u8>)],
+) -> Result<Vec<Point>, AllocError>
+    ensures { IfOk result (λ points. points.items
+        ≡ spec.global_points is_ordered (globals wanted.now) (globals found.now)) }
+{
+    let beside = Beside { wanted, found };
+    if !is_ordered {
+        return beside.set_points(alloc);
+    }
+    let Some(place) = beside.first_difference() else {
+        return Ok(Vec::new(alloc));
+    };
+    let mut points = beside.set_points(alloc)?;
+    if points.is_empty() {
+        points.push(Point::WrongOrder(place))?;
+    }
+    Ok(points)
+}
+
+/// The globals of a text, in its order; a text without a tree has none.
+pub(crate) fn declarations<'a>(
+    alloc: Global,
+    text: &'a [u8],
+) -> Result<Vec<Declaration<'a>>, AllocError>
+    ensures { IfOk result (λ found. shown_spec.Declares text.now (map declared found.items)) }
+{
+    let tokens = match lex(alloc, text) {
+        Ok(tokens) => tokens,
+        Err(error) => {
+            return match error {
+                LexError::Memory => Err(AllocError),
+                _ => Ok(Vec::new(alloc)),
+            };
+        }
+    };
+    let program = match parse(alloc, &tokens) {
+        Ok(program) => program,
+        Err(error) => {
+            return match error {
+                ParseError::Memory => Err(AllocError),
+                _ => Ok(Vec::new(alloc)),
+            };
+        }
+    };
+    let found = program.globals().to_vec(alloc)?;
+    Ok(found)
+}
 
 /// The differences between the globals and runs of an image and the required ones.
 pub(crate) fn image_points(
@@ -69,7 +205,7 @@ fn refused_differences(
     text: &[u8],
     interface: &Interface,
 ) -> Result<(Vec<Point>, Option<Vec<u8>>), AllocError>
-    ensures { IfOk result (λ pair. spec.TellsReadable (class_named lattice.now) text.now
+    ensures { IfOk result (λ pair. conforms_spec.TellsReadable (class_named lattice.now) text.now
         interface.now pair.0.items pair.1) }
 {
     match unjudged_image(alloc, lattice, text) {
@@ -92,16 +228,16 @@ pub fn conform(
     interface: &Interface,
 ) -> Result<Answer, AllocError>
     ensures conforms { IfOk result (λ answer. is_conforming answer ≡ true
-        → spec.Conforms lattice.now text.now interface.now) }
-    ensures exact { spec.Conforms lattice.now text.now interface.now
+        → conforms_spec.Conforms lattice.now text.now interface.now) }
+    ensures exact { conforms_spec.Conforms lattice.now text.now interface.now
         → IfOk result (λ answer. answer.unbounded ≡ None → is_conforming answer ≡ true) }
-    ensures unrefused { spec.Conforms lattice.now text.now interface.now
+    ensures unrefused { conforms_spec.Conforms lattice.now text.now interface.now
         → IfOk result (λ answer. answer.refusal ≡ None) }
-    ensures pointless { spec.Conforms lattice.now text.now interface.now
+    ensures pointless { conforms_spec.Conforms lattice.now text.now interface.now
         → IfOk result (λ answer. answer.points.items ≡ []) }
     ensures bound { IfOk result (λ answer. IfSome answer.unbounded (λ line.
-        spec.IsUnbounded lattice.now text.now interface.now line.items)) }
-    ensures told { IfOk result (spec.Tells lattice.now text.now interface.now) }
+        conforms_spec.IsUnbounded lattice.now text.now interface.now line.items)) }
+    ensures told { IfOk result (conforms_spec.Tells lattice.now text.now interface.now) }
 {
     match judged(alloc, interface.judgement, lattice, text)? {
         Ok(verified) => {
@@ -132,9 +268,9 @@ fn compiled_of(
     source: &Source<'_>,
 ) -> Result<Result<Verified, UnsteadyError>, AllocError>
     ensures { IfOk result (λ answer. MatchResult answer
-        (spec.IsCompiled (class_named source.now.lattice) (order source.now.lattice) profile
+        (conforms_spec.IsCompiled (class_named source.now.lattice) (order source.now.lattice) profile
         source.now.text)
-        (spec.IsRefused (class_named source.now.lattice) (order source.now.lattice) profile
+        (conforms_spec.IsRefused (class_named source.now.lattice) (order source.now.lattice) profile
         source.now.text)) }
 {
     match compile_source(alloc, profile, source) {
@@ -152,9 +288,9 @@ pub fn judged_of(
     source: &Source<'_>,
 ) -> Result<Result<Verified, UnsteadyError>, AllocError>
     ensures { IfOk result (λ answer. MatchResult answer
-        (spec.IsAcceptedAs (class_named source.now.lattice) (order source.now.lattice) judgement
+        (conforms_spec.IsAcceptedAs (class_named source.now.lattice) (order source.now.lattice) judgement
         source.now.text)
-        (spec.IsRefusedAs (class_named source.now.lattice) (order source.now.lattice) judgement
+        (conforms_spec.IsRefusedAs (class_named source.now.lattice) (order source.now.lattice) judgement
         source.now.text)) }
 {
     match judgement {
@@ -177,8 +313,8 @@ pub fn judged(
     text: &[u8],
 ) -> Result<Result<Verified, UnsteadyError>, AllocError>
     ensures { IfOk result (λ answer. MatchResult answer
-        (spec.IsAcceptedAs (class_named lattice.now) (order lattice.now) judgement text.now)
-        (spec.IsRefusedAs (class_named lattice.now) (order lattice.now) judgement text.now)) }
+        (conforms_spec.IsAcceptedAs (class_named lattice.now) (order lattice.now) judgement text.now)
+        (conforms_spec.IsRefusedAs (class_named lattice.now) (order lattice.now) judgement text.now)) }
 {
     match read_source(alloc, lattice, text) {
         Ok(source) => judged_of(alloc, judgement, &source),

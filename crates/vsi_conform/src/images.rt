@@ -20,11 +20,11 @@ ghost use Rattle.vsi_conform.specs.Reference as reference_spec;
 
 use crate::checking::{audit_diagnostic, steady_diagnostic};
 use crate::conforming::{bound_report, image_points};
-use crate::cycles::Cycle;
 use crate::interface::{Interface, Judgement, Point};
 use crate::reaching::{GlobalFlows, Reach, flows_profile, have_released, reaches_of};
 use crate::reference::{Comparison, Contrast, Reference};
 use crate::rows::{Judged, Row, asked, numbered, rows_of};
+use crate::tables::Cycle;
 use crate::texts::{put_counted, put_parts, rows_json, rows_text};
 use std::alloc::{AllocError, Global};
 use vsi_answers::bound;

@@ -23,15 +23,13 @@
 
 mod checking;
 mod conforming;
-mod cycles;
-mod globals;
 pub mod images;
 mod interface;
-mod keys;
 mod reaching;
 mod reader;
 mod reference;
 mod rows;
+mod tables;
 mod texts;
 
 pub use checking::{
@@ -39,7 +37,6 @@ pub use checking::{
     steady_diagnostic, unread_json, unsteady_diagnostic,
 };
 pub use conforming::{conform, judged, judged_of};
-pub use cycles::{Cycle, unknown_cycle};
 pub use images::{
     Refusal, conform_image, image_reaches, image_rows, json_with, lines_with, reference_line,
     refused_image,
@@ -54,6 +51,7 @@ pub use reaching::{
 pub use reader::{InterfaceFile, Policy, path_beside, read_interface, unknown_class};
 pub use reference::{Comparison, Contrast, Difference, Reference, compare_reference};
 pub use rows::{Detail, Kind, Row};
+pub use tables::{Cycle, unknown_cycle};
 pub use texts::{
     points_json, points_text, put_parts, put_row, refusal_lines, refusal_lines_of, text_rows,
 };

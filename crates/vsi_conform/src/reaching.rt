@@ -5,8 +5,8 @@ ghost use Rattle.vsi_conform.specs.Reading.{bytes_of, cycle as cycle_of, is_amon
 ghost use Rattle.vsi_conform.specs.Reaching as spec;
 ghost use Rattle.vsi_conform.specs.ReachedLines as lines_spec;
 
-use crate::cycles::Cycle;
 use crate::interface::Judgement;
+use crate::tables::Cycle;
 use crate::texts::put_parts;
 use std::alloc::{AllocError, Global};
 use vsi_compiler::{CompileError, Source, read_source};

@@ -1,23 +1,23 @@
 //! Reads an interface file.
 
-ghost use Rattle.std.specs.Prelude.{◌≡◌, ◌≤◌, length, take, codes, Some, None, false};
-ghost use Rattle.std.specs.Prelude.{IfOk, OnOk, option_map, string_bytes};
+ghost use Rattle.std.specs.Prelude.{◌≡◌, ◌≤◌, length, take, codes, Some, None, false, IfOk, OnOk, option_map, string_bytes};
 ghost use Rattle.std.specs.Str.{IsUtf8};
 ghost use Rattle.std.specs.Str.Lossy.{utf8_lossy};
 ghost use Rattle.toml.specs.Data.{get_member};
 ghost use Rattle.toml.specs.View.{table_view, view};
 ghost use Rattle.vsi_image.specs.Fields.{global, globals};
-ghost use Rattle.vsi_lattice.specs.Shape as shape;
 ghost use Rattle.vsi_conform.specs.Beside.{IsInside, beside, folder};
-ghost use Rattle.vsi_conform.specs.Reading as spec;
 ghost use Rattle.vsi_conform.specs.Tables.{IsTablesText, with_copy};
 ghost use Rattle.vsi_lattice.specs.LatticeView.{class_named};
 ghost use Rattle.vsi_store.specs.View.{first_unknown};
+ghost use Rattle.vsi_lattice.specs.Shape as shape;
+ghost use Rattle.vsi_conform.specs.Reading as spec;
 
-use crate::cycles::{Cycle, cycles_in};
-use crate::globals::is_named;
+use crate::conforming::is_named;
 use crate::interface::{Bounded, Interface, InterfaceError, Judgement};
-use crate::keys::{natural, other_key, path_at, table_in, text_at, trials_in, value_at};
+use crate::tables::{
+    Cycle, cycles_in, natural, other_key, path_at, table_in, text_at, trials_in, value_at,
+};
 use std::alloc::{AllocError, Global};
 use toml::{Table, Value};
 use vsi_lattice::Lattice;

@@ -5,10 +5,10 @@
 ghost use Rattle.std.specs.Prelude.{◌≡◌, IfOk, IfSome};
 ghost use Rattle.vsi_conform.specs.Reference as spec;
 
-use crate::cycles::Cycle;
-use crate::globals::are_same;
+use crate::conforming::are_same;
 use crate::interface::Interface;
 use crate::reaching::is_among;
+use crate::tables::Cycle;
 use rand_core::{Rng, SeedableRng};
 use rand_xoshiro::SplitMix64;
 use std::alloc::{AllocError, Global};

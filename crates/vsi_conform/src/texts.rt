@@ -9,7 +9,7 @@ ghost use Rattle.vsi_conform.specs.Rows as rows_spec;
 ghost use Rattle.vsi_conform.specs.Lines as spec;
 ghost use Rattle.vsi_conform.specs.Json as json_spec;
 
-use crate::globals::declarations;
+use crate::conforming::declarations;
 use crate::interface::{Answer, Interface, Judgement};
 use crate::rows::{Detail, Judged, Kind, Row, rows_of};
 use std::alloc::{AllocError, Global};

@@ -1,2 +1,7 @@
 pub mod Plain
 pub mod Begins
+mod Cases
+mod Finds
+mod Flags
+mod Marks
+mod Walks

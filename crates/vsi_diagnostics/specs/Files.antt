@@ -2,14 +2,14 @@
 use Rattle.std.specs.Prelude.{codes, Option, None}
 use Rattle.vsi_image.specs.declared.decoder.DecodeError.{DecodeError}
 use Rattle.vsi_image.specs.declared.decoder.DecodeError.TheVariants as decoder
-use Rattle.vsi_image.specs.declared.limits.Limit.{Limit}
-use Rattle.vsi_image.specs.declared.limits.Limit.TheVariants as limits
+use Rattle.vsi_image.specs.declared.encoder.Limit.{Limit}
+use Rattle.vsi_image.specs.declared.encoder.Limit.TheVariants as limits
 use Rattle.vsi_image.specs.declared.verifier.VerifyError.{VerifyError}
 use Rattle.vsi_image.specs.declared.verifier.VerifyError.TheVariants as verifier
 use Rattle.vsi_store.specs.declared.reader.StoreError.{StoreError}
 use Rattle.vsi_store.specs.declared.reader.StoreError.TheVariants as store
-use Rattle.vsi_store.specs.declared.views.ViewError.{ViewError}
-use Rattle.vsi_store.specs.declared.views.ViewError.TheVariants as views
+use Rattle.vsi_store.specs.declared.endings.ViewError.{ViewError}
+use Rattle.vsi_store.specs.declared.endings.ViewError.TheVariants as views
 use Rattle.vsi_diagnostics.specs.declared.diagnostic.Fault.{Fault}
 use Rattle.vsi_diagnostics.specs.declared.diagnostic.Fault.TheVariants as fault
 use Rattle.vsi_diagnostics.specs.Diagnostic.{Field, nothing, number, word, numbered, Diagnostic}

@@ -1,7 +1,7 @@
 -- The refusals of lattice files.
 use Rattle.std.specs.Prelude.{codes, Option, None}
-use Rattle.vsi_lattice.specs.declared.fault.LatticeError.{LatticeError}
-use Rattle.vsi_lattice.specs.declared.fault.LatticeError.TheVariants as lattice
+use Rattle.vsi_lattice.specs.declared.reader.LatticeError.{LatticeError}
+use Rattle.vsi_lattice.specs.declared.reader.LatticeError.TheVariants as lattice
 use Rattle.vsi_diagnostics.specs.Diagnostic.{nothing, number, pair, Diagnostic}
 use Rattle.vsi_diagnostics.specs.Source.{refused}
 

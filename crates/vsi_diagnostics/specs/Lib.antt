@@ -6,3 +6,5 @@ pub mod Files
 pub mod Texts
 pub mod Members
 pub mod Json
+pub mod Stamps
+pub mod Warned

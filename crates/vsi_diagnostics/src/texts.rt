@@ -5,8 +5,7 @@ ghost use Rattle.vsi_diagnostics.specs.Files.{fault_diagnostic};
 ghost use Rattle.vsi_diagnostics.specs.View.{diagnostic_of};
 ghost use Rattle.vsi_diagnostics.specs.Texts as spec;
 
-use crate::diagnostic::{Diagnostic, Fault, line_text};
-use crate::refusals::{fault_diagnostic, refusal_diagnostic};
+use crate::diagnostic::{Diagnostic, Fault, fault_diagnostic, line_text, refusal_diagnostic};
 use std::alloc::{AllocError, Global};
 use vsi_compiler::{CompileError, Source, explanation_text, walk_explanation};
 use vsi_lattice::Lattice;

@@ -4,10 +4,10 @@ use Rattle.vsi_lattice.specs.LatticeView.{class_named}
 use Rattle.vsi_lattice.specs.declared.lattice.Lattice.{Lattice}
 use Rattle.vsi_types.specs.declared.rules.Profile.{Profile}
 use Rattle.vsi_infer.specs.declared.walk.Walk.{Walk}
-use Rattle.vsi_compiler.specs.declared.error.CompileError.{CompileError}
-use Rattle.vsi_compiler.specs.declared.error.CompileError.TheVariants.{Flow, Memory}
+use Rattle.vsi_compiler.specs.declared.source.CompileError.{CompileError}
+use Rattle.vsi_compiler.specs.declared.source.CompileError.TheVariants.{Flow, Memory}
 use Rattle.vsi_compiler.specs.Refusal.{RefusesProgram}
-use Rattle.vsi_steady.specs.declared.unsteady.UnsteadyError.TheVariants as unsteady
+use Rattle.vsi_steady.specs.declared.source.UnsteadyError.TheVariants as unsteady
 use Rattle.vsi_flows.proofs.AnswerLemmas.{OnlyMemory, read_refused}
 use Rattle.vsi_conform.specs.Checking.{judgement_by, WritesRefusal}
 use Rattle.vsi_conform.proofs.Profiles.{tells_refused, unread_refused}

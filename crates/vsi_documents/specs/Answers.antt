@@ -2,8 +2,8 @@
 use Rattle.std.specs.Prelude.{◌≢◌, ℕ, Bool, true, false, List}
 use Rattle.vsi_lattice.specs.declared.lattice.Lattice.{Lattice}
 use Rattle.vsi_types.specs.declared.rules.Profile.{Profile}
-use Rattle.vsi_compiler.specs.declared.error.CompileError.{CompileError}
-use Rattle.vsi_compiler.specs.declared.error.CompileError.TheVariants.{Memory}
+use Rattle.vsi_compiler.specs.declared.source.CompileError.{CompileError}
+use Rattle.vsi_compiler.specs.declared.source.CompileError.TheVariants.{Memory}
 use Rattle.vsi_flows.specs.Answers.{RefusesRaise}
 use Rattle.vsi_conform.specs.Checking.{judgement_by, TellsAnswer, TellsRefused}
 use Rattle.vsi_documents.specs.Json.{IsRaisesJson}

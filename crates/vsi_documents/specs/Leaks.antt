@@ -10,8 +10,8 @@ use Rattle.vsi_image.specs.Fields.{Global, globals}
 use Rattle.vsi_compiler.specs.Headline.{IsImageOf}
 use Rattle.vsi_compiler.specs.Readable.{HasProgram}
 use Rattle.vsi_leak.specs.Leaks.{IsLeak, IsWanted, most_pairs}
-use Rattle.vsi_leak.specs.declared.found.Finding.TheVariants as finding
-use Rattle.vsi_leak.specs.declared.found.Leak.{Leak}
+use Rattle.vsi_leak.specs.declared.check.Finding.TheVariants as finding
+use Rattle.vsi_leak.specs.declared.check.Leak.{Leak}
 use Rattle.vsi_leak.specs.declared.whole.Wanted.{Wanted}
 use Rattle.vsi_diagnostics.specs.Members.{with_text, with_natural, object_line}
 use Rattle.vsi_documents.specs.Words.{with_after, with_ending, with_pairs}

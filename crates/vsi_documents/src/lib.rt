@@ -24,16 +24,12 @@
 #![tactic(auto)]
 
 mod answer;
-mod audits;
-mod findings;
+mod images;
 mod refusal;
-mod runs;
 mod sarif;
 mod texts;
 
 pub use answer::{Reply, refused_interface_json, refused_json};
-pub use audits::{audit_json, bound_json, bound_json_in};
-pub use findings::{image_sarif, points_sarif};
-pub use runs::{compare_json, leak_json, run_json};
-pub use sarif::{audit_sarif, check_sarif};
+pub use images::{audit_json, bound_json, bound_json_in, compare_json, leak_json, run_json};
+pub use sarif::{audit_sarif, check_sarif, image_sarif, points_sarif};
 pub use texts::{classes_json, flows_json, mend_json};

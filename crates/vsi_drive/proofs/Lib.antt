@@ -8,3 +8,9 @@ pub mod Steady
 pub mod Behind
 pub mod Settling
 pub mod Driving
+pub mod Builds
+pub mod Bytes
+pub mod Traces
+pub mod Outputs
+pub mod Refusals
+pub mod Seen

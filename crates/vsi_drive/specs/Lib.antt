@@ -10,3 +10,10 @@ pub mod Views
 pub mod Laws
 pub mod Settled
 pub mod Drives
+pub mod Building
+pub mod Counted
+pub mod Engine
+pub mod Errors
+pub mod ViewLaws
+pub mod Refusing
+pub mod Running

@@ -5,8 +5,8 @@ use Rattle.vsi_image.specs.Fields.{globals}
 use Rattle.vsi_store.specs.File.{Tells, Names}
 use Rattle.vsi_drive.specs.declared.settings.LineFault.{LineFault}
 use Rattle.vsi_drive.specs.declared.settings.LineFault.TheVariants.{BadSetting}
-use Rattle.vsi_drive.specs.declared.starts.StartFault.{StartFault}
-use Rattle.vsi_drive.specs.declared.starts.StartFault.TheVariants as fault
+use Rattle.vsi_drive.specs.declared.boundary.StartFault.{StartFault}
+use Rattle.vsi_drive.specs.declared.boundary.StartFault.TheVariants as fault
 use Rattle.vsi_drive.specs.BoundaryFaults.{boundary_fault_name}
 use Rattle.vsi_drive.specs.Fields.{fields_of}
 use Rattle.vsi_drive.specs.Settings.{Setting, Settable, any_of, applied, fault_name, in_front, numbered, setting}

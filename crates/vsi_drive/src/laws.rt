@@ -4,6 +4,7 @@
 ghost use Rattle.vsi_drive.specs.Laws.{SameCompiledDrives, SameCompiledViews, SameDrives, SameReleasedCompiledDrives, SameReleasedCompiledViews, SameReleasedDrives, SameReleasedSteadyDrives, SameReleasedViews, SameSteadyDrives, ViewsPlainly};
 ghost use Rattle.vsi_drive.specs.Drives.{BoundedDrivesHalt, SameBoundedDrives, SameReleasedBoundedDrives};
 ghost use Rattle.vsi_drive.specs.Settled.{SettledCount, SettledNoninterference};
+ghost use Rattle.vsi_drive.specs.ViewLaws.{SameView};
 
 use vsi_steady::laws::steady_runs_alike;
 
@@ -95,4 +96,10 @@ pub fn same_bounded_drives()
 /// The same holds for any boundary, if both drives release the same numbers in each cycle.
 pub fn same_released_bounded_drives()
     ensures { SameReleasedBoundedDrives }
+{}
+
+/// A class has the same view of a compiled image from two stores that agree at and below it,
+/// whenever both runs halt.
+pub fn same_view()
+    ensures { SameView }
 {}

@@ -14,17 +14,33 @@
 //! To be believed: `specs/Control`, `specs/Cycles`, `specs/Drives`, `specs/Fields`, `specs/Laws`,
 //! `specs/Settings`, `specs/Settled`, `specs/Starts`, `specs/Views`. The other files of `specs/`
 //! only support proofs.
+//!
+//! Devices with counted faults, and the calls that use them.
+//!
+//! `read_all` and `write_out` move whole texts. `build` reads a source text and writes the bytes of
+//! its image. `run_image` reads an image and writes the output of its run, and `run_words` runs a
+//! verified image and returns the text of its store. `image_bytes`, `image_bytes_of` and
+//! `verified_image` do their work without a device. The clauses say which device failed and what
+//! had been written by then, and that any other output is the promised one: `specs/Building` and
+//! `specs/Running` define the output, `specs/Refusing` the meaning of a refusal.
+//!
+//! To be believed: all files of `specs/`.
 #![tactic(auto)]
 
 mod boundary;
 mod controller;
+mod engine;
 pub mod laws;
+mod running;
 mod settings;
-mod starts;
 mod texts;
 
-pub use boundary::{Boundary, BoundaryFault, names_of};
+pub use boundary::{Boundary, BoundaryFault, StartFault, first_words, names_of};
 pub use controller::{Controller, CycleEnding};
+pub use engine::{
+    Counted, EngineError, READ_LIMIT, build, build_in, image_bytes, image_bytes_of, read_all,
+    write_out,
+};
+pub use running::{run_image, run_words, verified_image};
 pub use settings::{LINE_LIMIT, LineFault};
-pub use starts::{StartFault, first_words};
 pub use texts::start_fault_line;

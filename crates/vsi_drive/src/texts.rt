@@ -2,17 +2,16 @@
 
 ghost use Rattle.std.specs.Prelude.{◌≡◌, ◌++◌, ◌-◌, length, take, codes, decimal, IfOk, OnOk};
 ghost use Rattle.vsi_image.specs.Fields.{global, globals};
+ghost use Rattle.vsi_drive.specs.Control.{control};
 ghost use Rattle.vsi_drive.specs.Settings as settings;
 ghost use Rattle.vsi_drive.specs.BoundaryFaults as faults;
-ghost use Rattle.vsi_drive.specs.Control.{control};
 ghost use Rattle.vsi_drive.specs.Cycles as spec;
 ghost use Rattle.vsi_drive.specs.Starts as starts;
 ghost use Rattle.vsi_drive.specs.Views as views;
 
-use crate::boundary::BoundaryFault;
+use crate::boundary::{BoundaryFault, StartFault};
 use crate::controller::Controller;
 use crate::settings::LineFault;
-use crate::starts::StartFault;
 use std::alloc::{AllocError, Global};
 use vsi_syntax::{put_number, put_word};
 

@@ -24,8 +24,6 @@ mod frame;
 pub mod laws;
 mod marks;
 mod names;
-mod paid;
-mod pieces;
 mod statements;
 
 pub use emit::{Build, EmitError, Origin, emit_bounded, emit_bounded_header, emit_c, emit_header};

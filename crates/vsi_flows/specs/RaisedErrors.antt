@@ -1,8 +1,8 @@
 -- The errors of texts with raised classes, whose lack of memory is always their own.
 use Rattle.std.specs.Prelude.{ℕ}
 use Rattle.std.specs.Global.{Vec}
-use Rattle.vsi_compiler.specs.declared.error.CompileError.{CompileError}
-use Rattle.vsi_compiler.specs.declared.error.CompileError.TheVariants as compiler
+use Rattle.vsi_compiler.specs.declared.source.CompileError.{CompileError}
+use Rattle.vsi_compiler.specs.declared.source.CompileError.TheVariants as compiler
 use Rattle.vsi_flows.specs.declared.least.RaisedError.{RaisedError}
 use Rattle.vsi_flows.specs.declared.least.RaisedError.TheVariants as raised
 

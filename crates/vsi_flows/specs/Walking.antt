@@ -9,8 +9,8 @@ use Rattle.vsi_compiler.specs.SourceView.{IsSource}
 use Rattle.vsi_flows.specs.Rows.{AreRowsOf}
 use Rattle.vsi_flows.specs.Table.{AreAllowed, HasChoice, IsTable}
 use Rattle.vsi_flows.specs.Walks.{IsFound}
-use Rattle.vsi_flows.specs.declared.walks.WalkTable.{WalkTable}
-use Rattle.vsi_flows.specs.declared.walks.Walks.{Walks}
+use Rattle.vsi_flows.specs.declared.text.WalkTable.{WalkTable}
+use Rattle.vsi_flows.specs.declared.text.Walks.{Walks}
 
 -- The pairs are those of the source text's program under the profile, and decide whether a choice of classes types it;
 -- the rows are its distances, and the known steps are its steps.

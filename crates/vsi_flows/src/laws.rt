@@ -1,7 +1,6 @@
 //! The laws of independence. Each function's contract is a law, and its body does nothing.
 
-ghost use Rattle.vsi_flows.specs.Independence.{Independence, ImageIndependence};
-ghost use Rattle.vsi_flows.specs.Independence.{UnlistedIsUnreached};
+ghost use Rattle.vsi_flows.specs.Independence.{Independence, ImageIndependence, UnlistedIsUnreached};
 
 /// Two stores that differ only in some globals evaluate to equal words in a global that no walk
 /// reaches from these, whatever the classes are.

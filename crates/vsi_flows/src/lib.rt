@@ -22,23 +22,24 @@
 
 pub mod laws;
 mod least;
-mod lines;
 mod listing;
 mod relating;
 mod rows;
 mod table;
 mod text;
 mod walked;
-mod walks;
 mod written;
 
-pub use least::{Raise, RaisedError, Raising, raises_in, raises_of};
-pub use lines::{raise_lines_in, raise_lines_of};
+pub use least::{
+    Raise, RaisedError, Raising, raise_lines_in, raise_lines_of, raises_in, raises_of,
+};
 pub use listing::further_flows;
 pub use relating::related;
 pub use rows::{declarations, name_start};
 pub use table::{FlowsError, Pair, Related, flows_in, refused_pairs};
-pub use text::{ends_text, flows_text_in, flows_text_of, step_text, table_text};
+pub use text::{
+    WalkTable, Walks, ends_text, flows_text_in, flows_text_of, step_text, table_text, table_walks,
+    walk_table, walks_text_in, walks_text_of,
+};
 pub use walked::{WalkedPair, walks_of};
-pub use walks::{WalkTable, Walks, table_walks, walk_table, walks_text_in, walks_text_of};
 pub use written::{raised_text_in, raised_text_of};

@@ -1,25 +1,31 @@
-//! The table as text, and the texts about a refused flow.
+//! The table of flows as text, also with a shortest walk for each pair.
 
-ghost use Rattle.std.specs.Prelude.{◌≡◌, IfErr, OnOk, ◌++◌, codes, decimal, IfOk, List};
+ghost use Rattle.std.specs.Prelude.{◌≡◌, IfErr, OnOk, ◌++◌, codes, decimal, IfOk, List, ◌<◌, length};
 ghost use Rattle.vsi_lattice.specs.LatticeView.{class_named, order};
 ghost use Rattle.vsi_compiler.specs.Acceptance.{IsAccepted};
 ghost use Rattle.vsi_compiler.specs.Refusal.{Refuses, RefusesProgram};
-ghost use Rattle.vsi_compiler.specs.declared.error.CompileError.TheVariants.{Memory};
+ghost use Rattle.vsi_compiler.specs.declared.source.CompileError.TheVariants.{Memory};
 ghost use Rattle.std.specs.List.{All, flat_map};
 ghost use Rattle.vsi_lattice.specs.Order.{IsClass};
-ghost use Rattle.vsi_types.specs.Security.{program as program_of};
+ghost use Rattle.vsi_types.specs.Security.{program as program_of, program, steps_of};
 ghost use Rattle.vsi_infer.specs.Inference.{AreClasses};
 ghost use Rattle.vsi_syntax.specs.Tree.{Whole};
 ghost use Rattle.vsi_scope.specs.Language.{Command};
 ghost use Rattle.vsi_scope.specs.Resolving.{IsResolution};
 ghost use Rattle.vsi_compiler.specs.Source.{Reads};
+ghost use Rattle.vsi_flows.specs.Text.{AddsLines};
+ghost use Rattle.vsi_flows.specs.Walking.{AreWalks, IsWalkTable};
 ghost use Rattle.vsi_flows.specs.Messages as spec;
 ghost use Rattle.vsi_flows.specs.Text as text_spec;
 
-use crate::table::{FlowsError, Pair, flows_in};
+use crate::rows::{declarations, found_in, program_rows, walk_of};
+use crate::table::{FlowsError, Pair, decide, flows_in, pairs_of};
 use std::alloc::{AllocError, Global, Global as Heap};
 use vsi_compiler::{CompileError, Source, judge, read_source};
-use vsi_infer::{put_variable, rule_text, variable_name};
+use vsi_infer::{
+    FirstSteps, Mark, WalksTo, marks_of, put_steps, put_variable, rule_text, steps_down_each,
+    variable_name,
+};
 use vsi_lattice::Lattice;
 use vsi_scope::{Resolved, Var};
 use vsi_syntax::{put_line_column, put_number};
@@ -187,4 +193,149 @@ pub fn flows_text_in(
     let source = read_source(alloc, lattice, text)?;
     let lines = flows_text_of(alloc, profile, &source)?;
     Ok(lines)
+}
+
+/// The table of a source text under a profile, as text. Below the line of each pair are the lines
+/// of a walk of its fewest steps, as `Walks` adds them.
+pub fn walks_text_of(
+    alloc: Heap,
+    profile: Profile,
+    source: &Source<'_>,
+) -> Result<Vec<u8>, AllocError>
+    ensures { IfOk result (λ out.
+        text_spec.IsWalksText source.now.lattice profile source.now.text out.items) }
+{
+    let table = walk_table(alloc, profile, source)?;
+    let walks = table_walks(alloc, &table)?;
+    let mut text = Vec::new(alloc);
+    for number in 0..walks.len() {
+        walks.put_lines(alloc, number, &mut text)?;
+    }
+    Ok(text)
+}
+
+/// The table of a text with a walk below each pair, by `walks_text_of`.
+///
+/// # Errors
+///
+/// The errors of `read_source`: no flow is refused here.
+pub fn walks_text_in(
+    alloc: Heap,
+    profile: Profile,
+    lattice: &Lattice,
+    text: &[u8],
+) -> Result<Vec<u8>, CompileError>
+    ensures lines { IfOk result (λ out. text_spec.IsWalksText lattice.now profile text.now out.items) }
+    ensures refused { IfErr result (RefusesProgram (class_named lattice.now) text.now) }
+    ensures exact { (tree : Whole) (commands : List Command) → Reads text.now tree
+        → IsResolution (class_named lattice.now) tree commands → IfErr result (λ e. e ≡ Memory) }
+{
+    let source = read_source(alloc, lattice, text)?;
+    let lines = walks_text_of(alloc, profile, &source)?;
+    Ok(lines)
+}
+
+/// The pairs of a source text under a profile, the rows that walks go down, and the program's steps
+/// that lead down them.
+#[derive(Drop)]
+pub struct WalkTable<'s, 'a> {
+    profile: Profile,
+    source: &'s Source<'a>,
+    rows: Vec<Vec<u16>>,
+    pairs: Vec<Pair>,
+    known: FirstSteps,
+}
+
+/// The walks of a table's pairs. Each is found in the time that its steps take.
+#[derive(Drop)]
+pub struct Walks<'t, 's, 'a> {
+    table: &'t WalkTable<'s, 'a>,
+    found: Vec<Option<WalksTo<'t>>>,
+    marks: Vec<Mark>,
+}
+
+/// The table of a source text under a profile. This takes two passes over the program, and an
+/// inference of its classes, which proves the verdict.
+pub fn walk_table<'s, 'a>(
+    alloc: Heap,
+    profile: Profile,
+    source: &'s Source<'a>,
+) -> Result<WalkTable<'s, 'a>, AllocError>
+    ensures table { IfOk result IsWalkTable }
+    ensures source { IfOk result (λ t. t.source.now ≡ source.now) }
+    ensures profile { IfOk result (λ t. t.profile ≡ profile) }
+{
+    let lattice = source.lattice();
+    let resolved = source.resolved();
+    let rows = program_rows(alloc, profile, lattice, resolved)?;
+    let pairs = pairs_of(alloc, lattice, resolved, &rows)?;
+    decide(alloc, profile, lattice, resolved)?;
+    let last = declarations(resolved);
+    let known = steps_down_each(alloc, profile, resolved, &rows, last)?;
+    Ok(WalkTable {
+        profile,
+        source,
+        rows,
+        pairs,
+        known,
+    })
+}
+
+/// The walks of a table.
+pub fn table_walks<'t, 's, 'a>(
+    alloc: Heap,
+    table: &'t WalkTable<'s, 'a>,
+) -> Result<Walks<'t, 's, 'a>, AllocError>
+    requires { IsWalkTable table.now }
+    ensures walks { IfOk result AreWalks }
+    ensures table { IfOk result (λ w. w.table.now ≡ table.now) }
+{
+    let resolved = table.source.resolved();
+    let last = declarations(resolved);
+    let found = found_in(alloc, &table.known, &table.rows, last)?;
+    let text = table.source.text();
+    let marks = marks_of(alloc, text)?;
+    Ok(Walks {
+        table,
+        found,
+        marks,
+    })
+}
+
+impl<'t, 's, 'a> Walks<'t, 's, 'a> {
+    /// The number of pairs.
+    pub fn len(&self) -> usize
+        ensures { result ≡ length self.now.table.now.pairs.items }
+    {
+        self.table.pairs.len()
+    }
+
+    /// Adds the lines of the pair with this number: its own line and, below it, those of a walk of
+    /// its fewest steps, as in a refusal's explanation. It is the walk that a refusal would show:
+    /// the first in the order of the program's steps, step by step.
+    pub fn put_lines(
+        &self,
+        alloc: Heap,
+        number: usize,
+        text: &mut Vec<u8>,
+    ) -> Result<(), AllocError>
+        requires walks { AreWalks self.now }
+        requires number { number < length self.now.table.now.pairs.items }
+        ensures { OnOk result (AddsLines self.now.table.now.source.now.lattice
+            (steps_of self.now.table.now.profile (program self.now.table.now.source.now.resolved))
+            self.now.table.now.source.now.text self.now.table.now.source.now.resolved
+            self.now.table.now.pairs.items number text.old.items text.new.items) }
+    {
+        let source = self.table.source;
+        let lattice = source.lattice();
+        let source_text = source.text();
+        let resolved = source.resolved();
+        let pair = &self.table.pairs[number];
+        put_pair(text, lattice, resolved, *pair)?;
+        let last = declarations(resolved);
+        let profile = self.table.profile;
+        let walk = walk_of(alloc, profile, resolved, &self.found, last, *pair)?;
+        put_steps(text, source_text, &self.marks, resolved, &walk)?;
+        Ok(())
+    }
 }

@@ -1,10 +1,10 @@
 -- The sentence of a hint, and the texts that it may offer.
 use Rattle.std.specs.Prelude.{ℕ, List, [], ◌++◌, Option, Some, None, take, codes}
 use Rattle.vsi_hints.specs.Offered.{IsExpression, IsProgramText}
-use Rattle.vsi_hints.specs.declared.wording.Hint.{Hint}
-use Rattle.vsi_hints.specs.declared.wording.Hint.TheVariants.{Offer, Put, Operator, Piece, Plain}
-use Rattle.vsi_hints.specs.declared.wording.Reason.{Reason}
-use Rattle.vsi_hints.specs.declared.wording.Reason.TheVariants.{Rule, Lacking}
+use Rattle.vsi_hints.specs.declared.drafts.Hint.{Hint}
+use Rattle.vsi_hints.specs.declared.drafts.Hint.TheVariants.{Offer, Put, Operator, Piece, Plain}
+use Rattle.vsi_hints.specs.declared.drafts.Reason.{Reason}
+use Rattle.vsi_hints.specs.declared.drafts.Reason.TheVariants.{Rule, Lacking}
 
 -- A text between back quotes, cut after 120 bytes.
 abbrev pub quoted : List ℕ → List ℕ

@@ -3,14 +3,12 @@
 ghost use Rattle.std.specs.Prelude.{IfOk, IfSome};
 ghost use Rattle.vsi_hints.specs.Hints.{OffersRead};
 
+use crate::drafts::{Found, Hint, Sense, Shape, put_sentence, say};
 use crate::expression::{FALSE, TRUE};
-use crate::found::{Found, Sense, Shape, say};
 use crate::names::{declaration, local, named};
 use crate::offers::{hint_of, offer};
 use crate::scan::{Scan, is_one_of};
-use crate::signs::sign;
-use crate::structure::{COUNTED, halved_at, loop_at, structure_at};
-use crate::wording::{Hint, put_sentence};
+use crate::structure::{COUNTED, halved_at, loop_at, sign, structure_at};
 use std::alloc::{AllocError, Global};
 use vsi_syntax::put_place;
 

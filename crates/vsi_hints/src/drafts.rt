@@ -1,17 +1,241 @@
-//! Texts in which letters stand for parts of another text.
-//!
-//! In the text of an offer these letters stand for others: N, A, P, C and Q for the first five
-//! pieces; V for the value, which X and Y write as a summand and a factor; W for the value after
-//! its comma; E for all pieces as an expression; D for a number; L for the declarations of all
-//! names; K, R and T for names that no piece has; for a loop, B for its body, I for its counter, F
-//! for the first number and G for the first one that isn't counted.
+//! Hints and their sentences, and texts in which letters stand for parts of another text.
+
+ghost use Rattle.std.specs.Prelude.{◌≡◌, ◌++◌, IfOk, OnOk, codes, is_some, take};
+ghost use Rattle.vsi_hints.specs.Hints as spec;
 
 use crate::expression::rewritten;
-use crate::found::Found;
 use crate::scan::{Scan, number_of};
 use crate::structure::counting_at;
 use std::alloc::AllocError;
 use vsi_syntax::put_number;
+
+/// The kind of a text that is offered.
+#[derive(Clone, Copy)]
+pub(crate) enum Sense {
+    Expression,
+    Commands,
+    Declarations,
+}
+
+/// The advice on some pieces.
+#[derive(Clone, Copy)]
+pub(crate) enum Shape {
+    /// Nothing replaces the first piece: the two parts of a sentence around it.
+    Say(&'static str, &'static str),
+    /// The same, if the piece can't be shown.
+    Tell(&'static str),
+    /// Another text replaces them; then the rest of the sentence.
+    Put(&'static str, &'static str),
+    /// An expression, for the piece with this number.
+    Value(usize),
+    /// A text that is made from the pieces replaces them: what it must be, its letters, the reason
+    /// as the end of a sentence, and the sentence if the text can't be offered.
+    Offer(Sense, &'static [u8], &'static str, &'static str),
+    /// A comment.
+    Comment,
+}
+
+/// Some pieces, from the first one up to but not including the next one, the first one of the value
+/// in them, and what takes their place.
+#[derive(Clone, Copy)]
+pub(crate) struct Found {
+    pub(crate) first: usize,
+    pub(crate) value: usize,
+    pub(crate) next: usize,
+    pub(crate) shape: Shape,
+}
+
+/// The texts of an offer: its letters, the reason, and the sentence if it can't be made.
+pub(crate) type Letters = (&'static [u8], &'static str, &'static str);
+
+/// These pieces have this shape.
+pub(crate) fn shaped(first: usize, next: usize, shape: Shape) -> Option<Found> {
+    Some(Found {
+        first,
+        value: first,
+        next,
+        shape,
+    })
+}
+
+/// A sentence around the first of these pieces.
+pub(crate) fn say(
+    first: usize,
+    next: usize,
+    before: &'static str,
+    after: &'static str,
+) -> Option<Found> {
+    shaped(first, next, Shape::Say(before, after))
+}
+
+/// Another text in place of a piece.
+pub(crate) fn put(at: usize, text: &'static str, rest: &'static str) -> Option<Found> {
+    shaped(at, at.saturating_add(1), Shape::Put(text, rest))
+}
+
+/// A text that is made from pieces in their place.
+pub(crate) fn offered(
+    first: usize,
+    next: usize,
+    sense: Sense,
+    (text, rule, plain): Letters,
+) -> Option<Found> {
+    shaped(first, next, Shape::Offer(sense, text, rule, plain))
+}
+
+/// Commands in place of pieces with a value.
+pub(crate) fn commands(first: usize, value: usize, next: usize, letters: Letters) -> Option<Found> {
+    let mut found = offered(first, next, Sense::Commands, letters)?;
+    found.value = value;
+    Some(found)
+}
+
+impl Found {
+    /// Whether a piece belongs to the construct or directly follows it.
+    pub(crate) fn covers(&self, piece: usize) -> bool {
+        self.first <= piece && piece <= self.next
+    }
+
+    /// Whether one of the pieces up to a number is this name.
+    pub(crate) fn has(&self, scan: &Scan, next: usize, name: &[u8]) -> bool {
+        (self.first..next).any(|at| scan.is(at, name))
+    }
+
+    /// The part of the advice that constructs with the same advice share. Texts of the same length in
+    /// place of a piece count as the same, as for `true` and `false`.
+    pub(crate) fn key<'s>(&self, scan: &Scan<'s>) -> (&'s [u8], usize) {
+        match self.shape {
+            Shape::Say(before, after) => (after.as_bytes(), before.len()),
+            Shape::Tell(sentence) => (sentence.as_bytes(), 0),
+            Shape::Put(text, _) => (b"", text.len()),
+            Shape::Value(cause) => (scan.text(cause), 0),
+            Shape::Offer(_, _, rule, plain) => (rule.as_bytes(), plain.len()),
+            Shape::Comment => (b"#", 0),
+        }
+    }
+}
+
+/// The most bytes of a text that are shown.
+pub(crate) const LONGEST: usize = 120;
+
+/// The reason why a text is offered.
+#[derive(Clone, Copy, Debug)]
+pub enum Reason<'s> {
+    /// The end of a sentence.
+    Rule(&'static str),
+    /// There is no such sign.
+    Lacking(&'s [u8]),
+}
+
+/// Advice on a construct of another language.
+#[derive(Debug, Drop)]
+pub enum Hint<'s> {
+    /// A text that the reader of the language has read, in place of a part of the source, and why.
+    Offer(Vec<u8>, &'s [u8], Reason<'s>),
+    /// A fixed text in place of a part of the source, and the end of the sentence.
+    Put(&'static str, &'s [u8], &'static str),
+    /// A form of this language for a sign of another.
+    Operator(&'static [u8], &'s [u8]),
+    /// A sentence with a part of the source in it.
+    Piece(&'static str, &'s [u8], &'static str),
+    /// A sentence.
+    Plain(&'static str),
+}
+
+/// A text, or its beginning if it is long.
+fn beginning(text: &[u8]) -> &[u8]
+    ensures { result.now ≡ take 120 text.now }
+{
+    if text.len() > LONGEST {
+        &text[..LONGEST]
+    } else {
+        text
+    }
+}
+
+/// Adds a text between back quotes, or its beginning if it is long.
+fn put_quoted(words: &mut Vec<u8>, text: &[u8]) -> Result<(), AllocError>
+    ensures { OnOk result (words.new.items ≡ words.old.items ++ spec.quoted text.now) }
+{
+    words.extend_from_slice(b"`")?;
+    words.extend_from_slice(beginning(text))?;
+    words.extend_from_slice(b"`")?;
+    Ok(())
+}
+
+/// Adds the reason why a text is offered.
+fn put_reason(words: &mut Vec<u8>, reason: Reason) -> Result<(), AllocError>
+    ensures { OnOk result (words.new.items ≡ words.old.items ++ spec.reason reason.entry) }
+{
+    match reason {
+        Reason::Rule(text) => words.extend_from_slice(text.as_bytes()),
+        Reason::Lacking(sign) => {
+            words.extend_from_slice(b": there is no ")?;
+            put_quoted(words, sign)?;
+            words.extend_from_slice(b".")
+        }
+    }
+}
+
+/// Adds that one text replaces another.
+fn put_replacing(words: &mut Vec<u8>, new: &[u8], old: &[u8]) -> Result<(), AllocError>
+    ensures { OnOk result (words.new.items ≡ words.old.items ++ spec.replacing new.now old.now) }
+{
+    words.extend_from_slice(b"write ")?;
+    put_quoted(words, new)?;
+    words.extend_from_slice(b" in place of ")?;
+    put_quoted(words, old)?;
+    Ok(())
+}
+
+/// Adds the form of this language for a sign.
+fn put_operator(words: &mut Vec<u8>, text: &[u8], sign: &[u8]) -> Result<(), AllocError>
+    ensures { OnOk result (words.new.items ≡ words.old.items ++ codes "write "
+        ++ spec.quoted text.now ++ codes " for `P " ++ sign.now ++ codes " Q`.") }
+{
+    words.extend_from_slice(b"write ")?;
+    put_quoted(words, text)?;
+    words.extend_from_slice(b" for `P ")?;
+    words.extend_from_slice(sign)?;
+    words.extend_from_slice(b" Q`.")
+}
+
+/// Adds the sentence of a hint.
+pub(crate) fn put_sentence(words: &mut Vec<u8>, hint: &Hint) -> Result<(), AllocError>
+    ensures { OnOk result (words.new.items ≡ words.old.items ++ spec.sentence hint.now) }
+{
+    match hint {
+        Hint::Offer(new, old, reason) => {
+            put_replacing(words, new, old)?;
+            put_reason(words, *reason)
+        }
+        Hint::Put(new, old, rest) => {
+            put_replacing(words, new.as_bytes(), old)?;
+            words.extend_from_slice(rest.as_bytes())
+        }
+        Hint::Operator(text, sign) => put_operator(words, text, sign),
+        Hint::Piece(before, piece, rest) => {
+            words.extend_from_slice(before.as_bytes())?;
+            put_quoted(words, piece)?;
+            words.extend_from_slice(rest.as_bytes())
+        }
+        Hint::Plain(text) => words.extend_from_slice(text.as_bytes()),
+    }
+}
+
+/// Adds the line of a hint, if there is one, and returns whether there is.
+pub fn put_hint(words: &mut Vec<u8>, hint: &Option<Hint>) -> Result<bool, AllocError>
+    ensures line { OnOk result (words.new.items ≡ words.old.items ++ spec.hint_line hint.now) }
+    ensures is { IfOk result (λ is. is ≡ is_some hint.now) }
+{
+    let Some(hint) = hint else {
+        return Ok(false);
+    };
+    words.extend_from_slice(b"Hint: ")?;
+    put_sentence(words, hint)?;
+    words.extend_from_slice(b"\n")?;
+    Ok(true)
+}
 
 /// A text that is made from the pieces of a construct. Each method that adds to it returns whether
 /// what it adds could be written.

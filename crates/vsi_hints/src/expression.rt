@@ -1,8 +1,8 @@
 //! An expression of another language, written in this one while it is read from the left, and the
 //! translations of its operators.
 
+use crate::drafts::LONGEST;
 use crate::scan::{Piece, Sort, is_one_of, number_of};
-use crate::wording::LONGEST;
 use std::alloc::{AllocError, Global};
 use vsi_syntax::put_number;
 

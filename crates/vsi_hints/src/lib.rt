@@ -14,14 +14,10 @@
 mod advice;
 mod drafts;
 mod expression;
-mod found;
 mod names;
 mod offers;
-mod sayings;
 mod scan;
-mod signs;
 mod structure;
-mod wording;
 
 pub use advice::{hint_at, listed_places, put_further};
-pub use wording::{Hint, Reason, put_hint};
+pub use drafts::{Hint, Reason, put_hint};

@@ -1,10 +1,10 @@
 //! The constructs of other languages that begin with a name, and declarations.
 
+use crate::drafts::{Found, Letters, Sense, Shape, commands, offered, put, say, shaped};
 use crate::expression::{FALSE, TRUE, is_operator};
-use crate::found::{Found, Letters, Sense, Shape, commands, offered, put, say, shaped};
-use crate::sayings::{CALLS, COMMANDS, NONE, Saying, said, saying_in};
+use crate::offers::{CALLS, COMMANDS, NONE, Saying, said, saying_in};
 use crate::scan::{Scan, Sort, after, is_one_of};
-use crate::signs::is_beyond;
+use crate::structure::is_beyond;
 
 /// Names that declare a variable.
 const TYPES: &[u8] = b"let const local auto int long unsigned float double bool boolean char \

@@ -1,7 +1,7 @@
 //! A text of another language, cut into pieces: words, numbers, signs, texts and comments.
 
 use crate::expression::{NO_OPERANDS, is_operator};
-use crate::sayings::narrow;
+use crate::offers::narrow;
 use std::alloc::{AllocError, Global};
 
 /// The largest number of pieces of a text that is examined; the rest of a longer text is not.

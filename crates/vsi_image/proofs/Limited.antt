@@ -5,8 +5,8 @@ use Rattle.std.specs.List.{AllByRecursion}
 use Rattle.std.proofs.lemmas.Option.{none-some}
 use Rattle.std.proofs.lemmas.Bool.Decides.{nat_tests}
 use Rattle.std.proofs.lemmas.List.Elements.{All-from_recursion}
-use Rattle.vsi_image.specs.declared.limits.Limit.{Limit}
-use Rattle.vsi_image.specs.declared.limits.Limit.TheVariants.{Name, Class}
+use Rattle.vsi_image.specs.declared.encoder.Limit.{Limit}
+use Rattle.vsi_image.specs.declared.encoder.Limit.TheVariants.{Name, Class}
 use Rattle.vsi_syntax.specs.Words.{is_name}
 use Rattle.vsi_image.specs.Fields.{Global, Fields, globals, is_taken, AreGlobals, IsAllowed}
 use Rattle.vsi_image.specs.Limits.{globals_limit, first_limit}

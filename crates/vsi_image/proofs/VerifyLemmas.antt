@@ -8,7 +8,7 @@ use Rattle.std.proofs.lemmas.Bool.{cases_eq}
 use Rattle.std.proofs.lemmas.Bool.Decides.{nat_tests}
 use Rattle.vsi_image.specs.declared.instr.Instr.{Instr}
 use Rattle.vsi_image.specs.declared.instr.Image.{Image}
-use Rattle.vsi_image.specs.declared.limits.Limit.{Limit}
+use Rattle.vsi_image.specs.declared.encoder.Limit.{Limit}
 use Rattle.vsi_image.specs.declared.verifier.VerifyError.{VerifyError}
 use Rattle.vsi_image.specs.declared.verifier.VerifyError.TheVariants.{Unencodable, NotEmpty, RunsOff}
 use Rattle.vsi_image.specs.Effects.{takes, left, slot_of, target_of, leaves_none, goes_off, depth_after, depth_at}

@@ -1,7 +1,7 @@
 -- The first limit that an image exceeds.
 use Rattle.std.specs.Prelude.{ℕ, ◌+◌, List, [], ◌∷◌, ◌++◌, length, Option, Some, None, true, false, if◌then◌else◌, ◌&&◌, nat_lt}
-use Rattle.vsi_image.specs.declared.limits.Limit.{Limit}
-use Rattle.vsi_image.specs.declared.limits.Limit.TheVariants.{Globals, Slots, Stack, Count, Name, Class}
+use Rattle.vsi_image.specs.declared.encoder.Limit.{Limit}
+use Rattle.vsi_image.specs.declared.encoder.Limit.TheVariants.{Globals, Slots, Stack, Count, Name, Class}
 use Rattle.vsi_syntax.specs.Words.{is_name}
 use Rattle.vsi_image.specs.Fields.{Global, Fields, is_taken, max_globals, max_slots, max_operands, max_instructions}
 

@@ -7,12 +7,13 @@ ghost use Rattle.std.specs.Prelude.{◌≡◌, ℕ, length, true, false, [], IfO
 ghost use Rattle.std.specs.Int.{w16, w32, w64};
 ghost use Rattle.vsi_image.specs.declared.decoder.DecodeError.TheVariants.{Memory};
 ghost use Rattle.vsi_image.specs.Fields.{Fields, IsOneSpelling, Spells, fields, global, globals, is_taken};
-ghost use Rattle.vsi_image.specs.Reading as spec;
 ghost use Rattle.vsi_image.specs.Reading.{Gives};
+ghost use Rattle.vsi_image.specs.Reading as spec;
 
+use crate::encoder::{
+    self, MAGIC, MAX_GLOBALS, MAX_INSTRUCTIONS, MAX_NAME_LENGTH, MAX_OPERANDS, MAX_SLOTS, VERSION,
+};
 use crate::instr::{Image, Instr};
-use crate::limits::{MAX_GLOBALS, MAX_INSTRUCTIONS, MAX_NAME_LENGTH, MAX_OPERANDS, MAX_SLOTS};
-use crate::opcodes::{self, MAGIC, VERSION};
 use std::alloc::{AllocError, AllocFailed, Global};
 use thiserror::Error;
 use vsi_syntax::is_name;

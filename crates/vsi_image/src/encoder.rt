@@ -1,19 +1,123 @@
-//! Encodes an image to its bytes, in version 2.
+//! Encodes an image to its bytes, in version 2, if it is within the limits of an image.
 
-ghost use Rattle.std.specs.Prelude.{◌≡◌, ◌≢◌, ◌<◌, ◌++◌, ◌∷◌, length, OnOk, IfOk, IfErr, All, Some, Ok};
+ghost use Rattle.std.specs.Prelude.{◌≡◌, [], ◌≢◌, ◌<◌, ◌++◌, ◌∷◌, length, OnOk, IfOk, IfErr, All, Some, Ok};
+ghost use Rattle.vsi_image.specs.Fields.{fields, globals, global, global_bytes, instr_bytes, head_bytes, string, IsAllowed, HasOpcode, HasBytes, Spells, newest_version};
 ghost use Rattle.std.specs.List.{flat_map};
 ghost use Rattle.std.specs.Option.{option_map};
 ghost use Rattle.vsi_image.specs.declared.encoder.EncodeError.TheVariants.{Memory, Unencodable};
-ghost use Rattle.vsi_image.specs.Fields as spec;
-ghost use Rattle.vsi_image.specs.Fields.{fields, global, globals, global_bytes, instr_bytes, head_bytes, string, IsAllowed, HasOpcode, HasBytes, Spells, newest_version};
 ghost use Rattle.vsi_image.specs.Limits.{first_limit};
 ghost use Rattle.vsi_image.specs.Reading.{image_of};
+ghost use Rattle.vsi_image.specs.Limits as spec;
+ghost use Rattle.vsi_image.specs.Fields as fields_spec;
 
+use crate::decoder::is_taken;
 use crate::instr::{Image, Instr};
-use crate::limits::{Limit, limit_of};
-use crate::opcodes::{self, MAGIC, VERSION};
 use std::alloc::{AllocError, Global};
 use thiserror::Error;
+use vsi_syntax::is_name;
+
+/// The first bytes of an image, `VSI`.
+pub(crate) const MAGIC: [u8; 3] = [86, 83, 73];
+
+/// The version that is written. Version 1 is also read; it has no multiplication.
+pub(crate) const VERSION: u8 = 2;
+
+pub(crate) const PUSH: u8 = 1;
+
+pub(crate) const LOAD: u8 = 2;
+
+pub(crate) const STORE: u8 = 3;
+
+pub(crate) const ADD: u8 = 4;
+
+pub(crate) const SUB: u8 = 5;
+
+pub(crate) const EQ: u8 = 6;
+
+pub(crate) const LT: u8 = 7;
+
+pub(crate) const JZ: u8 = 8;
+
+pub(crate) const JMP: u8 = 9;
+
+pub(crate) const HALT: u8 = 10;
+
+pub(crate) const MUL: u8 = 11;
+
+/// The most globals of an image.
+pub(crate) const MAX_GLOBALS: u16 = 256;
+
+/// The most slots of an image, globals included.
+pub(crate) const MAX_SLOTS: u16 = 512;
+
+/// The most operands for which an image may reserve room.
+pub(crate) const MAX_OPERANDS: u16 = 256;
+
+/// The most instructions of an image, including `Halt`.
+pub(crate) const MAX_INSTRUCTIONS: u32 = 65535;
+
+/// The most bytes of a name.
+pub(crate) const MAX_NAME_LENGTH: u8 = 32;
+
+/// A limit that an image exceeds; a number is a global's, from 0.
+#[derive(Clone, Copy, PartialEq, Eq, Debug, Error)]
+pub enum Limit {
+    /// There are more than 256 globals.
+    #[error("there are more than {limit} globals", limit = MAX_GLOBALS)]
+    Globals,
+    /// There are more than 512 slots, or fewer than globals.
+    #[error("there are more than {limit} slots, or fewer than globals", limit = MAX_SLOTS)]
+    Slots,
+    /// The operand stack has room for more than 256.
+    #[error("the operand stack has room for more than {limit}", limit = MAX_OPERANDS)]
+    Stack,
+    /// There are more than 65,535 instructions.
+    #[error("there are more than {limit} instructions", limit = MAX_INSTRUCTIONS)]
+    Count,
+    /// The global's name is invalid, or is that of a global before it.
+    #[error("the name of global {0} is none, or that of a global before it")]
+    Name(usize),
+    /// The name of the global's class is invalid.
+    #[error("the class name of global {0} is none")]
+    Class(usize),
+}
+
+/// The first global whose name or class name isn't allowed.
+fn globals_limit(all: &[(Vec<u8>, Vec<u8>)]) -> Option<Limit>
+    ensures { result ≡ spec.globals_limit 0 [] (globals all.now) }
+{
+    for i in 0..all.len() {
+        let (before, rest) = all.split_at(i);
+        if let [g, ..] = rest {
+            if !(is_name(&g.0) && !is_taken(before, &g.0)) {
+                return Some(Limit::Name(i));
+            }
+            if !is_name(&g.1) {
+                return Some(Limit::Class(i));
+            }
+        }
+    }
+    None
+}
+
+/// The first limit that the image exceeds.
+pub(crate) fn limit_of(image: &Image) -> Option<Limit>
+    ensures { result ≡ spec.first_limit (fields image.now) }
+{
+    if image.globals.len() > MAX_GLOBALS as usize {
+        Some(Limit::Globals)
+    } else if image.globals.len() > image.slots as usize {
+        Some(Limit::Slots)
+    } else if image.slots > MAX_SLOTS {
+        Some(Limit::Slots)
+    } else if image.stack > MAX_OPERANDS {
+        Some(Limit::Stack)
+    } else if image.code.len() > MAX_INSTRUCTIONS as usize {
+        Some(Limit::Count)
+    } else {
+        globals_limit(&image.globals)
+    }
+}
 
 /// Appends a byte and the bytes after it.
 fn put_behind(out: &mut Vec<u8>, byte: u8, bytes: &[u8]) -> Result<(), AllocError>
@@ -133,7 +237,7 @@ fn put_head(
 /// The bytes of an image that is within its limits.
 fn bytes_of(alloc: Global, image: &Image) -> Result<Vec<u8>, AllocError>
     requires { IsAllowed (fields image.now) }
-    ensures bytes { IfOk result (λ b. b.items ≡ spec.bytes_of newest_version (fields image.now)) }
+    ensures bytes { IfOk result (λ b. b.items ≡ fields_spec.bytes_of newest_version (fields image.now)) }
     ensures fits { OnOk result (HasBytes newest_version (fields image.now)) }
 {
     known_all(&image.code);
@@ -172,7 +276,7 @@ impl From<AllocError> for EncodeError {
 /// The bytes of the image, in version 2, or the first limit that it exceeds.
 pub fn encode(alloc: Global, image: &Image) -> Result<Vec<u8>, EncodeError>
     // The bytes are the image's in version 2.
-    ensures bytes { IfOk result (λ b. b.items ≡ spec.bytes_of newest_version (fields image.now)) }
+    ensures bytes { IfOk result (λ b. b.items ≡ fields_spec.bytes_of newest_version (fields image.now)) }
     // An image that is encoded is within its limits.
     ensures allowed { OnOk result (IsAllowed (fields image.now)) }
     // The error is the first limit, unless memory ran out.

@@ -11,21 +11,12 @@
 #![tactic(auto)]
 
 mod decoder;
-mod effects;
 mod encoder;
 mod instr;
 pub mod laws;
-mod limits;
-mod marks;
-mod opcodes;
-mod text;
-mod verified;
 mod verifier;
 
 pub use decoder::{DecodeError, decode};
-pub use encoder::{EncodeError, encode};
-pub use instr::{Image, Instr};
-pub use limits::Limit;
-pub use text::listing;
-pub use verified::Verified;
-pub use verifier::{VerifyError, verify};
+pub use encoder::{EncodeError, Limit, encode};
+pub use instr::{Image, Instr, listing};
+pub use verifier::{Verified, VerifyError, verify};

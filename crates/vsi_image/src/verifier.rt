@@ -1,20 +1,97 @@
-//! The verifier, which allocates no memory: it passes once over the code, with a row of marks, and
-//! once over the jumps.
+//! The verifier, which allocates no memory: it passes once over the code with a row of bits.
 
-ghost use Rattle.std.specs.Prelude.{◌≡◌, ◌↔◌, ℕ, ◌<◌, ◌≤◌, ◌-◌, length, IfOk, IfErr, IsOk, Some, IsNone, false, true, slice_get};
+ghost use Rattle.std.specs.Prelude.{◌≡◌, ◌≢◌, ℕ, ◌<◌, ◌*◌, length, true, false, ◌↔◌, ◌≤◌, ◌-◌, IfOk, IfErr, IsOk, Some, IsNone, slice_get};
+ghost use Rattle.vsi_image.specs.Marks.{marked, AreMarked, MarkDepths};
 ghost use Rattle.std.specs.Option.{option_map_or};
 ghost use Rattle.vsi_image.specs.Effects.{goes_off, target_of};
-ghost use Rattle.vsi_image.specs.Faults as spec;
-ghost use Rattle.vsi_image.specs.Marks.{AreMarked, MarkDepths, marked};
 ghost use Rattle.vsi_image.specs.Valid.{IsValid};
 ghost use Rattle.vsi_image.specs.Fields.{max_operands, max_instructions};
+ghost use Rattle.vsi_image.specs.Faults as spec;
 
-use crate::effects::{depth_after, gives, goes_off, leaves_none, slot_of, takes, target_of};
-use crate::instr::{Image, Instr};
-use crate::limits::{Limit, limit_of};
-use crate::marks::{WORDS, blank, is_marked, mark_if};
-use crate::verified::Verified;
+use crate::encoder::{Limit, limit_of};
+use crate::instr::{
+    Image, Instr, depth_after, gives, goes_off, leaves_none, slot_of, takes, target_of,
+};
+use std::marker::Model;
 use thiserror::Error;
+
+/// The number of words in the row.
+pub(crate) const WORDS: usize = 1024;
+
+/// A row with no bit set.
+pub(crate) fn blank() -> [u64; WORDS]
+    ensures { (k : ℕ) → marked result k ≡ false }
+{
+    [0; WORDS]
+}
+
+/// Sets the bit at an index.
+pub(crate) fn mark(words: &mut [u64], at: usize)
+    requires { at < 64 * length words.old }
+    ensures here { marked words.new at ≡ true }
+    ensures others { (k : ℕ) → k ≢ at → marked words.new k ≡ marked words.old k }
+{
+    words[at / 64] |= 1 << (at % 64);
+}
+
+/// Sets the bit at an index, which isn't set, if the test succeeds.
+pub(crate) fn mark_if(yes: bool, words: &mut [u64], at: usize)
+    requires within { at < 64 * length words.old }
+    requires unset { marked words.old at ≡ false }
+    ensures here { marked words.new at ≡ yes }
+    ensures others { (k : ℕ) → k ≢ at → marked words.new k ≡ marked words.old k }
+{
+    if yes {
+        mark(words, at);
+    }
+}
+
+/// Whether the bit at an index is set.
+pub(crate) fn is_marked(words: &[u64], at: usize) -> bool
+    requires { at < 64 * length words.now }
+    ensures { result ≡ marked words.now at }
+{
+    (words[at / 64] >> (at % 64)) & 1 == 1
+}
+
+/// A valid image, which the machine runs without checking slots, targets or operands.
+#[derive(Drop)]
+pub struct Verified {
+    image: Image,
+}
+
+impl Model for Verified {
+    ghost use Rattle.vsi_image.specs.declared.instr.Image.{Image};
+    ghost use Rattle.vsi_image.specs.Valid.{IsValid};
+
+    ghost Value = { Image };
+
+    ghost view = { λ v. v.image };
+
+    ghost invariant = { λ v. IsValid v.image };
+}
+
+impl Verified {
+    ghost use Rattle.std.specs.Prelude.{◌≡◌};
+    ghost use Rattle.vsi_image.specs.Valid.{IsValid};
+
+    /// An image that is proved to be valid, such as that of a code generator; an image from
+    /// elsewhere goes through `verify`.
+    pub fn of(image: Image) -> Verified
+        requires { IsValid image }
+        ensures { result ≡ image }
+    {
+        Verified { image }
+    }
+
+    /// The image.
+    pub fn image(&self) -> &Image
+        ensures same { result.now ≡ self.now }
+        ensures valid { IsValid self.now }
+    {
+        &self.image
+    }
+}
 
 /// Why an image is refused; a number is an instruction's, from 0.
 #[derive(Clone, Copy, PartialEq, Eq, Debug, Error)]

@@ -7,13 +7,13 @@ use Rattle.std.proofs.lemmas.List.Elements.{All-push}
 use Rattle.std.proofs.Math.Bool.{or-false, or_assoc}
 use Rattle.std.proofs.Math.Seq.{take-append_seam}
 use Rattle.vsi_syntax.specs.declared.token.Span.{Span}
-use Rattle.vsi_scope.specs.declared.program.Cmd.{Cmd}
+use Rattle.vsi_scope.specs.declared.resolved.Cmd.{Cmd}
 use Rattle.vsi_scope.specs.Language.{Expression, Command, Skip, Assign, Sequence, If, While, Letvar, letvars, has_loop, HasPlaces}
 use Rattle.vsi_scope.specs.View.{command, sequence}
 use Rattle.vsi_types.specs.declared.rules.Profile.{Profile}
 use Rattle.vsi_types.specs.declared.rules.Rule.TheVariants as typing
 use Rattle.vsi_infer.specs.FlowRows.{flow_has}
-use Rattle.vsi_infer.specs.declared.rule_filter.RuleFilter.{RuleFilter}
+use Rattle.vsi_infer.specs.declared.flows.RuleFilter.{RuleFilter}
 use Rattle.vsi_infer.specs.Leading.{leads, inside, reads_by, observes_ending, Position, IsReady, IsNoted}
 
 -- The order of two added facts doesn't matter.

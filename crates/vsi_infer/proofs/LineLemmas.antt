@@ -2,7 +2,7 @@
 use Rattle.std.proofs.Common.{◌≡◌, ℕ, ◌+◌, ◌<◌, ◌≤◌, min, true, false, eqb, List, length, take, get_or, ap, ◌∙◌, arith}
 use Rattle.vsi_syntax.specs.Lines.{breaks, last_line}
 use Rattle.vsi_syntax.proofs.Places.{Stands, stands_break, stands_on, stop}
-use Rattle.vsi_infer.specs.declared.lines.Mark.{Mark}
+use Rattle.vsi_infer.specs.declared.explanation.Mark.{Mark}
 use Rattle.vsi_infer.specs.Lines.{IsMarkOf}
 
 -- A mark gives the line and the column of its position.

@@ -18,7 +18,7 @@ use Rattle.vsi_types.specs.declared.rules.Read.{Read}
 use Rattle.vsi_types.specs.declared.rules.Guard.{Guard}
 use Rattle.vsi_types.specs.declared.rules.Step.{Step}
 use Rattle.vsi_types.specs.Steps.{sink, reads, guarded, flows, endings, steps}
-use Rattle.vsi_infer.specs.declared.rule_filter.RuleFilter.{RuleFilter}
+use Rattle.vsi_infer.specs.declared.flows.RuleFilter.{RuleFilter}
 use Rattle.vsi_infer.specs.Leading.{takes, leads_taken, has_taken, reads_it, reads_by, inside, leads, observes_ending}
 use Rattle.vsi_infer.specs.Flowing.{variable_at}
 use Rattle.vsi_infer.proofs.FlowMatrixLemmas.{leads_same}

@@ -6,8 +6,8 @@ use Rattle.vsi_types.specs.declared.rules.Profile.{Profile}
 use Rattle.vsi_types.specs.declared.rules.Step.{Step}
 use Rattle.vsi_types.specs.Security.{Program, IsTypable}
 use Rattle.vsi_types.specs.Walks.{IsBad}
-use Rattle.vsi_infer.specs.declared.error.InferError.{InferError}
-use Rattle.vsi_infer.specs.declared.error.InferError.TheVariants.{Memory, Refused}
+use Rattle.vsi_infer.specs.declared.inference.InferError.{InferError}
+use Rattle.vsi_infer.specs.declared.inference.InferError.TheVariants.{Memory, Refused}
 
 -- The declared class of each variable, globals first, and the ending's at the end.
 abbrev pub table : Lattice → Program → List (Option ℕ)

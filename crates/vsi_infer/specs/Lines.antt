@@ -1,7 +1,7 @@
 -- Positions of a text whose lines and columns are known.
 use Rattle.std.specs.Prelude.{◌≡◌, ℕ, ◌+◌, ◌≤◌, List, take, length}
 use Rattle.vsi_syntax.specs.Lines.{breaks, last_line}
-use Rattle.vsi_infer.specs.declared.lines.Mark.{Mark}
+use Rattle.vsi_infer.specs.declared.explanation.Mark.{Mark}
 
 -- The position is within the text, and has that line and that column.
 pub record IsMarkOf (text : List ℕ) (m : Mark) : Type 0 where

@@ -1,25 +1,153 @@
-//! The text of a walk.
+//! The text of a walk: its lines and columns, its rules, variables and classes.
 
-ghost use Rattle.std.specs.Prelude.{◌≡◌, ◌++◌, [], OnOk, IfOk, IfSome, codes, is_ok, if◌then◌else◌, length, take};
+ghost use Rattle.std.specs.Prelude.{◌≡◌, ◌+◌, ◌≤◌, take, length, IfOk, IfSome, ◌++◌, [], OnOk, codes, is_ok, if◌then◌else◌};
 ghost use Rattle.std.specs.List.{All, flat_map};
-ghost use Rattle.vsi_syntax.specs.Lines.{place_text};
-ghost use Rattle.vsi_lattice.specs.Order.{IsClass};
+ghost use Rattle.vsi_infer.specs.Lines.{IsMarkOf};
 ghost use Rattle.vsi_lattice.specs.LatticeView.{order};
+ghost use Rattle.vsi_lattice.specs.Order.{IsClass};
+ghost use Rattle.vsi_syntax.specs.Lines.{place_text};
 ghost use Rattle.vsi_types.specs.Security.{program as program_of};
 ghost use Rattle.vsi_types.specs.Walks.{IsBad};
 ghost use Rattle.vsi_types.specs.declared.rules.Profile.TheVariants.{Strict};
-ghost use Rattle.vsi_infer.specs.Explanation as spec;
 ghost use Rattle.vsi_infer.specs.Inference.{AreClasses};
-ghost use Rattle.vsi_infer.specs.Lines.{IsMarkOf};
+ghost use Rattle.vsi_syntax.specs.Lines as spec;
+ghost use Rattle.vsi_infer.specs.Explanation as explanation_spec;
 
-use crate::lines::{Mark, marks_of, place_among};
-use crate::names::{class_name, rule_text, variable_name};
 use crate::walk::{Walk, declared_class};
-use std::alloc::{AllocError, Global as Heap};
+use std::alloc::{AllocError, Global, Global as Heap};
 use vsi_lattice::{Class, Lattice};
 use vsi_scope::{Resolved, Var};
-use vsi_syntax::put_line_column;
-use vsi_types::Step;
+use vsi_syntax::{line_column, put_line_column};
+use vsi_types::{LOOP, Rule, Step};
+
+/// The distance between two marks of a text.
+const SPACE: usize = 1024;
+
+/// A position of a text, and its line and column, both counted from 1.
+#[derive(Clone, Copy)]
+pub struct Mark {
+    at: usize,
+    line: usize,
+    column: usize,
+}
+
+/// The mark of the next position.
+fn next_mark(text: &[u8], mark: Mark) -> Mark
+    requires mark { IsMarkOf text.now mark }
+    requires more { mark.at + 1 ≤ length text.now }
+    ensures mark { IsMarkOf text.now result }
+    ensures at { result.at ≡ mark.at + 1 }
+{
+    if text[mark.at] == b'\n' {
+        Mark {
+            at: mark.at + 1,
+            line: mark.line + 1,
+            column: 1,
+        }
+    } else {
+        Mark {
+            at: mark.at + 1,
+            line: mark.line,
+            column: mark.column + 1,
+        }
+    }
+}
+
+/// Marks of a text at regular distances, from its start on.
+pub fn marks_of(alloc: Global, text: &[u8]) -> Result<Vec<Mark>, AllocError>
+    ensures { IfOk result (λ m. All (IsMarkOf text.now) m.items) }
+{
+    let mut marks = Vec::new(alloc);
+    let mut mark = Mark {
+        at: 0,
+        line: 1,
+        column: 1,
+    };
+    while mark.at < text.len() {
+        if mark.at % SPACE == 0 {
+            marks.push(mark)?;
+        }
+        mark = next_mark(text, mark);
+    }
+    Ok(marks)
+}
+
+/// The line and the column of a position after a mark.
+fn count_from(text: &[u8], mark: Mark, at: usize) -> (usize, usize)
+    requires mark { IsMarkOf text.now mark }
+    requires behind { mark.at ≤ at }
+    ensures line { result.0 ≡ 1 + spec.breaks (take at text.now) }
+    ensures column { result.1 ≡ 1 + length (spec.last_line (take at text.now)) }
+{
+    let end = at.min(text.len());
+    let mut here = mark;
+    while here.at < end {
+        here = next_mark(text, here);
+    }
+    (here.line, here.column)
+}
+
+/// The line and the column of a position, as `line_column` computes them, if the marks are those of
+/// the text.
+pub(crate) fn place_among(text: &[u8], marks: &[Mark], at: usize) -> (usize, usize)
+    requires { All (IsMarkOf text.now) marks.now }
+    ensures line { result.0 ≡ 1 + spec.breaks (take at text.now) }
+    ensures column { result.1 ≡ 1 + length (spec.last_line (take at text.now)) }
+{
+    let Some(mark) = marks.get(at / SPACE) else {
+        return line_column(text, at);
+    };
+    let mark = *mark;
+    if mark.at <= at {
+        count_from(text, mark, at)
+    } else {
+        line_column(text, at)
+    }
+}
+
+/// The name of the rule by which a step flows.
+pub fn rule_text(rule: Rule) -> &'static [u8]
+    ensures { result.now ≡ explanation_spec.rule_text rule }
+{
+    match rule {
+        Rule::Assign => b"ASSIGN",
+        Rule::If => b"IF",
+        Rule::While => b"WHILE",
+        Rule::Letvar => b"LETVAR",
+        Rule::Loop => b"LOOP",
+    }
+}
+
+/// The name of a variable: a global's, a `letvar`'s, or `(loop)` for the ending of loops.
+///
+/// A number that no declaration of the program has gives no bytes.
+pub fn variable_name<'a>(program: &Resolved<'a>, variable: Var) -> &'a [u8]
+    ensures { result.now ≡ explanation_spec.name_of program.now variable }
+{
+    if variable == LOOP {
+        return b"(loop)";
+    }
+    let number = variable.0 as usize;
+    let globals = program.globals();
+    if number < globals.len() {
+        return globals[number].name;
+    }
+    match program.letvars().get(number - globals.len()) {
+        Some(entry) => entry.name,
+        None => b"",
+    }
+}
+
+/// The name of a declared class, or no bytes where no class is declared.
+pub fn class_name(lattice: &Lattice, class: Option<Class>) -> &[u8]
+    requires { IfSome class (IsClass (order lattice.now)) }
+    ensures { result.now ≡ explanation_spec.class_text lattice.now class }
+{
+    match class {
+        Some(class) => lattice.name(class),
+        None => b"",
+    }
+}
 
 /// Adds the line and the column of a position, or leaves the text unchanged.
 fn put_place(text: &mut Vec<u8>, source: &[u8], marks: &[Mark], at: usize) -> Result<(), AllocError>
@@ -34,7 +162,7 @@ fn put_place(text: &mut Vec<u8>, source: &[u8], marks: &[Mark], at: usize) -> Re
 /// Adds the name of a variable, or leaves the text unchanged.
 fn put_name(text: &mut Vec<u8>, program: &Resolved<'_>, variable: Var) -> Result<(), AllocError>
     ensures { text.new.items ≡ (if is_ok result
-        then text.old.items ++ spec.name_of program.now variable else text.old.items) }
+        then text.old.items ++ explanation_spec.name_of program.now variable else text.old.items) }
 {
     text.extend_from_slice(variable_name(program, variable))
 }
@@ -43,7 +171,7 @@ fn put_name(text: &mut Vec<u8>, program: &Resolved<'_>, variable: Var) -> Result
 fn put_class(text: &mut Vec<u8>, lattice: &Lattice, class: Option<Class>) -> Result<(), AllocError>
     requires { IfSome class (IsClass (order lattice.now)) }
     ensures { text.new.items ≡ (if is_ok result
-        then text.old.items ++ spec.class_text lattice.now class else text.old.items) }
+        then text.old.items ++ explanation_spec.class_text lattice.now class else text.old.items) }
 {
     text.extend_from_slice(class_name(lattice, class))
 }
@@ -56,7 +184,7 @@ fn put_class_after_colon(
 ) -> Result<(), AllocError>
     requires { IfSome class (IsClass (order lattice.now)) }
     ensures { text.new.items ≡ (if is_ok result
-        then text.old.items ++ codes " : " ++ spec.class_text lattice.now class
+        then text.old.items ++ codes " : " ++ explanation_spec.class_text lattice.now class
         else text.old.items) }
 {
     let before = text.len();
@@ -79,7 +207,7 @@ pub fn put_variable(
     requires globals { All (IsClass (order lattice.now)) (program_of program.now).globals }
     requires declared { AreClasses (order lattice.now) (program_of program.now).declared }
     ensures { text.new.items ≡ (if is_ok result
-        then text.old.items ++ spec.variable_text lattice.now program.now variable
+        then text.old.items ++ explanation_spec.variable_text lattice.now program.now variable
         else text.old.items) }
 {
     let before = text.len();
@@ -103,7 +231,7 @@ fn put_step(
 ) -> Result<(), AllocError>
     requires { All (IsMarkOf source.now) marks.now }
     ensures line { OnOk result
-        (text.new.items ≡ text.old.items ++ spec.step_line source.now program.now step.now) }
+        (text.new.items ≡ text.old.items ++ explanation_spec.step_line source.now program.now step.now) }
     ensures begins { take (length text.old.items) text.new.items ≡ text.old.items }
 {
     put_place(text, source, marks, step.read.start)?;
@@ -129,7 +257,7 @@ fn put_lines(
 ) -> Result<(), AllocError>
     requires { All (IsMarkOf source.now) marks.now }
     ensures lines { OnOk result (text.new.items ≡ text.old.items ++ flat_map
-        (spec.step_line source.now program.now) steps.now) }
+        (explanation_spec.step_line source.now program.now) steps.now) }
     ensures begins { take (length text.old.items) text.new.items ≡ text.old.items }
 {
     for step in steps {
@@ -148,7 +276,7 @@ pub fn put_steps(
 ) -> Result<(), AllocError>
     requires { All (IsMarkOf source.now) marks.now }
     ensures { text.new.items ≡ (if is_ok result
-        then text.old.items ++ flat_map (spec.step_line source.now program.now) steps.now
+        then text.old.items ++ flat_map (explanation_spec.step_line source.now program.now) steps.now
         else text.old.items) }
 {
     let before = text.len();
@@ -170,7 +298,7 @@ fn put_last(
     requires globals { All (IsClass (order lattice.now)) (program_of program.now).globals }
     requires declared { AreClasses (order lattice.now) (program_of program.now).declared }
     ensures { OnOk result
-        (text.new.items ≡ text.old.items ++ spec.last_text lattice.now program.now first last) }
+        (text.new.items ≡ text.old.items ++ explanation_spec.last_text lattice.now program.now first last) }
 {
     put_variable(text, lattice, program, first)?;
     text.extend_from_slice(b" may not flow to ")?;
@@ -192,7 +320,7 @@ pub fn explain(
     requires declared { AreClasses (order lattice.now) (program_of program.now).declared }
     requires bad { IsBad (order lattice.now) Strict (program_of program.now) walk.now.steps.items }
     ensures { IfOk result
-        (λ t. t.items ≡ spec.explanation lattice.now source.now program.now walk.now.steps.items) }
+        (λ t. t.items ≡ explanation_spec.explanation lattice.now source.now program.now walk.now.steps.items) }
 {
     let mut text = Vec::new(alloc);
     let steps = walk.steps.as_slice();

@@ -1,7 +1,7 @@
-//! The wanted steps of a program, gathered in one walk over it: the first from each variable, or
-//! one step in all.
+//! The wanted steps of a program, gathered in one walk over it.
 
-ghost use Rattle.std.specs.Prelude.{ℕ, length, IfOk, IsTrue, [], true, false};
+ghost use Rattle.std.specs.Prelude.{◌≡◌, Bool, ℕ, length, IfOk, IsTrue, [], true, false};
+ghost use Rattle.vsi_types.specs.declared.rules.Step.{Step};
 ghost use Rattle.std.specs.List.{All, Contains};
 ghost use Rattle.vsi_scope.specs.Language.{HasPlaces, Assign, If, While, Letvar};
 ghost use Rattle.vsi_scope.specs.View.{expression, command, sequence};
@@ -9,17 +9,29 @@ ghost use Rattle.vsi_types.specs.Security.{name_place, program as program_of, st
 ghost use Rattle.vsi_types.specs.Walker.{walker_place};
 ghost use Rattle.vsi_types.specs.declared.rules.Profile.{Profile};
 ghost use Rattle.vsi_syntax.specs.declared.token.Span.{Span};
-ghost use Rattle.vsi_types.specs.declared.rules.Step.{Step};
 ghost use Rattle.vsi_infer.specs.FirstSteps.{HasRoom, Gathers, IsFrom, kept_of};
 
 use crate::looking::{
     FirstSteps, Gathering, STRIDE, enter, look_ending, look_guards, look_reads, start,
 };
-use crate::wanted::Wanted;
 use std::alloc::{AllocError, Global as Heap};
 use vsi_scope::{Cmd, Entry, Ex, Resolved, Var};
 use vsi_syntax::Span;
 use vsi_types::{Profile, Rule, Step, Walker, first_variables, put_reads};
+
+/// A test for wanted steps, which are kept in columns: in each column the first from each variable.
+pub(crate) trait Wanted {
+    ghost wants: { Self → Step → Bool };
+
+    fn is_wanted(&self, step: &Step) -> bool
+        ensures { result ≡ wants self.now step.now };
+
+    /// The number of columns.
+    fn columns(&self) -> usize;
+
+    /// Whether a wanted step belongs in a column.
+    fn is_in(&self, step: &Step, column: usize) -> bool;
+}
 
 /// Gathers from an assignment, which doesn't loop.
 fn gather_assign<W: Wanted>(

@@ -11,39 +11,24 @@
 //! call. The other definitions are only steps of proofs.
 #![tactic(auto)]
 
-mod along;
 mod distances;
-mod error;
 mod explanation;
-mod flow_matrix;
 mod flows;
 mod gathering;
 mod inference;
 pub mod laws;
-mod least;
-mod levels;
-mod lines;
 mod looking;
 mod membership;
-mod names;
-mod reach;
-mod rows;
-mod rule_filter;
 mod shortest;
 mod walk;
-mod wanted;
-mod worklist;
 
-pub use error::InferError;
-pub use explanation::{explain, put_steps, put_variable};
-pub use flows::{FlowRows, flow_rows, flow_rows_by};
-pub use inference::{infer, infer_in};
-pub use lines::{Mark, marks_of};
+pub use distances::fewest_flows;
+pub use explanation::{
+    Mark, class_name, explain, marks_of, put_steps, put_variable, rule_text, variable_name,
+};
+pub use flows::{FlowRows, flow_rows, flow_rows_by, same_rule};
+pub use inference::{Flow, InferError, infer, infer_in};
 pub use looking::FirstSteps;
-pub use names::{class_name, rule_text, variable_name};
-pub use reach::fewest_flows;
-pub use rule_filter::same_rule;
 pub use shortest::{WalksTo, row_of, steps_down, steps_down_each, walks_to};
 pub use vsi_types::Step;
 pub use walk::{Walk, check_walk, check_walk_in, check_walk_once, declared_class};
-pub use worklist::Flow;

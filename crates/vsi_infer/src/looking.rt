@@ -17,9 +17,8 @@ ghost use Rattle.vsi_types.specs.Steps.{reads, guarded, flow, flows, endings};
 ghost use Rattle.vsi_types.specs.declared.rules.Profile.TheVariants.{Strict};
 ghost use Rattle.vsi_infer.specs.FirstSteps.{kept_of, IsAmong, IsFrom, MayKeep};
 
-use crate::flow_matrix::observes_ending;
-use crate::rows::{has_bit, note};
-use crate::wanted::Wanted;
+use crate::flows::{has_bit, note, observes_ending};
+use crate::gathering::Wanted;
 use std::alloc::{AllocError, Global as Heap};
 use vsi_scope::{Ex, Var};
 use vsi_syntax::Span;

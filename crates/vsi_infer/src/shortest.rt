@@ -11,12 +11,11 @@ ghost use Rattle.vsi_infer.specs.Inference.{table, AreClasses, IsShortest};
 ghost use Rattle.vsi_infer.specs.Paths.{IsPath};
 ghost use Rattle.vsi_infer.specs.Shortest.{begins as begins_of, goes_on as goes_on_of, nearer as nearer_of, row_of as row_of_variable, LeadsDown, IsArrived, FindsWalks};
 
-use crate::gathering::{first_steps, wanted_step};
-use crate::levels::{far_at, fewest, level, levels};
+use crate::distances::{far_at, fewest, level, levels};
+use crate::gathering::{Wanted, first_steps, wanted_step};
+use crate::inference::Flow;
 use crate::looking::FirstSteps;
 use crate::walk::Walk;
-use crate::wanted::Wanted;
-use crate::worklist::Flow;
 use std::alloc::{AllocError, Global as Heap};
 use vsi_lattice::{Class, Classes};
 use vsi_scope::{Resolved, Var};

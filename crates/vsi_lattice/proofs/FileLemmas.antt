@@ -12,8 +12,8 @@ use Rattle.vsi_lattice.specs.OrderFaults.{NamesFault}
 use Rattle.vsi_lattice.specs.FileFaults.{numbers, HasNames, HasPairs, IsAccepted, IsFault, IsOf, ExplainsLattice, of_order}
 use Rattle.vsi_lattice.specs.declared.order.OrderError.{OrderError}
 use Rattle.vsi_lattice.specs.declared.order.OrderError.TheVariants as order
-use Rattle.vsi_lattice.specs.declared.fault.LatticeError.{LatticeError}
-use Rattle.vsi_lattice.specs.declared.fault.LatticeError.TheVariants as errors
+use Rattle.vsi_lattice.specs.declared.reader.LatticeError.{LatticeError}
+use Rattle.vsi_lattice.specs.declared.reader.LatticeError.TheVariants as errors
 
 -- A fault of the order is a fault of the file.
 pub order_fault : (f : File) (o : OrderError) (e : LatticeError) → e ≡ of_order o → HasPairs f →

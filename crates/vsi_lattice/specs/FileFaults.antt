@@ -8,8 +8,8 @@ use Rattle.vsi_lattice.specs.Shape.{File, IsToml, file_of, IsFile}
 use Rattle.vsi_lattice.specs.OrderFaults.{NamesFault}
 use Rattle.vsi_lattice.specs.declared.order.OrderError.{OrderError}
 use Rattle.vsi_lattice.specs.declared.order.OrderError.TheVariants as order
-use Rattle.vsi_lattice.specs.declared.fault.LatticeError.{LatticeError}
-use Rattle.vsi_lattice.specs.declared.fault.LatticeError.TheVariants.{Memory, NotToml, BadShape, NoClass, TooManyClasses, BadName, DuplicateName, UnknownName, Cycle, NoJoin, NoMeet}
+use Rattle.vsi_lattice.specs.declared.reader.LatticeError.{LatticeError}
+use Rattle.vsi_lattice.specs.declared.reader.LatticeError.TheVariants.{Memory, NotToml, BadShape, NoClass, TooManyClasses, BadName, DuplicateName, UnknownName, Cycle, NoJoin, NoMeet}
 
 -- The pairs by the positions of their classes.
 abbrev pub numbers : File → List (ℕ × ℕ)

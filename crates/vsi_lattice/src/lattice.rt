@@ -4,10 +4,8 @@ ghost use Rattle.std.specs.Prelude.{length};
 ghost use Rattle.vsi_lattice.specs.NamePlaces.{owned};
 ghost use Rattle.vsi_lattice.specs.NameRules.{AreNames};
 
-use crate::class::Class;
-use crate::mask::MaskLattice;
-use crate::names::place_of;
-use crate::order::Classes;
+use crate::order::{Class, Classes, MaskLattice};
+use crate::reader::place_of;
 
 /// A lattice of 1 to 64 classes, each with a name.
 #[derive(Drop)]

@@ -3,8 +3,8 @@ use Rattle.std.proofs.Common.{◌≡◌, ℕ, ◌+◌, ◌<◌, ◌≤◌, List,
 use Rattle.std.specs.List.{slice_index_or}
 use Rattle.std.proofs.lemmas.Bool.{cases_lt}
 use Rattle.std.proofs.lemmas.List.{get_or_default}
-use Rattle.vsi_layered.specs.declared.graph.Node.{Node}
-use Rattle.vsi_layered.specs.declared.graph.Place.{Place}
+use Rattle.vsi_layered.specs.declared.drawing.Node.{Node}
+use Rattle.vsi_layered.specs.declared.drawing.Place.{Place}
 use Rattle.vsi_layered.specs.Drawing.{AreApart, HasSize, IsWithin}
 
 -- One more node has a box of its size.

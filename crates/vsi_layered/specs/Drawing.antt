@@ -1,9 +1,9 @@
 -- Drawings in which each box has its size and no two boxes overlap.
 use Rattle.std.specs.Prelude.{◌≡◌, ◌⊎◌, ℕ, ◌+◌, ◌<◌, ◌≤◌, List, length}
 use Rattle.std.specs.List.{slice_index_or}
-use Rattle.vsi_layered.specs.declared.graph.Node.{Node}
-use Rattle.vsi_layered.specs.declared.graph.Place.{Place}
-use Rattle.vsi_layered.specs.declared.graph.Drawing.{Drawing}
+use Rattle.vsi_layered.specs.declared.drawing.Node.{Node}
+use Rattle.vsi_layered.specs.declared.drawing.Place.{Place}
+use Rattle.vsi_layered.specs.declared.drawing.Drawing.{Drawing}
 
 -- The box has the width and the height that its node asks for, and isn't empty.
 pub record HasSize (node : Node) (place : Place) : Type 0 where

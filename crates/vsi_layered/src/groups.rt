@@ -5,7 +5,7 @@
 //! in the order. The box of a group reaches over the columns beside its own whose groups it can be
 //! compared with.
 
-use crate::graph::{Graph, Made, Place, add_at, apart, at, filled, greatest, raise_at, write_at};
+use crate::drawing::{Graph, Made, Place, add_at, apart, at, filled, greatest, raise_at, write_at};
 use std::alloc::Global;
 
 /// The groups of a graph: for each the number of its nodes, its level, its column, the first and

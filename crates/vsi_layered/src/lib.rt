@@ -11,11 +11,9 @@
 #![tactic(auto)]
 
 mod drawing;
-mod graph;
 mod groups;
 mod rows;
 mod ways;
 
-pub use drawing::drawing_of;
-pub use graph::{Drawing, Graph, Node, Place, Point};
+pub use drawing::{Drawing, Graph, Node, Place, Point, drawing_of};
 pub use ways::badges_of;

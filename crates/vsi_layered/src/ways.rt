@@ -1,7 +1,7 @@
 //! The lines of the arrows, which avoid the boxes of the rows between their ends, and the points on
 //! them for the numbers of arrows.
 
-use crate::graph::{Drawing, Made, Place, Point, apart, at, between};
+use crate::drawing::{Drawing, Made, Place, Point, apart, at, between};
 use crate::groups::HALF;
 use crate::rows::Placed;
 use std::alloc::{AllocError, Global};

@@ -7,8 +7,8 @@ use Rattle.vsi_lattice.specs.Known.{Known}
 use Rattle.vsi_compiler.specs.Observation.{AgreeAt}
 use Rattle.vsi_store.specs.declared.comparing.RunEnding.{RunEnding}
 use Rattle.vsi_store.specs.declared.comparing.RunEnding.TheVariants.{Halted, OutOfBudget}
-use Rattle.vsi_leak.specs.declared.found.Sign.{Sign}
-use Rattle.vsi_leak.specs.declared.found.Sign.TheVariants.{Words, Endings, Steps}
+use Rattle.vsi_leak.specs.declared.check.Sign.{Sign}
+use Rattle.vsi_leak.specs.declared.check.Sign.TheVariants.{Words, Endings, Steps}
 use Rattle.vsi_leak.specs.Leaks.{EndsSo, ShowNone, TellsApart}
 use Rattle.vsi_leak.proofs.Counts.{lasts, one_count, one_end}
 

@@ -7,10 +7,10 @@ use Rattle.vsi_lattice.specs.Known.{Known}
 use Rattle.vsi_compiler.specs.Observation.{IsNoninterfering, AgreeAt, IsStoreOf}
 use Rattle.vsi_store.specs.declared.comparing.RunEnding.{RunEnding}
 use Rattle.vsi_store.specs.declared.comparing.RunEnding.TheVariants.{Halted, OutOfBudget}
-use Rattle.vsi_leak.specs.declared.found.Finding.{Finding}
-use Rattle.vsi_leak.specs.declared.found.Finding.TheVariants as finding
-use Rattle.vsi_leak.specs.declared.found.Sign.{Sign}
-use Rattle.vsi_leak.specs.declared.found.Sign.TheVariants.{Words}
+use Rattle.vsi_leak.specs.declared.check.Finding.{Finding}
+use Rattle.vsi_leak.specs.declared.check.Finding.TheVariants as finding
+use Rattle.vsi_leak.specs.declared.check.Sign.{Sign}
+use Rattle.vsi_leak.specs.declared.check.Sign.TheVariants.{Words}
 use Rattle.vsi_leak.specs.Laws.{LeakRefutes}
 use Rattle.vsi_leak.specs.Leaks.{IsFinding, EndsSo, TellsApart, TellsNoWords}
 

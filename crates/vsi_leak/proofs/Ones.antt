@@ -5,7 +5,7 @@ use Rattle.vsi_image.specs.declared.instr.Image.{Image}
 use Rattle.vsi_lattice.specs.Order.{Lattice}
 use Rattle.vsi_scope.specs.Meaning.{Store}
 use Rattle.vsi_lattice.specs.Known.{Known}
-use Rattle.vsi_leak.specs.declared.found.Sign.{Sign}
+use Rattle.vsi_leak.specs.declared.check.Sign.{Sign}
 use Rattle.vsi_leak.specs.Leaks.{NoOneShows, ShowNoneEither, zeros}
 
 module _ (known : Known) (L : Lattice) (image : Image) (budget : ℕ) (s : Sign) (a : ℕ) where

@@ -3,8 +3,8 @@ use Rattle.std.proofs.Common.{◌≡◌, ℕ, ◌+◌, ◌-◌, ◌*◌, ◌^◌
 use Rattle.std.proofs.Math.Nat.{mul-add, mul-one}
 use Rattle.std.proofs.lemmas.List.{at_drop_more}
 use Rattle.vsi_lattice.specs.Order.{Lattice}
-use Rattle.vsi_leak.specs.declared.found.Finding.{Finding}
-use Rattle.vsi_leak.specs.declared.found.Sign.{Sign}
+use Rattle.vsi_leak.specs.declared.check.Finding.{Finding}
+use Rattle.vsi_leak.specs.declared.check.Sign.{Sign}
 use Rattle.vsi_leak.specs.declared.whole.Wanted.{Wanted}
 use Rattle.vsi_leak.specs.Leaks.{TellsAtMost, class_count, most_pairs, sign_count}
 

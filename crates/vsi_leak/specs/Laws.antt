@@ -4,8 +4,8 @@ use Rattle.vsi_image.specs.declared.instr.Image.{Image}
 use Rattle.vsi_lattice.specs.Order.{Lattice}
 use Rattle.vsi_lattice.specs.Known.{Known}
 use Rattle.vsi_compiler.specs.Observation.{IsNoninterfering}
-use Rattle.vsi_leak.specs.declared.found.Leak.{Leak}
-use Rattle.vsi_leak.specs.declared.found.Sign.TheVariants.{Words}
+use Rattle.vsi_leak.specs.declared.check.Leak.{Leak}
+use Rattle.vsi_leak.specs.declared.check.Sign.TheVariants.{Words}
 use Rattle.vsi_leak.specs.Leaks.{IsLeak}
 
 -- An image with a leak by words lets information flow where it may not.

@@ -10,11 +10,11 @@ use Rattle.vsi_lattice.specs.Known.{Known}
 use Rattle.vsi_compiler.specs.Observation.{AgreeAt, IsStoreOf, Ends}
 use Rattle.vsi_store.specs.declared.comparing.RunEnding.{RunEnding}
 use Rattle.vsi_store.specs.declared.comparing.RunEnding.TheVariants.{Halted, OutOfBudget}
-use Rattle.vsi_leak.specs.declared.found.Finding.{Finding}
-use Rattle.vsi_leak.specs.declared.found.Finding.TheVariants as finding
-use Rattle.vsi_leak.specs.declared.found.Leak.{Leak}
-use Rattle.vsi_leak.specs.declared.found.Sign.{Sign}
-use Rattle.vsi_leak.specs.declared.found.Sign.TheVariants.{Words, Endings, Steps}
+use Rattle.vsi_leak.specs.declared.check.Finding.{Finding}
+use Rattle.vsi_leak.specs.declared.check.Finding.TheVariants as finding
+use Rattle.vsi_leak.specs.declared.check.Leak.{Leak}
+use Rattle.vsi_leak.specs.declared.check.Sign.{Sign}
+use Rattle.vsi_leak.specs.declared.check.Sign.TheVariants.{Words, Endings, Steps}
 use Rattle.vsi_leak.specs.declared.whole.Wanted.{Wanted}
 
 -- The run from a store with this budget has not halted.

@@ -10,7 +10,7 @@ use Rattle.vsi_machine.specs.Cells.{word_cell, halted_cell}
 use Rattle.vsi_store.specs.View.{is_seen}
 use Rattle.vsi_store.specs.declared.comparing.RunEnding.{RunEnding}
 use Rattle.vsi_store.specs.declared.comparing.RunEnding.TheVariants.{Halted, OutOfBudget}
-use Rattle.vsi_leak.specs.declared.found.Leak.{Leak}
+use Rattle.vsi_leak.specs.declared.check.Leak.{Leak}
 
 -- A cell filled up with spaces to the width.
 abbrev pub padded : ℕ → List ℕ → List ℕ

@@ -1,4 +1,4 @@
-//! Whether two stores show a leak: both are run, and their endings compared.
+//! Whether two stores show a leak: both are run, and their endings are compared.
 
 ghost use Rattle.std.specs.Prelude.{◌≡◌, ◌↔◌, IfOk, IfNone, IfSome, IsTrue, ◌≢◌, true, false, pos, slice_index_or, ◌≤◌};
 ghost use Rattle.vsi_lattice.specs.LatticeView.{class_named, order};
@@ -10,13 +10,58 @@ ghost use Rattle.vsi_store.specs.View.{is_seen};
 ghost use Rattle.vsi_leak.specs.Agreement.{AgreeIn};
 ghost use Rattle.vsi_image.specs.Meaning.{start};
 
-use crate::found::{Leak, Run, Sign};
 use crate::propose::word_at;
 use std::alloc::{AllocError, Global};
 use vsi_image::{Image, Verified};
 use vsi_lattice::{Class, Lattice};
 use vsi_machine::{Machine, Outcome};
 use vsi_store::{RunEnding, sees};
+
+/// The sign by which an observer tells two runs apart.
+#[derive(Clone, Copy, PartialEq, Eq)]
+pub enum Sign {
+    /// Both runs halt, and a word that the class sees differs at their ends.
+    Words,
+    /// The first run halts within the budget, and the second doesn't.
+    Endings,
+    /// Both runs halt, after different numbers of instructions.
+    Steps,
+}
+
+/// A run: the words of the globals at its start, and its ending.
+#[derive(Drop)]
+pub struct Run {
+    pub store: Vec<i64>,
+    pub ending: RunEnding,
+}
+
+/// Two runs from stores that agree at and below a class, and that an observer at the class can
+/// distinguish.
+#[derive(Drop)]
+pub struct Leak {
+    pub class: Class,
+    pub sign: Sign,
+    pub first: Run,
+    pub second: Run,
+}
+
+/// The extent of a search: the budget of a run, the largest number of pairs of runs for a class and
+/// a sign, and the seed of the random stores.
+#[derive(Clone, Copy)]
+pub struct Effort {
+    pub budget: u64,
+    pub tries: u64,
+    pub seed: u64,
+}
+
+/// The result of a search.
+#[derive(Drop)]
+pub enum Finding {
+    /// A leak.
+    Leak(Leak),
+    /// No leak was found in this many pairs of runs, which says nothing about other pairs.
+    Nothing { pairs: u64 },
+}
 
 /// Whether the sign tells two ends apart at the class.
 fn tells_apart(

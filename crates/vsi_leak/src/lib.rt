@@ -11,15 +11,13 @@
 #![tactic(auto)]
 
 mod check;
-mod found;
 pub mod laws;
 mod propose;
 mod search;
 mod text;
 mod whole;
 
-pub use check::check_leak;
-pub use found::{Effort, Finding, Leak, Run, Sign};
+pub use check::{Effort, Finding, Leak, Run, Sign, check_leak};
 pub use search::find_leak;
 pub use text::{is_shown, leak_text};
 pub use whole::{Wanted, classes_upwards, leak_of, leak_of_text};

@@ -4,8 +4,7 @@ ghost use Rattle.vsi_lattice.specs.LatticeView.{order};
 ghost use Rattle.vsi_lattice.specs.Order.{IsClass};
 ghost use Rattle.std.specs.Prelude.{◌≡◌, pos, slice_index_or};
 
-use crate::check::{ending, started};
-use crate::found::Sign;
+use crate::check::{Sign, ending, started};
 use rand_core::Rng;
 use rand_xoshiro::SplitMix64;
 use std::alloc::{AllocError, Global};

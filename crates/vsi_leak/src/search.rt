@@ -3,12 +3,10 @@
 ghost use Rattle.std.specs.Prelude.{◌≡◌, ◌≤◌, length, IfOk, IfNone, IfSome};
 ghost use Rattle.vsi_lattice.specs.LatticeView.{class_named, order};
 ghost use Rattle.vsi_lattice.specs.Order.{IsClass};
+ghost use Rattle.vsi_leak.specs.Leaks.{IsFinding, IsAsked, IsLeakBy, LeavesNoOne, NoOneShows, ShowNoneEither, TellsAtMost};
 ghost use Rattle.vsi_leak.specs.Leaks as spec;
-ghost use Rattle.vsi_leak.specs.Leaks.{IsFinding, IsAsked, IsLeakBy, LeavesNoOne, NoOneShows};
-ghost use Rattle.vsi_leak.specs.Leaks.{ShowNoneEither, TellsAtMost};
 
-use crate::check::check_leak;
-use crate::found::{Effort, Finding, Leak, Sign};
+use crate::check::{Effort, Finding, Leak, Sign, check_leak};
 use crate::propose::{
     Pair, Probe, hidden_sources, put, random_below, random_word, reads, seen_globals, values_of,
 };

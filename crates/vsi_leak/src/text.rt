@@ -6,7 +6,7 @@ ghost use Rattle.vsi_lattice.specs.LatticeView.{class_named, order};
 ghost use Rattle.vsi_lattice.specs.Order.{IsClass};
 ghost use Rattle.vsi_leak.specs.Texts as spec;
 
-use crate::found::Leak;
+use crate::check::Leak;
 use std::alloc::{AllocError, Global};
 use vsi_image::Image;
 use vsi_lattice::{Class, Lattice};

@@ -1,7 +1,7 @@
 //! The errors and the warnings about a text, as objects.
 
 ghost use Rattle.std.specs.Prelude.{◌≡◌, ◌≢◌, [], length, All, IfOk};
-ghost use Rattle.vsi_compiler.specs.declared.error.CompileError.TheVariants.{Memory};
+ghost use Rattle.vsi_compiler.specs.declared.source.CompileError.TheVariants.{Memory};
 ghost use Rattle.vsi_lsp.specs.Severity.{IsError, IsWarning};
 ghost use Rattle.vsi_lsp.specs.Verdict as spec;
 
@@ -9,14 +9,13 @@ use crate::document::{DocumentText, Made, joined, text_value};
 use serde_json::{Value, json};
 use std::alloc::AllocError;
 use vsi_compiler::{CompileError, Source, judge, read_source};
-use vsi_diagnostics::refusal_diagnostic;
+use vsi_diagnostics::{Warning, put_message, refusal_diagnostic, warnings_of};
 use vsi_flows::{ends_text, further_flows, step_text};
 use vsi_lattice::Lattice;
 use vsi_recovery::{Cause, further_faults};
 use vsi_scope::{ScopeError, Var};
 use vsi_syntax::{LexError, ParseError, Span, put_number};
 use vsi_types::Step;
-use vsi_warnings::{Warning, put_message, warnings_of};
 
 /// The errors in a text, and then the other objects that an editor shows for it: the warnings about
 /// a text that has a program, or the further errors in one that has none. The text is read once.

@@ -16,14 +16,12 @@
 //! definitions of the crates below that the clauses cite.
 #![tactic(auto)]
 
-mod completion;
 mod diagnostics;
 mod document;
 mod documents;
 mod reading;
 mod repairs;
-mod replies;
 mod server;
 
-pub use replies::framed;
+pub use document::framed;
 pub use server::{Server, TWO_SAID, Wanted};

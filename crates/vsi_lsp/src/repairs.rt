@@ -7,8 +7,8 @@ ghost use Rattle.vsi_lattice.specs.Order.{IsClass};
 ghost use Rattle.vsi_flows.specs.Answers.{HasClassesIn};
 ghost use Rattle.vsi_lsp.specs.Titles as spec;
 
-use crate::completion::names_after;
 use crate::document::{DocumentText, Made, joined, number_at, text_value, tokens_of};
+use crate::reading::names_after;
 use serde_json::{Value, json};
 use std::alloc::{AllocError, Global};
 use std::str::from_utf8;

@@ -3,13 +3,12 @@
 ghost use Rattle.std.specs.Prelude.{IfOk};
 ghost use Rattle.vsi_client.specs.Frames.{AreFrames};
 
-use crate::document::{Made, place_at, text_at};
+use crate::document::{
+    EARLY, Fault, METHOD, Made, PARAMETERS, PARSE, REQUEST, encoding_for, framed, place_at,
+    published, said, text_at, welcome,
+};
 use crate::documents::{Document, DocumentKind, Policy, interface_path};
 use crate::reading::{answer, is_topic};
-use crate::replies::{
-    EARLY, Fault, METHOD, PARAMETERS, PARSE, REQUEST, encoding_for, framed, published, said,
-    welcome,
-};
 use serde_json::{Value, json};
 use std::alloc::{AllocError, Global};
 use vsi_client::{Change, Encoding, Marked, Piece, changed_by, next_piece, path_beside};

@@ -5,9 +5,9 @@ use Rattle.std.proofs.lemmas.Bool.{cases_lt, lt-ltb}
 use Rattle.vsi_image.specs.declared.instr.Instr.{Instr}
 use Rattle.vsi_image.specs.declared.instr.Instr.TheVariants.{Store, Jmp}
 use Rattle.vsi_image.specs.Meaning.{going}
-use Rattle.vsi_machine.specs.declared.cost.Cost.{Cost}
-use Rattle.vsi_machine.specs.declared.known.Known.{Known}
-use Rattle.vsi_machine.specs.declared.known.Known.TheVariants.{Any}
+use Rattle.vsi_machine.specs.declared.bound.Cost.{Cost}
+use Rattle.vsi_machine.specs.declared.loops.Known.{Known}
+use Rattle.vsi_machine.specs.declared.loops.Known.TheVariants.{Any}
 use Rattle.vsi_machine.specs.Known.{Means, Hold, word}
 use Rattle.vsi_machine.specs.Loops.{Joined}
 use Rattle.vsi_machine.specs.Stretch.{Leads, Evaluates, Stores}

@@ -4,8 +4,8 @@ use Rattle.std.specs.Prelude.{int_lt}
 use Rattle.std.specs.Int.{int_wrap}
 use Rattle.std.proofs.lemmas.Int.{ints, int_wrap_fits}
 use Rattle.vsi_syntax.specs.Operators.{sum_of, less_of}
-use Rattle.vsi_machine.specs.declared.counters.Turns.{Turns}
-use Rattle.vsi_machine.specs.declared.reasons.Reason.{Reason}
+use Rattle.vsi_machine.specs.declared.loops.Turns.{Turns}
+use Rattle.vsi_machine.specs.declared.bound.Reason.{Reason}
 use Rattle.vsi_machine.specs.Counters.{Counts}
 use Rattle.vsi_machine.specs.Looping.{guard_value}
 use Rattle.vsi_machine.specs.Reasons.{WrapsAfter, Uncounted}

@@ -12,8 +12,8 @@ use Rattle.vsi_machine.specs.Counting.{GoesOn, HaltsIn}
 use Rattle.vsi_machine.specs.Runs.{run_of}
 use Rattle.vsi_machine.proofs.Counts.{went_on, goes_on, halts, count_is, halts_longer}
 use Rattle.std.proofs.lemmas.Bool.{cases_lt}
-use Rattle.vsi_machine.specs.declared.cost.Cost.{Cost}
-use Rattle.vsi_machine.specs.declared.known.Known.{Known}
+use Rattle.vsi_machine.specs.declared.bound.Cost.{Cost}
+use Rattle.vsi_machine.specs.declared.loops.Known.{Known}
 use Rattle.vsi_machine.specs.Known.{Means, word}
 use Rattle.vsi_machine.specs.Facts.{AreSame}
 use Rattle.vsi_machine.specs.Stretch.{Leads, Ends}

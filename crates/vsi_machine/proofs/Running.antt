@@ -7,8 +7,8 @@ use Rattle.vsi_image.specs.declared.instr.Instr.{Instr}
 use Rattle.vsi_image.specs.declared.instr.Instr.TheVariants.{Jz, Jmp}
 use Rattle.vsi_image.specs.Meaning.{State, acted, after, going}
 use Rattle.vsi_machine.proofs.Counts.{go_on}
-use Rattle.vsi_machine.specs.declared.cost.Cost.{Cost}
-use Rattle.vsi_machine.specs.declared.known.Known.{Known}
+use Rattle.vsi_machine.specs.declared.bound.Cost.{Cost}
+use Rattle.vsi_machine.specs.declared.loops.Known.{Known}
 use Rattle.vsi_machine.specs.Stretch.{Comes, Leads, Gives, Evaluates}
 
 -- The machine's test finds a word other than 0 unequal to 0.

@@ -4,12 +4,12 @@ use Rattle.std.specs.Prelude.{IsErrAnd, slice_get}
 use Rattle.vsi_image.specs.declared.instr.Instr.{Instr}
 use Rattle.vsi_image.specs.declared.instr.Instr.TheVariants.{Jz, Halt}
 use Rattle.vsi_image.specs.declared.instr.Image.{Image}
-use Rattle.vsi_machine.specs.declared.cost.Cost.{Cost}
-use Rattle.vsi_machine.specs.declared.known.Known.{Known}
-use Rattle.vsi_machine.specs.declared.reasons.Reason.{Reason}
-use Rattle.vsi_machine.specs.declared.reasons.Stop.{Stop}
-use Rattle.vsi_machine.specs.declared.reasons.Stop.TheVariants.{Other, Endless}
-use Rattle.vsi_machine.specs.declared.finishing.Test.{Test}
+use Rattle.vsi_machine.specs.declared.bound.Cost.{Cost}
+use Rattle.vsi_machine.specs.declared.loops.Known.{Known}
+use Rattle.vsi_machine.specs.declared.bound.Reason.{Reason}
+use Rattle.vsi_machine.specs.declared.bound.Stop.{Stop}
+use Rattle.vsi_machine.specs.declared.bound.Stop.TheVariants.{Other, Endless}
+use Rattle.vsi_machine.specs.declared.bound.Test.{Test}
 use Rattle.vsi_machine.specs.Bound.{IsLoop}
 use Rattle.vsi_machine.specs.Facts.{AreSame}
 use Rattle.vsi_machine.specs.Loops.{IsEntry, Joined}

@@ -6,9 +6,9 @@ use Rattle.vsi_syntax.specs.Operators.{sum_of}
 use Rattle.vsi_image.specs.declared.instr.Instr.{Instr}
 use Rattle.vsi_image.specs.declared.instr.Instr.TheVariants.{Jz, Jmp}
 use Rattle.vsi_image.specs.Meaning.{after, going}
-use Rattle.vsi_machine.specs.declared.cost.Cost.{Cost}
-use Rattle.vsi_machine.specs.declared.known.Known.{Known}
-use Rattle.vsi_machine.specs.declared.known.Known.TheVariants.{Number, Same, Moved, Below, Above, Any}
+use Rattle.vsi_machine.specs.declared.bound.Cost.{Cost}
+use Rattle.vsi_machine.specs.declared.loops.Known.{Known}
+use Rattle.vsi_machine.specs.declared.loops.Known.TheVariants.{Number, Same, Moved, Below, Above, Any}
 use Rattle.vsi_machine.specs.Known.{Means, Hold, word}
 use Rattle.vsi_machine.specs.Counters.{Counts}
 use Rattle.vsi_machine.specs.Loops.{Enters, IsEntry, Keeps, Remains, Remain}

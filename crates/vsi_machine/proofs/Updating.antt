@@ -6,8 +6,8 @@ use Rattle.std.proofs.lemmas.Bool.{cases_lt}
 use Rattle.std.proofs.lemmas.List.Elements.{Contains-append_left, Contains-push, Contains-push_cases}
 use Rattle.vsi_image.specs.declared.instr.Instr.{Instr}
 use Rattle.vsi_image.specs.declared.instr.Instr.TheVariants.{Store}
-use Rattle.vsi_machine.specs.declared.known.Known.{Known}
-use Rattle.vsi_machine.specs.declared.known.Known.TheVariants.{Number, Same, Moved, Below, Above, Any}
+use Rattle.vsi_machine.specs.declared.loops.Known.{Known}
+use Rattle.vsi_machine.specs.declared.loops.Known.TheVariants.{Number, Same, Moved, Below, Above, Any}
 use Rattle.vsi_machine.specs.Facts.{AreSame}
 use Rattle.vsi_machine.specs.Loops.{Enters, IsEntry, Keeps, Remains, Meets}
 use Rattle.vsi_machine.proofs.Slots.{set_same, set_other}

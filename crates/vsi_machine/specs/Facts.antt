@@ -1,7 +1,7 @@
 -- The facts at the start of a code.
 use Rattle.std.specs.Prelude.{◌≡◌, ℕ, List, length, slice_get, Some}
-use Rattle.vsi_machine.specs.declared.known.Known.{Known}
-use Rattle.vsi_machine.specs.declared.known.Known.TheVariants.{Same}
+use Rattle.vsi_machine.specs.declared.loops.Known.{Known}
+use Rattle.vsi_machine.specs.declared.loops.Known.TheVariants.{Same}
 
 -- Each of this many slots has its own word.
 pub record AreSame (slots : ℕ) (facts : List Known) : Type 0 where

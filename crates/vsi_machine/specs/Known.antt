@@ -1,8 +1,8 @@
 -- The meaning of facts about words.
 use Rattle.std.specs.Prelude.{◌≡◌, ℕ, ℤ, pos, List, [], ◌∷◌, length, slice_get, slice_index_or, Some}
 use Rattle.vsi_syntax.specs.Operators.{sum_of, less_of}
-use Rattle.vsi_machine.specs.declared.known.Known.{Known}
-use Rattle.vsi_machine.specs.declared.known.Known.TheVariants.{Number, Same, Moved, Below, Above, Any}
+use Rattle.vsi_machine.specs.declared.loops.Known.{Known}
+use Rattle.vsi_machine.specs.declared.loops.Known.TheVariants.{Number, Same, Moved, Below, Above, Any}
 
 -- The word of a slot.
 abbrev pub word : List ℤ → ℕ → ℤ

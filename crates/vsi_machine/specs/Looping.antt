@@ -1,9 +1,9 @@
 -- A loop that counts.
 use Rattle.std.specs.Prelude.{◌≡◌, ℕ, ◌+◌, ◌*◌, ℤ, Bool, if◌then◌else◌, List, slice_get, Some}
 use Rattle.vsi_syntax.specs.Operators.{less_of}
-use Rattle.vsi_machine.specs.declared.known.Known.{Known}
-use Rattle.vsi_machine.specs.declared.known.Known.TheVariants.{Number, Moved, Below, Above}
-use Rattle.vsi_machine.specs.declared.cost.Cost.{Cost}
+use Rattle.vsi_machine.specs.declared.loops.Known.{Known}
+use Rattle.vsi_machine.specs.declared.loops.Known.TheVariants.{Number, Moved, Below, Above}
+use Rattle.vsi_machine.specs.declared.bound.Cost.{Cost}
 use Rattle.vsi_machine.specs.Counters.{Counts}
 use Rattle.vsi_machine.specs.Loops.{Keeps, Remain}
 

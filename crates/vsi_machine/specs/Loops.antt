@@ -2,8 +2,8 @@
 use Rattle.std.specs.Prelude.{◌≡◌, ◌≢◌, ℕ, ◌⊎◌, ℤ, List, Contains, length, slice_get, Some}
 use Rattle.vsi_image.specs.declared.instr.Instr.{Instr}
 use Rattle.vsi_image.specs.declared.instr.Instr.TheVariants.{Store}
-use Rattle.vsi_machine.specs.declared.known.Known.{Known}
-use Rattle.vsi_machine.specs.declared.known.Known.TheVariants.{Number, Same, Moved, Below, Above, Any}
+use Rattle.vsi_machine.specs.declared.loops.Known.{Known}
+use Rattle.vsi_machine.specs.declared.loops.Known.TheVariants.{Number, Same, Moved, Below, Above, Any}
 
 -- At the start of a turn a slot has the number that it had before the loop, if the body doesn't store into it; else its
 -- word is the one for comparison.

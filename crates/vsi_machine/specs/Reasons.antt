@@ -1,9 +1,9 @@
 -- The reasons why a loop has no counter.
 use Rattle.std.specs.Prelude.{◌≡◌, ◌≢◌, ℕ, zero, suc, ℤ, pos, negsuc, ◌+ℤ◌, ◌<ℤ◌, ◌≤ℤ◌, Bool, true, false, ◌⊎◌, List, slice_get, Some}
-use Rattle.vsi_machine.specs.declared.known.Known.{Known}
-use Rattle.vsi_machine.specs.declared.known.Known.TheVariants.{Number, Moved}
-use Rattle.vsi_machine.specs.declared.reasons.Reason.{Reason}
-use Rattle.vsi_machine.specs.declared.reasons.Reason.TheVariants.{Guard, Start, Step, Wraps}
+use Rattle.vsi_machine.specs.declared.loops.Known.{Known}
+use Rattle.vsi_machine.specs.declared.loops.Known.TheVariants.{Number, Moved}
+use Rattle.vsi_machine.specs.declared.bound.Reason.{Reason}
+use Rattle.vsi_machine.specs.declared.bound.Reason.TheVariants.{Guard, Start, Step, Wraps}
 use Rattle.vsi_machine.specs.Looping.{guard_of, guard_value}
 
 -- The step doesn't lead towards a limit above, or below.

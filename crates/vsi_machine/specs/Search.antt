@@ -3,10 +3,10 @@ use Rattle.std.specs.Prelude.{◌≡◌, ◌≢◌, ℕ, ◌+◌, ◌<◌, ℤ, 
 use Rattle.vsi_image.specs.declared.instr.Instr.{Instr}
 use Rattle.vsi_image.specs.declared.instr.Instr.TheVariants.{Store, Halt}
 use Rattle.vsi_image.specs.declared.instr.Image.{Image}
-use Rattle.vsi_machine.specs.declared.known.Known.{Known}
-use Rattle.vsi_machine.specs.declared.reasons.Reason.{Reason}
-use Rattle.vsi_machine.specs.declared.reasons.Reason.TheVariants.{Step}
-use Rattle.vsi_machine.specs.declared.finishing.Test.{Test}
+use Rattle.vsi_machine.specs.declared.loops.Known.{Known}
+use Rattle.vsi_machine.specs.declared.bound.Reason.{Reason}
+use Rattle.vsi_machine.specs.declared.bound.Reason.TheVariants.{Step}
+use Rattle.vsi_machine.specs.declared.bound.Test.{Test}
 use Rattle.vsi_machine.specs.Facts.{AreSame}
 use Rattle.vsi_machine.specs.Loops.{IsEntry, Keeps, Remain, Joined}
 use Rattle.vsi_machine.specs.Looping.{IsCounter}

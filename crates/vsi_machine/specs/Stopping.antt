@@ -1,10 +1,10 @@
 -- The meaning of the errors of the search.
 use Rattle.std.specs.Prelude.{◌≡◌, ◌⊎◌, ℕ, ℤ, List}
-use Rattle.vsi_machine.specs.declared.known.Known.{Known}
-use Rattle.vsi_machine.specs.declared.reasons.Reason.{Reason}
-use Rattle.vsi_machine.specs.declared.reasons.Reason.TheVariants.{Step}
-use Rattle.vsi_machine.specs.declared.reasons.Stop.{Stop}
-use Rattle.vsi_machine.specs.declared.reasons.Stop.TheVariants.{Other, Endless}
+use Rattle.vsi_machine.specs.declared.loops.Known.{Known}
+use Rattle.vsi_machine.specs.declared.bound.Reason.{Reason}
+use Rattle.vsi_machine.specs.declared.bound.Reason.TheVariants.{Step}
+use Rattle.vsi_machine.specs.declared.bound.Stop.{Stop}
+use Rattle.vsi_machine.specs.declared.bound.Stop.TheVariants.{Other, Endless}
 use Rattle.vsi_machine.specs.Loops.{Keeps}
 use Rattle.vsi_machine.specs.Looping.{IsCounter}
 use Rattle.vsi_machine.specs.Reasons.{HasNoCounter}

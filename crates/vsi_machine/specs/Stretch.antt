@@ -2,10 +2,10 @@
 use Rattle.std.specs.Prelude.{◌≡◌, ℕ, ◌+◌, ◌^◌, ◌<◌, ◌≤◌, ℤ, List, [], ◌∷◌, length, slice_get, slice_set, Some}
 use Rattle.vsi_image.specs.declared.instr.Instr.{Instr}
 use Rattle.vsi_image.specs.declared.instr.Instr.TheVariants.{Jz, Jmp, Halt}
-use Rattle.vsi_machine.specs.declared.finishing.Test.{Test}
+use Rattle.vsi_machine.specs.declared.bound.Test.{Test}
 use Rattle.vsi_image.specs.Meaning.{after, going}
-use Rattle.vsi_machine.specs.declared.known.Known.{Known}
-use Rattle.vsi_machine.specs.declared.cost.Cost.{Cost}
+use Rattle.vsi_machine.specs.declared.loops.Known.{Known}
+use Rattle.vsi_machine.specs.declared.bound.Cost.{Cost}
 use Rattle.vsi_machine.specs.Known.{Means, Hold}
 
 -- From these slots at a position the code reaches another position within the cost, and the facts hold there.

@@ -2,9 +2,9 @@
 use Rattle.std.specs.Prelude.{◌≡◌, ℕ, ◌+◌, ℤ, List, ◌∷◌, Some, reverse}
 use Rattle.vsi_image.specs.declared.instr.Instr.{Instr}
 use Rattle.vsi_image.specs.Meaning.{acted, going}
-use Rattle.vsi_syntax.specs.declared.operator.Op.{Op}
+use Rattle.vsi_syntax.specs.declared.tree.Op.{Op}
 use Rattle.vsi_syntax.specs.Operators.{apply}
-use Rattle.vsi_machine.specs.declared.known.Known.{Known}
+use Rattle.vsi_machine.specs.declared.loops.Known.{Known}
 use Rattle.vsi_machine.specs.Known.{AllMean, Hold}
 
 -- The instruction replaces two operands by the operator's result.

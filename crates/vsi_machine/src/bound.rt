@@ -1,20 +1,236 @@
-//! The bound of an image.
+//! The bound of an image: the cost of its loops, or why no bound was found.
 
-ghost use Rattle.std.specs.Prelude.{◌≡◌, IfErr, IfOk, OnOk, Some, slice_get};
-ghost use Rattle.vsi_image.specs.declared.instr.Instr.TheVariants as instr;
+ghost use Rattle.std.specs.Prelude.{◌≡◌, ◌+◌, ◌*◌, IfOk, min, max, ◌-◌, ◌^◌, ◌<◌, ◌≤◌, IfErr, OnOk, length, Some, slice_get};
+ghost use Rattle.vsi_machine.specs.declared.bound.Fault.TheVariants.{Memory};
+ghost use Rattle.vsi_machine.specs.declared.bound.Stop.TheVariants.{Other};
+ghost use Rattle.vsi_machine.specs.Loops.{Keeps};
+ghost use Rattle.vsi_machine.specs.Looping.{Finished, IsCounter};
+ghost use Rattle.vsi_machine.specs.Stopping.{IsChanged, IsUncounted, OnEndless, Unfinished};
+ghost use Rattle.vsi_machine.specs.Stretch.{Evaluates, Ends};
+ghost use Rattle.vsi_machine.specs.Transfer.{IsValue};
 ghost use Rattle.vsi_machine.specs.Bound.{Answers};
 ghost use Rattle.vsi_machine.specs.Facts.{AreSame};
 ghost use Rattle.vsi_machine.specs.Search.{StopsAt};
-ghost use Rattle.vsi_machine.specs.Stopping.{OnEndless};
-ghost use Rattle.vsi_machine.specs.Stretch.{Ends};
+ghost use Rattle.vsi_image.specs.declared.instr.Instr.TheVariants as instr;
 
-use crate::cost::{Cost, exactly, sum};
-use crate::known::Known;
-use crate::reasons::{Fault, Reason, Stop};
-use crate::stretches::{is_at, stretch};
-use std::alloc::{AllocError, Global};
+use crate::loops::{Counter, Known, counter_of, keeps, leave};
+use crate::stretches::{evaluate, is_at, stretch};
+use std::alloc::{AllocError, AllocFailed, Global};
 use vsi_image::{Image, Instr, Verified};
 use vsi_syntax::MAX_DEPTH;
+
+/// Why a loop has no bound.
+#[derive(Clone, Copy, PartialEq, Eq, Debug)]
+pub enum Reason {
+    /// Its guard doesn't compare a variable with a number that is known at each turn.
+    Guard,
+    /// Its variable doesn't begin with a known number.
+    Start,
+    /// Its body doesn't add the same number to the variable on every path, or the number doesn't
+    /// lead towards the limit.
+    Step,
+    /// The variable could wrap around before it reaches the limit.
+    Wraps,
+}
+
+/// Why the cost of a part of the code can't be computed.
+#[derive(Drop)]
+pub(crate) enum Fault {
+    Memory,
+    /// The instruction with this number doesn't belong to commands.
+    Unread(usize),
+    /// The number of instructions is above the greatest `u64`.
+    TooLarge,
+}
+
+/// Why a part of the code has no bound.
+#[derive(Drop)]
+pub(crate) enum Stop {
+    Other(Fault),
+    /// The loop whose test is the instruction with this number.
+    Endless(usize, Reason),
+}
+
+impl From<AllocError> for Fault {
+    ghost from_gives = { λ _ e. e ≡ Memory };
+
+    fn from(_error: AllocError) -> Fault {
+        Fault::Memory
+    }
+}
+
+impl<T: Drop> From<AllocFailed<T>> for Fault {
+    ghost from_gives = { λ _ e. e ≡ Memory };
+
+    fn from(_error: AllocFailed<T>) -> Fault {
+        Fault::Memory
+    }
+}
+
+impl From<AllocError> for Stop {
+    ghost from_gives = { λ _ e. e ≡ Other Memory };
+
+    fn from(_error: AllocError) -> Stop {
+        Stop::Other(Fault::Memory)
+    }
+}
+
+impl From<Fault> for Stop {
+    ghost from_gives = { λ fault e. e ≡ Other fault };
+
+    fn from(fault: Fault) -> Stop {
+        Stop::Other(fault)
+    }
+}
+
+/// The least and the greatest number of instructions.
+#[derive(Clone, Copy, PartialEq, Eq)]
+pub(crate) struct Cost {
+    pub least: u64,
+    pub most: u64,
+}
+
+/// The cost of exactly this many instructions.
+pub(crate) fn exactly(n: u64) -> Cost
+    ensures least { result.least ≡ n }
+    ensures most { result.most ≡ n }
+{
+    Cost { least: n, most: n }
+}
+
+/// The cost of two stretches in turn.
+pub(crate) fn sum(first: Cost, second: Cost) -> Result<Cost, Fault>
+    ensures least { IfOk result (λ cost. cost.least ≡ first.least + second.least) }
+    ensures most { IfOk result (λ cost. cost.most ≡ first.most + second.most) }
+{
+    let Some(least) = first.least.checked_add(second.least) else {
+        return Err(Fault::TooLarge);
+    };
+    let Some(most) = first.most.checked_add(second.most) else {
+        return Err(Fault::TooLarge);
+    };
+    Ok(Cost { least, most })
+}
+
+/// The cost of one of two stretches.
+pub(crate) fn either(first: Cost, second: Cost) -> Cost
+    ensures least { result.least ≡ min first.least second.least }
+    ensures most { result.most ≡ max first.most second.most }
+{
+    Cost {
+        least: first.least.min(second.least),
+        most: first.most.max(second.most),
+    }
+}
+
+/// The cost of this many turns.
+pub(crate) fn times(turns: u64, turn: Cost) -> Result<Cost, Fault>
+    ensures least { IfOk result (λ cost. cost.least ≡ turns * turn.least) }
+    ensures most { IfOk result (λ cost. cost.most ≡ turns * turn.most) }
+{
+    let Some(least) = turns.checked_mul(turn.least) else {
+        return Err(Fault::TooLarge);
+    };
+    let Some(most) = turns.checked_mul(turn.most) else {
+        return Err(Fault::TooLarge);
+    };
+    Ok(Cost { least, most })
+}
+
+/// A test that begins a conditional or a loop: the start of its guard, its own position, its
+/// target, the position of the jump before the target, and that jump's target.
+#[derive(Clone, Copy)]
+pub(crate) struct Test {
+    pub start: usize,
+    pub place: usize,
+    pub target: usize,
+    pub jump: usize,
+    pub end: usize,
+}
+
+/// The fact about the guard of a loop, if these facts hold at the start of a turn.
+pub(crate) fn guard_at(
+    alloc: Global,
+    code: &[Instr],
+    entry: &[Known],
+    test: Test,
+) -> Result<Known, Fault>
+    ensures value { IfOk result (Evaluates code.now entry.now test.start test.place) }
+    ensures exact { IfOk result (IsValue code.now entry.now test.start test.place) }
+{
+    let (end, guard) = evaluate(alloc, code, entry, test.start)?;
+    if end == test.place {
+        Ok(guard)
+    } else {
+        Err(Fault::Unread(end))
+    }
+}
+
+/// The variable of the loop with this test.
+fn counter(facts: &[Known], test: Test, guard: Known, turned: &[Known]) -> Result<Counter, Stop>
+    ensures counter { IfOk result
+        (λ c. IsCounter facts.now guard turned.now c.slot c.turns c.last) }
+    ensures none { IfErr result
+        (OnEndless (IsUncounted facts.now guard turned.now test.place)) }
+{
+    match counter_of(facts, guard, turned) {
+        Ok(counter) => Ok(counter),
+        Err(reason) => Err(Stop::Endless(test.place, reason)),
+    }
+}
+
+/// Checks that a turn keeps each number.
+fn check_kept(entry: &[Known], turned: &[Known], place: usize) -> Result<(), Stop>
+    requires { length turned.now ≡ length entry.now }
+    ensures kept { OnOk result (Keeps entry.now turned.now) }
+    ensures changed { IfErr result (OnEndless (IsChanged entry.now turned.now place)) }
+{
+    if keeps(entry, turned) {
+        Ok(())
+    } else {
+        Err(Stop::Endless(place, Reason::Step))
+    }
+}
+
+/// The cost of this many turns, each of which tests the guard, runs its body and jumps back, and of
+/// the last test.
+fn whole(turns: u64, tested: u64, body: Cost) -> Result<Cost, Fault>
+    requires { tested < 2 ^ 63 }
+    ensures least { IfOk result
+        (λ cost. cost.least ≡ turns * (body.least + (tested + 1)) + tested) }
+    ensures most { IfOk result
+        (λ cost. cost.most ≡ turns * (body.most + (tested + 1)) + tested) }
+{
+    let turn = sum(body, exactly(tested + 1))?;
+    let all = times(turns, turn)?;
+    sum(all, exactly(tested))
+}
+
+/// The cost of a loop. Updates the facts to those after it.
+pub(crate) fn finish(
+    facts: &mut [Known],
+    test: Test,
+    entry: &[Known],
+    guard: Known,
+    turned: &[Known],
+    body: Cost,
+) -> Result<Cost, Stop>
+    requires entry { length entry.now ≡ length facts.old }
+    requires turned { length turned.now ≡ length facts.old }
+    requires order { test.start ≤ test.place }
+    requires short { test.place < 2 ^ 32 }
+    ensures finished { IfOk result (λ cost. Finished facts.old entry.now guard turned.now
+        (test.place - test.start + 1) body cost facts.new) }
+    ensures fails { IfErr result
+        (OnEndless (Unfinished facts.old entry.now guard turned.now test.place)) }
+{
+    let counter = counter(facts, test, guard, turned)?;
+    check_kept(entry, turned, test.place)?;
+    let tested = (test.place - test.start + 1) as u64;
+    let cost = whole(counter.turns, tested, body)?;
+    leave(facts, entry, turned, counter.slot, counter.last);
+    Ok(cost)
+}
 
 /// The number of instructions that an image can run.
 #[derive(Clone, Copy, PartialEq, Eq, Debug)]

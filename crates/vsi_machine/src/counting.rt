@@ -1,14 +1,17 @@
-//! Running and counting instructions.
+//! Running and counting instructions, and texts about the count.
 
-ghost use Rattle.std.specs.Prelude.{◌≡◌, ◌≢◌, ◌+◌, ◌<◌, ◌≤◌, ◌⊎◌, ℕ, length, IsNone, IfOk, IfErr, IfSome, IfNone, Some, IsSomeAnd, true, false};
+ghost use Rattle.std.specs.Prelude.{◌≡◌, ◌≢◌, ◌+◌, ◌<◌, ◌≤◌, ◌⊎◌, ℕ, length, IsNone, IfOk, IfErr, IfSome, IfNone, Some, IsSomeAnd, true, false, ◌++◌, OnOk};
 ghost use Rattle.vsi_image.specs.Meaning.{after};
 ghost use Rattle.vsi_machine.specs.Runs.{run_of, outcome_of};
 ghost use Rattle.vsi_machine.specs.declared.interpreter.Outcome.TheVariants.{Halted, OutOfBudget};
 ghost use Rattle.vsi_machine.specs.Counting.{HaltsIn, Halts, GoesOn};
+ghost use Rattle.vsi_machine.specs.CountTexts as spec;
+ghost use Rattle.vsi_machine.specs.Cells as cells_spec;
 
 use crate::interpreter::{Machine, Outcome, StartError};
-use std::alloc::Global;
+use std::alloc::{AllocError, Global};
 use vsi_image::Verified;
+use vsi_syntax::{put_number, put_word};
 
 /// The number of instructions executed between checks whether the machine has halted.
 const SLICE: u64 = 16384;
@@ -112,4 +115,72 @@ pub fn counted<'a>(
         outcome: Outcome::Halted,
         instructions: done + more,
     })
+}
+
+/// The noun after a number of instructions.
+fn noun(number: u64) -> &'static [u8]
+    ensures { result.now ≡ spec.noun number }
+{
+    if number == 1 {
+        b" instruction"
+    } else {
+        b" instructions"
+    }
+}
+
+/// The line of a number of instructions.
+pub fn count_text(alloc: Global, instructions: u64) -> Result<Vec<u8>, AllocError>
+    ensures { IfOk result (λ text. text.items ≡ spec.count_line instructions) }
+{
+    let mut text = Vec::new(alloc);
+    text.extend_from_slice(b"instructions: ")?;
+    put_number(&mut text, instructions as usize)?;
+    text.extend_from_slice(b"\n")?;
+    Ok(text)
+}
+
+/// Appends a number of instructions with its noun.
+fn put_instructions(text: &mut Vec<u8>, number: u64) -> Result<(), AllocError>
+    ensures { OnOk result (text.new.items ≡ text.old.items ++ spec.number_of number) }
+{
+    put_number(text, number as usize)?;
+    text.extend_from_slice(noun(number))
+}
+
+/// Reports where a run stopped when its budget was spent: the number of instructions executed, and
+/// the trace line of the next one. The text is empty if the machine has halted.
+pub fn stop_text(alloc: Global, count: &Count<'_>) -> Result<Vec<u8>, AllocError>
+    ensures { IfOk result (λ text. text.items ≡
+        spec.stop_lines count.now.machine.image count.now.machine.state count.now.instructions) }
+{
+    let mut text = Vec::new(alloc);
+    let Some(line) = count.machine.trace_line(alloc)? else {
+        return Ok(text);
+    };
+    text.extend_from_slice(b"After ")?;
+    put_instructions(&mut text, count.instructions)?;
+    text.extend_from_slice(b" the budget is spent. The next one is\n  ")?;
+    text.extend_from_slice(&line)?;
+    text.extend_from_slice(b"\n")?;
+    Ok(text)
+}
+
+/// The name of a global and its word, as in `x = 5`.
+pub fn word_cell(alloc: Global, name: &[u8], word: i64) -> Result<Vec<u8>, AllocError>
+    ensures { IfOk result (λ cell. cell.items ≡ cells_spec.word_cell name.now word) }
+{
+    let mut cell = name.to_vec(alloc)?;
+    cell.extend_from_slice(b" = ")?;
+    put_word(&mut cell, word)?;
+    Ok(cell)
+}
+
+/// The number of instructions after which a run halts, as in `after 9 instructions`.
+pub fn halted_cell(alloc: Global, instructions: u64) -> Result<Vec<u8>, AllocError>
+    ensures { IfOk result (λ cell. cell.items ≡ cells_spec.halted_cell instructions) }
+{
+    let mut cell = Vec::from_slice(alloc, b"after ")?;
+    put_number(&mut cell, instructions as usize)?;
+    cell.extend_from_slice(b" instructions")?;
+    Ok(cell)
 }

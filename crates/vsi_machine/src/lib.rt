@@ -26,30 +26,14 @@
 //! `specs/Stopping` only support proofs.
 #![tactic(auto)]
 
-mod action;
 mod bound;
-mod cells;
-mod cost;
-mod count_lines;
-mod counters;
 mod counting;
-mod facts;
-mod finishing;
 mod interpreter;
-mod joining;
-mod known;
 pub mod laws;
 mod loops;
-mod reasons;
 mod stretches;
-mod tracing;
 mod turns;
-mod values;
 
-pub use action::{CAPACITY, INSTRUCTIONS, Position, Words, act};
-pub use bound::{Bound, bound_of};
-pub use cells::{halted_cell, word_cell};
-pub use count_lines::{count_text, stop_text};
-pub use counting::{Count, counted};
-pub use interpreter::{Machine, Outcome, StartError};
-pub use reasons::Reason;
+pub use bound::{Bound, Reason, bound_of};
+pub use counting::{Count, count_text, counted, halted_cell, stop_text, word_cell};
+pub use interpreter::{CAPACITY, INSTRUCTIONS, Machine, Outcome, Position, StartError, Words, act};

@@ -1,20 +1,150 @@
-//! Stretches of code: their cost, and the facts after them.
+//! Stretches of code: their cost, and the facts about words after them.
 
-ghost use Rattle.std.specs.Prelude.{◌≡◌, ◌+◌, ◌≤◌, IfErr, IfOk, IfSome, OnOk, Some, length, slice_get, true};
-ghost use Rattle.vsi_image.specs.declared.instr.Instr.TheVariants as instr;
+ghost use Rattle.std.specs.Prelude.{◌≡◌, ◌<◌, ◌≤◌, [], ◌∷◌, IfOk, IfSome, List, OnOk, Some, length, reverse, ◌+◌, IfErr, slice_get, true};
+ghost use Rattle.vsi_machine.specs.declared.loops.Known.{Known};
+ghost use Rattle.vsi_machine.specs.Stretch.{Evaluates, Leads, IsTest, Stores};
+ghost use Rattle.vsi_machine.specs.Transfer.{IsValue, Puts, on_two, put as put_fact};
+ghost use Rattle.vsi_machine.specs.Values.{Acts, IsOperator, Operates};
 ghost use Rattle.vsi_machine.specs.Search.{Fails, IsChoice, Passes, Reaches, Stuck};
 ghost use Rattle.vsi_machine.specs.Stopping.{OnEndless};
-ghost use Rattle.vsi_machine.specs.Stretch.{Leads, IsTest, Stores};
+ghost use Rattle.vsi_image.specs.declared.instr.Instr.TheVariants as spec;
+ghost use Rattle.vsi_image.specs.declared.instr.Instr.TheVariants as instr;
 
-use crate::cost::{Cost, either, exactly, sum};
-use crate::facts::entry_of;
-use crate::finishing::{Test, finish, guard_at};
-use crate::joining::join;
-use crate::known::Known;
-use crate::reasons::{Fault, Stop};
-use crate::values::evaluate;
+use crate::bound::{Cost, Fault, Stop, Test, either, exactly, finish, guard_at, sum};
+use crate::loops::{Known, applied, entry_of, join};
 use std::alloc::Global;
 use vsi_image::Instr;
+use vsi_syntax::Op;
+
+/// The operator of an instruction.
+fn operator_of(instr: Instr) -> Option<Op>
+    ensures acts { IfSome result (IsOperator instr) }
+    ensures takes { IfSome result
+        (λ o. (facts s : List Known) → put_fact facts s instr ≡ on_two o s) }
+{
+    match instr {
+        Instr::Add => Some(Op::Add),
+        Instr::Sub => Some(Op::Sub),
+        Instr::Mul => Some(Op::Mul),
+        Instr::Eq => Some(Op::Eq),
+        Instr::Lt => Some(Op::Lt),
+        _ => None,
+    }
+}
+
+/// Applies an operator to the two facts on top; the top one is about the right operand.
+fn operate(operands: &mut Vec<Known>, op: Op, place: usize) -> Result<(), Fault>
+    ensures acts { OnOk result (Operates op operands.old.items operands.new.items) }
+    ensures takes { OnOk result
+        (on_two op (reverse operands.old.items) ≡ Some (reverse operands.new.items)) }
+{
+    let Some(right) = operands.pop() else {
+        return Err(Fault::Unread(place));
+    };
+    let Some(left) = operands.pop() else {
+        return Err(Fault::Unread(place));
+    };
+    operands.push(applied(op, left, right))?;
+    Ok(())
+}
+
+/// Puts a number on top.
+fn put_number(operands: &mut Vec<Known>, n: i64) -> Result<(), Fault>
+    ensures acts { OnOk result
+        ((facts : List Known) → Acts (spec.Push n) facts operands.old.items operands.new.items) }
+    ensures puts { OnOk result ((facts : List Known) →
+        Puts facts operands.old.items (spec.Push n) operands.new.items) }
+{
+    operands.push(Known::Number(n))?;
+    Ok(())
+}
+
+/// Puts a slot's word on top.
+fn put_word(
+    operands: &mut Vec<Known>,
+    facts: &[Known],
+    slot: u16,
+    place: usize,
+) -> Result<(), Fault>
+    ensures acts { OnOk result
+        (Acts (spec.Load slot) facts.now operands.old.items operands.new.items) }
+    ensures puts { OnOk result
+        (Puts facts.now operands.old.items (spec.Load slot) operands.new.items) }
+{
+    if slot as usize >= facts.len() {
+        return Err(Fault::Unread(place));
+    }
+    operands.push(facts[slot as usize])?;
+    Ok(())
+}
+
+/// Puts an operator's word on top.
+fn put_operator(operands: &mut Vec<Known>, instr: Instr, place: usize) -> Result<(), Fault>
+    ensures acts { OnOk result
+        ((facts : List Known) → Acts instr facts operands.old.items operands.new.items) }
+    ensures puts { OnOk result
+        ((facts : List Known) → Puts facts operands.old.items instr operands.new.items) }
+{
+    match operator_of(instr) {
+        Some(op) => operate(operands, op, place),
+        None => Err(Fault::Unread(place)),
+    }
+}
+
+/// Handles one instruction of an expression.
+fn put(operands: &mut Vec<Known>, facts: &[Known], instr: Instr, place: usize) -> Result<(), Fault>
+    ensures acts { OnOk result (Acts instr facts.now operands.old.items operands.new.items) }
+    ensures puts { OnOk result (Puts facts.now operands.old.items instr operands.new.items) }
+{
+    match instr {
+        Instr::Push(n) => put_number(operands, n),
+        Instr::Load(slot) => put_word(operands, facts, slot, place),
+        _ => put_operator(operands, instr, place),
+    }
+}
+
+/// Whether an instruction ends an expression.
+fn is_end(instr: Instr) -> bool {
+    matches!(
+        instr,
+        Instr::Store(_) | Instr::Jz(_) | Instr::Jmp(_) | Instr::Halt
+    )
+}
+
+/// The only fact of a list.
+fn only(operands: &[Known], place: usize) -> Result<Known, Fault>
+    ensures { IfOk result (λ known. operands.now ≡ known ∷ []) }
+{
+    if operands.len() == 1 {
+        Ok(operands[0])
+    } else {
+        Err(Fault::Unread(place))
+    }
+}
+
+/// The end of an expression's code, and the fact about its value, if these facts hold at its start.
+pub(crate) fn evaluate(
+    alloc: Global,
+    code: &[Instr],
+    facts: &[Known],
+    start: usize,
+) -> Result<(usize, Known), Fault>
+    ensures value { IfOk result (λ r. Evaluates code.now facts.now start r.0 r.1) }
+    ensures exact { IfOk result (λ r. IsValue code.now facts.now start r.0 r.1) }
+    ensures within { IfOk result (λ r. r.0 < length code.now) }
+    ensures after { IfOk result (λ r. start ≤ r.0) }
+{
+    let mut operands = Vec::new(alloc);
+    for place in start..code.len() {
+        let instr = code[place];
+        if is_end(instr) {
+            let value = only(&operands, place)?;
+            return Ok((place, value));
+        }
+        put(&mut operands, facts, instr, place)?;
+    }
+    Err(Fault::Unread(code.len()))
+}
 
 /// Whether the instruction at this position is this one.
 pub(crate) fn is_at(code: &[Instr], place: usize, instr: Instr) -> bool

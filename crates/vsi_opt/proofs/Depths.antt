@@ -1,6 +1,6 @@
 -- Folding and removal make neither expressions nor letvars deeper.
 use Rattle.std.proofs.Common.{◌≡◌, ℕ, ◌+◌, ◌≤◌, max, Bool, true, false, Option, Some, None, refl, arith}
-use Rattle.vsi_syntax.specs.declared.operator.Op.{Op}
+use Rattle.vsi_syntax.specs.declared.tree.Op.{Op}
 use Rattle.vsi_scope.specs.Language.{Expression, Number, Location, Operator, Command, Skip, Assign, Sequence, If, While, Letvar, nesting, expression_depth, expressions_depth, depth}
 use Rattle.vsi_opt.specs.Folding.{fold_operator, folded, append, truth_of, branch, loop, fold}
 use Rattle.vsi_opt.specs.Optimised.{globals_alone, optimised}

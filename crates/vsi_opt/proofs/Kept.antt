@@ -1,6 +1,6 @@
 -- The size, the locations and the letvars of the optimised body, and that nothing is left to fold.
 use Rattle.std.proofs.Common.{◌≡◌, ℕ, zero, suc, ◌+◌, ◌≤◌, Bool, true, false, Option, Some, None, pos, negsuc, refl, sym, subst, arith}
-use Rattle.vsi_syntax.specs.declared.operator.Op.{Op}
+use Rattle.vsi_syntax.specs.declared.tree.Op.{Op}
 use Rattle.vsi_scope.specs.Language.{Expression, Number, Location, Operator, Command, Skip, Assign, Sequence, If, While, Letvar, HasLocations, HasPlaces, letvars, expression_size, size}
 use Rattle.vsi_opt.specs.Folding.{fold_operator, folded, one, append, truth_of, branch, loop, fold}
 use Rattle.vsi_opt.specs.Liveness.{Locations, kept_live}

@@ -1,6 +1,6 @@
 -- Folding, from the leaves up. A command is folded to a sequence.
 use Rattle.std.specs.Prelude.{zero, suc, ℤ, pos, negsuc, Bool, true, false, Option, Some, None}
-use Rattle.vsi_syntax.specs.declared.operator.Op.{Op}
+use Rattle.vsi_syntax.specs.declared.tree.Op.{Op}
 use Rattle.vsi_scope.specs.Language.{Expression, Number, Location, Operator, Command, Skip, Assign, Sequence, If, While, Letvar}
 use Rattle.vsi_syntax.specs.Operators.{apply}
 

@@ -5,7 +5,7 @@ use Rattle.std.specs.Prelude.{◌≡◌, ℕ, ◌+◌, ◌≤◌}
 use Rattle.vsi_scope.specs.Language.{Command, Skip, Assign, Sequence, If, While, Letvar, letvars}
 use Rattle.vsi_opt.specs.Liveness.{Locations, joined, with_bit, all_reads}
 use Rattle.vsi_opt.specs.Ranges.{Fits, bits}
-use Rattle.vsi_opt.specs.declared.small_set.SmallSet.{SmallSet}
+use Rattle.vsi_opt.specs.declared.liveness.SmallSet.{SmallSet}
 use Rattle.vsi_scope.specs.Limits.{max_declarations}
 
 -- A set with a note, for each letvar, whether its scope reads its variable.

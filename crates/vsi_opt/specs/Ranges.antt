@@ -2,7 +2,7 @@
 use Rattle.std.specs.Prelude.{ℕ, ◌+◌, ◌/◌, ◌%◌, ◌^◌, ◌<◌, ◌≤◌, ◌==◌, List, slice_index}
 use Rattle.vsi_scope.specs.Language.{Command, Skip, Assign, Sequence, If, While, Letvar, HasLocations, letvars}
 use Rattle.vsi_opt.specs.Liveness.{Locations}
-use Rattle.vsi_opt.specs.declared.small_set.SmallSet.{SmallSet}
+use Rattle.vsi_opt.specs.declared.liveness.SmallSet.{SmallSet}
 use Rattle.vsi_scope.specs.Limits.{max_declarations}
 
 -- Every location is below 1,024, including those of letvars, with k locations in scope, and no loop has more letvars.

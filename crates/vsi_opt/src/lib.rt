@@ -9,11 +9,8 @@
 //! `specs/Remaining`. The other files of `specs/` only support proofs.
 #![tactic(auto)]
 
-mod entries;
-mod folding;
 pub mod laws;
 mod liveness;
 mod optimiser;
-mod small_set;
 
 pub use optimiser::optimise;

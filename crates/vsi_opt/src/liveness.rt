@@ -1,22 +1,86 @@
-//! Live variables, and the removal of dead assignments.
-//!
-//! A set of live variables holds their locations. Two variables that share a location are never in
-//! scope together, and a location is taken out of the set at both ends of its variable's scope. So
-//! each location in the set belongs to one declaration.
+//! Live variables as sets of small numbers, and the removal of dead assignments.
 
-ghost use Rattle.std.specs.Prelude.{◌≡◌, ◌+◌, ◌<◌, ◌≤◌, IfOk, OnOk, reverse};
+ghost use Rattle.std.specs.Prelude.{◌≡◌, ◌<◌, ◌≤◌, true, false, ◌+◌, IfOk, OnOk, reverse};
+ghost use Rattle.vsi_opt.specs.Liveness.{with_bit, joined, reads, before, kept_in_loop, kept_live, taken};
+ghost use Rattle.vsi_opt.specs.Ranges.{bits, Fits};
+ghost use Rattle.vsi_opt.specs.Optimised.{globals_alone};
+ghost use Rattle.vsi_scope.specs.Limits.{max_declarations};
 ghost use Rattle.vsi_scope.specs.Language.{HasLocations, Assign, letvars};
 ghost use Rattle.vsi_scope.specs.View.{expression, command, sequence};
 ghost use Rattle.vsi_opt.specs.Folding.{append};
-ghost use Rattle.vsi_opt.specs.Liveness.{reads, joined, before, kept_in_loop, kept_live, taken};
 ghost use Rattle.vsi_opt.specs.Loops.{AddFits, AddsTo, KeptInLoopFits};
-ghost use Rattle.vsi_opt.specs.Ranges.{Fits, bits};
-ghost use Rattle.vsi_scope.specs.Limits.{max_declarations};
 
-use crate::small_set::SmallSet;
 use std::alloc::{AllocError, Global};
 use vsi_scope::{Cmd, Ex};
 use vsi_syntax::Span;
+
+/// A set of numbers below 1,024, a bit for each.
+#[derive(Clone, Copy)]
+pub(crate) struct SmallSet {
+    words: [u64; 16],
+}
+
+impl SmallSet {
+    /// The numbers below a number.
+    pub(crate) fn below(count: u16) -> SmallSet
+        requires { count ≤ max_declarations }
+        ensures { bits result ≡ globals_alone count }
+    {
+        let mut set = SmallSet { words: [0; 16] };
+        for n in 0..count {
+            set.insert(n);
+        }
+        set
+    }
+
+    /// Whether a number is in the set.
+    pub(crate) fn contains(&self, n: u16) -> bool
+        requires { n < max_declarations }
+        ensures { result ≡ bits self.now n }
+    {
+        let word = self.words[(n / 64) as usize];
+        (word >> (n % 64)) % 2 == 1
+    }
+
+    /// Puts a number in.
+    pub(crate) fn insert(&mut self, n: u16)
+        requires { n < max_declarations }
+        ensures { bits self.new ≡ with_bit (bits self.old) n true }
+    {
+        let at = (n / 64) as usize;
+        self.words[at] = self.words[at] | (1 << (n % 64));
+    }
+
+    /// Takes a number out.
+    pub(crate) fn remove(&mut self, n: u16)
+        requires { n < max_declarations }
+        ensures { bits self.new ≡ with_bit (bits self.old) n false }
+    {
+        let at = (n / 64) as usize;
+        self.words[at] = self.words[at] & !(1 << (n % 64));
+    }
+
+    /// Puts a number in or takes it out.
+    pub(crate) fn set(&mut self, n: u16, is_in: bool)
+        requires { n < max_declarations }
+        ensures { bits self.new ≡ with_bit (bits self.old) n is_in }
+    {
+        if is_in {
+            self.insert(n);
+        } else {
+            self.remove(n);
+        }
+    }
+
+    /// Adds the numbers of another set.
+    pub(crate) fn join(&mut self, other: &SmallSet)
+        ensures { bits self.new ≡ joined (bits self.old) (bits other.now) }
+    {
+        for i in 0..16 {
+            self.words[i] = self.words[i] | other.words[i];
+        }
+    }
+}
 
 /// An equal expression.
 fn copy_expression(e: &Ex, alloc: Global) -> Result<Ex, AllocError>

@@ -12,15 +12,10 @@
 //! To be believed: all files of `specs/`.
 #![tactic(auto)]
 
-mod changes;
-mod making;
 mod roles;
-mod rows;
 mod shape;
 mod warnings;
 
-pub use changes::{seen_changes, visible_changes};
-pub use making::{ShapeError, lattice_text};
-pub use rows::{seen_table, unused_warnings, visible_table};
-pub use shape::{Shape, named_policy};
+pub use roles::{seen_changes, seen_table, unused_warnings, visible_changes, visible_table};
+pub use shape::{Shape, ShapeError, lattice_text, named_policy};
 pub use warnings::policy_warnings;

@@ -4,7 +4,7 @@
 ghost use Rattle.vsi_lattice.specs.LatticeView.{order};
 ghost use Rattle.vsi_lattice.specs.Order.{IsClass};
 
-use crate::rows::name_of;
+use crate::roles::name_of;
 use std::alloc::{AllocError, Global};
 use vsi_conform::put_parts;
 use vsi_lattice::{Class, Classes, Lattice};

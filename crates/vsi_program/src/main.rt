@@ -1,10 +1,7 @@
 //! The program: its arguments, the files of the system and the standard streams.
 #![tactic(auto)]
 
-mod beside;
-mod claims;
 mod disk;
-mod kinds;
 mod replacing;
 mod screen;
 mod troubles;

@@ -1,12 +1,243 @@
-//! Files that are written so that they are on the disk afterwards, under their names too.
+//! Files that are written so that they are on the disk afterwards, beside those that they replace.
 
-use crate::beside::{Made, Making, create_beside};
-use crate::claims::Claim;
 use crate::troubles::{LEADS_NOWHERE, NOT_GIVEN, NOT_REGULAR, Objection, Trouble, UNSYNCED};
-use std::fs;
-use std::fs::{File, Metadata, OpenOptions, Permissions};
-use std::io::{ErrorKind, Write};
-use std::os::unix::fs::{MetadataExt, PermissionsExt, fchown};
+use std::fs::{File, Metadata, OpenOptions, Permissions, TryLockError};
+use std::io::{ErrorKind, Read, Write};
+use std::os::unix::fs::{MetadataExt, OpenOptionsExt, PermissionsExt, fchown};
+use std::{fs, io};
+
+/// How often a file is looked for that is replaced meanwhile.
+const MOST_LOOKS: u8 = 16;
+
+/// The file that a request replaces, as far as it is known.
+#[derive(Drop)]
+pub(crate) enum Claim {
+    /// The request keeps no store in it, or it can't be locked.
+    Free,
+    /// There was none.
+    Absent,
+    /// This file was at the path, and this drive has locked it.
+    Locked(File),
+    /// Another drive keeps it.
+    Taken,
+}
+
+impl Claim {
+    /// Locks the file at the path.
+    pub(crate) fn of(rt: &HostRuntime, path: &str) -> Claim {
+        for _look in 0..MOST_LOOKS {
+            let opened = match fs::symlink_metadata(rt, path) {
+                Ok(found) if found.is_file() => open_found(rt, path, &found),
+                Ok(_) => None,
+                Err(error) if error.kind() == ErrorKind::NotFound => return Claim::Absent,
+                Err(_) => None,
+            };
+            let Some(file) = opened else {
+                return Claim::Free;
+            };
+            match file.try_lock() {
+                Ok(()) if is_at(rt, &file, path) => return Claim::held(&file),
+                Ok(()) => {}
+                Err(TryLockError::WouldBlock) => return Claim::Taken,
+                Err(TryLockError::Error(_)) => return Claim::Free,
+            }
+        }
+        Claim::Taken
+    }
+
+    /// Gives a new file the name of the one at the path, unless that isn't the one that this drive has
+    /// locked.
+    pub(crate) fn put(&self, rt: &HostRuntime, name: &str, path: &str) -> Result<(), Trouble> {
+        match self {
+            Claim::Free => put_over(rt, name, path),
+            Claim::Absent => put_first(rt, name, path),
+            Claim::Locked(file) if is_at(rt, file, path) => put_over(rt, name, path),
+            Claim::Locked(_) | Claim::Taken => put_first(rt, name, path),
+        }
+    }
+
+    /// Takes note that this new file, which is locked, is at the path.
+    pub(crate) fn hold(&mut self, file: &File) {
+        if !matches!(self, Claim::Free) {
+            *self = Claim::held(file);
+        }
+    }
+
+    /// The claim of a locked file. It is held by another handle, whose number is none of a standard
+    /// stream, so that nothing is written into it where such a stream is closed. Without one the
+    /// next file finds its name taken.
+    fn held(file: &File) -> Claim {
+        match file.try_clone() {
+            Ok(other) => Claim::Locked(other),
+            Err(_) => Claim::Absent,
+        }
+    }
+}
+
+/// Gives a new file the name of the one at the path.
+fn put_over(rt: &HostRuntime, name: &str, path: &str) -> Result<(), Trouble> {
+    Ok(fs::rename(rt, name, path)?)
+}
+
+/// Gives a new file a name that nothing has: as its second name, which the system allows only to the
+/// quickest drive, and then the first one goes. Where files have no second names, it is moved.
+fn put_first(rt: &HostRuntime, name: &str, path: &str) -> Result<(), Trouble> {
+    match fs::hard_link(rt, name, path) {
+        Ok(()) => {
+            let _ = fs::remove_file(rt, name);
+            Ok(())
+        }
+        Err(error) if error.kind() == ErrorKind::AlreadyExists => Err(Trouble::Objection(
+            Objection::Changed,
+        )),
+        Err(_) => put_over(rt, name, path),
+    }
+}
+
+/// How many names are tried beside the first one.
+const MOST_NAMES: u8 = 16;
+
+/// The bit of a file's mode that says whether its owner may write it.
+const OWNER_WRITES: u32 = 0o200;
+
+/// How many bytes are compared at a time.
+const CHUNK: usize = 4096;
+
+/// The folder that shows the program's own process, whose owner is the user.
+const PROCESS: &str = "/proc/self";
+
+/// The making of a new file beside another one.
+#[derive(Clone, Copy)]
+pub(crate) struct Making<'a> {
+    /// The first name.
+    pub(crate) fresh: &'a str,
+    pub(crate) mode: u32,
+    /// The bytes of which a leftover has the first ones, if other files with such a name stay.
+    pub(crate) bytes: Option<&'a [u8]>,
+}
+
+/// A new file, and its name if that isn't the first one.
+pub(crate) type Made = (File, Option<String>);
+
+/// Makes a file with the first name, or with that and a number: never one that is there already, nor
+/// one that a link leads to. A leftover of this user at the name is removed before.
+pub(crate) fn create_beside(rt: &HostRuntime, making: Making<'_>) -> io::Result<Made> {
+    if let Some(file) = take(rt, making, making.fresh)? {
+        return Ok((file, None));
+    }
+    for number in 1..=MOST_NAMES {
+        let fresh = making.fresh;
+        let name = format!(in rt.alloc(); "{fresh}{number}")?;
+        if let Some(file) = take(rt, making, name.as_str())? {
+            return Ok((file, Some(name)));
+        }
+    }
+    Err(io::Error::from(ErrorKind::AlreadyExists))
+}
+
+/// Removes the leftovers at the numbered names, as far as there is memory for the names.
+pub(crate) fn sweep(rt: &HostRuntime, making: Making<'_>) {
+    for number in 1..=MOST_NAMES {
+        let fresh = making.fresh;
+        if let Ok(name) = format!(in rt.alloc(); "{fresh}{number}") {
+            let _ = clear(rt, making, name.as_str());
+        }
+    }
+}
+
+/// Makes and locks a file with the name, in place of a leftover if there is one; nothing if the name
+/// is taken.
+fn take(rt: &HostRuntime, making: Making<'_>, name: &str) -> io::Result<Option<File>> {
+    let made = create_locked(rt, name, making.mode)?;
+    if made.is_some() || !clear(rt, making, name) {
+        return Ok(made);
+    }
+    create_locked(rt, name, making.mode)
+}
+
+/// Makes and locks a file with the name; nothing if the name is taken, or if another instance held the
+/// new file to be a leftover before it was locked.
+fn create_locked(rt: &HostRuntime, name: &str, mode: u32) -> io::Result<Option<File>> {
+    let mut options = OpenOptions::new();
+    options.write(true).create_new(true).mode(mode);
+    match options.open(rt, name) {
+        Ok(file) if is_kept(rt, &file, name) => Ok(Some(file)),
+        Ok(_) => Ok(None),
+        Err(error) if error.kind() == ErrorKind::AlreadyExists => Ok(None),
+        Err(error) => Err(error),
+    }
+}
+
+/// Whether a new file is locked and still has its name. Where the system locks no files, no instance
+/// removes leftovers.
+fn is_kept(rt: &HostRuntime, file: &File, name: &str) -> bool {
+    match file.try_lock() {
+        Ok(()) => is_at(rt, file, name),
+        Err(error) => io::Error::from(error).kind() != ErrorKind::WouldBlock,
+    }
+}
+
+/// Whether this is the file with the name, which is no link.
+pub(crate) fn is_at(rt: &HostRuntime, file: &File, name: &str) -> bool {
+    match (file.metadata(), fs::symlink_metadata(rt, name)) {
+        (Ok(own), Ok(found)) => own.dev() == found.dev() && own.ino() == found.ino(),
+        _ => false,
+    }
+}
+
+/// Removes the file with the name if it is a leftover, and returns whether it was.
+fn clear(rt: &HostRuntime, making: Making<'_>, name: &str) -> bool {
+    let Some(file) = open_own(rt, name) else {
+        return false;
+    };
+    if file.try_lock().is_err() || !is_at(rt, &file, name) {
+        return false;
+    }
+    if let Some(bytes) = making.bytes
+        && !is_beginning(&file, bytes)
+    {
+        return false;
+    }
+    fs::remove_file(rt, name).is_ok()
+}
+
+/// Opens the file with the name if it is a regular file of this user without another name.
+fn open_own(rt: &HostRuntime, name: &str) -> Option<File> {
+    let found = fs::symlink_metadata(rt, name).ok()?;
+    let user = fs::metadata(rt, PROCESS).ok()?.uid();
+    if !found.is_file() || found.uid() != user || found.nlink() != 1 {
+        return None;
+    }
+    open_found(rt, name, &found)
+}
+
+/// Opens a regular file that was found. Where it may be written, it is opened to be written as well: so
+/// is no pipe that takes its place meanwhile waited for.
+pub(crate) fn open_found(rt: &HostRuntime, name: &str, found: &Metadata) -> Option<File> {
+    let is_writable = found.mode() & OWNER_WRITES != 0;
+    let mut options = OpenOptions::new();
+    options.read(true).write(is_writable);
+    options.open(rt, name).ok()
+}
+
+/// Whether a file has the first ones of these bytes, or all, and nothing else.
+fn is_beginning(mut file: &File, bytes: &[u8]) -> bool {
+    let mut rest = bytes;
+    let mut chunk = [0; CHUNK];
+    for _read in 0..=bytes.len() {
+        let Ok(count) = file.read(&mut chunk) else {
+            return false;
+        };
+        if count == 0 {
+            return true;
+        }
+        match rest.strip_prefix(&chunk[..count]) {
+            Some(after) => rest = after,
+            None => return false,
+        }
+    }
+    false
+}
 
 /// The bits of a file's mode that say who may read, write and run it.
 const RIGHTS: u32 = 0o777;

@@ -2,8 +2,8 @@
 use Rattle.std.proofs.Common.{◌≡◌, ◌≤◌, Bool, true, false, List, [], ◌∷◌, ◌++◌, map, Option, Some, None, refl, sym, ap, subst, ◌∙◌, append_assoc, arith}
 use Rattle.std.proofs.lemmas.List.{append-nil}
 use Rattle.vsi_syntax.specs.declared.token.Kind.TheVariants as k
-use Rattle.vsi_syntax.specs.declared.operator.Op.{Op}
-use Rattle.vsi_syntax.specs.declared.operator.Op.TheVariants as o
+use Rattle.vsi_syntax.specs.declared.tree.Op.{Op}
+use Rattle.vsi_syntax.specs.declared.tree.Op.TheVariants as o
 use Rattle.vsi_syntax.specs.Tree.{Named, Lexeme, Called, Sign, Tree, Number, Name, Bracket, Binary, Command, Assign, If, While, Letvar, Block, Body, Done, Then, Declared, Whole, sign, write, write_class, write_command, write_body, write_rest, write_globals, write_program, level, left_level, right_level, IsLevelled, IsCommandLevelled, IsBodyLevelled, IsRestLevelled}
 use Rattle.vsi_syntax.specs.Parsing.{◌>>=◌}
 use Rattle.vsi_recovery.specs.declared.sort.Sort.TheVariants as s

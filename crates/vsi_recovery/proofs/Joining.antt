@@ -1,8 +1,8 @@
 -- A sum continued by an operator and an expression.
 use Rattle.std.proofs.Common.{◌≡◌, ℕ, ◌≤◌, List, ◌∷◌, ◌++◌, refl, sym, ap, ◌∙◌, append_assoc, arith}
 use Rattle.vsi_syntax.specs.declared.token.Kind.TheVariants as k
-use Rattle.vsi_syntax.specs.declared.operator.Op.{Op}
-use Rattle.vsi_syntax.specs.declared.operator.Op.TheVariants as o
+use Rattle.vsi_syntax.specs.declared.tree.Op.{Op}
+use Rattle.vsi_syntax.specs.declared.tree.Op.TheVariants as o
 use Rattle.vsi_syntax.specs.Tree.{Lexeme, Sign, Tree, Number, Name, Bracket, Binary, sign, write, level, left_level, right_level, IsLevelled}
 
 -- An expression that is levelled at one level is levelled at every level below it.

@@ -5,8 +5,8 @@ use Rattle.vsi_syntax.specs.declared.token.Kind.{Kind}
 use Rattle.vsi_syntax.specs.declared.token.Kind.TheVariants as k
 use Rattle.vsi_syntax.specs.declared.token.Span.{Span}
 use Rattle.vsi_syntax.specs.declared.token.Token.{Token}
-use Rattle.vsi_syntax.specs.declared.operator.Op.{Op}
-use Rattle.vsi_syntax.specs.declared.operator.Op.TheVariants as o
+use Rattle.vsi_syntax.specs.declared.tree.Op.{Op}
+use Rattle.vsi_syntax.specs.declared.tree.Op.TheVariants as o
 use Rattle.vsi_syntax.specs.Tree.{Named, Lexeme, Called, Sign, Tree, Number, Name, Bracket, Binary, Command, Assign, If, While, Letvar, Block, Body, Then, Declared, sign, write, write_class, write_command, write_rest, write_globals, level, left_level, right_level, IsLevelled, IsCommandLevelled, IsRestLevelled}
 use Rattle.vsi_syntax.specs.View.{lexeme_of, lexemes}
 use Rattle.vsi_syntax.specs.Words.{keyword, is_name}

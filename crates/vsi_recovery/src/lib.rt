@@ -21,7 +21,6 @@
 //! `specs/Rules` is a stepping stone of proofs.
 #![tactic(auto)]
 
-mod check;
 mod expected;
 mod holes;
 mod naming;

@@ -4,8 +4,10 @@
 ghost use Rattle.std.specs.Prelude.{◌∷◌, [], All, IfOk, IfSome};
 ghost use Rattle.vsi_recovery.specs.Completed.{IsAboveBoth, IsLatticeWith, KeepsOrder};
 
-use crate::check::{MOST_CLASSES, is_lattice_with, joined, keeps_rows, lattice_with};
-use crate::rows::{all_bits, bit, common, ends, reaches, rows_of, turned};
+use crate::rows::{
+    MOST_CLASSES, all_bits, bit, common, ends, is_lattice_with, joined, keeps_rows, lattice_with,
+    reaches, rows_of, turned,
+};
 use std::alloc::{AllocError, Global};
 
 /// The largest number of classes that are added.

@@ -10,8 +10,8 @@ use Rattle.vsi_scope.specs.Program.{Resolved}
 use Rattle.vsi_types.specs.declared.rules.Step.{Step}
 use Rattle.vsi_types.specs.Security.{program}
 use Rattle.vsi_compiler.specs.Refusal.{HasShortestBadWalk, RefusesProgram}
-use Rattle.vsi_compiler.specs.declared.error.CompileError.{CompileError}
-use Rattle.vsi_compiler.specs.declared.error.CompileError.TheVariants.{Memory, Lex, Parse, Scope, Flow}
+use Rattle.vsi_compiler.specs.declared.source.CompileError.{CompileError}
+use Rattle.vsi_compiler.specs.declared.source.CompileError.TheVariants.{Memory, Lex, Parse, Scope, Flow}
 use Rattle.vsi_compiler.specs.Stands.{Stands}
 use Rattle.vsi_flows.specs.declared.table.Pair.{Pair}
 use Rattle.vsi_flows.specs.Table.{IsTable}

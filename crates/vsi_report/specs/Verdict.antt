@@ -6,8 +6,8 @@ use Rattle.vsi_types.specs.declared.rules.Profile.{Profile}
 use Rattle.vsi_types.specs.declared.rules.Step.{Step}
 use Rattle.vsi_compiler.specs.Acceptance.{IsAccepted}
 use Rattle.vsi_compiler.specs.Refusal.{HasShortestBadWalk, RefusesProgram}
-use Rattle.vsi_compiler.specs.declared.error.CompileError.{CompileError}
-use Rattle.vsi_compiler.specs.declared.error.CompileError.TheVariants.{Memory, Lex, Parse, Scope, Flow}
+use Rattle.vsi_compiler.specs.declared.source.CompileError.{CompileError}
+use Rattle.vsi_compiler.specs.declared.source.CompileError.TheVariants.{Memory, Lex, Parse, Scope, Flow}
 use Rattle.vsi_report.specs.Banner.{HasBanner}
 use Rattle.vsi_report.specs.Lead.{TellsAllowed, TellsRefusal}
 use Rattle.vsi_report.specs.declared.page.Verdict.{Verdict}

@@ -8,7 +8,7 @@ ghost use Rattle.vsi_types.specs.Walks as walks;
 ghost use Rattle.vsi_report.specs.Graph.{texts};
 ghost use Rattle.vsi_report.specs.Lead as spec;
 
-use crate::order::{Order, name_of};
+use crate::dot::{Order, name_of};
 use crate::page::Part::{Markup, Name, Number, Position, Text};
 use crate::page::{Added, Made, Page, either};
 use crate::panel::{ends_at, hidden_at};

@@ -17,7 +17,7 @@ ghost use Rattle.vsi_report.specs.ByRule.{flows_in_rows, HasFlows};
 ghost use Rattle.vsi_report.specs.FlowsGraph.{AreShown};
 ghost use Rattle.vsi_report.specs.Reached.{AreReached};
 
-use crate::order::{Order, name_of};
+use crate::dot::{Order, name_of};
 use crate::page::Made;
 use std::alloc::{AllocError, Global};
 use vsi_client::Mention;

@@ -10,19 +10,18 @@ ghost use Rattle.vsi_scope.specs.Resolving.{IsResolution};
 ghost use Rattle.vsi_types.specs.Security.{program as program_of, count_from};
 ghost use Rattle.vsi_infer.specs.Inference.{AreClasses};
 ghost use Rattle.vsi_compiler.specs.Source.{Reads};
-ghost use Rattle.vsi_compiler.specs.declared.error.CompileError.TheVariants.{Memory};
+ghost use Rattle.vsi_compiler.specs.declared.source.CompileError.TheVariants.{Memory};
 ghost use Rattle.vsi_compiler.specs.Refusal.{RefusesProgram};
 ghost use Rattle.vsi_report.specs.ByRule.{flows_in_rows};
 ghost use Rattle.vsi_report.specs.Drawn.{shown};
-ghost use Rattle.vsi_report.specs.FlowsGraph as spec;
 ghost use Rattle.vsi_report.specs.Graph.{texts};
+ghost use Rattle.vsi_report.specs.FlowsGraph as spec;
 
 use crate::dot::{
-    Drawn, class_shown, colour, edge_words, graph_text, is_upward, lattice_lines, nodes_shown,
-    put_frame, step_number, variable_at,
+    Drawn, Order, class_shown, colour, edge_words, graph_text, is_upward, lattice_lines, name_of,
+    nodes_shown, order_of, put_frame, step_number, variable_at,
 };
 use crate::facts::{Flows, MOST_DRAWN, flows_of, has_flow, judged_classes};
-use crate::order::{Order, name_of, order_of};
 use crate::page::Part::{Bytes, Number, Prefix};
 use crate::page::{Added, Made, fill};
 use std::alloc::Global;

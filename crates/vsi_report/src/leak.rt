@@ -6,7 +6,7 @@ ghost use Rattle.vsi_lattice.specs.LatticeView.{class_named, order};
 ghost use Rattle.vsi_lattice.specs.Order.{IsClass};
 ghost use Rattle.vsi_leak.specs.Leaks.{IsFinding, IsLeak};
 
-use crate::order::is_below;
+use crate::dot::is_below;
 use crate::page::Part::{Block, Markup, Number, Text, Word};
 use crate::page::{Added, Made, Page};
 use crate::report::View;

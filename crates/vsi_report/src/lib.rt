@@ -17,14 +17,11 @@ mod dot;
 mod facts;
 mod flows_graph;
 mod leak;
-mod order;
 mod page;
 mod panel;
 mod picture;
-mod refusal;
 mod report;
 mod sections;
-mod style;
 
 pub use dot::lattice_dot;
 pub use flows_graph::{flows_dot, policy_dot};

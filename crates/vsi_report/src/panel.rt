@@ -1,8 +1,7 @@
 //! The source text in a page, with the class of each name and the steps of a walk. Comments, and
 //! characters that aren't visible or change the direction of a line, are set apart.
 
-ghost use Rattle.std.specs.Prelude.{◌≡◌, ◌<◌, ◌++◌, ◌∷◌, ℕ, List, [], length, slice_index, OnOk};
-ghost use Rattle.std.specs.Prelude.{IfOk};
+ghost use Rattle.std.specs.Prelude.{◌≡◌, ◌<◌, ◌++◌, ◌∷◌, ℕ, List, [], length, slice_index, OnOk, IfOk};
 ghost use Rattle.vsi_report.specs.Reading.{Shows};
 ghost use Rattle.vsi_report.specs.Panel.{attribute, line_tag, next_tag, open_tag};
 

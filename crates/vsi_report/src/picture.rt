@@ -1,8 +1,8 @@
 //! The pictures of a page: that of a lattice, and that of a program's flows, with the variables in
 //! the boxes of their classes. A picture too large to be read isn't drawn.
 
+use crate::dot::{Order, is_below, name_of};
 use crate::facts::{MOST_BOXES, RULES, colour, has_flow};
-use crate::order::{Order, is_below, name_of};
 use crate::page::Part::{Block, Markup, Name, Number, Short, Text};
 use crate::page::{Added, Made, Page, Part, either};
 use crate::report::View;

@@ -6,12 +6,12 @@ use Rattle.std.specs.Io.KnownBytes.{Appends}
 use Rattle.std.proofs.KnownBytes.{Appends-nil, Appends-trans}
 use Rattle.std.proofs.lemmas.List.{append-nil, length-append, take_all}
 use Rattle.std.proofs.lemmas.Result.{IfErr-weaker, on_ok_weaker}
-use Rattle.vsi_devices.proofs.Outputs.{longer_text, text_then}
+use Rattle.vsi_drive.proofs.Outputs.{longer_text, text_then}
 use Rattle.vsi_lattice.specs.declared.lattice.Lattice.{Lattice}
 use Rattle.vsi_types.specs.declared.rules.Profile.{Profile}
 use Rattle.vsi_types.specs.Security.{program, steps_of}
 use Rattle.vsi_flows.specs.declared.table.Pair.{Pair}
-use Rattle.vsi_flows.specs.declared.walks.Walks.{Walks}
+use Rattle.vsi_flows.specs.declared.text.Walks.{Walks}
 use Rattle.vsi_flows.specs.Text.{AddsLines, IsWalksText}
 use Rattle.vsi_flows.specs.Walking.{AreWalks}
 use Rattle.vsi_flows.specs.Walks.{AreWalkLines}

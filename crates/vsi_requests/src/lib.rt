@@ -6,7 +6,6 @@ mod conformance;
 mod conformity;
 mod documents;
 mod images;
-mod layouts;
 mod policies;
 mod texts;
 
@@ -16,6 +15,5 @@ pub use documents::{
     audit_document, checked_sarif, classes_line, draw, flows_line, leak, leak_line, report,
 };
 pub use images::{audit, bound, source};
-pub use layouts::{lay_out, put_flows};
 pub use policies::{lattice, policy, visible};
-pub use texts::{built, check, classes, format, list, mend};
+pub use texts::{built, check, classes, format, lay_out, list, mend, put_flows};

@@ -1,26 +1,40 @@
-//! The answers of the subcommands that run nothing: the text to write, or why there is none.
+//! The answers of the subcommands that judge, rewrite or lay out a source text.
 
-ghost use Rattle.std.specs.Prelude.{◌≡◌, IfErr, IfOk, false};
-ghost use Rattle.vsi_subject.specs.Laying.{ToldCanonical};
-ghost use Rattle.vsi_subject.specs.Files.{AreFiles, OfFile, OfFiles};
+ghost use Rattle.std.specs.Prelude.{◌≡◌, IfErr, IfOk, false, ◌<◌, ◌⊎◌, OnOk, Some, ◌≤◌, ◌+◌, ◌^◌, [], ℕ, List, length, true, Err};
+ghost use Rattle.vsi_subject.specs.Laying.{ToldCanonical, AnswersLayout, LaysOut, OtherLayout, PerformsLayout, PutsBack, TellsChanges, ToldChanges, written_by};
+ghost use Rattle.vsi_subject.specs.Files.{AreFiles, OfFile, OfFiles, Writes};
 ghost use Rattle.vsi_subject.specs.Documents.{judgement_of};
 ghost use Rattle.vsi_subject.specs.Performed.{TellsCheck, TellsMend, ToldClasses, ToldFlows, ToldImage, ToldListing};
 ghost use Rattle.vsi_subject.specs.Refusals.{AsksCanonical, AsksCheck, AsksClasses, AsksFlows, AsksImage, AsksMend, NoOther, RefusesFile, RefusesFiles, RefusesLattice, FailsBy};
 ghost use Rattle.vsi_subject.specs.Reasons.{RefusesCheck, RefusesMend};
 ghost use Rattle.vsi_subject.specs.declared.failure.Failure.TheVariants.{Memory};
-ghost use Rattle.vsi_answers.specs.Requests.{ListsTo};
+ghost use Rattle.vsi_answers.specs.Requests.{ListsTo, WalksTo};
 ghost use Rattle.vsi_conform.specs.Checking.{TellsAnswer};
+ghost use Rattle.std.specs.Io.KnownBytes.{Keeps, Appends};
+ghost use Rattle.vsi_subject.specs.Partly.{Leaves, AnswersFlows, WritesPart};
+ghost use Rattle.vsi_subject.specs.State.{StaysAt, StaysBeside, Touches};
+ghost use Rattle.vsi_subject.specs.Failures.{TellsFault, status_of};
+ghost use Rattle.vsi_drive.specs.Counted.{device_of, faults_of};
+ghost use Rattle.vsi_subject.specs.Walked.{IsTextOf};
+ghost use Rattle.vsi_flows.specs.Text.{IsWalksText};
+ghost use Rattle.vsi_flows.specs.Walking.{AreWalks};
 
 use std::alloc::Global;
+use std::io::Write;
 use vsi_answers::{Observer, Unanswered};
-use vsi_arguments::{Compilation, Judging, Mending};
+use vsi_arguments::{Compilation, Judging, Layout, Mending};
+use vsi_compiler::read_source;
 use vsi_conform::{Judgement, check_json_for};
 use vsi_documents::{Reply, mend_json};
+use vsi_drive::Counted;
+use vsi_flows::{Walks, table_walks, walk_table};
 use vsi_lattice::Lattice;
 use vsi_subject::{
-    CheckObserver, Fallible, Files, FlowObserver, InputKind, Subject, answered, good, profile,
-    two_classes,
+    CheckObserver, Failure, Fallible, Files, FlowObserver, InputCache, InputKind, Subject,
+    answered, good, profile, refused, replace, two_classes, write, write_answer,
 };
+use vsi_syntax::places_text;
+use vsi_types::Profile;
 
 /// The lattice, which is judged, and the bytes of the source text, which are read after it.
 pub(crate) fn policy_and_text<'a, F: Files>(
@@ -230,4 +244,234 @@ fn raised(
         return vsi_answers::apply(alloc, profile, classes, text);
     }
     vsi_answers::mend(alloc, profile, classes, text)
+}
+
+/// A source text and its layout.
+#[derive(Drop)]
+struct Laying {
+    text: Vec<u8>,
+    layout: Vec<u8>,
+}
+
+/// The text of a file and its layout.
+fn laid<'a, F: Files>(subject: &Subject<'_, F>, source: &'a str) -> Fallible<'a, Laying>
+    ensures laid { IfOk result (λ found.
+        LaysOut (F.holds subject.now.files.now) source.now found.text.items found.layout.items) }
+    ensures failed { IfErr result
+        (FailsBy (RefusesFile (F.holds subject.now.files.now) source.now AsksCanonical) NoOther) }
+{
+    let text = subject.bytes_in(InputKind::Source, source)?;
+    if let Ok(layout) = vsi_syntax::layout(subject.alloc, text.as_slice()) {
+        return Ok(Laying { text, layout });
+    }
+    let classes = two_classes(subject.alloc)?;
+    let _canonical = answered(vsi_answers::format(subject.alloc, &classes, text.as_slice()))?;
+    Err(Failure::Memory)
+}
+
+/// Writes the flows between the declared variables of the source text, each with a walk if
+/// requested.
+pub fn put_flows<'a, F: Files, W: Write>(
+    subject: &Subject<'_, F>,
+    compilation: Compilation<'a>,
+    has_walks: bool,
+    output: &mut Counted<W>,
+) -> Fallible<'a, ()>
+    requires { faults_of output.old < u64.MAX }
+    ensures fault { TellsFault (faults_of output.old) (faults_of output.new) result }
+    ensures left { IfErr result (Leaves
+        (AnswersFlows has_walks (F.holds subject.now.files.now) compilation.entry) 4
+        (W.contents (device_of output.old)) (W.contents (device_of output.new))) }
+    ensures performed { OnOk result (Writes (OfFiles (F.holds subject.now.files.now)
+        compilation.entry (ToldFlows has_walks compilation.entry.is_strict)) (W.contents
+        (device_of output.old)) (W.contents (device_of output.new))) }
+    ensures failed { IfErr result (FailsBy (RefusesFiles (F.holds subject.now.files.now)
+        compilation.entry (AsksFlows has_walks compilation.entry.is_strict)) NoOther) }
+{
+    if has_walks {
+        let (classes, text) = policy_and_text(subject, compilation)?;
+        let profile = profile(compilation.is_strict);
+        return write_text(subject.alloc, profile, &classes, text.as_slice(), output);
+    }
+    let lines = flows(subject, compilation)?;
+    write(lines.as_slice(), output)
+}
+
+/// Writes where a text differs from its layout, and then fails if it does.
+fn compare_layout<'a, W: Write>(
+    alloc: Global,
+    found: &Laying,
+    output: &mut Counted<W>,
+) -> Fallible<'a, ()>
+    requires { faults_of output.old < u64.MAX }
+    ensures fault { TellsFault (faults_of output.old) (faults_of output.new) result }
+    ensures left { IfErr result
+        (Leaves (TellsChanges found.now.text.items found.now.layout.items) 4
+        (W.contents (device_of output.old)) (W.contents (device_of output.new))) }
+    ensures same { OnOk result ((found.now.layout.items ≡ found.now.text.items)
+        × Keeps (W.contents (device_of output.old)) (W.contents (device_of output.new))) }
+    ensures failed { IfErr result (λ failure.
+        ToldChanges (TellsChanges found.now.text.items found.now.layout.items)
+        (W.contents (device_of output.old)) (W.contents (device_of output.new)) failure
+        ⊎ (3 < status_of failure)) }
+{
+    if found.text == found.layout {
+        return Ok(());
+    }
+    let Ok(places) = places_text(alloc, &found.text, &found.layout) else {
+        return Err(Failure::Memory);
+    };
+    write_answer(&places, false, output)
+}
+
+/// Puts the layout of a text into its file, unless the text is its own layout.
+fn put_back<'a, F: Files>(
+    alloc: Global,
+    found: &Laying,
+    path: &'a str,
+    files: &mut F,
+) -> Fallible<'a, ()>
+    ensures failure { IfErr result (λ failure. 3 < status_of failure) }
+    ensures put { OnOk result (PutsBack path.now found.now.text.items found.now.layout.items
+        (F.holds files.old) (F.holds files.new)) }
+    ensures touched { Touches (Some path.entry) (F.holds files.old) (F.holds files.new) }
+    ensures stays { IfErr result
+        (λ _. StaysAt (Some path.entry) (F.holds files.old) (F.holds files.new)) }
+{
+    if found.text == found.layout {
+        return Ok(());
+    }
+    replace(alloc, &found.layout, path, files)
+}
+
+/// Lays out a source text: prints the layout, puts it into the file, or prints where the text
+/// differs from it.
+pub fn lay_out<'a, F: Files, W: Write>(
+    cache: &InputCache,
+    asked: Layout<'a>,
+    files: &mut F,
+    output: &mut Counted<W>,
+) -> Fallible<'a, ()>
+    requires { faults_of output.old < u64.MAX }
+    ensures unfilled { IfErr result (λ failure. status_of failure < 4
+        → F.holds files.new ≡ F.holds files.old) }
+    ensures fault { TellsFault (faults_of output.old) (faults_of output.new) result }
+    ensures left { IfErr result (Leaves
+        (AnswersLayout asked.entry.is_checked asked.entry.is_written (F.holds files.old)
+        asked.entry.source.now) 4
+        (W.contents (device_of output.old)) (W.contents (device_of output.new))) }
+    ensures performed { OnOk result
+        (PerformsLayout asked.entry.is_checked asked.entry.is_written (F.holds files.old)
+        asked.entry.source.now (F.holds files.new)
+        (W.contents (device_of output.old)) (W.contents (device_of output.new))) }
+    ensures state { IfErr result (λ _. StaysBeside
+        (written_by asked.entry.is_checked asked.entry.is_written asked.entry.source)
+        (F.holds files.old) (F.holds files.new)) }
+    ensures failed { IfErr result
+        (FailsBy (RefusesFile (F.holds files.old) asked.entry.source.now AsksCanonical)
+        (OtherLayout asked.entry.is_checked (F.holds files.old) asked.entry.source.now
+        (W.contents (device_of output.old)) (W.contents (device_of output.new)))) }
+{
+    let subject = Subject {
+        alloc: cache.alloc,
+        cache,
+        files,
+    };
+    let found = laid(&subject, asked.source)?;
+    if asked.is_checked {
+        compare_layout(cache.alloc, &found, output)
+    } else if asked.is_written {
+        put_back(cache.alloc, &found, asked.source, files)
+    } else {
+        write(&found.layout, output)
+    }
+}
+
+/// The size of the lines that are collected before they are written, in bytes.
+const ENOUGH: usize = 65_536;
+
+/// The size of the longest text, in bytes.
+const MOST: usize = 4_611_686_018_427_387_904;
+
+/// Writes the table of a text with a walk below each pair.
+fn write_text<'a, W: Write>(
+    alloc: Global,
+    profile: Profile,
+    classes: &Lattice,
+    text: &[u8],
+    output: &mut Counted<W>,
+) -> Fallible<'a, ()>
+    requires { faults_of output.old < u64.MAX }
+    ensures fault { TellsFault (faults_of output.old) (faults_of output.new) result }
+    ensures left { IfErr result (Leaves (IsWalksText classes.now profile text.now) 4
+        (W.contents (device_of output.old)) (W.contents (device_of output.new))) }
+    ensures written { OnOk result ((bytes : List ℕ) × IsWalksText classes.now profile text.now bytes
+        × (length bytes < 2 ^ 63)
+        × Appends (W.contents (device_of output.old)) (W.contents (device_of output.new)) bytes) }
+    ensures failed { IfErr result
+        (FailsBy (λ reason. WalksTo classes.now profile text.now (Err reason)) NoOther) }
+{
+    let source = match read_source(alloc, classes, text) {
+        Ok(source) => source,
+        Err(error) => return Err(refused(alloc, classes, text, error)),
+    };
+    let table = walk_table(alloc, profile, &source)?;
+    let walks = table_walks(alloc, &table)?;
+    write_walks(alloc, &walks, output)
+}
+
+/// Writes the lines of all pairs, a part of them at a time.
+fn write_walks<'a, W: Write>(
+    alloc: Global,
+    walks: &Walks<'_, '_, '_>,
+    output: &mut Counted<W>,
+) -> Fallible<'a, ()>
+    requires output { faults_of output.old < u64.MAX }
+    requires walks { AreWalks walks.now }
+    ensures fault { TellsFault (faults_of output.old) (faults_of output.new) result }
+    ensures late { IfErr result (λ failure. 3 < status_of failure) }
+    ensures cut { IfErr result (λ _. (bytes : List ℕ) × IsTextOf walks.now bytes
+        × WritesPart bytes
+        (W.contents (device_of output.old)) (W.contents (device_of output.new))) }
+    ensures written { OnOk result ((bytes : List ℕ) × IsTextOf walks.now bytes
+        × (length bytes < 2 ^ 63)
+        × Appends (W.contents (device_of output.old)) (W.contents (device_of output.new)) bytes) }
+{
+    let mut lines = Vec::new(alloc);
+    let mut total = 0;
+    for number in 0..walks.len() {
+        walks.put_lines(alloc, number, &mut lines)?;
+        if lines.len() < ENOUGH {
+            continue;
+        }
+        write_lines(&mut lines, &mut total, output)?;
+    }
+    write_lines(&mut lines, &mut total, output)
+}
+
+/// Writes collected lines, adds their size to the total and empties them.
+fn write_lines<'a, W: Write>(
+    lines: &mut Vec<u8>,
+    total: &mut usize,
+    output: &mut Counted<W>,
+) -> Fallible<'a, ()>
+    requires output { faults_of output.old < u64.MAX }
+    requires total { total.old ≤ 2 ^ 62 }
+    ensures fault { TellsFault (faults_of output.old) (faults_of output.new) result }
+    ensures late { IfErr result (λ failure. 3 < status_of failure) }
+    ensures part { IfErr result (λ _. WritesPart lines.old.items
+        (W.contents (device_of output.old)) (W.contents (device_of output.new))) }
+    ensures whole { OnOk result (Appends (W.contents (device_of output.old))
+        (W.contents (device_of output.new)) lines.old.items) }
+    ensures emptied { OnOk result (lines.new.items ≡ []) }
+    ensures counted { OnOk result (total.new ≡ total.old + length lines.old.items) }
+    ensures few { OnOk result (total.new ≤ 2 ^ 62) }
+{
+    if lines.len() > MOST - *total {
+        return Err(Failure::Memory);
+    }
+    write(lines.as_slice(), output)?;
+    *total += lines.len();
+    lines.clear();
+    Ok(())
 }

@@ -2,8 +2,7 @@
 //! `GLOBALS SLOTS STACK CODE`. A global is `NAME:CLASS`; globals are separated by commas, and `-`
 //! means none. An instruction is written as in a listing, and each but the last ends with `;`.
 
-use crate::escapes::byte_of;
-use crate::row::{Row, Wrong};
+use crate::row::{Row, Wrong, byte_of};
 use std::str::from_utf8;
 use vsi_diagnostics::Fault;
 use vsi_image::{Image, Instr, decode, encode, listing, verify};

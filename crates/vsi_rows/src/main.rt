@@ -14,8 +14,6 @@
 
 mod calls;
 mod compiling;
-mod escapes;
-mod flows;
 mod images;
 mod lattices;
 mod requests;

@@ -9,7 +9,7 @@ use Rattle.vsi_drive.specs.Cycles.{cycle_of, halted, run_to, spent}
 use Rattle.vsi_drive.specs.Settings.{Setting, applied, settings_of}
 use Rattle.vsi_drive.specs.declared.controller.CycleEnding.TheVariants.{Refused}
 use Rattle.vsi_drive.specs.declared.settings.LineFault.{LineFault}
-use Rattle.vsi_drive.specs.declared.starts.StartFault.TheVariants as start
+use Rattle.vsi_drive.specs.declared.boundary.StartFault.TheVariants as start
 use Rattle.vsi_answers.specs.Answers.{Because}
 use Rattle.vsi_answers.specs.Judged.{TellsStartFault}
 use Rattle.vsi_subject.specs.declared.failure.Failure.{Failure}

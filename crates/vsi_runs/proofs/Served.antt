@@ -2,7 +2,7 @@
 use Rattle.std.proofs.Common.{◌++◌, ℕ, List, [], Option, inl, inr}
 use Rattle.std.specs.Io.KnownBytes.{Appends}
 use Rattle.std.proofs.KnownBytes.{Appends-kept, Appends-nil, Appends-trans}
-use Rattle.vsi_devices.proofs.Outputs.{text_then}
+use Rattle.vsi_drive.proofs.Outputs.{text_then}
 use Rattle.vsi_lsp.proofs.Framing.{both_framed, none_framed}
 use Rattle.vsi_client.specs.Frames.{AreFrames}
 use Rattle.vsi_subject.specs.Partly.{Partly}

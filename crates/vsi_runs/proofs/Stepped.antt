@@ -22,7 +22,7 @@ use Rattle.vsi_types.specs.Typing.{Locations}
 use Rattle.vsi_types.specs.Security.{IsTypable, IsWellFormed, Keeps, Program, program, IsChoice}
 use Rattle.vsi_types.proofs.Walking.{bad_walks_refute}
 use Rattle.vsi_infer.specs.Inference.{Refuses, AreClasses}
-use Rattle.vsi_infer.specs.declared.error.InferError.TheVariants as infer
+use Rattle.vsi_infer.specs.declared.inference.InferError.TheVariants as infer
 use Rattle.vsi_infer.specs.declared.walk.Walk.{Walk}
 use Rattle.vsi_image.specs.declared.instr.Image.{Image}
 use Rattle.vsi_image.specs.Fields.{Global, global, globals}
@@ -30,14 +30,14 @@ use Rattle.vsi_compiler.specs.Headline.{HasGlobals, declared_global}
 use Rattle.vsi_compiler.specs.SourceView.{IsSource, Source}
 use Rattle.vsi_compiler.proofs.Compiled.{lawful}
 use Rattle.vsi_compiler.proofs.Held.{ready}
-use Rattle.vsi_monitor.specs.declared.rule.Rule.{Rule}
-use Rattle.vsi_monitor.specs.declared.stop.Stop.{Stop}
-use Rattle.vsi_monitor.specs.declared.stop.Unfinished.{Unfinished}
-use Rattle.vsi_monitor.specs.declared.stop.Unfinished.TheVariants as ends
-use Rattle.vsi_monitor.specs.declared.watch.Watched.{Watched}
-use Rattle.vsi_monitor.specs.Watched.{RunEnds}
+use Rattle.vsi_steps.specs.declared.labels.Rule.{Rule}
+use Rattle.vsi_steps.specs.declared.watch.Stop.{Stop}
+use Rattle.vsi_steps.specs.declared.watch.Unfinished.{Unfinished}
+use Rattle.vsi_steps.specs.declared.watch.Unfinished.TheVariants as ends
+use Rattle.vsi_steps.specs.declared.watch.Watched.{Watched}
+use Rattle.vsi_steps.specs.Watched.{RunEnds}
 use Rattle.vsi_store.specs.Compare.{agree_in}
-use Rattle.vsi_steps.specs.declared.trace.Trace.{Trace}
+use Rattle.vsi_steps.specs.declared.run.Trace.{Trace}
 use Rattle.vsi_steps.specs.Traced.{IsTraced}
 use Rattle.vsi_answers.specs.Answers.{Because}
 use Rattle.vsi_answers.specs.Judged.{IsProgramFault, IsStoreFault, TellsFault, TellsSource}

@@ -8,15 +8,15 @@ use Rattle.vsi_image.specs.declared.instr.Image.{Image}
 use Rattle.vsi_image.specs.Fields.{globals}
 use Rattle.vsi_store.specs.File.{Tells}
 use Rattle.vsi_store.specs.View.{first_unknown}
-use Rattle.vsi_store.specs.declared.views.ViewError.{ViewError}
-use Rattle.vsi_store.specs.declared.views.ViewError.TheVariants as views
+use Rattle.vsi_store.specs.declared.endings.ViewError.{ViewError}
+use Rattle.vsi_store.specs.declared.endings.ViewError.TheVariants as views
 use Rattle.vsi_diagnostics.specs.declared.diagnostic.Fault.TheVariants as fault
 use Rattle.vsi_drive.specs.Boundary.{Boundary}
 use Rattle.vsi_drive.specs.BoundaryFaults.{boundary_fault}
 use Rattle.vsi_drive.specs.Control.{controlled}
 use Rattle.vsi_drive.specs.declared.boundary.BoundaryFault.{BoundaryFault}
-use Rattle.vsi_drive.specs.declared.starts.StartFault.{StartFault}
-use Rattle.vsi_drive.specs.declared.starts.StartFault.TheVariants as start
+use Rattle.vsi_drive.specs.declared.boundary.StartFault.{StartFault}
+use Rattle.vsi_drive.specs.declared.boundary.StartFault.TheVariants as start
 use Rattle.vsi_drive.specs.Starts.{Begins, unnamed_in}
 use Rattle.vsi_answers.specs.Requests.{BeginsWith}
 use Rattle.vsi_answers.specs.Answers.{Because}

@@ -17,7 +17,7 @@ ghost use Rattle.vsi_subject.specs.Refusals.{NoOther, FailsBy};
 ghost use Rattle.vsi_drive.specs.Settings.{settings_of};
 ghost use Rattle.vsi_subject.specs.Feeding.{AreFed, AreInputs, IsUnfed, at_number, fault_of, unfed};
 ghost use Rattle.vsi_conform.specs.Reading as spec;
-ghost use Rattle.vsi_drive.specs.declared.starts.StartFault.TheVariants as start;
+ghost use Rattle.vsi_drive.specs.declared.boundary.StartFault.TheVariants as start;
 
 use crate::steering::Steering;
 use std::alloc::{AllocError, Global};

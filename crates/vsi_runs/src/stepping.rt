@@ -7,13 +7,13 @@ ghost use Rattle.vsi_compiler.specs.SourceView.{IsSource};
 ghost use Rattle.vsi_image.specs.Fields.{global, globals};
 ghost use Rattle.vsi_lattice.specs.LatticeView.{class_named, order};
 ghost use Rattle.vsi_lattice.specs.Order.{IsClass};
-ghost use Rattle.vsi_monitor.specs.declared.stop.Stop.{Stop};
-ghost use Rattle.vsi_monitor.specs.declared.watch.Watched.{Watched};
+ghost use Rattle.vsi_steps.specs.declared.watch.Stop.{Stop};
+ghost use Rattle.vsi_steps.specs.declared.watch.Watched.{Watched};
 ghost use Rattle.vsi_subject.specs.Refusals.{FailsBy, LacksClassAt, NoOther, RefusesLattice};
 ghost use Rattle.vsi_subject.specs.Stepping.{AreStepFiles, AreWritten, Compared, ComparesSteps, EndsMonitored, EndsTraced, IsMonitored, IsStarted, IsStepped, OfStepFiles};
 ghost use Rattle.vsi_subject.specs.Unstepped.{RefusesWords, Spends, WhyCompareSteps, WhyMonitor, WhySteps};
 ghost use Rattle.vsi_answers.specs.declared.unanswered.Unanswered.TheVariants as unanswered;
-ghost use Rattle.vsi_monitor.specs.declared.stop.Unfinished.TheVariants as ends;
+ghost use Rattle.vsi_steps.specs.declared.watch.Unfinished.TheVariants as ends;
 ghost use Rattle.vsi_store.specs.Compare as views;
 ghost use Rattle.vsi_subject.specs.Stepping as spec;
 ghost use Rattle.vsi_subject.specs.declared.failure.Failure.TheVariants as fails;
@@ -30,9 +30,9 @@ use vsi_documents::Reply;
 use vsi_image::{Verified, encode};
 use vsi_lattice::{Class, Lattice};
 use vsi_machine::word_cell;
-use vsi_monitor::{Naming, Rule, Unfinished, Watched, monitor_json, monitor_text, monitored};
 use vsi_steps::{
-    Listing, Trace, listing_of, steps_json, steps_text, together_json, together_text, trace_of,
+    Listing, Naming, Rule, Trace, Unfinished, Watched, listing_of, monitor_json, monitor_text,
+    monitored, steps_json, steps_text, together_json, together_text, trace_of,
 };
 use vsi_store::sees;
 use vsi_subject::{Failure, Fallible, Files, InputCache, InputKind, Subject, class_in, refused};

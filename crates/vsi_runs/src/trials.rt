@@ -11,7 +11,7 @@ ghost use Rattle.vsi_subject.specs.Partly.{Partly};
 ghost use Rattle.vsi_subject.specs.Undriven.{SaysLine};
 ghost use Rattle.vsi_subject.specs.Served.{Serves, unended_line};
 ghost use Rattle.vsi_subject.specs.Failures.{TellsFault, status_of};
-ghost use Rattle.vsi_devices.specs.Counted.{device_of, faults_of};
+ghost use Rattle.vsi_drive.specs.Counted.{device_of, faults_of};
 ghost use Rattle.vsi_client.specs.Frames.{AreFrames};
 ghost use Rattle.vsi_policy.specs.Named as named;
 
@@ -20,7 +20,7 @@ use std::alloc::{AllocError, Global};
 use std::io::{Read, Write};
 use vsi_answers::start_words;
 use vsi_arguments::{Attempt, Serving};
-use vsi_devices::Counted;
+use vsi_drive::Counted;
 use vsi_image::Verified;
 use vsi_lattice::{Class, Lattice};
 use vsi_lsp::{Server, TWO_SAID};

@@ -9,8 +9,8 @@ use Rattle.vsi_syntax.specs.CommandView as syntax
 use Rattle.vsi_syntax.specs.declared.tree.Declaration.{Declaration}
 use Rattle.vsi_scope.specs.declared.resolved.Global.{Global}
 use Rattle.vsi_scope.specs.declared.resolution.ScopeError.{ScopeError}
-use Rattle.vsi_scope.specs.declared.resolution.scope.Names.{Names}
-use Rattle.vsi_scope.specs.declared.resolution.declare.Globals.{Globals}
+use Rattle.vsi_scope.specs.declared.resolution.whole.Names.{Names}
+use Rattle.vsi_scope.specs.declared.resolution.whole.Globals.{Globals}
 use Rattle.vsi_scope.specs.Places.{place_of}
 use Rattle.vsi_lattice.specs.Known.{Known}
 use Rattle.vsi_scope.specs.Faults.{global_marks, global_names, first_fault, Refuses}

@@ -1,6 +1,6 @@
 -- The language over locations, independent of memory.
 use Rattle.std.specs.Prelude.{ℕ, ◌+◌, ◌<◌, max, Bool, true, false, ◌||◌, ℤ}
-use Rattle.vsi_syntax.specs.declared.operator.Op.{Op}
+use Rattle.vsi_syntax.specs.declared.tree.Op.{Op}
 use Rattle.vsi_syntax.specs.declared.token.Span.{Span}
 
 -- An expression: a word, the contents of a location (with the span of the name), or an operator on two expressions.

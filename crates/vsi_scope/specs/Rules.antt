@@ -1,6 +1,6 @@
 -- The rules of evaluation, each with its converse.
 use Rattle.std.specs.Prelude.{◌≡◌, ◌≢◌, ◌↔◌, ℕ, ◌≤◌, [], ◌∷◌, ◌++◌, length, take, Some, slice_set, slice_index_or, ℤ, pos}
-use Rattle.vsi_syntax.specs.declared.operator.Op.{Op}
+use Rattle.vsi_syntax.specs.declared.tree.Op.{Op}
 use Rattle.vsi_syntax.specs.declared.token.Span.{Span}
 use Rattle.vsi_syntax.specs.Operators.{apply}
 use Rattle.vsi_scope.specs.Language.{Expression, Number, Location, Operator, Command, Skip, Assign, Sequence, If, While, Letvar}

@@ -8,9 +8,6 @@ use thiserror::Error;
 use vsi_syntax::Span;
 
 mod command;
-mod declare;
-mod expression;
-mod scope;
 mod whole;
 
 pub use whole::resolve;

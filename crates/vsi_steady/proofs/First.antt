@@ -17,8 +17,8 @@ use Rattle.vsi_store.specs.View.{first_unknown}
 use Rattle.vsi_steady.specs.Least.{AllBelow, AreLeast}
 use Rattle.vsi_steady.specs.Refusal.{Refuses}
 use Rattle.vsi_steady.specs.Steady.{HaveClasses, IsSteady}
-use Rattle.vsi_steady.specs.declared.error.SteadyError.{SteadyError}
-use Rattle.vsi_steady.specs.declared.error.SteadyError.TheVariants.{UnknownClass, Flow, Memory}
+use Rattle.vsi_steady.specs.declared.check.SteadyError.{SteadyError}
+use Rattle.vsi_steady.specs.declared.check.SteadyError.TheVariants.{UnknownClass, Flow, Memory}
 
 -- These are the classes of the first n globals, and no class name so far is unknown.
 pub record FirstClasses (known : Known) (L : Lattice) (gs : List (Vec ℕ × Vec ℕ)) (n : ℕ)

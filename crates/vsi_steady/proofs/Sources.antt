@@ -14,14 +14,14 @@ use Rattle.vsi_scope.proofs.Complete.{does_all_one}
 use Rattle.vsi_types.specs.declared.rules.Profile.TheVariants.{Strict}
 use Rattle.vsi_types.specs.Security.{Program, program, name_place, IsTypable, IsWellFormed}
 use Rattle.vsi_types.proofs.Walking.{bad_walks_refute}
-use Rattle.vsi_infer.specs.declared.error.InferError.{InferError}
-use Rattle.vsi_infer.specs.declared.error.InferError.TheVariants as infer
+use Rattle.vsi_infer.specs.declared.inference.InferError.{InferError}
+use Rattle.vsi_infer.specs.declared.inference.InferError.TheVariants as infer
 use Rattle.vsi_infer.specs.Inference.{IsShortest, AreClasses}
 use Rattle.vsi_infer.specs.Inference as inference
 use Rattle.vsi_image.specs.declared.instr.Image.{Image}
 use Rattle.vsi_image.specs.Fields.{Fields, fields}
-use Rattle.vsi_compiler.specs.declared.error.CompileError.{CompileError}
-use Rattle.vsi_compiler.specs.declared.error.CompileError.TheVariants as compiler
+use Rattle.vsi_compiler.specs.declared.source.CompileError.{CompileError}
+use Rattle.vsi_compiler.specs.declared.source.CompileError.TheVariants as compiler
 use Rattle.vsi_compiler.specs.Acceptance.{IsAccepted, program_of}
 use Rattle.vsi_compiler.specs.Headline.{HasGlobals, KeepsMeaning, IsCoded, IsImageOf, IsNoLarger, IsCompiled}
 use Rattle.vsi_compiler.specs.Observation.{IsNoninterfering, EndsAlike}
@@ -29,13 +29,13 @@ use Rattle.vsi_compiler.specs.Refusal.{RefusesProgram}
 use Rattle.vsi_compiler.specs.Stands.{Stands}
 use Rattle.vsi_compiler.proofs.Compiled.{accepted, one_program}
 use Rattle.vsi_compiler.proofs.Programs.{program_is, typing_ready, global_classes, declared_classes}
-use Rattle.vsi_steady.specs.declared.error.SteadyError.{SteadyError}
-use Rattle.vsi_steady.specs.declared.error.SteadyError.TheVariants as steady
+use Rattle.vsi_steady.specs.declared.check.SteadyError.{SteadyError}
+use Rattle.vsi_steady.specs.declared.check.SteadyError.TheVariants as steady
 use Rattle.vsi_steady.specs.Refusal.{Refuses}
 use Rattle.vsi_steady.specs.Source.{HasSteadyFlows, IsSteadilyAccepted, RefusesSteady, compiling, flowing, judging}
 use Rattle.vsi_steady.specs.Steady.{IsSteady, GoesThrough}
 use Rattle.vsi_steady.specs.Looped.{looped_program, IsLooped}
-use Rattle.vsi_steady.specs.declared.unsteady.UnsteadyError.TheVariants as unsteady
+use Rattle.vsi_steady.specs.declared.source.UnsteadyError.TheVariants as unsteady
 use Rattle.vsi_steady.proofs.Guards.{unlooped_typable, looped_formed}
 
 -- The program made of these parts.

@@ -6,8 +6,8 @@ use Rattle.vsi_image.specs.Fields.{globals}
 use Rattle.vsi_lattice.specs.Known.{Known}
 use Rattle.vsi_store.specs.View.{first_unknown}
 use Rattle.vsi_steady.specs.Steady.{IsSteady}
-use Rattle.vsi_steady.specs.declared.error.SteadyError.{SteadyError}
-use Rattle.vsi_steady.specs.declared.error.SteadyError.TheVariants.{UnknownClass, Flow, Memory}
+use Rattle.vsi_steady.specs.declared.check.SteadyError.{SteadyError}
+use Rattle.vsi_steady.specs.declared.check.SteadyError.TheVariants.{UnknownClass, Flow, Memory}
 
 -- A refusal for a class name gives the first one that the lattice lacks; a refusal for a flow means that the image
 -- isn't steady.

@@ -14,20 +14,20 @@ use Rattle.vsi_types.specs.Security.{program, IsTypable}
 use Rattle.vsi_types.specs.Walks.{IsBad}
 use Rattle.vsi_infer.specs.Explanation.{explanation}
 use Rattle.vsi_infer.specs.Inference.{IsShortest}
-use Rattle.vsi_infer.specs.declared.error.InferError.{InferError}
-use Rattle.vsi_infer.specs.declared.error.InferError.TheVariants as infer
+use Rattle.vsi_infer.specs.declared.inference.InferError.{InferError}
+use Rattle.vsi_infer.specs.declared.inference.InferError.TheVariants as infer
 use Rattle.vsi_image.specs.declared.instr.Image.{Image}
-use Rattle.vsi_compiler.specs.declared.error.CompileError.{CompileError}
-use Rattle.vsi_compiler.specs.declared.error.CompileError.TheVariants as compiler
+use Rattle.vsi_compiler.specs.declared.source.CompileError.{CompileError}
+use Rattle.vsi_compiler.specs.declared.source.CompileError.TheVariants as compiler
 use Rattle.vsi_compiler.specs.Acceptance.{program_of}
 use Rattle.vsi_compiler.specs.Headline.{IsCompiled}
 use Rattle.vsi_compiler.specs.Refusal.{RefusesProgram}
 use Rattle.vsi_compiler.specs.Source.{Reads}
 use Rattle.vsi_compiler.specs.Stands.{Stands}
-use Rattle.vsi_steady.specs.declared.error.SteadyError.{SteadyError}
-use Rattle.vsi_steady.specs.declared.error.SteadyError.TheVariants as steady
-use Rattle.vsi_steady.specs.declared.unsteady.UnsteadyError.{UnsteadyError}
-use Rattle.vsi_steady.specs.declared.unsteady.UnsteadyError.TheVariants as unsteady
+use Rattle.vsi_steady.specs.declared.check.SteadyError.{SteadyError}
+use Rattle.vsi_steady.specs.declared.check.SteadyError.TheVariants as steady
+use Rattle.vsi_steady.specs.declared.source.UnsteadyError.{UnsteadyError}
+use Rattle.vsi_steady.specs.declared.source.UnsteadyError.TheVariants as unsteady
 use Rattle.vsi_steady.specs.Refusal.{Refuses}
 use Rattle.vsi_steady.specs.Steady.{IsSteady}
 use Rattle.vsi_steady.specs.Looped.{looped_program, IsLooped}

@@ -11,8 +11,8 @@ use Rattle.vsi_image.specs.declared.instr.Image.{Image}
 use Rattle.vsi_image.specs.Fields.{Global, globals}
 use Rattle.vsi_lattice.specs.Known.{Known}
 use Rattle.vsi_steady.specs.declared.chain.Step.{Step}
-use Rattle.vsi_steady.specs.declared.error.SteadyError.{SteadyError}
-use Rattle.vsi_steady.specs.declared.error.SteadyError.TheVariants.{UnknownClass, Flow, Memory}
+use Rattle.vsi_steady.specs.declared.check.SteadyError.{SteadyError}
+use Rattle.vsi_steady.specs.declared.check.SteadyError.TheVariants.{UnknownClass, Flow, Memory}
 
 -- ---- the steps.
 

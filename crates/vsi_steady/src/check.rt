@@ -1,6 +1,7 @@
-//! The least classes of slots, and the first instruction that doesn't pass with them.
+//! The judgement of an image: the least classes of slots, and the first instruction that doesn't pass.
 
-ghost use Rattle.std.specs.Prelude.{◌≡◌, ◌≤◌, ◌<◌, None, false, true, [], length, reverse, take, ℕ, slice_index, IfOk, IfErr, ◌+◌, ◌-◌, ◌∷◌};
+ghost use Rattle.std.specs.Prelude.{◌≡◌, ◌≤◌, ◌<◌, None, false, true, [], length, reverse, take, ℕ, slice_index, IfOk, IfErr, ◌+◌, ◌-◌, ◌∷◌, OnOk};
+ghost use Rattle.vsi_steady.specs.declared.check.SteadyError.TheVariants.{Memory};
 ghost use Rattle.std.specs.List.{All};
 ghost use Rattle.vsi_image.specs.Valid.{IsFine, IsValid};
 ghost use Rattle.vsi_infer.specs.Ranks.{distance};
@@ -10,11 +11,43 @@ ghost use Rattle.vsi_steady.specs.Least.{AreLeast, FindsRaised, RisesBy, Rises, 
 ghost use Rattle.vsi_steady.specs.Steady.{GoesThrough, HaveClasses, IsSteady, Operates, Passes};
 ghost use Rattle.vsi_steady.specs.Refusal.{Refuses};
 ghost use Rattle.vsi_image.specs.Effects.{left};
+ghost use Rattle.vsi_steady.specs.Laws.{RunsAlike, ViewsAlike};
 
-use crate::error::SteadyError;
-use std::alloc::Global;
-use vsi_image::{Image, Instr};
+use std::alloc::{AllocError, AllocFailed, Global};
+use thiserror::Error;
+use vsi_image::{Image, Instr, Verified};
 use vsi_lattice::{Class, Classes, Lattice};
+
+/// The reason why an image isn't steady.
+#[derive(Clone, Copy, PartialEq, Eq, Debug, Drop, Error)]
+pub enum SteadyError {
+    /// The lattice has no class with this global's class name; globals are numbered from 0, and
+    /// this is the first such global.
+    #[error("the class of global {0} is not in the lattice")]
+    UnknownClass(usize),
+    /// The instruction with this number brings something above the bottom class into a jump, or
+    /// brings something into a global whose class it isn't at or below.
+    #[error("instruction {0} brings something into a jump or a global where it may not flow")]
+    Flow(usize),
+    #[error("out of memory")]
+    Memory,
+}
+
+impl From<AllocError> for SteadyError {
+    ghost from_gives = { λ _ e. e ≡ Memory };
+
+    fn from(_error: AllocError) -> SteadyError {
+        SteadyError::Memory
+    }
+}
+
+impl<T: Drop> From<AllocFailed<T>> for SteadyError {
+    ghost from_gives = { λ _ e. e ≡ Memory };
+
+    fn from(_error: AllocFailed<T>) -> SteadyError {
+        SteadyError::Memory
+    }
+}
 
 /// Raises the class of a STORE's slot above the globals by the class of the stored word, and says
 /// whether it changed.
@@ -319,5 +352,33 @@ pub(crate) fn pass(
     Shift {
         depth: after,
         is_met,
+    }
+}
+
+/// Judges an image by the policy that its class names give; the image is accepted exactly if it is
+/// steady. Then nothing above a class shows in the number of instructions, in the writes or at the
+/// end.
+///
+/// # Errors
+///
+/// `UnknownClass` first, then `Flow` with the first instruction that requires lower classes than
+/// there are. `Memory` can replace any answer.
+pub fn steady_in(alloc: Global, lattice: &Lattice, image: &Verified) -> Result<(), SteadyError>
+    ensures steady { OnOk result
+        (IsSteady (class_named lattice.now) (order lattice.now) image.now) }
+    ensures alike { OnOk result
+        (RunsAlike (class_named lattice.now) (order lattice.now) image.now) }
+    ensures views { OnOk result
+        (ViewsAlike (class_named lattice.now) (order lattice.now) image.now) }
+    ensures refused { IfErr result
+        (Refuses (class_named lattice.now) (order lattice.now) image.now) }
+    ensures exact { IsSteady (class_named lattice.now) (order lattice.now) image.now
+        → IfErr result (λ e. e ≡ Memory) }
+{
+    let image = image.image();
+    let mut classes = first_classes(alloc, lattice, image)?;
+    match settle(lattice, image, &mut classes) {
+        None => Ok(()),
+        Some(place) => Err(SteadyError::Flow(place)),
     }
 }

@@ -17,16 +17,13 @@
 
 mod chain;
 mod check;
-mod error;
 pub mod laws;
 mod source;
-mod steady;
 mod text;
-mod unsteady;
 
 pub use chain::chain_source;
-pub use error::SteadyError;
-pub use source::{compile_steady, steady_explanation, steady_explanation_of, steady_image_of};
-pub use steady::steady_in;
+pub use check::{SteadyError, steady_in};
+pub use source::{
+    UnsteadyError, compile_steady, steady_explanation, steady_explanation_of, steady_image_of,
+};
 pub use text::steady_text;
-pub use unsteady::UnsteadyError;

@@ -1,26 +1,88 @@
 //! Compiles a text to a steady image.
 
 ghost use Rattle.std.specs.Prelude.{◌≡◌, IfOk, IfErr, OnOk};
+ghost use Rattle.vsi_steady.specs.declared.source.UnsteadyError.TheVariants.{Memory};
 ghost use Rattle.vsi_lattice.specs.LatticeView.{class_named, order};
 ghost use Rattle.vsi_types.specs.declared.rules.Profile.TheVariants.{Strict};
 ghost use Rattle.vsi_compiler.specs.Headline.{IsCompiled};
 ghost use Rattle.vsi_steady.specs.Laws.{RunsAlike, ViewsAlike};
 ghost use Rattle.vsi_steady.specs.Source.{HasSteadyFlows, IsSteadilyAccepted, RefusesSteady, ExplainsLoopedWalk};
 ghost use Rattle.vsi_steady.specs.Steady.{IsSteady};
-ghost use Rattle.vsi_steady.specs.declared.unsteady.UnsteadyError.TheVariants.{Memory};
 ghost use Rattle.vsi_scope.specs.View.{expression, command, sequence};
 ghost use Rattle.vsi_opt.specs.Folding.{append};
 ghost use Rattle.vsi_steady.specs.Looped.{looped, IsLooped};
 
-use crate::steady::steady_in;
-use crate::unsteady::UnsteadyError;
+use crate::check::{SteadyError, steady_in};
 use std::alloc::{AllocError, Global};
+use thiserror::Error;
 use vsi_compiler::{CompileError, Source, image_of, read_source};
 use vsi_image::Verified;
-use vsi_infer::{Walk, check_walk_once, explain, infer_in};
+use vsi_infer::{InferError, Walk, check_walk_once, explain, infer_in};
 use vsi_lattice::Lattice;
 use vsi_scope::{Cmd, Ex, Resolved};
 use vsi_types::Profile;
+
+/// The reason why a text isn't compiled to a steady image. Lack of memory is always `Memory`, and
+/// never the memory case of an inner error.
+#[derive(Debug, Drop, Error)]
+pub enum UnsteadyError {
+    /// The text is refused. A walk is a walk of the text's program with a loop in place of each
+    /// choice.
+    #[error("the text is refused")]
+    Compile(CompileError),
+    /// The flows of the text are accepted, but its image is refused.
+    #[error("the image of the text is refused")]
+    Image(SteadyError),
+    #[error("out of memory")]
+    Memory,
+}
+
+impl From<AllocError> for UnsteadyError {
+    ghost from_gives = { λ _ e. e ≡ Memory };
+
+    fn from(_error: AllocError) -> UnsteadyError {
+        UnsteadyError::Memory
+    }
+}
+
+impl From<CompileError> for UnsteadyError {
+    ghost use Rattle.vsi_steady.specs.Source.{compiling};
+
+    ghost from_gives = { λ inner e. e ≡ compiling inner };
+
+    fn from(error: CompileError) -> UnsteadyError {
+        match error {
+            CompileError::Memory => UnsteadyError::Memory,
+            other => UnsteadyError::Compile(other),
+        }
+    }
+}
+
+impl From<InferError> for UnsteadyError {
+    ghost use Rattle.vsi_steady.specs.Source.{flowing};
+
+    ghost from_gives = { λ inner e. e ≡ flowing inner };
+
+    fn from(error: InferError) -> UnsteadyError {
+        match error {
+            InferError::Memory => UnsteadyError::Memory,
+            InferError::Refused(walk) => UnsteadyError::Compile(CompileError::Flow(walk)),
+        }
+    }
+}
+
+impl From<SteadyError> for UnsteadyError {
+    ghost use Rattle.vsi_steady.specs.Source.{judging};
+
+    ghost from_gives = { λ inner e. e ≡ judging inner };
+
+    fn from(error: SteadyError) -> UnsteadyError {
+        match error {
+            SteadyError::Memory => UnsteadyError::Memory,
+            other => UnsteadyError::Image(other),
+        }
+    }
+}
 
 /// The image of a source text that is accepted under the strict profile and in which each guard,
 /// also that of a choice, has the bottom class. The image is the one that `image_of` makes. A text

@@ -6,7 +6,7 @@ ghost use Rattle.vsi_image.specs.Fields.{globals};
 ghost use Rattle.vsi_steady.specs.Telling as spec;
 
 use crate::chain::{Step, chain_to};
-use crate::error::SteadyError;
+use crate::check::SteadyError;
 use std::alloc::{AllocError, Global};
 use vsi_image::Image;
 use vsi_lattice::{Classes, Lattice};

@@ -3,7 +3,7 @@ use Rattle.std.proofs.Common.{◌≡◌, ◌≢◌, ℕ, ◌+◌, List, [], ◌�
 use Rattle.std.specs.Prelude.{◌⊎◌}
 use Rattle.vsi_scope.specs.Language.{Command, Skip, Assign, Sequence, If, While, Letvar}
 use Rattle.vsi_scope.specs.Meaning.{Store, value}
-use Rattle.vsi_steps.specs.declared.trace.Step.{Step}
+use Rattle.vsi_steps.specs.declared.run.Step.{Step}
 use Rattle.vsi_steps.specs.Sites.{sites}
 use Rattle.vsi_steps.specs.Steps.{step, IsStep, Spells, NOTHING, ASSIGN, COMPOSE, IF_TRUE, IF_FALSE, WHILE_TRUE, WHILE_FALSE, LETVAR, BEFORE, IN_FIRST, IN_SECOND, IN_TRUE, IN_FALSE, IN_TURN, IN_TURNS, IN_LETVAR}
 use Rattle.vsi_steps.specs.Laws.{OneSpelling, BeginningIsPrefix}

@@ -4,3 +4,14 @@ pub mod Beginning
 pub mod Tables
 pub mod Running
 pub mod Tracing
+pub mod Marks
+pub mod Computing
+pub mod Labelled
+pub mod Forms
+pub mod Words
+pub mod Secret
+pub mod Agreeing
+pub mod Passing
+pub mod More
+pub mod Watching
+pub mod Whole

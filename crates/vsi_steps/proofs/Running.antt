@@ -3,13 +3,13 @@ use Rattle.std.proofs.Common.{◌≡◌, ◌≢◌, ℕ, ◌+◌, ◌<◌, ◌�
 use Rattle.std.specs.Prelude.{Bool, true, false, Some, None}
 use Rattle.std.proofs.lemmas.List.{length-append, length_push, length-take-le, append-nil}
 use Rattle.vsi_syntax.specs.declared.token.Span.{Span}
-use Rattle.vsi_scope.specs.declared.program.Cmd.{Cmd}
+use Rattle.vsi_scope.specs.declared.resolved.Cmd.{Cmd}
 use Rattle.vsi_scope.specs.Language.{Expression, Command, Skip, Assign, Sequence, If, While, Letvar, HasPlaces}
 use Rattle.vsi_scope.specs.Limits.{max_size}
 use Rattle.vsi_scope.specs.Meaning.{Store, value}
 use Rattle.vsi_scope.specs.View.{command}
-use Rattle.vsi_steps.specs.declared.extent.Extent.{Extent}
-use Rattle.vsi_steps.specs.declared.trace.Step.{Step}
+use Rattle.vsi_steps.specs.declared.run.Extent.{Extent}
+use Rattle.vsi_steps.specs.declared.run.Step.{Step}
 use Rattle.vsi_steps.specs.Extents.{HasExtents}
 use Rattle.vsi_steps.specs.Sites.{sites}
 use Rattle.vsi_steps.specs.Steps.{step, IsStep, Spells, NOTHING, ASSIGN, COMPOSE, IF_TRUE, IF_FALSE, WHILE_TRUE, WHILE_FALSE, LETVAR, Begins, BEFORE, IN_FIRST, IN_SECOND, IN_TRUE, IN_FALSE, IN_TURN, IN_TURNS, IN_LETVAR}

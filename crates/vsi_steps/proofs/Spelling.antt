@@ -3,7 +3,7 @@ use Rattle.std.proofs.Common.{◌≡◌, ℕ, zero, suc, ◌+◌, List, [], ◌�
 use Rattle.vsi_scope.specs.Language.{Expression, Command, Skip, Assign, Sequence, If, While, Letvar}
 use Rattle.vsi_scope.specs.Meaning.{Store, value, and_then, turns, runs}
 use Rattle.vsi_scope.proofs.Evaluation.{rules_hold, same_answer, no_answer, between, zero_cases, at_other, at_none, dropped}
-use Rattle.vsi_steps.specs.declared.trace.Step.{Step}
+use Rattle.vsi_steps.specs.declared.run.Step.{Step}
 use Rattle.vsi_steps.specs.Sites.{sites}
 use Rattle.vsi_steps.specs.Steps.{step, Spells, NOTHING, ASSIGN, COMPOSE, IF_TRUE, IF_FALSE, WHILE_TRUE, WHILE_FALSE, LETVAR}
 use Rattle.vsi_steps.specs.Laws.{SpellsEvaluates, EvaluationSpelled}

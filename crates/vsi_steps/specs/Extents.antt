@@ -1,7 +1,7 @@
 -- The table of the extents of sites.
 use Rattle.std.specs.Prelude.{◌≡◌, ◌<◌, ℕ, ◌+◌, List, [], ◌∷◌, ◌++◌, length, get_or}
 use Rattle.vsi_scope.specs.Language.{Command, Skip, Assign, Sequence, If, While, Letvar}
-use Rattle.vsi_steps.specs.declared.extent.Extent.{Extent}
+use Rattle.vsi_steps.specs.declared.run.Extent.{Extent}
 use Rattle.vsi_steps.specs.Sites.{sites}
 
 -- An extent.

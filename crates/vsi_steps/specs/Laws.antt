@@ -2,7 +2,7 @@
 use Rattle.std.specs.Prelude.{◌≡◌, ◌≢◌, ℕ, List, [], ◌++◌}
 use Rattle.vsi_scope.specs.Language.{Command}
 use Rattle.vsi_scope.specs.Meaning.{Store, Evaluates}
-use Rattle.vsi_steps.specs.declared.trace.Step.{Step}
+use Rattle.vsi_steps.specs.declared.run.Step.{Step}
 use Rattle.vsi_steps.specs.Steps.{Spells, Begins}
 
 -- A command whose steps take one store to another evaluates it to that store.

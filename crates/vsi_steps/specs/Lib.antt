@@ -4,3 +4,7 @@ pub mod Steps
 pub mod Ran
 pub mod Laws
 pub mod Traced
+pub mod Labels
+pub mod Monitor
+pub mod Watched
+pub mod MonitorLaws

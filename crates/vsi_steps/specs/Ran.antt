@@ -3,8 +3,8 @@ use Rattle.std.specs.Prelude.{◌≡◌, ◌≤◌, ℕ, ◌+◌, List, [], ◌�
 use Rattle.vsi_scope.specs.Language.{Expression, Command, HasPlaces}
 use Rattle.vsi_scope.specs.Limits.{max_size}
 use Rattle.vsi_scope.specs.Meaning.{Store, value}
-use Rattle.vsi_steps.specs.declared.extent.Extent.{Extent}
-use Rattle.vsi_steps.specs.declared.trace.Step.{Step}
+use Rattle.vsi_steps.specs.declared.run.Extent.{Extent}
+use Rattle.vsi_steps.specs.declared.run.Step.{Step}
 use Rattle.vsi_steps.specs.declared.run.Run.{Run}
 use Rattle.vsi_steps.specs.Extents.{HasExtents}
 use Rattle.vsi_steps.specs.Sites.{sites}

@@ -3,7 +3,7 @@ use Rattle.std.specs.Prelude.{◌≡◌, ◌≤◌, ℕ, length, true, false}
 use Rattle.vsi_scope.specs.Meaning.{Store}
 use Rattle.vsi_scope.specs.Program.{Resolved}
 use Rattle.vsi_scope.specs.View.{sequence}
-use Rattle.vsi_steps.specs.declared.trace.Trace.{Trace}
+use Rattle.vsi_steps.specs.declared.run.Trace.{Trace}
 use Rattle.vsi_steps.specs.Steps.{Spells, Begins}
 
 -- If the run halted, these are all steps of the body from the store, at most as many as the limit, and the words are

@@ -7,20 +7,35 @@
 //!
 //! To be believed: all files of `specs/` but `specs/Extents` and `specs/Ran`, stepping stones
 //! of proofs.
+//!
+//! A dynamic monitor: each word has a label, and the program counter has a class. At an assignment
+//! under a counter that isn't at or below the label of the variable, a run is stopped
+//! (no-sensitive-upgrade after Austin and Flanagan, 2009), or the word is marked as partly leaked,
+//! and the run is stopped at a guard that reads it (permissive upgrade, 2010).
+//!
+//! `monitored` runs a resolved program by one of these rules: its clause `ends` says that a run
+//! halts or is stopped as the rule says, and `typable` that a typable program is never stopped. The
+//! laws are in [`laws`]: a run that isn't stopped computes what the rules of evaluation give, two
+//! such runs from stores that agree below a class end in stores that agree there, and permissive
+//! upgrade stops fewer runs.
+//!
+//! To be believed: all files of `specs/`.
 #![tactic(auto)]
 
-mod extent;
-mod json;
+mod answer;
+mod labels;
 pub mod laws;
 mod listing;
-mod row;
 mod run;
 mod text;
-mod trace;
+mod watch;
 
-pub use json::{steps_json, string, together_json};
+pub use answer::{Naming, monitor_json, monitor_text};
+pub use labels::Rule;
 pub use listing::{Listing, Site, listing_of};
-pub use row::{Row, Side, first_seen, rows_of};
-pub use run::value;
-pub use text::{class_name, put_parts, steps_text, together_text};
-pub use trace::{Step, Trace, trace_of};
+pub use run::{Step, Trace, trace_of, value};
+pub use text::{
+    Row, Side, class_name, first_seen, put_parts, rows_of, steps_json, steps_text, string,
+    together_json, together_text,
+};
+pub use watch::{Stop, Unfinished, Watched, monitored};

@@ -1,16 +1,62 @@
-//! A run that keeps its steps.
+//! The steps of a program from a store, each at a site of the program.
 
-ghost use Rattle.std.specs.Prelude.{◌≡◌, ◌≤◌, IfOk, length};
+ghost use Rattle.std.specs.Prelude.{IfOk, ◌≡◌, ◌≤◌, length};
+ghost use Rattle.vsi_scope.specs.View.{command, sequence, expression};
+ghost use Rattle.vsi_steps.specs.Extents.{AreParts, IsFilled};
 ghost use Rattle.vsi_scope.specs.Language.{While, HasLocations};
 ghost use Rattle.vsi_scope.specs.Limits.{max_size};
 ghost use Rattle.vsi_scope.specs.Meaning.{value};
-ghost use Rattle.vsi_scope.specs.View.{command, sequence, expression};
 ghost use Rattle.vsi_steps.specs.Ran.{past, IsWithin, IsReady, Met, Ran};
+ghost use Rattle.vsi_steps.specs.Traced.{IsTraced};
 
-use crate::extent::Extent;
-use crate::trace::Step;
-use std::alloc::AllocError;
-use vsi_scope::{Cmd, Ex};
+use std::alloc::{AllocError, Global};
+use vsi_scope::{Cmd, Ex, Resolved};
+
+/// Where the parts of a site end, in numbers of sites.
+#[derive(Clone, Copy, Default)]
+pub(crate) struct Extent {
+    /// The first site of the second branch; without one, that after the parts.
+    pub(crate) second: usize,
+    /// The first site after the parts.
+    pub(crate) after: usize,
+}
+
+/// Adds the extents of the sites of commands to a table.
+#[cycle(extents)]
+pub(crate) fn put_all(extents: &mut Vec<Extent>, body: &[Cmd]) -> Result<(), AllocError>
+    ensures { IfOk result (λ _. IsFilled (sequence body.now) extents.old.items extents.new.items) }
+{
+    for c in body {
+        let site = extents.len();
+        extents.push(Extent::default())?;
+        let second = put_parts(extents, c)?;
+        let after = extents.len();
+        extents[site] = Extent { second, after };
+    }
+    Ok(())
+}
+
+/// Adds the extents of the sites within a command, and returns the first site of its second branch
+/// or, without one, that after its parts.
+#[cycle(extents)]
+fn put_parts(extents: &mut Vec<Extent>, c: &Cmd) -> Result<usize, AllocError>
+    ensures { IfOk result
+        (λ second. AreParts (command c.now) extents.old.items second extents.new.items) }
+{
+    match c {
+        Cmd::Assign { .. } => Ok(extents.len()),
+        Cmd::If { yes, no, .. } => {
+            put_all(extents, yes)?;
+            let second = extents.len();
+            put_all(extents, no)?;
+            Ok(second)
+        }
+        Cmd::While { body, .. } | Cmd::Letvar { body, .. } => {
+            put_all(extents, body)?;
+            Ok(extents.len())
+        }
+    }
+}
 
 /// A run so far.
 #[derive(Drop)]
@@ -125,4 +171,51 @@ fn run_one(run: &mut Run, site: usize, c: &Cmd) -> Result<bool, AllocError>
             Ok(is_done)
         }
     }
+}
+
+/// A step of a run: a guard that is tested, or a word that is stored.
+#[derive(Clone, Copy, Debug, PartialEq, Eq)]
+pub struct Step {
+    /// The number of its site: of the assignment, `if`, `while` or `letvar`, in the order of the
+    /// text and counted from 0.
+    pub site: u32,
+    /// The value of the guard, or the word.
+    pub value: i64,
+}
+
+/// The steps of a run, and its last store.
+#[derive(Drop)]
+pub struct Trace {
+    /// The steps, in order.
+    pub steps: Vec<Step>,
+    /// Whether the run halted. If not, it has more steps than the limit.
+    pub halted: bool,
+    /// The words of the globals after the last step.
+    pub words: Vec<i64>,
+}
+
+/// The steps of a program from a store, but at most `limit` of them.
+pub fn trace_of(
+    alloc: Global,
+    program: &Resolved<'_>,
+    words: &[i64],
+    limit: usize,
+) -> Result<Trace, AllocError>
+    requires { length words.now ≡ length program.now.globals }
+    ensures { IfOk result (IsTraced program.now words.now limit) }
+{
+    let body = program.body();
+    let mut run = Run {
+        words: words.to_vec(alloc)?,
+        steps: Vec::new(alloc),
+        limit,
+        extents: Vec::new(alloc),
+    };
+    put_all(&mut run.extents, body)?;
+    let halted = run_all(&mut run, 0, body)?;
+    Ok(Trace {
+        steps: run.steps,
+        halted,
+        words: run.words,
+    })
 }

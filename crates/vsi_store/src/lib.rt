@@ -13,13 +13,10 @@
 mod comparing;
 mod endings;
 mod reader;
-mod seals;
-mod views;
 
 pub use comparing::{Comparison, RunEnding, compare};
-pub use endings::{sees, store_text, view};
+pub use endings::{View, ViewError, sees, store_text, view};
 pub use reader::{
-    AuditProfile, Filed, StoreError, conformity, evidence, named_globals, read_store,
+    AuditProfile, Filed, StoreError, conformity, evidence, is_whole, named_globals, read_store,
+    sealed,
 };
-pub use seals::{is_whole, sealed};
-pub use views::{View, ViewError};

@@ -1,14 +1,15 @@
-//! Reads store files.
+//! Reads store files, and the first line of one that is saved.
 
-ghost use Rattle.std.specs.Prelude.{◌≡◌, IfOk, IfErr, MatchResult, None, ◌++◌, OnOk, decimal, map};
+ghost use Rattle.std.specs.Prelude.{◌≡◌, IfOk, string_bytes, IfErr, MatchResult, None, ◌++◌, OnOk, decimal, map};
+ghost use Rattle.hex.specs.Hex.{encode_lower};
+ghost use Rattle.sha2.specs.Sha256.{sha256};
 ghost use Rattle.toml.specs.View.{table_view, view};
 ghost use Rattle.vsi_image.specs.Fields.{globals};
 ghost use Rattle.vsi_store.specs.File.{Tells, Names, IsDocument, IsNameless, IsRefusal, IsEntryRefusal, entry_fault, has_name, number_in};
 ghost use Rattle.vsi_store.specs.declared.reader.StoreError.TheVariants.{Memory};
 ghost use Rattle.std.specs.List.{flat_map, list_any};
-ghost use Rattle.hex.specs.Hex.{encode_lower};
-ghost use Rattle.sha2.specs.Sha256.{sha256};
-ghost use Rattle.vsi_store.specs.File as spec;
+ghost use Rattle.vsi_store.specs.Seal as spec;
+ghost use Rattle.vsi_store.specs.File as file_spec;
 ghost use Rattle.vsi_store.specs.Evidence as evidence_spec;
 
 use itoa::Buffer;
@@ -17,6 +18,73 @@ use std::alloc::{AllocError, AllocFailed, Global};
 use thiserror::Error;
 use toml::{Table, Value};
 use vsi_image::Image;
+
+/// The beginning of the line.
+const MARK: &[u8] = b"# sha256 ";
+
+/// The number of bytes of the line: the mark, 64 digits and a line feed.
+const LENGTH: usize = 74;
+
+/// The SHA-256 of bytes, in hexadecimal.
+fn checksum(alloc: Global, bytes: &[u8]) -> Result<String, AllocError>
+    ensures { IfOk result (λ text. string_bytes text ≡ encode_lower (sha256 bytes.now)) }
+{
+    hex::encode(alloc, Sha256::digest(bytes))
+}
+
+/// The line of a text.
+fn seal(alloc: Global, text: &[u8]) -> Result<Vec<u8>, AllocError>
+    ensures { IfOk result (λ line. line.items ≡ spec.seal text.now) }
+{
+    let digits = checksum(alloc, text)?;
+    let mut line = Vec::from_slice(alloc, MARK)?;
+    line.extend_from_slice(digits.as_bytes())?;
+    line.extend_from_slice(b"\n")?;
+    Ok(line)
+}
+
+/// The text after its line.
+pub fn sealed(alloc: Global, text: &[u8]) -> Result<Vec<u8>, AllocError>
+    ensures text { IfOk result (λ whole. whole.items ≡ spec.sealed text.now) }
+{
+    let mut whole = seal(alloc, text)?;
+    whole.extend_from_slice(text)?;
+    Ok(whole)
+}
+
+/// Whether the first line of bytes is that of all bytes after it.
+fn has_own_line(alloc: Global, bytes: &[u8]) -> Result<bool, AllocError>
+    ensures { IfOk result (λ is. is ≡ spec.has_own_line bytes.now) }
+{
+    if bytes.len() < LENGTH {
+        return Ok(false);
+    }
+    let (first, rest) = bytes.split_at(LENGTH);
+    let line = seal(alloc, rest)?;
+    Ok(first == line.as_slice())
+}
+
+/// Whether bytes are a mark that was cut: some of its bytes, and no others.
+fn is_cut_mark(bytes: &[u8]) -> bool
+    ensures { result ≡ spec.is_cut_mark bytes.now }
+{
+    if bytes.is_empty() {
+        return false;
+    }
+    MARK.starts_with(bytes)
+}
+
+/// Whether bytes that begin with such a line have the one of the bytes after it. A mark that was cut
+/// isn't whole, and all other bytes are.
+pub fn is_whole(alloc: Global, bytes: &[u8]) -> Result<bool, AllocError>
+    ensures whole { IfOk result (λ is. is ≡ spec.is_whole bytes.now) }
+{
+    if bytes.starts_with(MARK) {
+        has_own_line(alloc, bytes)
+    } else {
+        Ok(!is_cut_mark(bytes))
+    }
+}
 
 /// The number of a global that a store file doesn't mention.
 const UNNAMED: i64 = 0;
@@ -130,7 +198,7 @@ pub fn named_globals(alloc: Global, image: &Image, text: &[u8]) -> Result<Vec<bo
 
 /// Whether the table has a key.
 fn has_key(table: &Table, name: &[u8]) -> bool
-    ensures { result ≡ spec.has_key (table_view table.now) name.now }
+    ensures { result ≡ file_spec.has_key (table_view table.now) name.now }
 {
     for (key, _value) in table {
         if key.as_bytes() == name {

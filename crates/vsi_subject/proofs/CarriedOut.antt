@@ -3,7 +3,7 @@ use Rattle.std.proofs.Common.{◌≡◌, ◌<◌, ◌⊎◌, ℕ, List, [], ◌�
 use Rattle.std.specs.Prelude.{IfErr, String}
 use Rattle.std.specs.declared.alloc.Global.{Global}
 use Rattle.vsi_arguments.specs.declared.request.Request.{Request}
-use Rattle.vsi_devices.specs.declared.counted.Counted.{Counted}
+use Rattle.vsi_drive.specs.declared.engine.Counted.{Counted}
 use Rattle.vsi_subject.specs.declared.failure.Failure.{Failure}
 use Rattle.vsi_subject.specs.declared.failure.Failure.TheVariants.{Memory}
 use Rattle.vsi_subject.specs.Done.{IsFailureOf, Failed, FailsAt}

@@ -6,7 +6,7 @@ use Rattle.std.specs.Io.KnownBytes.{Appends, Consumes, IsAtEnd}
 use Rattle.std.proofs.KnownBytes.{Appends-nil, Consumes-all, Consumes-nil, Consumes-trans}
 use Rattle.std.proofs.lemmas.Bool.{eq-eqb, ne_eqb}
 use Rattle.std.proofs.lemmas.List.{take_more}
-use Rattle.vsi_devices.proofs.Outputs.{longer_text, text_then}
+use Rattle.vsi_drive.proofs.Outputs.{longer_text, text_then}
 use Rattle.vsi_image.specs.declared.instr.Image.{Image}
 use Rattle.vsi_drive.specs.Control.{Control}
 use Rattle.vsi_drive.specs.Cycles.{cycle, store_behind, text_of}

@@ -7,8 +7,8 @@ use Rattle.std.proofs.lemmas.Result.{IfErr-weaker, on_ok_weaker}
 use Rattle.vsi_arguments.specs.declared.request.Request.{Request}
 use Rattle.vsi_subject.specs.declared.failure.Failure.{Failure}
 use Rattle.vsi_subject.specs.declared.failure.Failure.TheVariants.{Differs}
-use Rattle.vsi_subject.specs.declared.replies.Place.{Place}
-use Rattle.vsi_subject.specs.declared.replies.Place.TheVariants.{Image, Out}
+use Rattle.vsi_subject.specs.declared.subject.Place.{Place}
+use Rattle.vsi_subject.specs.declared.subject.Place.TheVariants.{Image, Out}
 use Rattle.vsi_documents.specs.declared.answer.Reply.{Reply}
 use Rattle.vsi_subject.specs.Failures.{status_of}
 use Rattle.vsi_subject.specs.Holding.{Holding}

@@ -9,12 +9,12 @@ use Rattle.vsi_image.specs.Meaning.{State, start}
 use Rattle.vsi_drive.specs.Boundary.{Boundary}
 use Rattle.vsi_drive.specs.BoundaryFaults.{boundary_fault}
 use Rattle.vsi_drive.specs.Control.{Control, controlled}
-use Rattle.vsi_devices.specs.Engine.{IsOfWriting}
-use Rattle.vsi_devices.specs.Running.{RunsApart, WrittenSteps, trace_of, trace_text}
-use Rattle.vsi_devices.specs.declared.engine.EngineError.{EngineError}
-use Rattle.vsi_devices.specs.declared.engine.EngineError.TheVariants as engine
-use Rattle.vsi_devices.proofs.Outputs.{longer_text, text_then}
-use Rattle.vsi_devices.proofs.Traces.{trace_rest}
+use Rattle.vsi_drive.specs.Engine.{IsOfWriting}
+use Rattle.vsi_drive.specs.Running.{RunsApart, WrittenSteps, trace_of, trace_text}
+use Rattle.vsi_drive.specs.declared.engine.EngineError.{EngineError}
+use Rattle.vsi_drive.specs.declared.engine.EngineError.TheVariants as engine
+use Rattle.vsi_drive.proofs.Outputs.{longer_text, text_then}
+use Rattle.vsi_drive.proofs.Traces.{trace_rest}
 use Rattle.vsi_arguments.specs.declared.request.Driving.{Driving}
 use Rattle.vsi_arguments.specs.declared.request.Execution.{Execution}
 use Rattle.vsi_arguments.specs.declared.request.InitialStore.{InitialStore}

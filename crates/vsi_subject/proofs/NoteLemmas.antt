@@ -14,8 +14,8 @@ use Rattle.vsi_machine.specs.CountTexts.{count_line}
 use Rattle.vsi_machine.specs.Runs.{outcome_of, run_of}
 use Rattle.vsi_machine.specs.declared.interpreter.Outcome.{Outcome}
 use Rattle.vsi_machine.specs.declared.interpreter.Outcome.TheVariants.{Halted, OutOfBudget}
-use Rattle.vsi_devices.specs.Running.{RunsApart, text_at}
-use Rattle.vsi_devices.specs.declared.counted.Counted.{Counted}
+use Rattle.vsi_drive.specs.Running.{RunsApart, text_at}
+use Rattle.vsi_drive.specs.declared.engine.Counted.{Counted}
 use Rattle.vsi_subject.specs.Holding.{Holding}
 use Rattle.vsi_arguments.specs.declared.request.Document.{Document}
 use Rattle.vsi_arguments.specs.declared.request.Document.TheVariants as document

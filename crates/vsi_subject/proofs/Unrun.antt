@@ -21,9 +21,9 @@ use Rattle.vsi_answers.specs.declared.unanswered.Unanswered.{Unanswered}
 use Rattle.vsi_answers.specs.declared.unanswered.Unanswered.TheVariants as unanswered
 use Rattle.vsi_diagnostics.specs.declared.diagnostic.Fault.{Fault}
 use Rattle.vsi_diagnostics.specs.declared.diagnostic.Fault.TheVariants as fault
-use Rattle.vsi_devices.specs.Engine.{IsOfWriting}
-use Rattle.vsi_devices.specs.declared.engine.EngineError.{EngineError}
-use Rattle.vsi_devices.specs.declared.engine.EngineError.TheVariants as engine
+use Rattle.vsi_drive.specs.Engine.{IsOfWriting}
+use Rattle.vsi_drive.specs.declared.engine.EngineError.{EngineError}
+use Rattle.vsi_drive.specs.declared.engine.EngineError.TheVariants as engine
 use Rattle.vsi_arguments.specs.declared.request.Budget.{Budget}
 use Rattle.vsi_arguments.specs.declared.request.Budget.TheVariants.{Auto}
 use Rattle.vsi_arguments.specs.declared.request.Execution.{Execution}

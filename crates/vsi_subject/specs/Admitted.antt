@@ -5,8 +5,8 @@ use Rattle.vsi_lattice.specs.declared.lattice.Lattice.{Lattice}
 use Rattle.vsi_image.specs.declared.instr.Image.{Image}
 use Rattle.vsi_steady.specs.Refusal as steady
 use Rattle.vsi_steady.specs.Steady.{IsSteady}
-use Rattle.vsi_steady.specs.declared.error.SteadyError.{SteadyError}
-use Rattle.vsi_steady.specs.declared.error.SteadyError.TheVariants as unsteady
+use Rattle.vsi_steady.specs.declared.check.SteadyError.{SteadyError}
+use Rattle.vsi_steady.specs.declared.check.SteadyError.TheVariants as unsteady
 use Rattle.vsi_answers.specs.Bounds.{IsBound, LacksBound}
 
 -- A budget is enough for the runs of an image: the image has a bound, and the budget isn't below it or the image is

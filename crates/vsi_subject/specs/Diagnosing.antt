@@ -4,8 +4,8 @@ use Rattle.vsi_drive.specs.declared.boundary.BoundaryFault.{BoundaryFault}
 use Rattle.vsi_drive.specs.declared.boundary.BoundaryFault.TheVariants as boundary
 use Rattle.vsi_drive.specs.declared.settings.LineFault.{LineFault}
 use Rattle.vsi_drive.specs.declared.settings.LineFault.TheVariants.{TooLong, BadSetting, UnknownGlobal, AboveClass, NotAnInput, NotANumber}
-use Rattle.vsi_drive.specs.declared.starts.StartFault.{StartFault}
-use Rattle.vsi_drive.specs.declared.starts.StartFault.TheVariants as start
+use Rattle.vsi_drive.specs.declared.boundary.StartFault.{StartFault}
+use Rattle.vsi_drive.specs.declared.boundary.StartFault.TheVariants as start
 use Rattle.vsi_diagnostics.specs.Diagnostic.{Diagnostic, nothing, number, refusal}
 
 -- The diagnostic of a wrong setting.

@@ -3,8 +3,8 @@ use Rattle.std.specs.Prelude.{◌≡◌, ◌<◌, ◌-◌, ◌^◌, ◌==◌, �
 use Rattle.std.specs.Io.KnownBytes.{Appends}
 use Rattle.vsi_answers.specs.declared.unanswered.Unanswered.{Unanswered}
 use Rattle.vsi_answers.specs.declared.unanswered.Unanswered.TheVariants as unanswered
-use Rattle.vsi_devices.specs.Counted.{device_of, faults_of}
-use Rattle.vsi_devices.specs.declared.counted.Counted.{Counted}
+use Rattle.vsi_drive.specs.Counted.{device_of, faults_of}
+use Rattle.vsi_drive.specs.declared.engine.Counted.{Counted}
 use Rattle.vsi_subject.specs.declared.failure.Failure.{Failure}
 use Rattle.vsi_subject.specs.declared.failure.Failure.TheVariants.{Refused, Interface, Audit, Unsteady, Differs, Usage, NoClass, OutOfBudget, FileFault, LostFile, Memory}
 

@@ -9,8 +9,8 @@ use Rattle.vsi_drive.specs.Control.{Control, controlled}
 use Rattle.vsi_drive.specs.Settings.{Setting, settings_of}
 use Rattle.vsi_drive.specs.declared.settings.LineFault.{LineFault}
 use Rattle.vsi_drive.specs.declared.settings.LineFault.TheVariants.{TooLong, BadSetting, UnknownGlobal, AboveClass, NotAnInput, NotANumber}
-use Rattle.vsi_drive.specs.declared.starts.StartFault.{StartFault}
-use Rattle.vsi_drive.specs.declared.starts.StartFault.TheVariants as start
+use Rattle.vsi_drive.specs.declared.boundary.StartFault.{StartFault}
+use Rattle.vsi_drive.specs.declared.boundary.StartFault.TheVariants as start
 use Rattle.vsi_answers.specs.Answers.{Because}
 use Rattle.vsi_answers.specs.Judged.{TellsStartFault}
 use Rattle.vsi_answers.specs.declared.unanswered.Unanswered.{Unanswered}

@@ -3,7 +3,7 @@ use Rattle.std.specs.Prelude.{◌≡◌, ◌≢◌, ◌++◌, ℕ, true, List, [
 use Rattle.std.specs.Borrow.{Bor}
 use Rattle.vsi_lattice.specs.declared.lattice.Lattice.{Lattice}
 use Rattle.vsi_image.specs.declared.instr.Image.{Image}
-use Rattle.vsi_devices.specs.Engine.{IsReadFrom}
+use Rattle.vsi_drive.specs.Engine.{IsReadFrom}
 use Rattle.vsi_answers.specs.Judged.{AreImage, Declares}
 use Rattle.vsi_store.specs.Seal.{is_whole}
 

@@ -3,13 +3,13 @@ use Rattle.std.specs.Prelude.{◌≡◌, ◌++◌, ℕ, true, List, Option, Ok, 
 use Rattle.std.specs.Global.{Vec}
 use Rattle.std.specs.Io.KnownBytes.{Appends}
 use Rattle.vsi_lattice.specs.declared.lattice.Lattice.{Lattice}
-use Rattle.vsi_devices.specs.Engine.{IsReadFrom}
+use Rattle.vsi_drive.specs.Engine.{IsReadFrom}
 use Rattle.vsi_answers.specs.Judged.{Declares}
 use Rattle.vsi_answers.specs.Requests.{RunsSourceTo}
 use Rattle.vsi_answers.specs.declared.unanswered.Cause.{Cause}
 use Rattle.vsi_answers.specs.declared.unanswered.Unanswered.{Unanswered}
 use Rattle.vsi_answers.specs.declared.unanswered.Unanswered.TheVariants.{Refused, OutOfBudget}
-use Rattle.vsi_devices.specs.declared.counted.Counted.{Counted}
+use Rattle.vsi_drive.specs.declared.engine.Counted.{Counted}
 use Rattle.vsi_subject.specs.declared.failure.Failure.{Failure}
 use Rattle.vsi_subject.specs.Screen.{is_tame}
 use Rattle.vsi_subject.specs.Failures.{Gets, note_after, status_of, text_of_failure}

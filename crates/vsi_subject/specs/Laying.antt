@@ -4,8 +4,8 @@ use Rattle.std.specs.Borrow.{Bor}
 use Rattle.std.specs.Global.{Vec}
 use Rattle.std.specs.Io.KnownBytes.{Appends, Keeps}
 use Rattle.vsi_compiler.specs.Source.{IsCanonicalText}
-use Rattle.vsi_layout.specs.Layout.{IsLayout}
-use Rattle.vsi_layout.specs.Places.{IsChangeText}
+use Rattle.vsi_syntax.specs.Layout.{IsLayout}
+use Rattle.vsi_syntax.specs.Places.{IsChangeText}
 use Rattle.vsi_subject.specs.declared.failure.Failure.{Failure}
 use Rattle.vsi_subject.specs.declared.failure.Failure.TheVariants.{Differs}
 use Rattle.vsi_subject.specs.Holding.{Holding, IsReadAt, Replaces}

@@ -17,7 +17,7 @@ use Rattle.vsi_arguments.specs.declared.request.Request.TheVariants as request
 use Rattle.vsi_arguments.specs.declared.request.Viewing.{Viewing}
 use Rattle.vsi_arguments.specs.Asked.{AsksFor}
 use Rattle.vsi_arguments.specs.Help.{AsksHelp}
-use Rattle.vsi_devices.specs.declared.counted.Counted.{Counted}
+use Rattle.vsi_drive.specs.declared.engine.Counted.{Counted}
 use Rattle.vsi_subject.specs.Admitted.{IsEnough, IsShort}
 use Rattle.vsi_subject.specs.Files.{BeginsAt, IsBudgetOf}
 use Rattle.vsi_subject.specs.Holding.{Holding, IsImageAt, IsLatticeAt}

@@ -11,7 +11,7 @@ use Rattle.vsi_drive.specs.Boundary.{Boundary}
 use Rattle.vsi_drive.specs.BoundaryFaults.{boundary_fault}
 use Rattle.vsi_drive.specs.Control.{Control, controlled}
 use Rattle.vsi_drive.specs.Cycles.{text_of}
-use Rattle.vsi_devices.specs.Running.{trace_of}
+use Rattle.vsi_drive.specs.Running.{trace_of}
 use Rattle.vsi_arguments.specs.declared.request.Compilation.{Compilation}
 use Rattle.vsi_arguments.specs.declared.request.Driving.{Driving}
 use Rattle.vsi_arguments.specs.declared.request.Execution.{Execution}

@@ -23,7 +23,7 @@ use Rattle.vsi_steady.specs.Steady.{IsSteady}
 use Rattle.vsi_drive.specs.Boundary.{Boundary}
 use Rattle.vsi_drive.specs.BoundaryFaults.{boundary_fault}
 use Rattle.vsi_drive.specs.Control.{controlled}
-use Rattle.vsi_devices.specs.Running.{RunsApart}
+use Rattle.vsi_drive.specs.Running.{RunsApart}
 use Rattle.vsi_documents.specs.Bounds.{IsBoundJson}
 use Rattle.vsi_documents.specs.Comparisons.{IsComparisonJson}
 use Rattle.vsi_documents.specs.Leaks.{TellsSearch}

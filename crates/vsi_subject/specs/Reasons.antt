@@ -5,7 +5,7 @@ use Rattle.std.specs.Borrow.{Bor}
 use Rattle.std.specs.Io.KnownBytes.{Appends}
 use Rattle.vsi_lattice.specs.LatticeView.{class_named, order}
 use Rattle.vsi_lattice.specs.declared.lattice.Lattice.{Lattice}
-use Rattle.vsi_lattice.specs.declared.fault.LatticeError.TheVariants as lattice
+use Rattle.vsi_lattice.specs.declared.reader.LatticeError.TheVariants as lattice
 use Rattle.vsi_image.specs.declared.instr.Image.{Image}
 use Rattle.vsi_image.specs.Fields.{globals}
 use Rattle.vsi_compiler.specs.Headline.{IsImageOf}
@@ -20,9 +20,9 @@ use Rattle.vsi_steady.specs.Refusal as steady
 use Rattle.vsi_steady.specs.Telling.{IsUnsteadyText}
 use Rattle.vsi_leak.specs.Leaks.{IsLeak, IsWanted}
 use Rattle.vsi_leak.specs.Texts.{IsLeakText}
-use Rattle.vsi_leak.specs.declared.found.Finding.TheVariants as finding
-use Rattle.vsi_leak.specs.declared.found.Leak.{Leak}
-use Rattle.vsi_devices.specs.Running.{RunsApart}
+use Rattle.vsi_leak.specs.declared.check.Finding.TheVariants as finding
+use Rattle.vsi_leak.specs.declared.check.Leak.{Leak}
+use Rattle.vsi_drive.specs.Running.{RunsApart}
 use Rattle.vsi_answers.specs.Judged.{Declares}
 use Rattle.vsi_answers.specs.Requests.{Answer, BuildsTo, ComparesTo, ListsTo, ReadsImage, ViewsTo}
 use Rattle.vsi_answers.specs.declared.unanswered.Unanswered.{Unanswered}

@@ -4,11 +4,11 @@ use Rattle.std.specs.Borrow.{Bor}
 use Rattle.vsi_lattice.specs.LatticeView.{class_named}
 use Rattle.vsi_lattice.specs.NamePlaces.{texts}
 use Rattle.vsi_lattice.specs.declared.lattice.Lattice.{Lattice}
-use Rattle.vsi_lattice.specs.declared.fault.LatticeError.TheVariants as lattice
+use Rattle.vsi_lattice.specs.declared.reader.LatticeError.TheVariants as lattice
 use Rattle.vsi_image.specs.declared.decoder.DecodeError.TheVariants as decoder
 use Rattle.vsi_image.specs.declared.instr.Image.{Image}
 use Rattle.vsi_store.specs.declared.reader.StoreError.TheVariants as store
-use Rattle.vsi_store.specs.declared.views.ViewError.TheVariants as views
+use Rattle.vsi_store.specs.declared.endings.ViewError.TheVariants as views
 use Rattle.vsi_diagnostics.specs.declared.diagnostic.Fault.{Fault}
 use Rattle.vsi_diagnostics.specs.declared.diagnostic.Fault.TheVariants as fault
 use Rattle.vsi_answers.specs.Answers.{Because}

@@ -1,7 +1,7 @@
 -- Bytes that control no terminal, except that they may turn its colours on and off.
 use Rattle.std.specs.Prelude.{ℕ, ◌-◌, zero, suc, Bool, true, ◌==◌, ◌&&◌, nat_eq, if◌then◌else◌, List, [], ◌∷◌}
 use Rattle.std.specs.List.{starts_with}
-use Rattle.vsi_telling.specs.declared.colour_mode.ColourMode.TheVariants.{Coloured}
+use Rattle.vsi_telling.specs.declared.place.ColourMode.TheVariants.{Coloured}
 use Rattle.vsi_telling.specs.Colours.{turned_on, turned_off}
 use Rattle.vsi_telling.specs.Safe.{is_plain}
 

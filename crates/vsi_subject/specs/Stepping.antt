@@ -13,16 +13,16 @@ use Rattle.vsi_image.specs.declared.instr.Image.{Image}
 use Rattle.vsi_image.specs.Fields.{Global, globals}
 use Rattle.vsi_compiler.specs.Headline.{IsImageOf}
 use Rattle.vsi_compiler.specs.Stands.{Stands}
-use Rattle.vsi_steps.specs.declared.trace.Trace.{Trace}
+use Rattle.vsi_steps.specs.declared.run.Trace.{Trace}
 use Rattle.vsi_steps.specs.Traced.{IsTraced}
-use Rattle.vsi_monitor.specs.declared.rule.Rule.{Rule}
-use Rattle.vsi_monitor.specs.declared.rule.Rule.TheVariants.{NoSensitiveUpgrade, PermissiveUpgrade}
+use Rattle.vsi_steps.specs.declared.labels.Rule.{Rule}
+use Rattle.vsi_steps.specs.declared.labels.Rule.TheVariants.{NoSensitiveUpgrade, PermissiveUpgrade}
 use Rattle.vsi_arguments.specs.declared.request.MonitorRule.{MonitorRule}
 use Rattle.vsi_arguments.specs.declared.request.MonitorRule.TheVariants as asked
-use Rattle.vsi_monitor.specs.declared.stop.Stop.{Stop}
-use Rattle.vsi_monitor.specs.declared.stop.Unfinished.TheVariants as ends
-use Rattle.vsi_monitor.specs.declared.watch.Watched.{Watched}
-use Rattle.vsi_monitor.specs.Watched.{RunEnds}
+use Rattle.vsi_steps.specs.declared.watch.Stop.{Stop}
+use Rattle.vsi_steps.specs.declared.watch.Unfinished.TheVariants as ends
+use Rattle.vsi_steps.specs.declared.watch.Watched.{Watched}
+use Rattle.vsi_steps.specs.Watched.{RunEnds}
 use Rattle.vsi_store.specs.Compare.{agree_in}
 use Rattle.vsi_drive.specs.Starts.{Begins}
 use Rattle.vsi_arguments.specs.declared.request.StepComparison.{StepComparison}

@@ -7,8 +7,8 @@ use Rattle.vsi_drive.specs.BoundaryFaults.{boundary_fault}
 use Rattle.vsi_drive.specs.Boundary.{Boundary}
 use Rattle.vsi_drive.specs.Control.{Control, controlled}
 use Rattle.vsi_drive.specs.declared.boundary.BoundaryFault.{BoundaryFault}
-use Rattle.vsi_drive.specs.declared.starts.StartFault.{StartFault}
-use Rattle.vsi_drive.specs.declared.starts.StartFault.TheVariants as start
+use Rattle.vsi_drive.specs.declared.boundary.StartFault.{StartFault}
+use Rattle.vsi_drive.specs.declared.boundary.StartFault.TheVariants as start
 use Rattle.vsi_conform.specs.Bounded.{demands_bound}
 use Rattle.vsi_conform.specs.Faulty.{interface_line}
 use Rattle.vsi_conform.specs.Reading.{ClassBoundary, cycle}

@@ -1,7 +1,7 @@
 -- The table with walks that is written part by part.
 use Rattle.std.specs.Prelude.{ℕ, List}
 use Rattle.vsi_flows.specs.Text.{IsWalksText}
-use Rattle.vsi_flows.specs.declared.walks.Walks.{Walks}
+use Rattle.vsi_flows.specs.declared.text.Walks.{Walks}
 
 -- The text is that of the table with these walks.
 abbrev pub IsTextOf : Walks → List ℕ → Type 0

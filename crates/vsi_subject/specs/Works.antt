@@ -14,8 +14,8 @@ use Rattle.vsi_arguments.specs.declared.request.Request.TheVariants as request
 use Rattle.vsi_subject.specs.declared.failure.Failure.{Failure}
 use Rattle.vsi_subject.specs.declared.failure.Failure.TheVariants.{Differs, OutOfBudget}
 use Rattle.vsi_documents.specs.declared.answer.Reply.{Reply}
-use Rattle.vsi_subject.specs.declared.replies.Place.{Place}
-use Rattle.vsi_subject.specs.declared.replies.Place.TheVariants.{Image, Out}
+use Rattle.vsi_subject.specs.declared.subject.Place.{Place}
+use Rattle.vsi_subject.specs.declared.subject.Place.TheVariants.{Image, Out}
 use Rattle.vsi_subject.specs.Files.{shown}
 use Rattle.vsi_subject.specs.Holding.{Delivers, Fills, Holding, KeepsOthers}
 use Rattle.vsi_subject.specs.State.{StaysBeside}

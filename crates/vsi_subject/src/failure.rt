@@ -5,14 +5,14 @@ ghost use Rattle.std.specs.Io.KnownBytes.{Appends};
 ghost use Rattle.vsi_subject.specs.Failures.{line_of, status_of, text_of_failure, IsStreamFault, FailsFor, TellsFault};
 ghost use Rattle.vsi_subject.specs.Partly.{WritesPart};
 ghost use Rattle.vsi_subject.specs.declared.failure.Failure.TheVariants.{Differs, Memory};
-ghost use Rattle.vsi_devices.specs.Counted.{device_of, faults_of};
+ghost use Rattle.vsi_drive.specs.Counted.{device_of, faults_of};
 
 use std::alloc::{AllocError, AllocFailed};
 use std::io::Write;
 use vsi_answers::{Cause, Unanswered};
 use vsi_audit::AuditError;
 use vsi_conform::InterfaceError;
-use vsi_devices::{Counted, EngineError, write_out};
+use vsi_drive::{Counted, EngineError, write_out};
 use vsi_steady::SteadyError;
 
 /// Standard input and output, in a file fault.

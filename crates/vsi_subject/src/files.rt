@@ -8,12 +8,12 @@ ghost use Rattle.vsi_subject.specs.Partly.{WritesPart};
 ghost use Rattle.vsi_subject.specs.Files.{shown};
 ghost use Rattle.vsi_subject.specs.State.{StaysAt, Touches};
 ghost use Rattle.vsi_subject.specs.Failures.{TellsFault, status_of};
-ghost use Rattle.vsi_devices.specs.Counted.{device_of, faults_of};
+ghost use Rattle.vsi_drive.specs.Counted.{device_of, faults_of};
 
 use crate::failure::{Failure, Fallible, write};
 use std::alloc::Global;
 use std::io::{Read, Write};
-use vsi_devices::Counted;
+use vsi_drive::Counted;
 
 /// The kind of the file that a request writes.
 #[derive(Clone, Copy, Debug, PartialEq, Eq)]

@@ -4,11 +4,11 @@ use std::alloc::{AllocError, Global};
 use std::cell::RefCell;
 use vsi_answers::Observer;
 use vsi_compiler::Source;
+use vsi_diagnostics::warning_lines;
 use vsi_image::Image;
 use vsi_lattice::Lattice;
 use vsi_telling::{ColourMode, flows_explanation};
 use vsi_types::Profile;
-use vsi_warnings::warning_lines;
 
 /// The source text that was read, or an empty one if none was.
 pub fn source_of(inputs: &Inputs) -> &[u8] {

@@ -1,15 +1,19 @@
-//! The files that a request reads, each once.
+//! The files that a request reads, each once, and the answers and images that they give.
 
-ghost use Rattle.std.specs.Prelude.{◌≡◌, ◌<◌, false, Some, IfOk, IfErr, IfSome, Ok, Err, MatchResult};
+ghost use Rattle.std.specs.Prelude.{◌≡◌, Ok, Err, MatchResult, IfErr, IfOk, ◌<◌, false, Some, IfSome};
+ghost use Rattle.vsi_subject.specs.Works.{good_reply};
+ghost use Rattle.vsi_subject.specs.Refusals.{NoOther, FailsBy, IsUnbounded, IsNoMemory, LacksClass, LacksGiven, RefusesImage, RefusesLattice};
+ghost use Rattle.vsi_answers.specs.Bounds.{IsBound};
+ghost use Rattle.vsi_subject.specs.Tried.{IsMade};
+ghost use Rattle.vsi_answers.specs.Requests.{BuildsTo, ReadsLattice};
+ghost use Rattle.vsi_types.specs.declared.rules.Profile.TheVariants.{Base};
 ghost use Rattle.vsi_subject.specs.Holding.{IsImageAt, IsLatticeAt, IsReadAt, IsStoreAt};
 ghost use Rattle.vsi_subject.specs.Input.{two_classes};
 ghost use Rattle.vsi_subject.specs.Files.{LooksFor};
-ghost use Rattle.vsi_subject.specs.Refusals.{IsNoMemory, LacksClass, LacksGiven, NoOther, RefusesImage, RefusesLattice, FailsBy};
 ghost use Rattle.vsi_subject.specs.Failures.{status_of, failure_of};
 ghost use Rattle.vsi_answers.specs.Answers.{Because};
 ghost use Rattle.vsi_answers.specs.Judged.{Declares, TellsFault, TellsSource};
-ghost use Rattle.vsi_answers.specs.Requests.{ReadsLattice};
-ghost use Rattle.vsi_devices.specs.declared.engine.EngineError.TheVariants.{ReadFault, WriteFault, Memory};
+ghost use Rattle.vsi_drive.specs.declared.engine.EngineError.TheVariants.{ReadFault, WriteFault, Memory};
 ghost use Rattle.vsi_lattice.specs.LatticeView.{class_named, order};
 ghost use Rattle.vsi_lattice.specs.Order.{IsClass};
 ghost use Rattle.vsi_subject.specs.Performed.{profile_of};
@@ -18,16 +22,75 @@ ghost use Rattle.vsi_subject.specs.declared.failure.Failure.TheVariants as fails
 
 use crate::failure::{Failure, Fallible, STREAM};
 use crate::files::Files;
-use crate::inputs::{InputCache, InputKind};
+use crate::inputs::{FlowObserver, InputCache, InputKind};
 use std::alloc::Global;
-use vsi_answers::{Unanswered, judged_image, refused_file, refused_source};
+use vsi_answers::{Unanswered, enough_budget, judged_image, refused_file, refused_source};
 use vsi_compiler::CompileError;
-use vsi_devices::{Counted, EngineError, READ_LIMIT, read_all};
 use vsi_diagnostics::Fault;
-use vsi_image::{DecodeError, Verified};
+use vsi_documents::Reply;
+use vsi_drive::{Counted, EngineError, READ_LIMIT, read_all};
+use vsi_image::{DecodeError, Image, Verified};
 use vsi_lattice::{Class, Lattice, LatticeError};
 use vsi_store::{StoreError, ViewError, is_whole};
 use vsi_types::Profile;
+
+/// Where a good answer goes.
+#[derive(Clone, Copy)]
+pub enum Place<'a> {
+    /// To the image file at this path.
+    Image(&'a str),
+    /// To the file at this path, or to standard output without one.
+    Out(Option<&'a str>),
+}
+
+/// A text that says that all is well, or why there is none.
+pub fn good<'a>(answer: Fallible<'a, Vec<u8>>) -> Fallible<'a, Reply>
+    ensures { MatchResult answer.entry (λ text. result ≡ Ok (good_reply text))
+        (λ failure. result ≡ Err failure) }
+{
+    match answer {
+        Ok(text) => Ok(Reply {
+            text,
+            is_good: true,
+        }),
+        Err(failure) => Err(failure),
+    }
+}
+
+/// The most instructions of an image's runs, or the failure with the line of `bound` that says why
+/// there is no such number.
+pub fn most_of<'a>(alloc: Global, verified: &Verified) -> Fallible<'a, u64>
+    ensures told { IfOk result (IsBound verified.now) }
+    ensures failed { IfErr result (FailsBy (λ reason. ⊥) (IsUnbounded verified.now)) }
+{
+    match enough_budget(alloc, verified)? {
+        Ok(most) => Ok(most),
+        Err(line) => Err(Failure::Refused(line, None)),
+    }
+}
+
+/// The image made from a text, whose bytes are kept for an explanation.
+pub fn made_image<'a>(
+    cache: &InputCache,
+    lattice: &Lattice,
+    source: &str,
+    text: &[u8],
+) -> Fallible<'a, Verified>
+    ensures made { IfOk result (IsMade lattice.now text.now) }
+    ensures failed { IfErr result
+        (FailsBy (λ reason. BuildsTo lattice.now Base text.now (Err reason)) NoOther) }
+{
+    let alloc = cache.alloc;
+    let mut observer = FlowObserver { cache };
+    let bytes = answered(vsi_answers::build(alloc, Profile::Base, lattice, text, &mut observer))?;
+    let image = bytes.as_slice();
+    cache.keep(InputKind::Image, source, image)?;
+    match judged_image(cache.alloc, image) {
+        Ok(verified) => Ok(verified),
+        // The bytes just built are an image's, so only memory can run out.
+        Err(_) => Err(Failure::Memory),
+    }
+}
 
 /// The files that a request reads, and the cache that keeps them.
 #[derive(Drop)]

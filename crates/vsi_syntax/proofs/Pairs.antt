@@ -1,6 +1,6 @@
 -- Equations between options of pairs, and chains of options.
 use Rattle.std.proofs.Common.{◌≡◌, Bool, true, false, cond, ◌⊎◌, inl, inr, List, Option, Some, None, refl, ap}
-use Rattle.vsi_syntax.specs.declared.operator.Op.{Op}
+use Rattle.vsi_syntax.specs.declared.tree.Op.{Op}
 use Rattle.vsi_syntax.specs.Tree.{Lexeme}
 use Rattle.vsi_syntax.specs.Parsing.{◌>>=◌, go}
 

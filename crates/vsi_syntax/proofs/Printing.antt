@@ -5,8 +5,8 @@ use Rattle.std.specs.Prelude.{codes}
 use Rattle.std.specs.Fmt.{decimal}
 use Rattle.vsi_syntax.specs.declared.token.Kind.{Kind}
 use Rattle.vsi_syntax.specs.declared.token.Kind.TheVariants as k
-use Rattle.vsi_syntax.specs.declared.operator.Op.{Op}
-use Rattle.vsi_syntax.specs.declared.operator.Op.TheVariants as o
+use Rattle.vsi_syntax.specs.declared.tree.Op.{Op}
+use Rattle.vsi_syntax.specs.declared.tree.Op.TheVariants as o
 use Rattle.vsi_syntax.specs.Words.{is_letter, is_word_byte, begins_with, every, keyword, is_name, is_absent, byte_kind, word_kind, kind_of}
 use Rattle.vsi_syntax.specs.declared.token.Span.{Span}
 use Rattle.vsi_syntax.specs.View.{lexeme_of}

@@ -1,7 +1,7 @@
 -- One turn of reading an expression.
 use Rattle.std.proofs.Common.{◌≡◌, ℕ, zero, suc, ◌+◌, ◌-◌, ◌<◌, ◌≤◌, Bool, true, false, cond, ltb, max, List, Option, Some, None, refl, sym, ◌∙◌, arith}
 use Rattle.std.proofs.lemmas.Bool.{lt-ltb, le-ltb}
-use Rattle.vsi_syntax.specs.declared.operator.Op.{Op}
+use Rattle.vsi_syntax.specs.declared.tree.Op.{Op}
 use Rattle.vsi_syntax.specs.Tree.{Lexeme, Tree, Binary, right_level, depth}
 use Rattle.vsi_syntax.specs.declared.parser.Fault.{Fault}
 use Rattle.vsi_syntax.specs.declared.parser.Fault.TheVariants as fault

@@ -16,3 +16,11 @@ pub mod Apart
 pub mod Lines
 pub mod Operators
 pub mod FaultPlaces
+pub mod Comments
+pub mod Joints
+pub mod Gaps
+pub mod Writing
+pub mod Same
+pub mod Layout
+pub mod Places
+pub mod Errors

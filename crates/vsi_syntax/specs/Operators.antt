@@ -2,8 +2,8 @@
 use Rattle.std.specs.Prelude.{ℤ, pos, ◌+ℤ◌, ◌-ℤ◌, ◌*ℤ◌, if◌then◌else◌, int_lt}
 use Rattle.std.specs.Ordering.{int_eq}
 use Rattle.std.specs.Int.{w64, int_wrap}
-use Rattle.vsi_syntax.specs.declared.operator.Op.{Op}
-use Rattle.vsi_syntax.specs.declared.operator.Op.TheVariants.{Add, Sub, Mul, Eq, Lt}
+use Rattle.vsi_syntax.specs.declared.tree.Op.{Op}
+use Rattle.vsi_syntax.specs.declared.tree.Op.TheVariants.{Add, Sub, Mul, Eq, Lt}
 
 -- The word that equals the sum modulo 2 ^ 64.
 abbrev pub sum_of : ℤ → ℤ → ℤ

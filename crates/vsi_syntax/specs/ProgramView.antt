@@ -1,5 +1,5 @@
 -- A program, independent of its location in memory.
-use Rattle.vsi_syntax.specs.declared.program.Program.{Program}
+use Rattle.vsi_syntax.specs.declared.tree.Program.{Program}
 use Rattle.vsi_syntax.specs.Tree.{Whole}
 use Rattle.vsi_syntax.specs.CommandView.{whole_of}
 

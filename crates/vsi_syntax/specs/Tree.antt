@@ -6,8 +6,8 @@ use mathlib.Core.HLevel.{×₃_prop}
 use Rattle.vsi_syntax.specs.declared.token.Kind.{Kind}
 use Rattle.vsi_syntax.specs.declared.token.Kind.TheVariants as k
 use Rattle.vsi_syntax.specs.declared.token.Span.{Span}
-use Rattle.vsi_syntax.specs.declared.operator.Op.{Op}
-use Rattle.vsi_syntax.specs.declared.operator.Op.TheVariants as o
+use Rattle.vsi_syntax.specs.declared.tree.Op.{Op}
+use Rattle.vsi_syntax.specs.declared.tree.Op.TheVariants as o
 
 -- A name with its span.
 pub record Named : Type 0 where

@@ -11,25 +11,34 @@
 //! `specs/FaultPlaces`, `specs/Given`, `specs/Limits`, `specs/Lines`, `specs/Operators`,
 //! `specs/ProgramView`, `specs/Spelling`, `specs/Tree`, `specs/View` and `specs/Words`; the other
 //! files in `specs/` are stepping stones of proofs.
+//!
+//! The layout of a text that keeps its comments: `layout` writes the tokens of a text as its
+//! canonical text has them, and each comment between the same two tokens.
+//!
+//! The written text is a proposal. `layout` lexes it, and answers with it only if it has the tokens
+//! and the comments of the text and is laid out as itself; otherwise the answer is the text. So
+//! clause `laid` promises the same tokens and the same comments in their order, and the law
+//! `laid_again` that a layout is laid out as itself, and `canonical_kept` that it has the canonical
+//! text of the text.
+//!
+//! To be believed: `specs/Comments`, `specs/Layout` and `specs/Places`; the other files in `specs/`
+//! say how a text is laid out, and no promise depends on that.
 #![tactic(auto)]
 
 pub mod laws;
+mod layouts;
 mod lexer;
-mod lines;
 mod numbers;
-mod operator;
 mod parser;
 mod printer;
-mod program;
 mod token;
 mod tree;
+mod writing;
 
+pub use layouts::{LayoutError, layout, places_text};
 pub use lexer::{LexError, MAX_TEXT_LENGTH, is_name, lex};
-pub use lines::line_column;
-pub use numbers::{put_line_column, put_number, put_place, put_word};
-pub use operator::Op;
+pub use numbers::{line_column, put_line_column, put_number, put_place, put_word};
 pub use parser::{ParseError, parse};
 pub use printer::print;
-pub use program::{MAX_DEPTH, Program};
 pub use token::{Kind, Span, Token};
-pub use tree::{Declaration, Expr, Name, Stmt};
+pub use tree::{Declaration, Expr, MAX_DEPTH, Name, Op, Program, Stmt};

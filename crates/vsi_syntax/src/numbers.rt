@@ -1,12 +1,34 @@
-//! Numbers and positions as every text writes them.
+//! Numbers and positions as every text writes them, and the lines and columns of a text.
 
-ghost use Rattle.std.specs.Prelude.{◌≡◌, ◌++◌, codes, decimal, is_ok, if◌then◌else◌};
+ghost use Rattle.std.specs.Prelude.{◌≡◌, ◌+◌, take, length, ◌++◌, codes, decimal, is_ok, if◌then◌else◌};
 ghost use Rattle.std.specs.Fmt.{signed_decimal};
 ghost use Rattle.vsi_syntax.specs.Lines.{place_text};
+ghost use Rattle.vsi_syntax.specs.Lines as spec;
 
-use crate::lines::line_column;
 use itoa::Buffer;
 use std::alloc::AllocError;
+
+/// The line and the column of a position, both counted from 1. Only a line feed ends a line: it is
+/// the last byte of its own line, and a carriage return is a byte like any other. A position past
+/// the end counts as the end.
+pub fn line_column(text: &[u8], at: usize) -> (usize, usize)
+    ensures line { result.0 ≡ 1 + spec.breaks (take at text.now) }
+    ensures column { result.1 ≡ 1 + length (spec.last_line (take at text.now)) }
+{
+    let end = at.min(text.len());
+    let (mut line, mut column) = (1, 1);
+    let mut i = 0;
+    while i < end {
+        if text[i] == b'\n' {
+            line += 1;
+            column = 1;
+        } else {
+            column += 1;
+        }
+        i += 1;
+    }
+    (line, column)
+}
 
 /// Appends a number in decimal. If memory runs out, the text is unchanged.
 pub fn put_number(text: &mut Vec<u8>, number: usize) -> Result<(), AllocError>

@@ -74,7 +74,6 @@ impl<T: Drop> From<AllocFailed<T>> for Fault {
 }
 
 mod command;
-mod expression;
 mod globals;
 mod whole;
 

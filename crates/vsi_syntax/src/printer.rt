@@ -5,13 +5,11 @@ ghost use Rattle.vsi_syntax.specs.Tree.{command_depth, body_depth};
 ghost use Rattle.vsi_syntax.specs.View.{tree, named};
 ghost use Rattle.vsi_syntax.specs.CommandView.{command, body_of, declared};
 ghost use Rattle.vsi_syntax.specs.ProgramView.{whole};
-ghost use Rattle.vsi_syntax.specs.Canon as spec;
 ghost use Rattle.vsi_syntax.specs.Limits.{max_depth};
+ghost use Rattle.vsi_syntax.specs.Canon as spec;
 
 use crate::numbers::put_word;
-use crate::operator::Op;
-use crate::program::Program;
-use crate::tree::{Declaration, Expr, Name, Stmt};
+use crate::tree::{Declaration, Expr, Name, Op, Program, Stmt};
 use std::alloc::{AllocError, Global};
 
 /// The canonical text of a program, which reads back as the same program up to spans.

@@ -1,7 +1,44 @@
-//! The tree of a program. Brackets and blocks are nodes of their own.
+//! The tree of a program, and its operators. Brackets and blocks are nodes of their own.
 
-use crate::operator::Op;
+ghost use Rattle.std.specs.Prelude.{◌≡◌};
+ghost use Rattle.vsi_syntax.specs.Operators.{apply};
+ghost use Rattle.vsi_syntax.specs.Tree.{IsProgram, program_prop};
+ghost use Rattle.vsi_syntax.specs.CommandView.{body_of, whole_of};
+ghost use Rattle.vsi_syntax.specs.Spelling.{IsProgramSpelled, program_spelled_prop};
+
 use crate::token::Span;
+
+/// An operator of an expression on two words of 64 bits.
+#[derive(Clone, Copy, Debug, PartialEq, Eq)]
+pub enum Op {
+    /// `+`, which wraps.
+    Add,
+    /// `-`, which wraps.
+    Sub,
+    /// `*`, which wraps.
+    Mul,
+    /// `=`: 1 if both words are equal, else 0.
+    Eq,
+    /// `<`: 1 if the left word is less as a signed number, else 0.
+    Lt,
+}
+
+impl Op {
+    /// The result of the operator: sums, differences and products wrap; `Eq` and the signed `Lt`
+    /// give 1 or 0.
+    #[inline]
+    pub fn apply(self, left: i64, right: i64) -> i64
+        ensures { result ≡ apply self left right }
+    {
+        match self {
+            Op::Add => left.wrapping_add(right),
+            Op::Sub => left.wrapping_sub(right),
+            Op::Mul => left.wrapping_mul(right),
+            Op::Eq => i64::from(left == right),
+            Op::Lt => i64::from(left < right),
+        }
+    }
+}
 
 /// A name with its span in the text.
 #[derive(Clone, Copy, Debug)]
@@ -43,4 +80,53 @@ pub enum Stmt<'a> {
 pub struct Declaration<'a> {
     pub name: Name<'a>,
     pub class: Name<'a>,
+}
+
+/// The greatest depth of a body. Each bracket, operator, block, `if`, `while` and `letvar` lies one
+/// level above the deepest of its parts; numbers, names and assignments add none.
+pub const MAX_DEPTH: u8 = 200;
+
+/// The globals and the body of a program.
+///
+/// Sums, products, comparisons and atoms appear only where the grammar allows them, no sequence is
+/// empty, the body's depth is at most `MAX_DEPTH`, names are valid, and numbers are not negative.
+#[derive(Debug, Drop)]
+pub struct Program<'a> {
+    globals: Vec<Declaration<'a>>,
+    body: Vec<Stmt<'a>>,
+    pub ghost keeps: { IsProgram (body_of body.items) } by { program_prop (body_of body.items) },
+    pub ghost spelled: { IsProgramSpelled (whole_of globals.items body.items) } by { program_spelled_prop
+        (whole_of globals.items body.items) },
+}
+
+impl<'a> Program<'a> {
+    ghost use Rattle.std.specs.Prelude.{◌≡◌, map};
+    ghost use Rattle.vsi_syntax.specs.CommandView.{declared};
+    ghost use Rattle.vsi_syntax.specs.Spelling.{IsGlobalsSpelled};
+    ghost use Rattle.vsi_syntax.specs.ProgramView.{whole};
+
+    /// The program with these globals and this body.
+    pub(crate) fn new(globals: Vec<Declaration<'a>>, body: Vec<Stmt<'a>>) -> Program<'a>
+        requires keeps { IsProgram (body_of body.items) }
+        requires spelled { IsProgramSpelled (whole_of globals.items body.items) }
+        ensures { whole result ≡ whole_of globals.entry.items body.entry.items }
+    {
+        Program { globals, body }
+    }
+
+    /// The globals in source order; a name may appear twice.
+    pub fn globals(&self) -> &[Declaration<'a>]
+        ensures globals { map declared result.now ≡ (whole self.now).globals }
+        ensures spelled { IsGlobalsSpelled (map declared result.now) }
+    {
+        &self.globals
+    }
+
+    /// The commands of the body in source order, at least one.
+    pub fn body(&self) -> &[Stmt<'a>]
+        ensures body { body_of result.now ≡ (whole self.now).body }
+        ensures keeps { IsProgram (body_of result.now) }
+    {
+        &self.body
+    }
 }

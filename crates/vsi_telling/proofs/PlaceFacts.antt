@@ -1,8 +1,8 @@
 -- Texts that begin with a place.
 use Rattle.std.proofs.Common.{◌≡◌, ℕ, List, [], ◌++◌, ap, sym, ◌∙◌, append_assoc}
 use Rattle.std.proofs.lemmas.List.{append-nil}
-use Rattle.vsi_telling.specs.declared.colour_mode.ColourMode.{ColourMode}
-use Rattle.vsi_telling.specs.declared.window.Window.{Window}
+use Rattle.vsi_telling.specs.declared.place.ColourMode.{ColourMode}
+use Rattle.vsi_telling.specs.declared.place.Window.{Window}
 use Rattle.vsi_telling.specs.Window.{IsWindow}
 use Rattle.vsi_telling.specs.Place.{placed}
 use Rattle.vsi_telling.specs.Places.{BeginsAt}

@@ -1,9 +1,9 @@
 -- The concatenation of parts, and the plainness of a position.
 use Rattle.std.proofs.Common.{◌≡◌, ℕ, Bool, true, ◌&&◌, List, [], ◌++◌, ap, ◌∙◌, refl, length, replicate, append_assoc, if◌then◌else◌, false, zero, suc, max}
 use Rattle.std.specs.Prelude.{codes, decimal, slice_range}
-use Rattle.vsi_telling.specs.declared.colour_mode.ColourMode.TheVariants.{Plain}
-use Rattle.vsi_telling.specs.declared.colour_mode.ColourMode.{ColourMode}
-use Rattle.vsi_telling.specs.declared.window.Window.{Window}
+use Rattle.vsi_telling.specs.declared.place.ColourMode.TheVariants.{Plain}
+use Rattle.vsi_telling.specs.declared.place.ColourMode.{ColourMode}
+use Rattle.vsi_telling.specs.declared.place.Window.{Window}
 use Rattle.vsi_telling.specs.Safe.{is_plain, all_plain, shown}
 use Rattle.vsi_telling.specs.Window.{begins_line, ends_line}
 use Rattle.vsi_telling.specs.Place.{heading_at, margin, before, standing, behind, carets, lines_at}

@@ -1,7 +1,7 @@
 -- The fixed byte sequences for colours.
 use Rattle.std.specs.Prelude.{ℕ, List, [], ◌∷◌, codes}
-use Rattle.vsi_telling.specs.declared.colour_mode.ColourMode.{ColourMode}
-use Rattle.vsi_telling.specs.declared.colour_mode.ColourMode.TheVariants.{Plain, Coloured}
+use Rattle.vsi_telling.specs.declared.place.ColourMode.{ColourMode}
+use Rattle.vsi_telling.specs.declared.place.ColourMode.TheVariants.{Plain, Coloured}
 
 -- The sequence that turns a colour on.
 abbrev pub turned_on : ColourMode → List ℕ

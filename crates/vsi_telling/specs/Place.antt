@@ -1,8 +1,8 @@
 -- A position of a text as it is shown.
 use Rattle.std.specs.Prelude.{ℕ, ◌+◌, max, if◌then◌else◌, List, [], ◌++◌, length, take, replicate, slice_range, codes, decimal}
 use Rattle.vsi_syntax.specs.Lines.{breaks, last_line}
-use Rattle.vsi_telling.specs.declared.colour_mode.ColourMode.{ColourMode}
-use Rattle.vsi_telling.specs.declared.window.Window.{Window}
+use Rattle.vsi_telling.specs.declared.place.ColourMode.{ColourMode}
+use Rattle.vsi_telling.specs.declared.place.Window.{Window}
 use Rattle.vsi_telling.specs.Safe.{shown}
 use Rattle.vsi_telling.specs.Colours.{turned_on, turned_off}
 use Rattle.vsi_telling.specs.Window.{begins_line, ends_line}

@@ -6,10 +6,10 @@ use Rattle.vsi_syntax.specs.declared.parser.ParseError.{ParseError}
 use Rattle.vsi_syntax.specs.declared.parser.ParseError.TheVariants as parser
 use Rattle.vsi_scope.specs.declared.resolution.ScopeError.{ScopeError}
 use Rattle.vsi_scope.specs.declared.resolution.ScopeError.TheVariants as scope
-use Rattle.vsi_compiler.specs.declared.error.CompileError.{CompileError}
-use Rattle.vsi_compiler.specs.declared.error.CompileError.TheVariants.{Lex, Parse, Scope, Flow, Memory}
-use Rattle.vsi_telling.specs.declared.colour_mode.ColourMode.{ColourMode}
-use Rattle.vsi_telling.specs.declared.window.Window.{Window}
+use Rattle.vsi_compiler.specs.declared.source.CompileError.{CompileError}
+use Rattle.vsi_compiler.specs.declared.source.CompileError.TheVariants.{Lex, Parse, Scope, Flow, Memory}
+use Rattle.vsi_telling.specs.declared.place.ColourMode.{ColourMode}
+use Rattle.vsi_telling.specs.declared.place.Window.{Window}
 use Rattle.vsi_telling.specs.Window.{IsWindow}
 use Rattle.vsi_telling.specs.Place.{placed}
 

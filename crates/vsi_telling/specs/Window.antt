@@ -1,6 +1,6 @@
 -- The part of a line that is shown around a position.
 use Rattle.std.specs.Prelude.{◌≡◌, ◌≢◌, ℕ, ◌+◌, ◌-◌, ◌<◌, ◌≤◌, min, ◌==◌, nat_le, Bool, ◌||◌, ◌&&◌, List, length, slice_index}
-use Rattle.vsi_telling.specs.declared.window.Window.{Window}
+use Rattle.vsi_telling.specs.declared.place.Window.{Window}
 
 -- Whether a line of the text begins at this position.
 abbrev pub begins_line : List ℕ → ℕ → Bool

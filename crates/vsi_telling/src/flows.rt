@@ -2,12 +2,12 @@
 //! a shortest walk, what would make it go away, and what would make the whole text accepted.
 
 ghost use Rattle.std.specs.Prelude.{◌≡◌, IfOk, true};
-ghost use Rattle.vsi_telling.specs.declared.colour_mode.ColourMode.TheVariants.{Plain};
+ghost use Rattle.vsi_telling.specs.declared.place.ColourMode.TheVariants.{Plain};
 ghost use Rattle.vsi_telling.specs.Safe.{all_plain};
 
-use crate::colour_mode::ColourMode;
-use crate::sentence::Part;
+use crate::place::ColourMode;
 use crate::subject::Subject;
+use crate::telling::Part;
 use std::alloc::{AllocError, Global};
 use vsi_compiler::{CompileError, Source, judge};
 use vsi_flows::{WalkedPair, raise_lines_of, refused_pairs, walks_of};

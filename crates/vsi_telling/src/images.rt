@@ -1,8 +1,7 @@
 //! The explanation of a refused image, and of a refused store file for one.
 
 use crate::parts::{key_place, names_of};
-use crate::sentence::Part;
-use crate::telling::{Telling, Told};
+use crate::telling::{Part, Telling, Told};
 use std::alloc::AllocError;
 use vsi_diagnostics::Fault;
 use vsi_image::{DecodeError, VerifyError};

@@ -4,8 +4,7 @@ use crate::orders::{Lack, Order};
 use crate::parts::{
     array_in, bare_place, has_text, key_place, quoted_place, table_classes, table_in,
 };
-use crate::sentence::Part;
-use crate::telling::{Telling, Told};
+use crate::telling::{Part, Telling, Told};
 use std::alloc::{AllocError, Global};
 use toml::{Table, Value};
 use vsi_lattice::{Class, LatticeError};

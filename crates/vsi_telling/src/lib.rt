@@ -11,46 +11,37 @@
 #![tactic(auto)]
 
 ghost use Rattle.std.specs.Prelude.{◌≡◌, IfOk, IfSome, true};
-ghost use Rattle.vsi_telling.specs.declared.colour_mode.ColourMode.TheVariants.{Plain};
+ghost use Rattle.vsi_telling.specs.declared.place.ColourMode.TheVariants.{Plain};
 ghost use Rattle.vsi_telling.specs.Safe.{all_plain};
 ghost use Rattle.vsi_telling.specs.Places.{BeginsAt, start_of};
 
-mod colour_mode;
 mod flows;
 mod images;
 mod lattices;
 mod orders;
 mod parts;
 mod place;
-mod safe;
-mod sentence;
 mod source;
 mod subject;
 mod syntactic;
 mod telling;
-mod tokens;
-mod window;
 
-pub use colour_mode::ColourMode;
 pub use flows::flows_explanation;
 pub use parts::{
     array_in, class_names, has_text, key_place, line_place, part_of, quoted_place, span_at,
     table_classes, table_in, texts_in,
 };
-pub use place::put_place_in;
-pub use safe::{put_safe, put_text};
-pub use sentence::{Part, say};
+pub use place::{ColourMode, Window, put_place_in, put_safe, put_text};
 use source::place_of;
 use std::alloc::{AllocError, Global};
 use telling::wrapped;
-pub use telling::{Telling, Told};
+pub use telling::{Part, Telling, Told, say};
 use vsi_compiler::CompileError;
 use vsi_diagnostics::Fault;
 use vsi_image::Image;
 use vsi_lattice::Lattice;
 use vsi_store::StoreError;
 use vsi_syntax::Span;
-pub use window::Window;
 
 /// Why a file is refused.
 #[derive(Clone, Copy)]

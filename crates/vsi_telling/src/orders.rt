@@ -2,8 +2,7 @@
 //! above both, or one below both.
 
 use crate::parts::key_place;
-use crate::sentence::{Part, say};
-use crate::telling::{Telling, Told};
+use crate::telling::{Part, Telling, Told, say};
 use std::alloc::{AllocError, Global};
 use vsi_recovery::{Addition, Placement, Rank, completion, links, nearest, placements};
 use vsi_syntax::Span;

@@ -5,10 +5,8 @@ ghost use Rattle.std.specs.Prelude.{◌≡◌, option_map};
 ghost use Rattle.vsi_telling.specs.Places.{start_of};
 
 use crate::parts::{class_names, part_of};
-use crate::sentence::Part;
-use crate::syntactic::file_hint;
-use crate::telling::Telling;
-use crate::tokens::{declaration, declared, tokens_in};
+use crate::syntactic::{declaration, declared, file_hint, tokens_in};
+use crate::telling::{Part, Telling};
 use std::alloc::AllocError;
 use vsi_compiler::CompileError;
 use vsi_diagnostics::refusal_diagnostic;

@@ -7,13 +7,11 @@ ghost use Rattle.vsi_lattice.specs.Order.{IsClass};
 ghost use Rattle.vsi_lattice.specs.LatticeView.{order};
 ghost use Rattle.vsi_types.specs.Security.{program as program_of};
 ghost use Rattle.vsi_infer.specs.Inference.{AreClasses};
-ghost use Rattle.vsi_telling.specs.declared.colour_mode.ColourMode.TheVariants.{Plain};
+ghost use Rattle.vsi_telling.specs.declared.place.ColourMode.TheVariants.{Plain};
 ghost use Rattle.vsi_telling.specs.Safe.{all_plain};
 
-use crate::colour_mode::ColourMode;
-use crate::place::put_place_in;
-use crate::safe::put_text;
-use crate::sentence::{Part, say};
+use crate::place::{ColourMode, put_place_in, put_text};
+use crate::telling::{Part, say};
 use std::alloc::{AllocError, Global};
 use vsi_compiler::Source;
 use vsi_infer::{declared_class, variable_name};

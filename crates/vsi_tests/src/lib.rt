@@ -4,9 +4,4 @@
 
 #[cfg(test)]
 mod cuts;
-mod devices;
-#[cfg(test)]
-mod engines;
 mod files;
-#[cfg(test)]
-mod loads;

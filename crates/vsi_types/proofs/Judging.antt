@@ -6,11 +6,11 @@ use Rattle.std.proofs.lemmas.List.Elements.{All-push, All-append}
 use Rattle.std.proofs.lemmas.Bool.{false≢true}
 use Rattle.vsi_lattice.specs.Order.{Lattice}
 use Rattle.vsi_syntax.specs.declared.token.Span.{Span}
-use Rattle.vsi_scope.specs.declared.program.Cmd.{Cmd}
+use Rattle.vsi_scope.specs.declared.resolved.Cmd.{Cmd}
 use Rattle.vsi_scope.specs.Language.{letvars, HasPlaces}
 use Rattle.vsi_scope.specs.View.{command, sequence}
-use Rattle.vsi_types.specs.declared.error.CheckError.{CheckError}
-use Rattle.vsi_types.specs.declared.error.CheckError.TheVariants.{Memory, WrongChoice, Flow}
+use Rattle.vsi_types.specs.declared.rules.CheckError.{CheckError}
+use Rattle.vsi_types.specs.declared.rules.CheckError.TheVariants.{Memory, WrongChoice, Flow}
 use Rattle.vsi_types.specs.declared.rules.Profile.{Profile}
 use Rattle.vsi_types.specs.declared.rules.Profile.TheVariants.{Strict}
 use Rattle.vsi_types.specs.declared.rules.Rule.TheVariants.{Loop}

@@ -5,12 +5,12 @@ use Rattle.std.proofs.lemmas.List.{take_all}
 use Rattle.std.proofs.Math.Seq.{take-append_seam}
 use Rattle.vsi_lattice.specs.Order.{Lattice}
 use Rattle.vsi_syntax.specs.declared.token.Span.{Span}
-use Rattle.vsi_scope.specs.declared.program.Cmd.{Cmd}
+use Rattle.vsi_scope.specs.declared.resolved.Cmd.{Cmd}
 use Rattle.vsi_scope.specs.Language.{Expression, Command, Assign, Sequence, If, While, Letvar, letvars, has_loop, HasPlaces}
 use Rattle.vsi_scope.specs.View.{command, sequence}
 use Rattle.vsi_scope.proofs.Views.{letvars_more}
-use Rattle.vsi_types.specs.declared.error.CheckError.{CheckError}
-use Rattle.vsi_types.specs.declared.error.CheckError.TheVariants.{Flow}
+use Rattle.vsi_types.specs.declared.rules.CheckError.{CheckError}
+use Rattle.vsi_types.specs.declared.rules.CheckError.TheVariants.{Flow}
 use Rattle.vsi_types.specs.declared.rules.Profile.{Profile}
 use Rattle.vsi_types.specs.declared.rules.Rule.{Rule}
 use Rattle.vsi_types.specs.declared.rules.Rule.TheVariants as typing

@@ -7,8 +7,8 @@ use Rattle.vsi_lattice.specs.Order.{Lattice, IsLattice, IsClass}
 use Rattle.vsi_scope.specs.Language.{letvars, HasPlaces}
 use Rattle.vsi_scope.specs.View.{sequence}
 use Rattle.vsi_scope.specs.Program.{Resolved, IsResolved}
-use Rattle.vsi_types.specs.declared.error.CheckError.{CheckError}
-use Rattle.vsi_types.specs.declared.error.CheckError.TheVariants.{Memory, WrongChoice, Flow}
+use Rattle.vsi_types.specs.declared.rules.CheckError.{CheckError}
+use Rattle.vsi_types.specs.declared.rules.CheckError.TheVariants.{Memory, WrongChoice, Flow}
 use Rattle.vsi_types.specs.declared.rules.FlowFault.{FlowFault}
 use Rattle.vsi_types.specs.declared.rules.Profile.{Profile}
 use Rattle.vsi_types.specs.declared.rules.Step.{Step}

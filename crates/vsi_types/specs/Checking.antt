@@ -3,8 +3,8 @@ use Rattle.std.specs.Prelude.{◌≡◌, ℕ, ◌+◌, ◌++◌, List, map, Resu
 use Rattle.vsi_lattice.specs.Order.{Lattice}
 use Rattle.vsi_syntax.specs.declared.token.Span.{Span}
 use Rattle.vsi_scope.specs.Language.{Command, letvars}
-use Rattle.vsi_types.specs.declared.error.CheckError.{CheckError}
-use Rattle.vsi_types.specs.declared.error.CheckError.TheVariants.{Memory, WrongChoice, Flow}
+use Rattle.vsi_types.specs.declared.rules.CheckError.{CheckError}
+use Rattle.vsi_types.specs.declared.rules.CheckError.TheVariants.{Memory, WrongChoice, Flow}
 use Rattle.vsi_types.specs.declared.rules.Profile.{Profile}
 use Rattle.vsi_types.specs.declared.rules.Step.{Step}
 use Rattle.vsi_types.specs.declared.rules.Guard.{Guard}

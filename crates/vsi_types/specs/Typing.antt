@@ -1,7 +1,7 @@
 -- The typing rules of Volpano, Smith and Irvine, over locations.
 use Rattle.std.specs.Prelude.{◌≡◌, ℕ, ◌+◌, ◌<◌, List, [], ◌∷◌, ◌++◌, length, slice_index, ℤ}
 use Rattle.vsi_lattice.specs.Order.{Lattice, IsClass, Below}
-use Rattle.vsi_syntax.specs.declared.operator.Op.{Op}
+use Rattle.vsi_syntax.specs.declared.tree.Op.{Op}
 use Rattle.vsi_syntax.specs.declared.token.Span.{Span}
 use Rattle.vsi_scope.specs.Language.{Expression, Number, Location, Operator, Command, Skip, Assign, Sequence, If, While, Letvar, letvars}
 use Rattle.vsi_types.specs.declared.rules.Profile.{Profile}

@@ -15,15 +15,10 @@
 #![tactic(auto)]
 
 mod checker;
-mod choice;
-mod error;
-mod flows;
 pub mod laws;
 mod rules;
-mod tree;
 mod walker;
 
 pub use checker::{check, check_in};
-pub use error::CheckError;
-pub use rules::{FlowFault, Guard, LOOP, Profile, Read, Rule, Step};
+pub use rules::{CheckError, FlowFault, Guard, LOOP, Profile, Read, Rule, Step};
 pub use walker::{Walker, first_variables, loops, put_reads};

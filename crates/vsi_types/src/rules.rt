@@ -1,6 +1,14 @@
-//! Rules, flow steps and profiles.
+//! Rules, flow steps and profiles, choices of classes, and why a choice is refused.
 
-use vsi_scope::Var;
+ghost use Rattle.std.specs.Prelude.{◌≡◌, ◌++◌, true, false, map, IfOk};
+ghost use Rattle.std.specs.List.{AllZip};
+ghost use Rattle.vsi_types.specs.Security.{Keeps};
+ghost use Rattle.vsi_types.specs.declared.rules.CheckError.TheVariants.{Memory, Flow};
+
+use std::alloc::{AllocError, AllocFailed, Global as Heap};
+use thiserror::Error;
+use vsi_lattice::Class;
+use vsi_scope::{Entry, Global, Var};
 use vsi_syntax::Span;
 
 /// The sink for flows into the ending of loops. It has the bottom class, and its number is not that
@@ -65,4 +73,86 @@ pub struct FlowFault {
     pub span: Span,
     pub source: Var,
     pub target: Var,
+}
+
+/// Whether a class is the declared one, if one is declared.
+fn keeps(declared: Option<Class>, class: Class) -> bool
+    ensures chosen { result ≡ true → Keeps declared class }
+    ensures changed { result ≡ false → Keeps declared class → ⊥ }
+{
+    match declared {
+        Some(kept) => kept == class,
+        None => true,
+    }
+}
+
+/// Whether there is one class for each entry, and every declared class is kept.
+pub(crate) fn is_choice(entries: &[Entry<'_>], choice: &[Class]) -> bool
+    ensures chosen { result ≡ true → AllZip Keeps (map (λ e. e.class) entries.now) choice.now }
+    ensures changed { result ≡ false → AllZip Keeps (map (λ e. e.class) entries.now) choice.now →
+        ⊥ }
+{
+    if entries.len() != choice.len() {
+        return false;
+    }
+    for i in 0..entries.len() {
+        if !keeps(entries[i].class, choice[i]) {
+            return false;
+        }
+    }
+    true
+}
+
+/// The class of each declaration, globals first.
+pub(crate) fn class_table(
+    alloc: Heap,
+    globals: &[Global<'_>],
+    choice: &[Class],
+) -> Result<Vec<Class>, AllocError>
+    ensures { IfOk result (λ t. t.items ≡ map (λ g. g.class) globals.now ++ choice.now) }
+{
+    let mut table = Vec::new(alloc);
+    for g in globals {
+        table.push(g.class)?;
+    }
+    table.extend_from_slice(choice)?;
+    Ok(table)
+}
+
+/// Why a choice of classes is refused.
+#[derive(Debug, Drop, Error)]
+pub enum CheckError {
+    /// The check ran out of memory.
+    #[error("out of memory")]
+    Memory,
+    /// The choice doesn't have one class for each `letvar`, or changes a declared one.
+    #[error("the choice has not one class for each letvar, or changes a declared one")]
+    WrongChoice,
+    /// The first flow step that isn't in order.
+    #[error("the flow from byte {start} is not in order", start = .0.span.start)]
+    Flow(FlowFault),
+}
+
+impl From<AllocError> for CheckError {
+    ghost from_gives = { λ _ e. e ≡ Memory };
+
+    fn from(_e: AllocError) -> CheckError {
+        CheckError::Memory
+    }
+}
+
+impl<T: Drop> From<AllocFailed<T>> for CheckError {
+    ghost from_gives = { λ _ e. e ≡ Memory };
+
+    fn from(_e: AllocFailed<T>) -> CheckError {
+        CheckError::Memory
+    }
+}
+
+impl From<FlowFault> for CheckError {
+    ghost from_gives = { λ f e. e ≡ Flow f };
+
+    fn from(f: FlowFault) -> CheckError {
+        CheckError::Flow(f)
+    }
 }

@@ -1,14 +1,17 @@
-//! State and helpers shared by walks over a program: the current position, the reads there, and
-//! whether commands contain a loop.
+//! State shared by walks over a program, and the flows that expressions and guards have.
 
-ghost use Rattle.std.specs.Prelude.{◌≡◌, ◌++◌, length, IfOk, if◌then◌else◌, is_ok};
+ghost use Rattle.std.specs.Prelude.{◌≡◌, ◌++◌, length, IfOk, if◌then◌else◌, is_ok, ◌||◌, true};
 ghost use Rattle.vsi_scope.specs.Language.{has_loop, HasLocations};
 ghost use Rattle.vsi_scope.specs.View.{expression, command, sequence};
-ghost use Rattle.vsi_types.specs.Security.{count_from};
-ghost use Rattle.vsi_types.specs.Steps.{reads, guarded};
+ghost use Rattle.vsi_types.specs.Security.{count_from, class_of};
+ghost use Rattle.vsi_types.specs.Steps.{reads, guarded, endings};
+ghost use Rattle.std.specs.List.{All};
+ghost use Rattle.vsi_lattice.specs.Order.{IsClass};
+ghost use Rattle.vsi_types.specs.Checking.{FlowsJudged, StepsJudged};
 
-use crate::rules::{Guard, Read, Rule};
+use crate::rules::{FlowFault, Guard, LOOP, Profile, Read, Rule};
 use std::alloc::{AllocError, Global as Heap};
+use vsi_lattice::{Class, Classes};
 use vsi_scope::{Cmd, Ex, Var};
 
 /// The position of a walk over the commands of a program in source order.
@@ -93,5 +96,142 @@ fn loops_in(c: &Cmd) -> bool
         Cmd::If { yes, no, .. } => loops(yes) || loops(no),
         Cmd::While { .. } => true,
         Cmd::Letvar { body, .. } => loops(body),
+    }
+}
+
+/// The class of a declaration; the ending of a loop has the bottom class.
+fn class_of<C: Classes>(lattice: &C, table: &[Class], variable: Var) -> Class
+    ensures { result ≡ class_of (C.lattice lattice.now) table.now variable }
+{
+    if variable.0 == LOOP.0 {
+        lattice.bottom()
+    } else {
+        match table.get(variable.0 as usize) {
+            Some(class) => *class,
+            None => Class::at(0),
+        }
+    }
+}
+
+/// Whether a variable that is read may flow into the target.
+fn may_flow<C: Classes>(lattice: &C, table: &[Class], source: Var, target: Var) -> bool
+    requires { All (IsClass (C.lattice lattice.now)) table.now }
+    ensures { let classes = class_of (C.lattice lattice.now) table.now in
+        result ≡ (C.lattice lattice.now).leq (classes source) (classes target) }
+{
+    lattice.leq(
+        class_of(lattice, table, source),
+        class_of(lattice, table, target),
+    )
+}
+
+/// Whether every guard may flow into the target.
+pub(crate) fn check_guards<C: Classes>(
+    lattice: &C,
+    table: &[Class],
+    target: Var,
+    guards: &[Guard],
+) -> Result<(), FlowFault>
+    requires { All (IsClass (C.lattice lattice.now)) table.now }
+    ensures { let classes = class_of (C.lattice lattice.now) table.now in
+        FlowsJudged (C.lattice lattice.now) classes target guards.now result }
+{
+    for g in guards {
+        if !may_flow(lattice, table, g.read.variable, target) {
+            return Err(FlowFault {
+                rule: g.rule,
+                span: g.read.place,
+                source: g.read.variable,
+                target,
+            });
+        }
+    }
+    Ok(())
+}
+
+/// Whether every variable that an expression reads may flow into the target.
+pub(crate) fn check_reads<C: Classes>(
+    lattice: &C,
+    table: &[Class],
+    target: Var,
+    scope: &[Var],
+    rule: Rule,
+    e: &Ex,
+) -> Result<(), FlowFault>
+    requires classes { All (IsClass (C.lattice lattice.now)) table.now }
+    requires places { HasLocations (length scope.now) (expression e.now) }
+    ensures { let classes = class_of (C.lattice lattice.now) table.now in
+        FlowsJudged (C.lattice lattice.now) classes target
+        (guarded rule (reads scope.now (expression e.now))) result }
+{
+    match e {
+        Ex::Num(_) => Ok(()),
+        Ex::Loc(l, place) => {
+            let source = scope[*l as usize];
+            if may_flow(lattice, table, source, target) {
+                Ok(())
+            } else {
+                Err(FlowFault {
+                    rule,
+                    span: *place,
+                    source,
+                    target,
+                })
+            }
+        }
+        Ex::Op(_, a, b) => {
+            check_reads(lattice, table, target, scope, rule, a)?;
+            check_reads(lattice, table, target, scope, rule, b)
+        }
+    }
+}
+
+/// Whether the variables that the guard of a loop reads may influence how the loop ends.
+pub(crate) fn check_loop<C: Classes>(
+    lattice: &C,
+    profile: Profile,
+    table: &[Class],
+    scope: &[Var],
+    guard: &Ex,
+) -> Result<(), FlowFault>
+    requires classes { All (IsClass (C.lattice lattice.now)) table.now }
+    requires places { HasLocations (length scope.now) (expression guard.now) }
+    ensures { let classes = class_of (C.lattice lattice.now) table.now in
+        StepsJudged (C.lattice lattice.now) classes
+        (endings profile true (reads scope.now (expression guard.now))) result }
+{
+    match profile {
+        Profile::Base => Ok(()),
+        Profile::Strict => check_reads(lattice, table, LOOP, scope, Rule::Loop, guard),
+    }
+}
+
+/// Whether the variables that the guard of a choice reads may influence how the loops in its
+/// branches end.
+pub(crate) fn check_choice<C: Classes>(
+    lattice: &C,
+    profile: Profile,
+    table: &[Class],
+    scope: &[Var],
+    then_branch: &[Cmd],
+    else_branch: &[Cmd],
+    guard: &Ex,
+) -> Result<(), FlowFault>
+    requires classes { All (IsClass (C.lattice lattice.now)) table.now }
+    requires places { HasLocations (length scope.now) (expression guard.now) }
+    ensures { let looping = has_loop (sequence then_branch.now) || has_loop
+        (sequence else_branch.now) in
+        StepsJudged (C.lattice lattice.now) (class_of (C.lattice lattice.now) table.now)
+        (endings profile looping (reads scope.now (expression guard.now))) result }
+{
+    match profile {
+        Profile::Base => Ok(()),
+        Profile::Strict => {
+            if loops(then_branch) || loops(else_branch) {
+                check_loop(lattice, profile, table, scope, guard)
+            } else {
+                Ok(())
+            }
+        }
     }
 }

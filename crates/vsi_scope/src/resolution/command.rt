@@ -1,26 +1,52 @@
-//! Resolves commands in one walk through the text, with the names in scope and the entries of the
-//! letvars so far.
+//! Resolves commands and expressions in one walk through the text.
 
-ghost use Rattle.std.specs.Prelude.{◌≡◌, ◌<◌, length, map, [], option_map, IfOk, IfErr};
+ghost use Rattle.std.specs.Prelude.{◌≡◌, ◌+◌, ◌≤◌, length, IfOk, ◌<◌, map, [], option_map, IfErr};
+ghost use Rattle.vsi_syntax.specs.View.{tree, named};
+ghost use Rattle.vsi_scope.specs.View.{expression};
+ghost use Rattle.vsi_scope.specs.Places.{expression_of, commands_of};
+ghost use Rattle.vsi_lattice.specs.Known.{Known};
+ghost use Rattle.vsi_scope.specs.Faults.{uses, first_fault, Judged, class_marks};
+ghost use Rattle.vsi_scope.specs.Resolver.{names_of, Walked, WalkedOne, WalkedAll, IsWithin, scope_of, fault_in, fault_in_all};
+ghost use Rattle.vsi_scope.specs.Limits.{max_declarations};
 ghost use Rattle.vsi_scope.specs.declared.resolution.ScopeError.TheVariants.{Memory};
 ghost use Rattle.vsi_syntax.specs.Tree.{Assign, If, While, Letvar};
-ghost use Rattle.vsi_syntax.specs.View.{tree, named};
-ghost use Rattle.vsi_syntax.specs.CommandView as syntax;
 ghost use Rattle.vsi_lattice.specs.LatticeView.{class_named};
-ghost use Rattle.vsi_lattice.specs.Known.{Known};
-ghost use Rattle.vsi_scope.specs.Faults.{class_marks, first_fault, Judged};
-ghost use Rattle.vsi_scope.specs.Places.{commands_of};
 ghost use Rattle.vsi_scope.specs.Resolving.{class_of};
-ghost use Rattle.vsi_scope.specs.Resolver.{Walked, WalkedOne, WalkedAll, IsWithin, scope_of, fault_in, fault_in_all};
+ghost use Rattle.vsi_syntax.specs.CommandView as syntax;
 
-use super::expression::expression;
-use super::scope::Names;
-use super::{MAX_DECLARATIONS, ScopeError};
-use crate::program::Cmd;
-use crate::resolved::Entry;
+use crate::resolution::whole::Names;
+use crate::resolution::{MAX_DECLARATIONS, ScopeError};
+use crate::resolved::{Cmd, Entry, Ex};
 use std::alloc::Global;
 use vsi_lattice::{Class, Lattice};
 use vsi_syntax::{Expr, Name, Stmt};
+
+/// The expression with a location for each name; brackets disappear.
+pub(crate) fn expression<'a>(
+    alloc: Global,
+    names: &Names<'a>,
+    e: &Expr<'a>,
+) -> Result<Ex, ScopeError>
+    requires { length names.now.globals.keys + length names.now.locals.items ≤ max_declarations }
+    ensures value { IfOk result
+        (λ x. expression x ≡ expression_of (names_of names.now) (tree e.now)) }
+    ensures fault { (classes : Known) →
+        Judged result (first_fault classes (uses (names_of names.now) (tree e.now))) }
+{
+    match e {
+        Expr::Number(n) => Ok(Ex::Num(*n)),
+        Expr::Name(x) => match names.find(x.text) {
+            Some(l) => Ok(Ex::Loc(l, x.span)),
+            None => Err(ScopeError::Unbound(x.span)),
+        },
+        Expr::Bracket(inner) => expression(alloc, names, inner),
+        Expr::Binary(op, a, b) => {
+            let left = expression(alloc, names, a)?;
+            let right = expression(alloc, names, b)?;
+            Ok(Ex::Op(*op, Box::new(alloc, left)?, Box::new(alloc, right)?))
+        }
+    }
+}
 
 /// The state of a resolution.
 #[derive(Drop)]

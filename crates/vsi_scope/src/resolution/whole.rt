@@ -1,22 +1,178 @@
-//! Resolves a whole program.
+//! Resolves a whole program: its names in scope, its globals and its body.
 
-ghost use Rattle.std.specs.Prelude.{◌≡◌, ◌≤◌, ℕ, List, IfOk, IfErr};
+ghost use Rattle.std.specs.Prelude.{◌≡◌, ◌+◌, ◌<◌, ◌≤◌, length, map, IfSome, [], ◌∷◌, Some, None, IfOk, OnOk, ℕ, List, IfErr};
+ghost use Rattle.vsi_scope.specs.Places.{place_of};
+ghost use Rattle.vsi_scope.specs.Limits.{max_declarations, max_globals};
+ghost use Rattle.vsi_lattice.specs.LatticeView.{class_named};
+ghost use Rattle.vsi_scope.specs.Faults.{global_marks, first_fault, Judged};
+ghost use Rattle.vsi_scope.specs.Resolver.{names_of, HasNone, HasRead};
 ghost use Rattle.vsi_syntax.specs.Limits.{max_depth};
 ghost use Rattle.vsi_syntax.specs.ProgramView.{whole};
-ghost use Rattle.vsi_lattice.specs.LatticeView.{class_named};
 ghost use Rattle.vsi_scope.specs.declared.resolution.ScopeError.TheVariants.{Memory};
 ghost use Rattle.vsi_scope.specs.Language.{Command, depth};
 ghost use Rattle.vsi_scope.specs.View.{sequence};
 ghost use Rattle.vsi_scope.specs.Resolving.{Resolves, AreBelow, HasClassesBelow, IsResolution, ExplainsScope};
+ghost use Rattle.vsi_syntax.specs.CommandView as syntax;
 
-use super::command::{Resolver, sequence};
-use super::declare::{Globals, read_globals};
-use super::{MAX_SIZE, ScopeError};
-use crate::measure::size;
-use crate::resolved::Resolved;
+use crate::resolution::command::{Resolver, sequence};
+use crate::resolution::{MAX_GLOBALS, MAX_SIZE, ScopeError};
+use crate::resolved;
+use crate::resolved::{Resolved, size};
+use indexmap::IndexSet;
 use std::alloc::Global;
-use vsi_lattice::Lattice;
-use vsi_syntax::Program;
+use vsi_lattice::{Class, Lattice};
+use vsi_syntax::{Declaration, Program};
+
+/// The names in scope. Globals are looked up by key; letvars, of which at most 200 enclose any
+/// command, are searched from the innermost outwards.
+#[derive(Drop)]
+pub(crate) struct Names<'a> {
+    /// The names of the globals, in order.
+    pub(crate) globals: IndexSet<&'a [u8]>,
+    /// The names of the letvars in scope, the innermost last.
+    pub(crate) locals: Vec<&'a [u8]>,
+}
+
+impl<'a> Names<'a> {
+    ghost use Rattle.std.specs.Prelude.{◌++◌, ◌∷◌, [], None, OnOk, IfErr};
+    ghost use Rattle.vsi_scope.specs.Resolver.{names_of};
+    ghost use Rattle.vsi_scope.specs.declared.resolution.ScopeError.TheVariants.{Memory};
+
+    /// No names.
+    pub(crate) fn new(alloc: Global) -> Names<'a>
+        ensures globals { result.globals.keys ≡ [] }
+        ensures locals { result.locals.items ≡ [] }
+    {
+        Names {
+            globals: IndexSet::new(alloc),
+            locals: Vec::new(alloc),
+        }
+    }
+
+    /// The last position of a name: that of the innermost letvar, counted after the globals, or the
+    /// number of the global.
+    pub(crate) fn find(&self, name: &[u8]) -> Option<u16>
+        requires { length self.now.globals.keys + length self.now.locals.items ≤ max_declarations }
+        ensures { result ≡ place_of (names_of self.now) name.now }
+    {
+        let globals = self.globals.len();
+        if let Some(at) = innermost(&self.locals, name) {
+            return Some((globals + at) as u16);
+        }
+        match self.globals.get_index_of(name) {
+            Some(at) => Some(at as u16),
+            None => None,
+        }
+    }
+
+    /// Adds the name of one more global, while no letvar is in scope.
+    pub(crate) fn declare(&mut self, name: &'a [u8]) -> Result<(), ScopeError>
+        requires outer { self.old.locals.items ≡ [] }
+        requires fresh { place_of (names_of self.old) name.now ≡ None }
+        ensures names { OnOk result (names_of self.new ≡ names_of self.old ++ name.now ∷ []) }
+        ensures outer { OnOk result (self.new.locals.items ≡ []) }
+        ensures memory { IfErr result (λ e. e ≡ Memory) }
+    {
+        self.globals.insert(name)?;
+        Ok(())
+    }
+}
+
+/// The last position of a name, found by comparing every name from the last to the first.
+fn innermost(names: &[&[u8]], name: &[u8]) -> Option<usize>
+    ensures place { result ≡ place_of (map (λ x. x.now) names.now) name.now }
+    ensures within { IfSome result (λ at. at < length names.now) }
+{
+    let mut at = names.len();
+    while at > 0 {
+        at -= 1;
+        if names[at] == name {
+            return Some(at);
+        }
+    }
+    None
+}
+
+/// The globals, and their names.
+#[derive(Drop)]
+pub(crate) struct Globals<'a> {
+    pub(crate) list: Vec<resolved::Global<'a>>,
+    pub(crate) names: Names<'a>,
+}
+
+/// The class of a declaration after these names. The name is judged before the class.
+fn class_below<'a>(
+    lattice: &Lattice,
+    names: &Names<'a>,
+    d: &Declaration<'a>,
+) -> Result<Class, ScopeError>
+    requires outer { names.now.locals.items ≡ [] }
+    requires few { length names.now.globals.keys ≤ max_globals }
+    ensures class { IfOk result (λ c. class_named lattice.now d.now.class.text.now ≡ Some c) }
+    ensures fresh { IfOk result (λ _. place_of (names_of names.now) d.now.name.text.now ≡ None) }
+    ensures few { IfOk result (λ _. length names.now.globals.keys < max_globals) }
+    ensures fault { Judged result (first_fault (class_named lattice.now)
+        (global_marks (names_of names.now) (syntax.declared d.now ∷ []))) }
+{
+    let None = names.find(d.name.text) else {
+        return Err(ScopeError::Duplicate(d.name.span));
+    };
+    if names.globals.len() >= MAX_GLOBALS {
+        return Err(ScopeError::TooManyGlobals(d.name.span));
+    }
+    match lattice.class_named(d.class.text) {
+        Some(class) => Ok(class),
+        None => Err(ScopeError::UnknownClass(d.class.span)),
+    }
+}
+
+/// Reads the globals in order into an empty list.
+fn read_into<'a>(
+    lattice: &Lattice,
+    globals: &mut Globals<'a>,
+    declarations: &[Declaration<'a>],
+) -> Result<(), ScopeError>
+    requires { HasNone globals.old }
+    ensures read { OnOk result
+        (HasRead (class_named lattice.now) (map syntax.declared declarations.now) globals.new) }
+    ensures fault { Judged result
+        (first_fault (class_named lattice.now)
+        (global_marks [] (map syntax.declared declarations.now))) }
+{
+    for d in declarations {
+        let class = class_below(lattice, &globals.names, d)?;
+        let global = resolved::Global {
+            name: d.name.text,
+            class,
+            class_name: d.class.text,
+        };
+        let Ok(()) = globals.list.push(global) else {
+            return Err(ScopeError::Memory);
+        };
+        globals.names.declare(d.name.text)?;
+    }
+    Ok(())
+}
+
+/// The globals in order.
+pub(crate) fn read_globals<'a>(
+    alloc: Global,
+    lattice: &Lattice,
+    declarations: &[Declaration<'a>],
+) -> Result<Globals<'a>, ScopeError>
+    ensures read { IfOk result
+        (HasRead (class_named lattice.now) (map syntax.declared declarations.now)) }
+    ensures fault { Judged result
+        (first_fault (class_named lattice.now)
+        (global_marks [] (map syntax.declared declarations.now))) }
+{
+    let mut globals = Globals {
+        list: Vec::new(alloc),
+        names: Names::new(alloc),
+    };
+    read_into(lattice, &mut globals, declarations)?;
+    Ok(globals)
+}
 
 /// The program over locations, with the classes that the lattice has for the class names in the
 /// text.

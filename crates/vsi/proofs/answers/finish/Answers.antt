@@ -2,7 +2,7 @@ use Rattle.std.proofs.Common.{◌≡◌, ◌<◌, ◌⊎◌, arith, false, inl, 
 use Rattle.std.proofs.KnownBytes.{Keeps-refl}
 use Rattle.std.proofs.lemmas.Result.{IfErr-weaker, on_ok_weaker}
 use Rattle.std.specs.Io.KnownBytes.{Appends}
-use Rattle.vsi_devices.specs.Counted.{device_of}
+use Rattle.vsi_drive.specs.Counted.{device_of}
 use Rattle.vsi_subject.specs.declared.failure.Failure.{Failure}
 use Rattle.vsi_subject.specs.Failures.{status_of}
 use Rattle.vsi_subject.specs.Files.{shown}

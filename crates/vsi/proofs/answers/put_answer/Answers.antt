@@ -1,5 +1,5 @@
 use Rattle.std.proofs.Common.{ap, inl}
-use Rattle.vsi_devices.specs.Counted.{device_of}
+use Rattle.vsi_drive.specs.Counted.{device_of}
 use Rattle.vsi_subject.specs.Noted.{noting}
 use Rattle.vsi_subject.specs.Partly.{AnswersText}
 use Rattle.vsi_subject.specs.Reasons.{WhyAnswer}

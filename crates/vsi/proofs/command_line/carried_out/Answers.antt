@@ -1,6 +1,6 @@
 use Rattle.std.proofs.Common.{◌∙◌, [], ap, subst}
 use Rattle.std.specs.Prelude.{IfErr, OnOk, Some, if◌then◌else◌}
-use Rattle.vsi_devices.specs.Counted.{device_of}
+use Rattle.vsi_drive.specs.Counted.{device_of}
 use Rattle.vsi_subject.specs.Done.{Done, Failed}
 use Rattle.vsi_subject.specs.Saved.{KeepsStateOf}
 use Rattle.vsi.proofs.command_line.carried_out.Goals as goal

@@ -1,5 +1,5 @@
 use Rattle.std.proofs.lemmas.Result.{IfErr-weaker}
-use Rattle.vsi_devices.specs.Counted.{device_of}
+use Rattle.vsi_drive.specs.Counted.{device_of}
 use Rattle.vsi_subject.specs.Done.{FailsAt}
 use Rattle.vsi_subject.specs.Noted.{NotesFailure}
 use Rattle.vsi_subject.specs.Words.{given_to}

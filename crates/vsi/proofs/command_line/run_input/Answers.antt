@@ -1,8 +1,8 @@
 use Rattle.std.proofs.Common.{Err, inr, sym, subst}
 use Rattle.std.proofs.lemmas.Result.{IfErr-weaker, on_ok_weaker}
 use Rattle.vsi_answers.specs.Requests.{RunsSourceTo}
-use Rattle.vsi_devices.specs.Counted.{device_of}
-use Rattle.vsi_devices.specs.Engine.{IsReadFrom}
+use Rattle.vsi_drive.specs.Counted.{device_of}
+use Rattle.vsi_drive.specs.Engine.{IsReadFrom}
 use Rattle.vsi_subject.specs.Input.{FailsRun}
 use Rattle.vsi_subject.proofs.Partly.{Partly-weaker, any_failure, kept_partly}
 use Rattle.vsi_subject.proofs.Failed.{FailsFor-weaker}

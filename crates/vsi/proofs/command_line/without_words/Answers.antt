@@ -2,7 +2,7 @@ use Rattle.std.proofs.Common.{◌≡◌, ◌<◌, ◌⊎◌, [], ap}
 use Rattle.vsi_subject.specs.Input.{FailsRun}
 use Rattle.vsi_subject.specs.Screen.{tamed}
 use Rattle.vsi_subject.specs.Failures.{Gets}
-use Rattle.vsi_devices.specs.Counted.{device_of, faults_of}
+use Rattle.vsi_drive.specs.Counted.{device_of, faults_of}
 use Rattle.vsi_subject.proofs.Leaving.{partly_at}
 use Rattle.vsi_subject.proofs.CarriedOut.{each_failure}
 use Rattle.vsi_subject.proofs.Failed.{done_at_zero, heard_fault, heard_nothing, heard_failure, refused_at_one, spent_at_three, tells_failure}

@@ -1,5 +1,5 @@
 use Rattle.std.proofs.Common.{◌≡◌, ◌∙◌, inl, inr, refl, sym, subst, arith}
-use Rattle.vsi_devices.specs.Counted.{device_of}
+use Rattle.vsi_drive.specs.Counted.{device_of}
 use Rattle.vsi_subject.specs.declared.failure.Failure.TheVariants.{Memory}
 use Rattle.vsi_subject.specs.FaultyFiles.{IsRefusalLine, TellsRefusal}
 use Rattle.vsi.proofs.Faulted.{other_lacks, plain_lacks, refusal_has, refusal_one}

@@ -1,5 +1,5 @@
 use Rattle.std.proofs.Common.{◌≡◌, ◌<◌, subst, sym, arith}
-use Rattle.vsi_devices.specs.Counted.{device_of, faults_of}
+use Rattle.vsi_drive.specs.Counted.{device_of, faults_of}
 use Rattle.vsi_subject.specs.FaultyFiles.{TellsRefusal, has_line}
 use Rattle.vsi_subject.specs.Failures.{status_of}
 use Rattle.vsi_subject.specs.Noted.{noting}

@@ -1,6 +1,6 @@
 use Rattle.std.proofs.Common.{rules, arith, ◌≡◌, ap, ◌∙◌, pos}
 use Rattle.std.proofs.lemmas.Int.{ints}
-use Rattle.vsi_syntax.specs.declared.operator.Op.TheVariants as o
+use Rattle.vsi_syntax.specs.declared.tree.Op.TheVariants as o
 use Rattle.vsi_syntax.specs.Tree as tree
 use Rattle.vsi_syntax.specs.View as view
 use Rattle.vsi_audit.proofs.TreeParts.{number_written, least_written, below_written, same_word, same_opposite}

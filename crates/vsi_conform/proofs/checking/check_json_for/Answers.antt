@@ -1,7 +1,7 @@
 use Rattle.std.proofs.Common.{rules}
 use Rattle.std.specs.Prelude.{◌≢◌}
-use Rattle.vsi_compiler.specs.declared.error.CompileError.TheVariants.{Memory}
-use Rattle.vsi_steady.specs.declared.unsteady.UnsteadyError.TheVariants as unsteady
+use Rattle.vsi_compiler.specs.declared.source.CompileError.TheVariants.{Memory}
+use Rattle.vsi_steady.specs.declared.source.UnsteadyError.TheVariants as unsteady
 use Rattle.vsi_conform.proofs.Profiles.{tells_refused, unread_refused}
 use Rattle.vsi_conform.proofs.checking.check_json_for.Goals as goal
 

@@ -1,7 +1,7 @@
 use Rattle.std.proofs.Common.{rules, ap, map, inr}
 use Rattle.std.specs.Prelude.{◌≢◌}
 use Rattle.serde_json.specs.View.{view}
-use Rattle.vsi_compiler.specs.declared.error.CompileError.TheVariants.{Memory}
+use Rattle.vsi_compiler.specs.declared.source.CompileError.TheVariants.{Memory}
 use Rattle.vsi_diagnostics.proofs.json.walk_objects.Goals as goal
 
 pub returns-in-Ok : goal.returns-in-Ok

@@ -1,7 +1,7 @@
 use Rattle.std.proofs.Common.{rules, subst}
 use Rattle.std.specs.Prelude.{◌≢◌}
-use Rattle.vsi_compiler.specs.declared.error.CompileError.TheVariants.{Memory}
-use Rattle.vsi_steady.specs.declared.unsteady.UnsteadyError.TheVariants as unsteady
+use Rattle.vsi_compiler.specs.declared.source.CompileError.TheVariants.{Memory}
+use Rattle.vsi_steady.specs.declared.source.UnsteadyError.TheVariants as unsteady
 use Rattle.vsi_conform.specs.Checking.{WritesRefusal}
 use Rattle.vsi_documents.proofs.Lines.{unread_tells}
 use Rattle.vsi_documents.proofs.texts.mend_json.Goals as goal

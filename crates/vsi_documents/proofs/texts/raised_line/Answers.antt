@@ -2,7 +2,7 @@ use Rattle.std.proofs.Common.{map, sym, subst}
 use Rattle.serde_json.specs.View.{view}
 use Rattle.vsi_lattice.specs.LatticeView.{order}
 use Rattle.vsi_types.specs.Security.{program}
-use Rattle.vsi_compiler.specs.declared.error.CompileError.TheVariants.{Flow}
+use Rattle.vsi_compiler.specs.declared.source.CompileError.TheVariants.{Flow}
 use Rattle.vsi_flows.specs.Raising.{Answers}
 use Rattle.vsi_flows.specs.Answers.{HasClassesIn}
 use Rattle.vsi_flows.proofs.AnswerLemmas.{final_walk}

@@ -2,7 +2,7 @@ use Rattle.std.proofs.Common.{sym, subst, ◌≡◌}
 use Rattle.vsi_lattice.specs.LatticeView.{class_named, order}
 use Rattle.vsi_compiler.specs.Acceptance.{IsAccepted}
 use Rattle.vsi_compiler.specs.Refusal.{Refuses}
-use Rattle.vsi_compiler.specs.declared.error.CompileError.TheVariants.{Memory}
+use Rattle.vsi_compiler.specs.declared.source.CompileError.TheVariants.{Memory}
 use Rattle.vsi_flows.specs.Answers.{RefusesText}
 use Rattle.vsi_flows.proofs.AnswerLemmas.{text_refused}
 use Rattle.vsi_flows.proofs.written.accepted.Goals as goal

@@ -1,7 +1,7 @@
 use Rattle.std.proofs.Common.{ℕ, ◌<◌}
 use Rattle.std.specs.List.{slice_index_or}
-use Rattle.vsi_layered.specs.declared.graph.Node.{Node}
-use Rattle.vsi_layered.specs.declared.graph.Place.{Place}
+use Rattle.vsi_layered.specs.declared.drawing.Node.{Node}
+use Rattle.vsi_layered.specs.declared.drawing.Place.{Place}
 use Rattle.vsi_layered.specs.Drawing.{HasSize}
 use Rattle.vsi_layered.proofs.drawing.are_all_sized.Given as goal
 

@@ -1,6 +1,6 @@
 use Rattle.std.proofs.Common.{ℕ, ◌<◌}
 use Rattle.std.specs.List.{slice_index_or}
-use Rattle.vsi_layered.specs.declared.graph.Place.{Place}
+use Rattle.vsi_layered.specs.declared.drawing.Place.{Place}
 use Rattle.vsi_layered.specs.Drawing.{AreApart, IsWithin}
 use Rattle.vsi_layered.proofs.drawing.are_laid_out.Given as goal
 

@@ -1,6 +1,6 @@
 use Rattle.std.proofs.Common.{ℕ, ◌<◌}
 use Rattle.std.specs.List.{slice_index_or}
-use Rattle.vsi_layered.specs.declared.graph.Place.{Place}
+use Rattle.vsi_layered.specs.declared.drawing.Place.{Place}
 use Rattle.vsi_layered.specs.Drawing.{AreApart}
 use Rattle.vsi_layered.proofs.drawing.is_apart_from_first.Given as goal
 

@@ -1,7 +1,7 @@
 use Rattle.std.proofs.Common.{ℕ, ◌+◌, ◌*◌, ◌≤◌, List, [], ◌∷◌, Bool, true, length, drop, subst, sym, ◌∙◌}
-use Rattle.vsi_leak.specs.declared.found.Finding.{Finding}
-use Rattle.vsi_leak.specs.declared.found.Sign.{Sign}
-use Rattle.vsi_leak.specs.declared.found.Sign.TheVariants.{Words, Endings, Steps}
+use Rattle.vsi_leak.specs.declared.check.Finding.{Finding}
+use Rattle.vsi_leak.specs.declared.check.Sign.{Sign}
+use Rattle.vsi_leak.specs.declared.check.Sign.TheVariants.{Words, Endings, Steps}
 use Rattle.vsi_leak.specs.Leaks.{TellsAtMost, sign_count}
 use Rattle.vsi_leak.proofs.Tries.{after_unwanted, after_wanted, at_first, wanted_in}
 use Rattle.vsi_leak.proofs.whole.find_any.Goals as goal

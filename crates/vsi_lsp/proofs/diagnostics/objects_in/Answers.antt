@@ -1,5 +1,5 @@
 use Rattle.std.specs.Prelude.{◌≢◌}
-use Rattle.vsi_compiler.specs.declared.error.CompileError.TheVariants.{Memory}
+use Rattle.vsi_compiler.specs.declared.source.CompileError.TheVariants.{Memory}
 use Rattle.vsi_lsp.proofs.Verdicts.{refused_shown}
 use Rattle.vsi_lsp.proofs.diagnostics.objects_in.Goals as goal
 

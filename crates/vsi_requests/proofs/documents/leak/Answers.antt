@@ -4,8 +4,8 @@ use Rattle.vsi_compiler.specs.Readable.{HasProgram}
 use Rattle.vsi_image.specs.Fields.{globals}
 use Rattle.vsi_lattice.specs.LatticeView.{class_named, order}
 use Rattle.vsi_leak.specs.Leaks.{IsFinding, IsWanted, TellsAtMost, most_pairs}
-use Rattle.vsi_leak.specs.declared.found.Finding.{Finding}
-use Rattle.vsi_leak.specs.declared.found.Finding.TheVariants as finding
+use Rattle.vsi_leak.specs.declared.check.Finding.{Finding}
+use Rattle.vsi_leak.specs.declared.check.Finding.TheVariants as finding
 use Rattle.vsi_leak.specs.declared.whole.Wanted.{Wanted}
 use Rattle.vsi_leak.specs.Texts.{IsLeakText}
 use Rattle.vsi_subject.specs.Reasons.{LacksSought, OtherLeak, RefusesSearch}

@@ -1,7 +1,7 @@
 use Rattle.std.proofs.Common.{◌≡◌, ◌+◌, ◌∙◌, ◌++◌, ◌∷◌, [], get_or, take, drop, refl, sym, ap, subst, arith, take-append-drop}
 use Rattle.std.proofs.lemmas.List.{take_more}
 use Rattle.std.specs.Io.KnownBytes.{Appends}
-use Rattle.vsi_devices.specs.Counted.{device_of}
+use Rattle.vsi_drive.specs.Counted.{device_of}
 use Rattle.vsi_drive.specs.Control.{control}
 use Rattle.vsi_drive.specs.Cycles.{cycle}
 use Rattle.vsi_subject.specs.Saved.{Advances, CutsLines}

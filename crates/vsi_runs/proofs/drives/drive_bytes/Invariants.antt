@@ -1,5 +1,5 @@
 use Rattle.std.proofs.Common.{◌≡◌, ◌≤◌, length, take}
-use Rattle.vsi_devices.specs.Counted.{device_of, faults_of}
+use Rattle.vsi_drive.specs.Counted.{device_of, faults_of}
 use Rattle.vsi_drive.specs.Control.{control}
 use Rattle.vsi_subject.specs.Driven.{Drives, whole_lines, begun}
 use Rattle.vsi_subject.specs.Saved.{Advances}

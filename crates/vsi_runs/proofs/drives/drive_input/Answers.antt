@@ -1,5 +1,5 @@
 use Rattle.std.proofs.Common.{arith, refl, subst, sym}
-use Rattle.vsi_devices.specs.Counted.{device_of}
+use Rattle.vsi_drive.specs.Counted.{device_of}
 use Rattle.vsi_drive.specs.Control.{control}
 use Rattle.vsi_subject.proofs.Cut.{DrivesBytes, Touches-same, Touches-trans, bytes_none, bytes_on, end_cut, input_cut, piece_cut}
 use Rattle.vsi_subject.proofs.Driven.{driven_whole}

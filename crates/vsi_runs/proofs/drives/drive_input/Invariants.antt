@@ -1,5 +1,5 @@
 use Rattle.std.proofs.Common.{◌≡◌, ◌≤◌, length}
-use Rattle.vsi_devices.specs.Counted.{device_of, faults_of}
+use Rattle.vsi_drive.specs.Counted.{device_of, faults_of}
 use Rattle.vsi_drive.specs.Control.{control}
 use Rattle.vsi_subject.specs.State.{Touches}
 use Rattle.vsi_subject.proofs.Cut.{DrivesBytes}

@@ -1,5 +1,5 @@
 use Rattle.std.proofs.Common.{[], ◌∷◌, ◌∙◌, refl, subst}
-use Rattle.vsi_devices.specs.Counted.{device_of}
+use Rattle.vsi_drive.specs.Counted.{device_of}
 use Rattle.vsi_drive.specs.Control.{control}
 use Rattle.vsi_subject.specs.Partly.{WritesPart}
 use Rattle.vsi_subject.specs.Saved.{SavesLine}

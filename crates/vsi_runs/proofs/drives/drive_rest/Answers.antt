@@ -1,5 +1,5 @@
 use Rattle.std.proofs.Common.{refl}
-use Rattle.vsi_devices.specs.Counted.{device_of}
+use Rattle.vsi_drive.specs.Counted.{device_of}
 use Rattle.vsi_drive.specs.Control.{control}
 use Rattle.vsi_subject.specs.Driven.{last_line}
 use Rattle.vsi_subject.proofs.Cut.{StaysAt-same, none_cut}

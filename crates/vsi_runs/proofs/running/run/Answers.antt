@@ -2,7 +2,7 @@ use Rattle.std.proofs.Common.{◌∙◌, Err, ap, arith, inl, inr, refl, sym, su
 use Rattle.std.proofs.KnownBytes.{Appends-trans}
 use Rattle.std.proofs.lemmas.Result.{IfErr-weaker, on_ok_weaker}
 use Rattle.std.specs.Io.KnownBytes.{Appends}
-use Rattle.vsi_devices.specs.Counted.{device_of}
+use Rattle.vsi_drive.specs.Counted.{device_of}
 use Rattle.vsi_machine.specs.Counting.{Halts}
 use Rattle.vsi_machine.specs.Runs.{run_of}
 use Rattle.vsi_subject.specs.Partly.{AnswersRun}

@@ -1,8 +1,8 @@
 use Rattle.std.proofs.Common.{◌≡◌, Err, Ok, true, false}
 use Rattle.vsi_lattice.specs.LatticeView.{order}
-use Rattle.vsi_monitor.specs.declared.stop.Stop.{Stop}
-use Rattle.vsi_monitor.specs.declared.stop.Unfinished.TheVariants as ends
-use Rattle.vsi_monitor.specs.declared.watch.Watched.{Watched}
+use Rattle.vsi_steps.specs.declared.watch.Stop.{Stop}
+use Rattle.vsi_steps.specs.declared.watch.Unfinished.TheVariants as ends
+use Rattle.vsi_steps.specs.declared.watch.Watched.{Watched}
 use Rattle.vsi_subject.specs.Stepping.{EndsMonitored}
 use Rattle.vsi_runs.proofs.Stepped.{both_ok, monitors, seen_classes, seen_length}
 use Rattle.vsi_runs.proofs.stepping.monitor_reply.Goals as goal

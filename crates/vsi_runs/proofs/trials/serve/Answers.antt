@@ -1,4 +1,4 @@
-use Rattle.vsi_devices.specs.Counted.{device_of}
+use Rattle.vsi_drive.specs.Counted.{device_of}
 use Rattle.vsi_subject.proofs.Partly.{any_failure}
 use Rattle.vsi_runs.proofs.Served.{served_partly}
 use Rattle.vsi_runs.proofs.trials.serve.Goals as goal

@@ -1,6 +1,6 @@
 use Rattle.std.proofs.Common.{◌≤◌}
 use Rattle.vsi_subject.specs.Served.{Serves}
-use Rattle.vsi_devices.specs.Counted.{device_of, faults_of}
+use Rattle.vsi_drive.specs.Counted.{device_of, faults_of}
 use Rattle.vsi_runs.proofs.trials.serve_bytes.Given as goal
 
 -- Only messages have been written, and no write has failed.

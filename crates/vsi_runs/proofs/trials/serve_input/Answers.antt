@@ -1,5 +1,5 @@
 use Rattle.std.proofs.Common.{arith}
-use Rattle.vsi_devices.specs.Counted.{device_of}
+use Rattle.vsi_drive.specs.Counted.{device_of}
 use Rattle.vsi_subject.proofs.Partly.{any_failure}
 use Rattle.vsi_runs.proofs.Served.{part_on, served_on, served_partly}
 use Rattle.vsi_runs.proofs.trials.serve_input.Goals as goal

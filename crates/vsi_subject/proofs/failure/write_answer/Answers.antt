@@ -1,6 +1,6 @@
 use Rattle.std.proofs.Common.{◌≡◌, ◌⊎◌, false, inl, inr, refl}
 use Rattle.std.specs.Io.KnownBytes.{Appends}
-use Rattle.vsi_devices.specs.Counted.{device_of}
+use Rattle.vsi_drive.specs.Counted.{device_of}
 use Rattle.vsi_subject.specs.declared.failure.Failure.TheVariants.{Differs}
 use Rattle.vsi_subject.specs.Failures.{status_of}
 use Rattle.vsi_subject.proofs.Reasons.{handed}

@@ -1,6 +1,6 @@
 use Rattle.std.proofs.Common.{◌≡◌}
 use Rattle.std.specs.Prelude.{true}
-use Rattle.vsi_telling.specs.declared.colour_mode.ColourMode.TheVariants.{Plain}
+use Rattle.vsi_telling.specs.declared.place.ColourMode.TheVariants.{Plain}
 use Rattle.vsi_telling.specs.Safe.{all_plain}
 use Rattle.vsi_telling.proofs.subject.put_pieces.Given as goal
 

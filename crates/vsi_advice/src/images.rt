@@ -1,0 +1,435 @@
+//! The explanation of an image that is refused, or isn't steady though its flows are allowed.
+
+use std::alloc::{AllocError, Global};
+use vsi_audit::AuditError;
+use vsi_compiler::{CompileError, Source, image_of, read_source};
+use vsi_image::{Image, Instr};
+use vsi_infer::Walk;
+use vsi_lattice::{Classes, Lattice};
+use vsi_opt::optimise;
+use vsi_scope::{Cmd, Ex, Resolved};
+use vsi_steady::{SteadyError, chain_source};
+use vsi_syntax::{Span, line_column};
+use vsi_telling::{Part, Telling, Told, class_names, part_of, say};
+
+/// A refused image, and the lattice by which it was judged.
+#[derive(Clone, Copy)]
+pub(crate) struct Judged<'a> {
+    pub(crate) lattice: &'a Lattice,
+    pub(crate) image: &'a Image,
+}
+
+/// The rule for an instruction in an image's commands.
+fn rule_of(instruction: Option<&Instr>) -> &'static [u8] {
+    match instruction {
+        Some(Instr::Jz(_)) => {
+            b"A JZ belongs to an `if` or a `while`: the instruction before its target is a JMP, \
+            which ends the first branch or the body.\n"
+        }
+        Some(Instr::Jmp(_)) => {
+            b"A JMP ends the first branch of an `if`, or leads from the end of a body back to the \
+            guard of its `while`, and is nowhere else.\n"
+        }
+        Some(Instr::Halt) => b"HALT is the last instruction, and is nowhere else.\n",
+        Some(Instr::Load(_)) => {
+            b"A LOAD reads a global, or a local that an earlier STORE has set in the same branch \
+            or around it; an expression is nested at most 200 deep.\n"
+        }
+        Some(Instr::Store(_)) => {
+            b"A STORE ends an assignment. It takes the only operand on the stack, which reads no \
+            local that isn't set; locals are first set in the order of their slots.\n"
+        }
+        _ => {
+            b"An operand is used within its command, and an expression is nested at most 200 \
+            deep.\n"
+        }
+    }
+}
+
+impl Judged<'_> {
+    /// Adds a sentence, and the line of an instruction as a listing has it, if there is one with
+    /// this number.
+    fn put_at(
+        self,
+        telling: &mut Telling<'_>,
+        sentence: &str,
+        parts: &[Part<'_>],
+        number: usize,
+    ) -> Result<(), AllocError> {
+        telling.say(sentence, parts)?;
+        let Some(instruction) = self.image.code.get(number) else {
+            return Ok(());
+        };
+        telling.say("  %: ", &[Part::Number(number)])?;
+        instruction.write_to(&mut telling.words)?;
+        telling.add("\n")
+    }
+
+    /// Explains a global whose class the lattice lacks.
+    fn bad_class(self, telling: &mut Telling<'_>, number: usize) -> Told {
+        let Some((name, class)) = self.image.globals.get(number) else {
+            return Ok(None);
+        };
+        let classes = class_names(telling.alloc, self.lattice)?;
+        telling.tell(
+            None,
+            "The global % has the class %, which the lattice file lacks: its classes are %.\n\
+            Hint: give the lattice file with which the image was built; `vsi list IMAGE` shows \
+            each global with its class.\n",
+            &[
+                Part::Quoted(name),
+                Part::Quoted(class),
+                Part::Names(&classes),
+            ],
+        )
+    }
+
+    /// Explains code that doesn't consist of commands.
+    fn bad_code(self, telling: &mut Telling<'_>, number: usize) -> Told {
+        let sentence = "The image is valid, but its code isn't that of commands from here on:\n";
+        self.put_at(telling, sentence, &[], number)?;
+        telling.tell(
+            None,
+            "%Hint: build the image again from its source text. Code without commands is judged by \
+            `vsi audit LATTICE IMAGE --steady`.\n",
+            &[Part::Text(rule_of(self.image.code.get(number)))],
+        )
+    }
+
+    /// Explains a flow that breaks the policy.
+    fn bad_flow(self, telling: &mut Telling<'_>, walk: &Walk) -> Told {
+        let (Some(first), Some(last)) = (walk.steps.first(), walk.steps.last()) else {
+            return Ok(None);
+        };
+        let (from, to) = (first.read.start, last.written.start);
+        let sentence = "The numbers are those of instructions. The flow begins at\n";
+        self.put_at(telling, sentence, &[], from)?;
+        if to != from {
+            self.put_at(telling, "and ends at\n", &[], to)?;
+        }
+        telling.tell(
+            None,
+            "Hint: `vsi source IMAGE` prints the image as a text, and `vsi check LATTICE TEXT \
+            --explain` shows each step of the flow in that text.\n",
+            &[],
+        )
+    }
+
+    /// Explains a jump or a global with a forbidden flow into it.
+    fn bad_chain(self, telling: &mut Telling<'_>, number: usize) -> Told {
+        let slot = chain_source(telling.alloc, self.lattice, self.image, number)?;
+        let mut source = Vec::new(telling.alloc);
+        let global = match slot {
+            Some(slot) => self.image.globals.get(slot as usize),
+            None => None,
+        };
+        match global {
+            Some((name, class)) => {
+                say(&mut source, "% : %", &[Part::Text(name), Part::Text(class)])?;
+            }
+            None => source.extend_from_slice(b"(something)")?,
+        }
+        let source = Part::Quoted(&source);
+        if let Some(Instr::Store(_)) = self.image.code.get(number) {
+            let sentence = "This instruction writes a value that depends on %:\n";
+            self.put_at(telling, sentence, &[source], number)?;
+            return telling.tell(
+                None,
+                "Hint: give the global that it writes a class at or above that one, or write a \
+                value there that doesn't depend on it.\n",
+                &[],
+            );
+        }
+        self.put_at(telling, "This jump depends on %:\n", &[source], number)?;
+        telling.tell(
+            None,
+            "With --steady a jump depends on nothing above the least class, which is %.\nHint: \
+            compute both results and select one by arithmetic, as in `out := g * a + (1 - g) * b` \
+            for a guard g that is 0 or 1, and build the image again.\n",
+            &[Part::Quoted(self.lattice.name(self.lattice.bottom()))],
+        )
+    }
+
+    /// Adds the explanation of an image whose commands are judged.
+    pub(crate) fn of_audit(self, telling: &mut Telling<'_>, error: &AuditError) -> Told {
+        match error {
+            AuditError::Memory => Err(AllocError),
+            AuditError::UnknownClass(number) => self.bad_class(telling, *number),
+            AuditError::Unstructured(number) => self.bad_code(telling, *number),
+            AuditError::WrongFields => telling.tell(
+                None,
+                "The image has the fields slots % and stack %, but its commands need another \
+                number for one of them.\nHint: `vsi source IMAGE` prints the commands as a text; \
+                build an image from that.\n",
+                &[
+                    Part::Number(self.image.slots as usize),
+                    Part::Number(self.image.stack as usize),
+                ],
+            ),
+            AuditError::NoText => telling.tell(
+                None,
+                "The code has more commands, or nests them deeper, than a text may.\n\
+                Hint: `vsi list IMAGE` shows the instructions.\n",
+                &[],
+            ),
+            AuditError::Flow(walk) => self.bad_flow(telling, walk),
+        }
+    }
+
+    /// Adds the explanation of an image that isn't steady.
+    pub(crate) fn of_steady(self, telling: &mut Telling<'_>, error: &SteadyError) -> Told {
+        match error {
+            SteadyError::Memory => Err(AllocError),
+            SteadyError::UnknownClass(number) => self.bad_class(telling, *number),
+            SteadyError::Flow(number) => self.bad_chain(telling, *number),
+        }
+    }
+}
+
+/// A flow from a variable to another one, or to a jump. Variables have numbers, globals first.
+#[derive(Clone, Copy)]
+struct Flow {
+    from: usize,
+    to: Option<usize>,
+}
+
+/// The flows of a program by assignments and guards.
+#[derive(Drop)]
+struct Flows {
+    globals: usize,
+    steps: Vec<Flow>,
+    /// The slot of each variable.
+    slots: Vec<usize>,
+    /// The variables in scope, by their slots.
+    scope: Vec<usize>,
+}
+
+/// How a variable is reached: from another one, and whether it has the slot of that one. The first
+/// variable is reached from itself.
+type Reached = Option<(usize, bool)>;
+
+/// Adds the flows from the variables of an expression.
+fn put_reads(e: &Ex, to: Option<usize>, flows: &mut Flows) -> Result<(), AllocError> {
+    match e {
+        Ex::Num(_) => Ok(()),
+        Ex::Loc(slot, _) => {
+            if let Some(from) = flows.scope.get(*slot as usize).copied() {
+                flows.steps.push(Flow { from, to })?;
+            }
+            Ok(())
+        }
+        Ex::Op(_, left, right) => {
+            put_reads(left, to, flows)?;
+            put_reads(right, to, flows)
+        }
+    }
+}
+
+/// Brings the variable of a `letvar` into scope.
+fn begin(flows: &mut Flows) -> Result<(), AllocError> {
+    let (number, slot) = (flows.slots.len(), flows.scope.len());
+    flows.slots.push(slot)?;
+    flows.scope.push(number)?;
+    Ok(())
+}
+
+/// Adds the flows of commands.
+#[cycle(flowing)]
+fn put_all(body: &[Cmd], flows: &mut Flows) -> Result<(), AllocError> {
+    for c in body {
+        put_one(c, flows)?;
+    }
+    Ok(())
+}
+
+/// Adds the flows of a command.
+#[cycle(flowing)]
+fn put_one(c: &Cmd, flows: &mut Flows) -> Result<(), AllocError> {
+    match c {
+        Cmd::Assign { loc, value, .. } => match flows.scope.get(*loc as usize).copied() {
+            Some(to) => put_reads(value, Some(to), flows),
+            None => Ok(()),
+        },
+        Cmd::If { guard, yes, no } => {
+            put_reads(guard, None, flows)?;
+            put_all(yes, flows)?;
+            put_all(no, flows)
+        }
+        Cmd::While { guard, body } => {
+            put_reads(guard, None, flows)?;
+            put_all(body, flows)
+        }
+        Cmd::Letvar { value, body } => {
+            let number = flows.slots.len();
+            put_reads(value, Some(number), flows)?;
+            begin(flows)?;
+            put_all(body, flows)?;
+            let _ended = flows.scope.pop();
+            Ok(())
+        }
+    }
+}
+
+/// The flows of a program.
+fn flows_of(alloc: Global, program: &Resolved<'_>) -> Result<Flows, AllocError> {
+    let mut flows = Flows {
+        globals: program.globals().len(),
+        steps: Vec::new(alloc),
+        slots: Vec::new(alloc),
+        scope: Vec::new(alloc),
+    };
+    for _ in program.globals() {
+        begin(&mut flows)?;
+    }
+    put_all(program.body(), &mut flows)?;
+    Ok(flows)
+}
+
+/// Whether a variable is reached.
+fn is_reached(reached: &[Reached], variable: usize) -> bool {
+    matches!(reached.get(variable), Some(Some(_)))
+}
+
+/// Marks a local variable that isn't reached yet, and says whether it was one.
+fn mark(flows: &Flows, reached: &mut [Reached], variable: usize, how: (usize, bool)) -> bool {
+    if variable < flows.globals || is_reached(reached, variable) || variable >= reached.len() {
+        return false;
+    }
+    reached[variable] = Some(how);
+    true
+}
+
+/// Goes on along the flows until nothing changes, or a flow reaches the target: then returns the
+/// variable that it comes from.
+fn follow(flows: &Flows, reached: &mut [Reached], target: Option<usize>) -> Option<usize> {
+    for _ in 0..=flows.slots.len() {
+        let mut has_changed = false;
+        for step in &flows.steps {
+            if !is_reached(reached, step.from) {
+                continue;
+            }
+            if step.to == target {
+                return Some(step.from);
+            }
+            if let Some(to) = step.to {
+                has_changed = mark(flows, reached, to, (step.from, false)) || has_changed;
+            }
+        }
+        if !has_changed {
+            return None;
+        }
+    }
+    None
+}
+
+/// Goes on from each local variable to those with the same slot, and says whether one was reached.
+fn share(flows: &Flows, reached: &mut [Reached]) -> bool {
+    let mut has_changed = false;
+    for variable in flows.globals..flows.slots.len() {
+        if !is_reached(reached, variable) {
+            continue;
+        }
+        for other in flows.globals..flows.slots.len() {
+            if flows.slots.get(other) == flows.slots.get(variable) {
+                has_changed = mark(flows, reached, other, (variable, true)) || has_changed;
+            }
+        }
+    }
+    has_changed
+}
+
+/// The last two variables with the same slot on the way to a variable.
+fn pair_before(reached: &[Reached], variable: usize) -> Option<(usize, usize)> {
+    let mut at = variable;
+    for _ in 0..reached.len() {
+        let (before, is_shared) = reached.get(at).copied().flatten()?;
+        if is_shared {
+            return Some((before, at));
+        }
+        at = before;
+    }
+    None
+}
+
+/// Two variables with the same slot, by which a global reaches the target.
+fn shared_pair(
+    alloc: Global,
+    flows: &Flows,
+    first: usize,
+    target: Option<usize>,
+) -> Result<Option<(usize, usize)>, AllocError> {
+    let mut reached: Vec<Reached> = Vec::new(alloc);
+    reached.resize(flows.slots.len(), None)?;
+    if first < reached.len() {
+        reached[first] = Some((first, false));
+    }
+    for _ in 0..=flows.slots.len() {
+        if let Some(last) = follow(flows, &mut reached, target) {
+            return Ok(pair_before(&reached, last));
+        }
+        if !share(flows, &mut reached) {
+            return Ok(None);
+        }
+    }
+    Ok(None)
+}
+
+/// The names of the two variables that share a slot, in the order of the text, where its image is
+/// refused at an instruction.
+fn sharers(
+    alloc: Global,
+    source: &Source<'_>,
+    place: usize,
+) -> Result<Option<(Span, Span)>, AllocError> {
+    let verified = image_of(alloc, source)?;
+    let image = verified.image();
+    let Some(first) = chain_source(alloc, source.lattice(), image, place)? else {
+        return Ok(None);
+    };
+    let target = match image.code.get(place) {
+        Some(Instr::Store(slot)) => Some(*slot as usize),
+        _ => None,
+    };
+    let program = optimise(alloc, source.resolved())?;
+    let flows = flows_of(alloc, &program)?;
+    let Some((one, other)) = shared_pair(alloc, &flows, first as usize, target)? else {
+        return Ok(None);
+    };
+    let numbers = (one.min(other), one.max(other));
+    let entries = program.letvars();
+    let first = entries.get(numbers.0.saturating_sub(flows.globals));
+    let second = entries.get(numbers.1.saturating_sub(flows.globals));
+    match (first, second) {
+        (Some(first), Some(second)) => Ok(Some((first.span, second.span))),
+        _ => Ok(None),
+    }
+}
+
+/// Adds the explanation of a text whose flows are allowed, but whose image isn't steady, and
+/// returns the position of the second variable that has the slot.
+pub(crate) fn of_shared(telling: &mut Telling<'_>, lattice: &Lattice, error: &SteadyError) -> Told {
+    let SteadyError::Flow(place) = error else {
+        return Ok(None);
+    };
+    let text = telling.bytes;
+    let source = match read_source(telling.alloc, lattice, text) {
+        Ok(source) => source,
+        Err(CompileError::Memory) => return Err(AllocError),
+        Err(_) => return Ok(None),
+    };
+    let Some((first, second)) = sharers(telling.alloc, &source, *place)? else {
+        return Ok(None);
+    };
+    telling.tell(
+        Some(second),
+        "The flows of the text are allowed, but its image isn't steady: % (line %) and % (line %) \
+        have the same slot of the image, one after the other, and a slot has one class for the \
+        whole code.\nHint: nest one `letvar` in the other, and each has a slot of its own.\n",
+        &[
+            Part::Quoted(part_of(text, first)),
+            Part::Number(line_column(text, first.start).0),
+            Part::Quoted(part_of(text, second)),
+            Part::Number(line_column(text, second.start).0),
+        ],
+    )
+}

@@ -1,7 +1,0 @@
-use Rattle.vsi_devices.proofs.Builds.{written_some}
-use Rattle.vsi_devices.proofs.building.build_in.Goals as goal
-
-pub returns-clause-built : goal.returns-clause-built
-returns-clause-built g c =
-    written_some c.write_out.result _ _ _ c.deref.result.now c.in_ok-image.image.items c.in_ok-image.ensures.built
-    c.deref.ensures.value c.write_out.ensures.whole

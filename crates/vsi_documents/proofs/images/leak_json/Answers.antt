@@ -1,0 +1,29 @@
+use Rattle.std.proofs.Common.{◌∙◌, ap, subst}
+use Rattle.vsi_image.specs.Fields.{globals}
+use Rattle.vsi_lattice.specs.LatticeView.{class_named, order}
+use Rattle.vsi_leak.specs.Leaks.{IsFinding, IsWanted}
+use Rattle.vsi_documents.specs.Leaks.{leak_members}
+use Rattle.vsi_diagnostics.specs.Members.{object_line}
+use Rattle.vsi_documents.proofs.images.leak_json.Goals as goal
+
+pub returns-in-Leak-clause-answer : goal.returns-in-Leak-clause-answer
+returns-in-Leak-clause-answer c =
+    let l = c.args.lattice.now in
+    let budget = c.args.wanted.now.effort.budget in
+    let told = c.in_ok-text-in-Leak.ensures in
+    record {
+      program = c.in-Ok.ensures.found;
+      image = c.in-Ok.found.0;
+      of_source = c.in-Ok.ensures.image;
+      leak = c.in-Leak.leak;
+      leaks = subst (λ f. IsFinding (class_named l) (order l) c.in-Ok.found.0 budget f) c.in-Leak.is
+          c.in-Ok.ensures.leak;
+      is_wanted = subst (λ f. IsWanted c.args.wanted.now f) c.in-Leak.is c.in-Ok.ensures.asked;
+      name = told.0;
+      at_class = told.1;
+      line = told.2
+          ∙ ap
+          (λ image. object_line
+          (leak_members (class_named l) (order l) told.0 budget (globals image.globals.items) c.in-Leak.leak))
+          c.image-image.ensures.same;
+    }

@@ -1,0 +1,327 @@
+//! The judgement of an image, its bound, its runs, and a search for a leak, as lines of JSON.
+
+ghost use Rattle.std.specs.Prelude.{◌≡◌, IfOk, ℕ, List, length, slice_get, IfErr, IfSome, Some};
+ghost use Rattle.serde_json.specs.View.{members_view};
+ghost use Rattle.vsi_answers.specs.Bounds.{TellsBound};
+ghost use Rattle.vsi_image.specs.Fields.{globals};
+ghost use Rattle.vsi_lattice.specs.LatticeView.{class_named, names, order};
+ghost use Rattle.vsi_lattice.specs.Order.{IsClass};
+ghost use Rattle.vsi_compiler.specs.Readable.{HasProgram};
+ghost use Rattle.vsi_compiler.specs.Refusal.{RefusesProgram};
+ghost use Rattle.vsi_compiler.specs.declared.source.CompileError.TheVariants.{Memory};
+ghost use Rattle.vsi_documents.specs.Audits as spec;
+ghost use Rattle.vsi_documents.specs.Bounds as bounds_spec;
+ghost use Rattle.vsi_diagnostics.specs.Members as lines;
+ghost use Rattle.vsi_documents.specs.Runs as runs_spec;
+ghost use Rattle.vsi_documents.specs.Words as words_spec;
+ghost use Rattle.vsi_documents.specs.Comparisons as comparisons_spec;
+ghost use Rattle.vsi_documents.specs.Leaks as leaks_spec;
+
+use crate::answer::{Reply, end_object, with_after, with_ending, with_pairs, word_objects};
+use std::alloc::{AllocError, Global};
+use vsi_answers::{BoundAnswer, Unanswered, bound, bound_in};
+use vsi_compiler::CompileError;
+use vsi_conform::{Judgement, refused_image};
+use vsi_diagnostics::{Object, accepted_json, refusal_json, without_end};
+use vsi_image::{Image, Verified};
+use vsi_lattice::{Class, Lattice};
+use vsi_leak::{Finding, Leak, Wanted, leak_of_text};
+use vsi_machine::{Bound, Outcome, counted};
+use vsi_store::Comparison;
+
+/// The answer of `vsi audit` to an image as a line of JSON: an object with `accepted` and, for a
+/// refused image, `number`, `name` and `text`, the lines of the refusal without the last line feed.
+/// An error means that memory ran out.
+pub fn audit_json(
+    alloc: Global,
+    judgement: Judgement,
+    lattice: &Lattice,
+    image: &Verified,
+) -> Result<Reply, AllocError>
+    ensures answer { IfOk result (λ answer. spec.TellsJudged lattice.now judgement image.now
+        answer.is_good answer.text.items) }
+{
+    match refused_image(alloc, judgement, lattice, image)? {
+        None => {
+            let text = accepted_json(alloc)?;
+            let is_good = true;
+            Ok(Reply { is_good, text })
+        }
+        Some((diagnostic, lines)) => {
+            let text = refusal_json(alloc, lattice, &[], &diagnostic, &lines)?;
+            let is_good = false;
+            Ok(Reply { is_good, text })
+        }
+    }
+}
+
+/// The object with the numbers of a bound.
+fn with_bound(made: Object, found: Bound) -> Result<Object, AllocError>
+    ensures { IfOk result
+        (λ all. members_view all ≡ bounds_spec.with_bound found (members_view made)) }
+{
+    match found {
+        Bound::Halts { least, most } => {
+            made.natural("least", least as usize)?
+                .natural("most", most as usize)
+        }
+        Bound::Endless { test, reason: _ } => made.natural("instruction", test),
+        Bound::Unstructured(at) => made.natural("instruction", at),
+        Bound::TooLarge => Ok(made),
+    }
+}
+
+/// The line of an answer with this text.
+fn bound_line(
+    alloc: Global,
+    is_bounded: bool,
+    found: Bound,
+    text: &[u8],
+) -> Result<Vec<u8>, AllocError>
+    ensures { IfOk result (λ line. line.items
+        ≡ lines.object_line (bounds_spec.bound_members is_bounded found text.now)) }
+{
+    let made = Object::new(alloc).flag("bounded", is_bounded)?;
+    with_bound(made, found)?
+        .text("text", without_end(text))?
+        .line()
+}
+
+/// An answer about an image, with its line.
+fn document_of(alloc: Global, verified: &Verified, answer: BoundAnswer) -> Result<Reply, AllocError>
+    requires { TellsBound verified.now answer }
+    ensures { IfOk result
+        (λ told. bounds_spec.IsBoundJson verified.now told.is_good told.text.items) }
+{
+    let is_good = answer.is_bounded;
+    let text = bound_line(alloc, is_good, answer.found, &answer.text)?;
+    Ok(Reply { is_good, text })
+}
+
+/// The answer of `vsi bound` to an image as a line of JSON: an object with `bounded`, whether a
+/// bound was found, `text`, the line of `vsi_answers::bound` without its line feed, and the numbers
+/// `least` and `most` of instructions or, where there is no bound, the number `instruction` of the
+/// one that is named. An error means that memory ran out.
+pub fn bound_json(alloc: Global, verified: &Verified) -> Result<Reply, AllocError>
+    ensures answer { IfOk result
+        (λ answer. bounds_spec.IsBoundJson verified.now answer.is_good answer.text.items) }
+{
+    let answer = bound(alloc, verified)?;
+    document_of(alloc, verified, answer)
+}
+
+/// The same for the image of a source text, whose line has the position of a loop.
+pub fn bound_json_in(
+    alloc: Global,
+    lattice: &Lattice,
+    source: &[u8],
+    verified: &Verified,
+) -> Result<Reply, AllocError>
+    ensures answer { IfOk result
+        (λ answer. bounds_spec.IsBoundJson verified.now answer.is_good answer.text.items) }
+{
+    let answer = bound_in(alloc, lattice, source, verified)?;
+    document_of(alloc, verified, answer)
+}
+
+/// The line of a run that halts after so many instructions, with these words in the globals.
+fn halted_line(
+    alloc: Global,
+    image: &Image,
+    words: &[i64],
+    instructions: u64,
+) -> Result<Vec<u8>, AllocError>
+    requires { length words.now ≡ length image.now.globals.items }
+    ensures { IfOk result (λ line. line.items ≡ lines.object_line
+        (runs_spec.halted_members instructions
+        (words_spec.word_objects (globals image.now.globals.items) words.now))) }
+{
+    let objects = word_objects(alloc, image.globals.as_slice(), words)?;
+    end_object(alloc, true, instructions)?
+        .array("globals", objects)?
+        .line()
+}
+
+/// The answer of `vsi run` to an image and words for its globals as a line of JSON: an object with
+/// `halted`, whether the run halts within the budget, `instructions`, how many it executes, and, if
+/// it halts, `globals`, an array with an object for each global, which has its `name` and its
+/// `word`. The answer is good if the run halts. An error means that memory ran out.
+pub fn run_json(
+    alloc: Global,
+    verified: &Verified,
+    words: &[i64],
+    budget: u64,
+) -> Result<Reply, AllocError>
+    requires { length words.now ≡ length verified.now.globals.items }
+    ensures answer { IfOk result (λ answer. runs_spec.TellsRun verified.now words.now budget
+        answer.is_good answer.text.items) }
+{
+    let Ok(count) = counted(alloc, verified, words, budget) else {
+        return Err(AllocError);
+    };
+    match count.outcome {
+        Outcome::Halted => {
+            let (image, last) = (verified.image(), count.machine.store());
+            let text = halted_line(alloc, image, last, count.instructions)?;
+            let is_good = true;
+            Ok(Reply { is_good, text })
+        }
+        Outcome::OutOfBudget => {
+            let text = end_object(alloc, false, count.instructions)?.line()?;
+            let is_good = false;
+            Ok(Reply { is_good, text })
+        }
+    }
+}
+
+/// The line of a comparison of runs from two stores.
+fn comparison_line(
+    alloc: Global,
+    lattice: &Lattice,
+    image: &Image,
+    class: Class,
+    stores: (&[i64], &[i64]),
+    budget: u64,
+    found: &Comparison,
+) -> Result<Vec<u8>, AllocError>
+    requires { IsClass (order lattice.now) class }
+    ensures { IfOk result (λ line. (name : List ℕ)
+        × (slice_get (names lattice.now) class ≡ Some name)
+        × (line.items ≡ lines.object_line (comparisons_spec.comparison_members (class_named lattice.now)
+        (order lattice.now) name class (globals image.now.globals.items)
+        stores.entry.0.now stores.entry.1.now budget found.now))) }
+{
+    let variables = image.globals.as_slice();
+    let to = Some(class);
+    let made = Object::new(alloc)
+        .flag("same", found.is_same)?
+        .text("class", lattice.name(class))?;
+    let made = with_pairs(alloc, made, "before", lattice, &to, variables, stores)?;
+    let made = with_after(
+        alloc,
+        made,
+        lattice,
+        class,
+        variables,
+        &found.first,
+        &found.second,
+    )?;
+    let made = with_ending(alloc, made, "first", budget, &found.first)?;
+    let made = with_ending(alloc, made, "second", budget, &found.second)?;
+    made.line()
+}
+
+/// The answer of `vsi compare` to an image and words for two runs as a line of JSON: an object with
+/// `class`, the name of the class, `same`, whether it sees the same after both runs, `before` and,
+/// if both halt, `after`, arrays with an object for each global that it sees, which has its `name`
+/// and its words in the `first` and the `second` run, and `first` and `second`, how the runs end,
+/// as of `run_json`. The answer is good if the class sees the same.
+///
+/// # Errors
+///
+/// The errors of `vsi_answers::compare`.
+pub fn compare_json(
+    alloc: Global,
+    lattice: &Lattice,
+    verified: &Verified,
+    class: Class,
+    first: &[i64],
+    second: &[i64],
+    budget: u64,
+) -> Result<Reply, Unanswered>
+    requires class { IsClass (order lattice.now) class }
+    requires first { length first.now ≡ length verified.now.globals.items }
+    requires second { length second.now ≡ length verified.now.globals.items }
+    ensures answer { comparisons_spec.ComparesJsonTo lattice.now class verified.now first.now second.now
+        budget result }
+{
+    match vsi_answers::compare(alloc, lattice, verified, class, first, second, budget) {
+        Ok(found) => {
+            let (image, stores) = (verified.image(), (first, second));
+            let text = comparison_line(alloc, lattice, image, class, stores, budget, &found)?;
+            let is_good = found.is_same;
+            Ok(Reply { is_good, text })
+        }
+        Err(error) => Err(error),
+    }
+}
+
+/// The line of a leak.
+fn leak_line(
+    alloc: Global,
+    lattice: &Lattice,
+    image: &Image,
+    budget: u64,
+    leak: &Leak,
+) -> Result<Vec<u8>, AllocError>
+    requires { IsClass (order lattice.now) leak.now.class }
+    ensures { IfOk result (λ line. (name : List ℕ)
+        × (slice_get (names lattice.now) leak.now.class ≡ Some name)
+        × (line.items ≡ lines.object_line (leaks_spec.leak_members
+        (class_named lattice.now) (order lattice.now) name budget
+        (globals image.now.globals.items) leak.now))) }
+{
+    let variables = image.globals.as_slice();
+    let stores = (leak.first.store.as_slice(), leak.second.store.as_slice());
+    let made = Object::new(alloc)
+        .flag("found", true)?
+        .text("class", lattice.name(leak.class))?;
+    let made = with_pairs(alloc, made, "before", lattice, &None, variables, stores)?;
+    let (first, second) = (&leak.first.ending, &leak.second.ending);
+    let made = with_after(alloc, made, lattice, leak.class, variables, first, second)?;
+    let made = with_ending(alloc, made, "first", budget, first)?;
+    let made = with_ending(alloc, made, "second", budget, second)?;
+    made.line()
+}
+
+/// The line of a search that found no leak in so many pairs of runs.
+fn nothing_line(alloc: Global, pairs: u64) -> Result<Vec<u8>, AllocError>
+    ensures { IfOk result
+        (λ line. line.items ≡ lines.object_line (leaks_spec.nothing_members pairs)) }
+{
+    Object::new(alloc)
+        .flag("found", false)?
+        .natural("pairs", pairs as usize)?
+        .line()
+}
+
+/// The answer of `vsi leak` to a text as a line of JSON: an object with `found`, whether a leak was
+/// found. For a leak it has `class`, the name of its class, `before`, an array with an object for
+/// each global at the start of both runs, `after`, the same for each global that the class sees at
+/// their ends, if both halt, and `first` and `second`, how the runs end, as of `compare_json`.
+/// Otherwise it has `pairs`, the number of pairs of runs. The answer is good if no leak was found.
+///
+/// # Errors
+///
+/// The errors of `leak_of_text`: no flow is refused here.
+pub fn leak_json(
+    alloc: Global,
+    lattice: &Lattice,
+    text: &[u8],
+    wanted: &Wanted,
+) -> Result<Reply, CompileError>
+    requires { IfSome wanted.now.class (IsClass (order lattice.now)) }
+    ensures answer { IfOk result (λ answer. leaks_spec.TellsSearch lattice.now text.now wanted.now
+        answer.is_good answer.text.items) }
+    ensures refused { IfErr result (RefusesProgram (class_named lattice.now) text.now) }
+    ensures exact { HasProgram (class_named lattice.now) text.now
+        → IfErr result (λ e. e ≡ Memory) }
+{
+    let (verified, finding) = match leak_of_text(alloc, lattice, text, wanted) {
+        Ok(found) => found,
+        Err(error) => return Err(error),
+    };
+    match &finding {
+        Finding::Leak(leak) => {
+            let image = verified.image();
+            let text = leak_line(alloc, lattice, image, wanted.effort.budget, leak)?;
+            let is_good = false;
+            Ok(Reply { is_good, text })
+        }
+        Finding::Nothing { pairs } => {
+            let text = nothing_line(alloc, *pairs)?;
+            let is_good = true;
+            Ok(Reply { is_good, text })
+        }
+    }
+}

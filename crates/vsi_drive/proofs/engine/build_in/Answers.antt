@@ -1,0 +1,7 @@
+use Rattle.vsi_drive.proofs.Builds.{written_some}
+use Rattle.vsi_drive.proofs.engine.build_in.Goals as goal
+
+pub returns-clause-built : goal.returns-clause-built
+returns-clause-built g c =
+    written_some c.write_out.result _ _ _ c.deref.result.now c.in_ok-image.image.items c.in_ok-image.ensures.built
+    c.deref.ensures.value c.write_out.ensures.whole

@@ -1,0 +1,5 @@
+use Rattle.std.proofs.Common.{rules}
+use Rattle.vsi_lattice.proofs.order.MaskLatticeClasses.top.Goals as goal
+
+pub returns : goal.returns
+returns c = search rules

@@ -1,5 +1,0 @@
-use Rattle.std.proofs.Common.{rules}
-use Rattle.vsi_lattice.proofs.pair.PairLatticeClasses.bottom.Goals as goal
-
-pub returns : goal.returns
-returns c = search rules

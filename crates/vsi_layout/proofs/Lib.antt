@@ -1,4 +1,0 @@
-pub mod Appended
-pub mod Sames
-pub mod Laid
-pub mod Kept

@@ -1,5 +1,0 @@
-use Rattle.vsi_layout.proofs.Kept as law
-use Rattle.vsi_layout.proofs.laws.canonical_kept.Goals as goal
-
-pub returns : goal.returns
-returns c = law.canonical_kept

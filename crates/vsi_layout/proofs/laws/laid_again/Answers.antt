@@ -1,5 +1,0 @@
-use Rattle.vsi_layout.proofs.Laid.{layout_again}
-use Rattle.vsi_layout.proofs.laws.laid_again.Goals as goal
-
-pub returns : goal.returns
-returns c = layout_again

@@ -1,8 +1,0 @@
-use Rattle.std.proofs.Common.{List, [], take}
-use Rattle.vsi_machine.specs.declared.known.Known.{Known}
-use Rattle.vsi_machine.specs.Loops.{IsEntry}
-use Rattle.vsi_machine.proofs.facts.forget_stored.Given as goal
-
-abbrev pub invariant-loop-instr : goal.invariant-loop-instr
-invariant-loop-instr l =
-    (facts : List Known) → IsEntry [] facts l.fn.entry → IsEntry (take l.instr-index l.code) facts l.entry

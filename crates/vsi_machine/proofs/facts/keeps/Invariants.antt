@@ -1,5 +1,0 @@
-use Rattle.vsi_machine.proofs.Updating.{KeepsBefore}
-use Rattle.vsi_machine.proofs.facts.keeps.Given as goal
-
-abbrev pub invariant-loop-slot : goal.invariant-loop-slot
-invariant-loop-slot l = KeepsBefore l.slot l.entry l.turned

@@ -1,6 +1,0 @@
-use Rattle.vsi_machine.specs.Loops.{Meets}
-use Rattle.vsi_machine.proofs.Updating.{Updated}
-use Rattle.vsi_machine.proofs.joining.join.Given as goal
-
-abbrev pub invariant-loop-slot : goal.invariant-loop-slot
-invariant-loop-slot l = Updated (Meets l.fn.facts l.other) l.fn.facts l.facts l.slot

@@ -1,5 +1,0 @@
-use Rattle.vsi_monitor.proofs.Computing.{computes_the_same}
-use Rattle.vsi_monitor.proofs.laws.computes_the_same.Goals as goal
-
-pub returns : goal.returns
-returns c = computes_the_same

@@ -1,5 +1,0 @@
-use Rattle.vsi_monitor.proofs.More.{stops_fewer}
-use Rattle.vsi_monitor.proofs.laws.stops_fewer.Goals as goal
-
-pub returns : goal.returns
-returns c = stops_fewer

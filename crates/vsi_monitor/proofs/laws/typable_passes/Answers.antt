@@ -1,5 +1,0 @@
-use Rattle.vsi_monitor.proofs.Passing.{typable_passes}
-use Rattle.vsi_monitor.proofs.laws.typable_passes.Goals as goal
-
-pub returns : goal.returns
-returns c = typable_passes

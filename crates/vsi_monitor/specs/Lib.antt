@@ -1,4 +1,0 @@
-pub mod Labels
-pub mod Monitor
-pub mod Watched
-pub mod Laws

@@ -1,5 +1,0 @@
-mod Cases
-mod Finds
-mod Flags
-mod Marks
-mod Walks
