@@ -10,10 +10,9 @@ ghost use Rattle.vsi_image.specs.Fields.{Fields, IsOneSpelling, Spells, fields, 
 ghost use Rattle.vsi_image.specs.Reading.{Gives};
 ghost use Rattle.vsi_image.specs.Reading as spec;
 
-use crate::encoder::{
-    self, MAGIC, MAX_GLOBALS, MAX_INSTRUCTIONS, MAX_NAME_LENGTH, MAX_OPERANDS, MAX_SLOTS, VERSION,
-};
+use crate::encoder::{MAX_GLOBALS, MAX_INSTRUCTIONS, MAX_NAME_LENGTH, MAX_OPERANDS, MAX_SLOTS};
 use crate::instr::{Image, Instr};
+use crate::opcodes::{self, MAGIC, VERSION};
 use std::alloc::{AllocError, AllocFailed, Global};
 use thiserror::Error;
 use vsi_syntax::is_name;

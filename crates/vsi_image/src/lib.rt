@@ -14,6 +14,7 @@ mod decoder;
 mod encoder;
 mod instr;
 pub mod laws;
+mod opcodes;
 mod verifier;
 
 pub use decoder::{DecodeError, decode};
