@@ -1,4 +1,4 @@
-//! What each class sees, sets, reads and releases, as tables and as differences of two.
+//! The globals that a class sees, sets, reads and releases, as tables and as differences.
 
 ghost use Rattle.std.specs.Prelude.{◌≡◌, is_some, map, option_map, ◌++◌, IfOk, OnOk};
 ghost use Rattle.std.specs.Option.{option_copied};
