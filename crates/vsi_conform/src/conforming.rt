@@ -268,8 +268,8 @@ fn compiled_of(
     source: &Source<'_>,
 ) -> Result<Result<Verified, UnsteadyError>, AllocError>
     ensures { IfOk result (λ answer. MatchResult answer
-        (conforms_spec.IsCompiled (class_named source.now.lattice) (order source.now.lattice) profile
-        source.now.text)
+        (conforms_spec.IsCompiled (class_named source.now.lattice) (order source.now.lattice)
+        profile source.now.text)
         (conforms_spec.IsRefused (class_named source.now.lattice) (order source.now.lattice) profile
         source.now.text)) }
 {
@@ -288,10 +288,10 @@ pub fn judged_of(
     source: &Source<'_>,
 ) -> Result<Result<Verified, UnsteadyError>, AllocError>
     ensures { IfOk result (λ answer. MatchResult answer
-        (conforms_spec.IsAcceptedAs (class_named source.now.lattice) (order source.now.lattice) judgement
-        source.now.text)
-        (conforms_spec.IsRefusedAs (class_named source.now.lattice) (order source.now.lattice) judgement
-        source.now.text)) }
+        (conforms_spec.IsAcceptedAs (class_named source.now.lattice) (order source.now.lattice)
+        judgement source.now.text)
+        (conforms_spec.IsRefusedAs (class_named source.now.lattice) (order source.now.lattice)
+        judgement source.now.text)) }
 {
     match judgement {
         Judgement::Base => compiled_of(alloc, Profile::Base, source),
@@ -313,8 +313,9 @@ pub fn judged(
     text: &[u8],
 ) -> Result<Result<Verified, UnsteadyError>, AllocError>
     ensures { IfOk result (λ answer. MatchResult answer
-        (conforms_spec.IsAcceptedAs (class_named lattice.now) (order lattice.now) judgement text.now)
-        (conforms_spec.IsRefusedAs (class_named lattice.now) (order lattice.now) judgement text.now)) }
+        (conforms_spec.IsAcceptedAs (class_named lattice.now) (order lattice.now) judgement
+        text.now) (conforms_spec.IsRefusedAs (class_named lattice.now) (order lattice.now) judgement
+        text.now)) }
 {
     match read_source(alloc, lattice, text) {
         Ok(source) => judged_of(alloc, judgement, &source),

@@ -136,7 +136,8 @@ pub enum Fault {
 
 /// The refusal with this number, name and field.
 fn refused<'a>(code: usize, name: &'static [u8], field: Field<'a>) -> Option<Diagnostic<'a>>
-    ensures { option_map diagnostic_of result ≡ source_spec.refused code name.now (field_of field.entry) }
+    ensures { option_map diagnostic_of result ≡ source_spec.refused code name.now (field_of
+        field.entry) }
 {
     Some(Diagnostic::new(code, name, field))
 }

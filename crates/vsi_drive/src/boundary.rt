@@ -214,9 +214,11 @@ fn set_each(
     requires words { length words.old ≡ length (settable reach.now).image.globals.items }
     requires named { length named.old ≡ length (settable reach.now).image.globals.items }
     ensures set { IfOk result (λ answer. MatchResult answer
-        (λ _. starts_spec.set_behind (starts_spec.settings_each (settable reach.now) 0 (texts settings.now))
+        (λ _. starts_spec.set_behind (starts_spec.settings_each (settable reach.now) 0 (texts
+        settings.now))
         (starts_spec.start words.old named.old) ≡ Ok (starts_spec.start words.new named.new))
-        (λ fault. starts_spec.settings_each (settable reach.now) 0 (texts settings.now) ≡ Err fault)) }
+        (λ fault. starts_spec.settings_each (settable reach.now) 0 (texts settings.now) ≡ Err
+        fault)) }
 {
     for number in 0..settings.len() {
         match setting_of(alloc, reach, number, field(settings, number))? {

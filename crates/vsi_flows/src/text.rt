@@ -225,7 +225,8 @@ pub fn walks_text_in(
     lattice: &Lattice,
     text: &[u8],
 ) -> Result<Vec<u8>, CompileError>
-    ensures lines { IfOk result (λ out. text_spec.IsWalksText lattice.now profile text.now out.items) }
+    ensures lines { IfOk result (λ out. text_spec.IsWalksText lattice.now profile text.now
+        out.items) }
     ensures refused { IfErr result (RefusesProgram (class_named lattice.now) text.now) }
     ensures exact { (tree : Whole) (commands : List Command) → Reads text.now tree
         → IsResolution (class_named lattice.now) tree commands → IfErr result (λ e. e ≡ Memory) }

@@ -210,7 +210,8 @@ fn put_head(
 /// The bytes of an image that is within its limits.
 fn bytes_of(alloc: Global, image: &Image) -> Result<Vec<u8>, AllocError>
     requires { IsAllowed (fields image.now) }
-    ensures bytes { IfOk result (λ b. b.items ≡ fields_spec.bytes_of newest_version (fields image.now)) }
+    ensures bytes { IfOk result (λ b. b.items ≡ fields_spec.bytes_of newest_version (fields
+        image.now)) }
     ensures fits { OnOk result (HasBytes newest_version (fields image.now)) }
 {
     known_all(&image.code);
@@ -249,7 +250,8 @@ impl From<AllocError> for EncodeError {
 /// The bytes of the image, in version 2, or the first limit that it exceeds.
 pub fn encode(alloc: Global, image: &Image) -> Result<Vec<u8>, EncodeError>
     // The bytes are the image's in version 2.
-    ensures bytes { IfOk result (λ b. b.items ≡ fields_spec.bytes_of newest_version (fields image.now)) }
+    ensures bytes { IfOk result (λ b. b.items ≡ fields_spec.bytes_of newest_version (fields
+        image.now)) }
     // An image that is encoded is within its limits.
     ensures allowed { OnOk result (IsAllowed (fields image.now)) }
     // The error is the first limit, unless memory ran out.

@@ -167,7 +167,8 @@ impl Instr {
     /// 0` or `PUSH -5`. If memory runs out, the text is unchanged.
     pub fn write_to(self, out: &mut Vec<u8>) -> Result<(), AllocError>
         ensures { out.new.items
-            ≡ (if is_ok result then out.old.items ++ listing_spec.instr_text self else out.old.items) }
+            ≡ (if is_ok result then out.old.items ++ listing_spec.instr_text self else
+            out.old.items) }
     {
         match self {
             Instr::Push(n) => put_push(out, n),
@@ -208,7 +209,8 @@ fn put_code(out: &mut Vec<u8>, code: &[Instr]) -> Result<(), AllocError>
 
 /// Appends the line of a global.
 fn put_global(out: &mut Vec<u8>, g: &(Vec<u8>, Vec<u8>)) -> Result<(), AllocError>
-    ensures { OnOk result (out.new.items ≡ out.old.items ++ listing_spec.global_line (global g.now)) }
+    ensures { OnOk result (out.new.items ≡ out.old.items ++ listing_spec.global_line (global
+        g.now)) }
 {
     out.extend_from_slice(&g.0)?;
     out.extend_from_slice(b" : ")?;

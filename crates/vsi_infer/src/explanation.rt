@@ -231,7 +231,8 @@ fn put_step(
 ) -> Result<(), AllocError>
     requires { All (IsMarkOf source.now) marks.now }
     ensures line { OnOk result
-        (text.new.items ≡ text.old.items ++ explanation_spec.step_line source.now program.now step.now) }
+        (text.new.items ≡ text.old.items ++ explanation_spec.step_line source.now program.now
+        step.now) }
     ensures begins { take (length text.old.items) text.new.items ≡ text.old.items }
 {
     put_place(text, source, marks, step.read.start)?;
@@ -276,8 +277,8 @@ pub fn put_steps(
 ) -> Result<(), AllocError>
     requires { All (IsMarkOf source.now) marks.now }
     ensures { text.new.items ≡ (if is_ok result
-        then text.old.items ++ flat_map (explanation_spec.step_line source.now program.now) steps.now
-        else text.old.items) }
+        then text.old.items ++ flat_map (explanation_spec.step_line source.now program.now)
+        steps.now else text.old.items) }
 {
     let before = text.len();
     let added = put_lines(text, source, marks, program, steps);
@@ -298,7 +299,8 @@ fn put_last(
     requires globals { All (IsClass (order lattice.now)) (program_of program.now).globals }
     requires declared { AreClasses (order lattice.now) (program_of program.now).declared }
     ensures { OnOk result
-        (text.new.items ≡ text.old.items ++ explanation_spec.last_text lattice.now program.now first last) }
+        (text.new.items ≡ text.old.items ++ explanation_spec.last_text lattice.now program.now
+        first last) }
 {
     put_variable(text, lattice, program, first)?;
     text.extend_from_slice(b" may not flow to ")?;
@@ -320,7 +322,8 @@ pub fn explain(
     requires declared { AreClasses (order lattice.now) (program_of program.now).declared }
     requires bad { IsBad (order lattice.now) Strict (program_of program.now) walk.now.steps.items }
     ensures { IfOk result
-        (λ t. t.items ≡ explanation_spec.explanation lattice.now source.now program.now walk.now.steps.items) }
+        (λ t. t.items ≡ explanation_spec.explanation lattice.now source.now program.now
+        walk.now.steps.items) }
 {
     let mut text = Vec::new(alloc);
     let steps = walk.steps.as_slice();

@@ -229,7 +229,8 @@ fn put_seen(text: &mut Vec<u8>, side: &Side) -> Result<(), AllocError>
 
 /// Adds the rows of all classes with tables.
 fn put_cycles(text: &mut Vec<u8>, side: &Side) -> Result<(), AllocError>
-    ensures { OnOk result (text.new.items ≡ text.old.items ++ rows_spec.cycle_rows (view side.now)) }
+    ensures { OnOk result (text.new.items ≡ text.old.items ++ rows_spec.cycle_rows (view side.now))
+        }
 {
     for class in 0..side.lattice.count() {
         let name = name_of(side.lattice, class);
@@ -382,7 +383,8 @@ fn who_drives(side: &Side, old: &Side) -> &'static [u8]
 
 /// The differences of one side from an older one.
 fn changed<'a>(alloc: Global, side: &'a Side<'a>, old: &'a Side<'a>) -> Result<Vec<u8>, AllocError>
-    ensures { IfOk result (λ text. text.items ≡ changes_spec.changes (view side.now) (view old.now)) }
+    ensures { IfOk result (λ text. text.items ≡ changes_spec.changes (view side.now) (view
+        old.now)) }
 {
     let mut lines = Vec::new(alloc);
     let added = Change {
@@ -419,8 +421,8 @@ pub fn visible_changes(
     old_lattice: &Lattice,
     old_asked: &InterfaceFile,
 ) -> Result<Vec<u8>, AllocError>
-    ensures changes { IfOk result (λ text. text.items ≡ changes_spec.visible_changes lattice.now asked.now
-        old_lattice.now old_asked.now) }
+    ensures changes { IfOk result (λ text. text.items ≡ changes_spec.visible_changes lattice.now
+        asked.now old_lattice.now old_asked.now) }
 {
     let old = side_of(old_lattice, old_asked);
     changed(alloc, &side_of(lattice, asked), &old)

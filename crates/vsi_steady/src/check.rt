@@ -1,4 +1,4 @@
-//! The judgement of an image: the least classes of slots, and the first instruction that doesn't pass.
+//! The judgement of an image: the least classes of slots, and the first instruction that fails.
 
 ghost use Rattle.std.specs.Prelude.{◌≡◌, ◌≤◌, ◌<◌, None, false, true, [], length, reverse, take, ℕ, slice_index, IfOk, IfErr, ◌+◌, ◌-◌, ◌∷◌, OnOk};
 ghost use Rattle.vsi_steady.specs.declared.check.SteadyError.TheVariants.{Memory};

@@ -240,7 +240,8 @@ fn put_margin(text: &mut Vec<u8>, line: usize) -> Result<usize, AllocError>
 fn put_before(text: &mut Vec<u8>, source: &[u8], window: Window) -> Result<usize, AllocError>
     requires from { window.from ≤ window.start }
     requires start { window.start ≤ length source.now }
-    ensures items { OnOk result (text.new.items ≡ text.old.items ++ place_spec.before source.now window) }
+    ensures items { OnOk result (text.new.items ≡ text.old.items ++ place_spec.before source.now
+        window) }
     ensures width { IfOk result (λ width. width ≡ length (place_spec.before source.now window)) }
 {
     let begin = text.len();
