@@ -7,13 +7,12 @@ ghost use Rattle.vsi_subject.specs.Objections as spec;
 use crate::refusals::{cause_diagnostic, failure_diagnostic};
 use std::alloc::{AllocError, Global};
 use vsi_advice::advice;
-use vsi_answers::Cause;
+use vsi_answers::{Cause, Diagnostic, Fault};
 use vsi_arguments::{Colour, Document, Request};
 use vsi_compiler::{CompileError, read_source};
 use vsi_conform::{
     InterfaceError, InterfaceFile, Judgement, Policy, flows_profile, judged, read_interface,
 };
-use vsi_diagnostics::{Diagnostic, Fault};
 use vsi_drive::{LineFault, StartFault};
 use vsi_image::{Image, decode};
 use vsi_lattice::{Lattice, read_lattice};

@@ -6,16 +6,15 @@ ghost use Rattle.vsi_subject.specs.Failures.{status_of};
 ghost use Rattle.vsi_subject.specs.Partly.{WritesPart};
 ghost use Rattle.vsi_drive.specs.Counted.{device_of, faults_of};
 ghost use Rattle.vsi_subject.specs.FaultyFiles.{IsRefusalBy};
-ghost use Rattle.vsi_diagnostics.specs.View.{diagnostic_of};
+ghost use Rattle.vsi_answers.specs.View.{diagnostic_of};
 ghost use Rattle.vsi_subject.specs.Diagnosing as spec;
 ghost use Rattle.vsi_subject.specs.FaultyFiles as faultyFiles_spec;
 
 use std::alloc::AllocError;
 use std::io::Write;
-use vsi_answers::Cause;
+use vsi_answers::{Cause, Diagnostic, Field, fault_diagnostic, line_text, refusal_diagnostic};
 use vsi_arguments::{AnswerForm, Document, Request};
 use vsi_conform::{audit_diagnostic, steady_diagnostic, unsteady_diagnostic};
-use vsi_diagnostics::{Diagnostic, Field, fault_diagnostic, line_text, refusal_diagnostic};
 use vsi_documents::{refused_interface_json, refused_json};
 use vsi_drive::{BoundaryFault, Counted, LineFault, StartFault};
 use vsi_subject::{Failure, Inputs, source_of, write};

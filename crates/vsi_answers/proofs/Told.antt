@@ -3,7 +3,7 @@ use Rattle.std.proofs.Common.{◌≡◌, ◌≢◌, ◌⊎◌, ℕ, List, Ok, Er
 use Rattle.vsi_lattice.specs.declared.lattice.Lattice.{Lattice}
 use Rattle.vsi_compiler.specs.declared.source.CompileError.{CompileError}
 use Rattle.vsi_compiler.specs.declared.source.CompileError.TheVariants as compiler
-use Rattle.vsi_diagnostics.specs.declared.diagnostic.Fault.{Fault}
+use Rattle.vsi_answers.specs.declared.diagnostic.Fault.{Fault}
 use Rattle.vsi_drive.specs.declared.boundary.StartFault.{StartFault}
 use Rattle.vsi_answers.specs.declared.unanswered.Unanswered.{Unanswered}
 use Rattle.vsi_answers.specs.declared.unanswered.Unanswered.TheVariants.{Refused, OutOfBudget, Memory}
@@ -24,7 +24,7 @@ use Rattle.vsi_compiler.specs.Source.{Reads}
 use Rattle.vsi_compiler.proofs.Held.{program_refused}
 use Rattle.vsi_steady.specs.Source.{RefusesSteady}
 use Rattle.vsi_steady.specs.declared.source.UnsteadyError.TheVariants as unsteady
-use Rattle.vsi_diagnostics.specs.Texts.{IsRefusalText}
+use Rattle.vsi_answers.specs.Texts.{IsRefusalText}
 use Rattle.vsi_answers.specs.Judged.{IsCompileFault, IsSteadyText, TellsFault, TellsRaised, TellsSource}
 use Rattle.vsi_answers.specs.Requests.{Answer, RunsSourceTo, RunsTo, zeros}
 

@@ -32,10 +32,10 @@ use Rattle.vsi_steady.specs.declared.source.UnsteadyError.{UnsteadyError}
 use Rattle.vsi_steady.specs.declared.source.UnsteadyError.TheVariants as unsteady
 use Rattle.vsi_drive.specs.Starts.{IsStartFault, start_fault_line}
 use Rattle.vsi_drive.specs.declared.boundary.StartFault.{StartFault}
-use Rattle.vsi_diagnostics.specs.Files.{fault_diagnostic}
-use Rattle.vsi_diagnostics.specs.Texts.{IsRefusalText, text_of}
-use Rattle.vsi_diagnostics.specs.declared.diagnostic.Fault.{Fault}
-use Rattle.vsi_diagnostics.specs.declared.diagnostic.Fault.TheVariants as fault
+use Rattle.vsi_answers.specs.Files.{fault_diagnostic}
+use Rattle.vsi_answers.specs.Texts.{IsRefusalText, text_of}
+use Rattle.vsi_answers.specs.declared.diagnostic.Fault.{Fault}
+use Rattle.vsi_answers.specs.declared.diagnostic.Fault.TheVariants as fault
 use Rattle.vsi_answers.specs.declared.unanswered.Cause.TheVariants.{Source, File as InFile, Start, Steady, Raised}
 use Rattle.vsi_answers.specs.Answers.{Telling}
 

@@ -3,3 +3,13 @@ pub mod Bounds
 pub mod Judged
 pub mod Requests
 pub mod Laws
+pub mod Diagnostic
+pub mod View
+pub mod Source
+pub mod Lattice
+pub mod Files
+pub mod Texts
+pub mod Members
+pub mod Json
+pub mod Stamps
+pub mod Warned

@@ -7,10 +7,10 @@ ghost use Rattle.vsi_lattice.specs.Order.{IsClass};
 ghost use Rattle.vsi_answers.specs.Requests.{BeginsWith, ComparesTo, RunsSourceTo, RunsTo, ViewsTo, zeros, ListsTo, ReadsImage, ReadsLattice};
 ghost use Rattle.vsi_answers.specs.Bounds as spec;
 
+use crate::Fault;
 use crate::unanswered::{Unanswered, refused_file, refused_source, refused_start};
 use std::alloc::{AllocError, Global};
 use vsi_compiler::{CompileError, compile, resolved_program};
-use vsi_diagnostics::Fault;
 use vsi_drive::{EngineError, first_words, verified_image};
 use vsi_image::{Instr, Verified, listing};
 use vsi_lattice::{Class, Lattice, LatticeError, read_lattice};

@@ -12,11 +12,11 @@ ghost use Rattle.vsi_answers.specs.Judged.{IsImageText, IsLoopedText, IsRaisedRe
 ghost use Rattle.vsi_answers.specs.Requests.{AppliesTo, BuildsTo, ChecksSteadyTo, ChecksTo, ClassesTo, FlowsTo, FormatsTo, MendsTo, TellsUnraised};
 
 use crate::unanswered::{Cause, Observer, Unanswered, refused_judged, refused_source};
+use crate::{refusal_text, refusal_text_of};
 use std::alloc::{AllocError, Global};
 use vsi_compiler::{
     CompileError, Source, classes_text_of, format_text, image_of, judge, read_source,
 };
-use vsi_diagnostics::{refusal_text, refusal_text_of};
 use vsi_drive::{EngineError, image_bytes_of};
 use vsi_flows::{RaisedError, flows_text_in, raise_lines_in, raised_text_in};
 use vsi_infer::Walk;

@@ -5,10 +5,10 @@ ghost use Rattle.vsi_answers.specs.declared.unanswered.Unanswered.TheVariants.{M
 ghost use Rattle.vsi_answers.specs.Answers.{Because};
 ghost use Rattle.vsi_answers.specs.Judged.{TellsFault, TellsSource, TellsStartFault};
 
+use crate::{Fault, fault_text, refusal_text, refusal_text_of};
 use std::alloc::{AllocError, AllocFailed, Global};
 use thiserror::Error;
 use vsi_compiler::{CompileError, Source};
-use vsi_diagnostics::{Fault, fault_text, refusal_text, refusal_text_of};
 use vsi_drive::{StartFault, start_fault_line};
 use vsi_lattice::Lattice;
 use vsi_steady::UnsteadyError;

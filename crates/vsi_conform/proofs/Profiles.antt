@@ -17,7 +17,7 @@ use Rattle.vsi_compiler.specs.Source.{Reads}
 use Rattle.vsi_compiler.proofs.Held.{program_refused}
 use Rattle.vsi_steady.specs.declared.source.UnsteadyError.{UnsteadyError}
 use Rattle.vsi_steady.specs.declared.source.UnsteadyError.TheVariants as unsteady
-use Rattle.vsi_diagnostics.proofs.Begins.{begins}
+use Rattle.vsi_answers.proofs.Begins.{begins}
 use Rattle.vsi_answers.proofs.Told.{steadily_told}
 use Rattle.vsi_conform.specs.declared.interface.Judgement.{Judgement}
 use Rattle.vsi_conform.specs.declared.interface.Judgement.TheVariants as judgement

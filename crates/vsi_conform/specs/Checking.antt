@@ -11,9 +11,9 @@ use Rattle.vsi_steady.specs.declared.source.UnsteadyError.{UnsteadyError}
 use Rattle.vsi_steady.specs.declared.source.UnsteadyError.TheVariants as unsteady
 use Rattle.vsi_audit.specs.declared.flow.AuditError.{AuditError}
 use Rattle.vsi_audit.specs.declared.flow.AuditError.TheVariants as audit
-use Rattle.vsi_diagnostics.specs.Diagnostic.{Diagnostic, nothing, number}
-use Rattle.vsi_diagnostics.specs.Json.{IsRefusalJson, accepted_line, refused_begin}
-use Rattle.vsi_diagnostics.specs.Source.{refusal_diagnostic, refused}
+use Rattle.vsi_answers.specs.Diagnostic.{Diagnostic, nothing, number}
+use Rattle.vsi_answers.specs.Json.{IsRefusalJson, accepted_line, refused_begin}
+use Rattle.vsi_answers.specs.Source.{refusal_diagnostic, refused}
 use Rattle.vsi_conform.specs.declared.interface.Judgement.{Judgement}
 use Rattle.vsi_conform.specs.declared.interface.Judgement.TheVariants as judgement
 use Rattle.vsi_conform.specs.Conforms.{IsAcceptedAs, IsRefusedAs}

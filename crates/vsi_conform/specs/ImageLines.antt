@@ -6,7 +6,7 @@ use Rattle.vsi_image.specs.declared.instr.Image.{Image}
 use Rattle.vsi_audit.specs.Telling.{IsAuditText}
 use Rattle.vsi_steady.specs.Telling.{IsUnsteadyText}
 use Rattle.vsi_lattice.specs.LatticeView.{class_named, order}
-use Rattle.vsi_diagnostics.specs.Diagnostic.{Diagnostic}
+use Rattle.vsi_answers.specs.Diagnostic.{Diagnostic}
 use Rattle.vsi_conform.specs.declared.interface.Interface.{Interface}
 use Rattle.vsi_conform.specs.declared.interface.Judgement.{Judgement}
 use Rattle.vsi_conform.specs.Checking.{audit_diagnostic, steady_diagnostic}

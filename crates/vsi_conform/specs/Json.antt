@@ -3,7 +3,7 @@ use Rattle.std.specs.Prelude.{◌≡◌, ℕ, Bool, true, false, List, [], ◌�
 use Rattle.serde_json.specs.Data.{Data, boolean, array, object, Members, no_members, put}
 use Rattle.serde_json.specs.View.{items_of}
 use Rattle.vsi_lattice.specs.declared.lattice.Lattice.{Lattice}
-use Rattle.vsi_diagnostics.specs.Members.{found, object_line, with_text, with_natural, with_word}
+use Rattle.vsi_answers.specs.Members.{found, object_line, with_text, with_natural, with_word}
 use Rattle.vsi_conform.specs.declared.interface.Interface.{Interface}
 use Rattle.vsi_conform.specs.declared.interface.Answer.{Answer}
 use Rattle.vsi_conform.specs.Lines.{AreTextRows}

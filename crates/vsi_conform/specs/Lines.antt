@@ -9,7 +9,7 @@ use Rattle.vsi_compiler.specs.declared.source.CompileError.{CompileError}
 use Rattle.vsi_compiler.specs.declared.source.CompileError.TheVariants as compiler
 use Rattle.vsi_steady.specs.declared.source.UnsteadyError.{UnsteadyError}
 use Rattle.vsi_steady.specs.declared.source.UnsteadyError.TheVariants as unsteady
-use Rattle.vsi_diagnostics.specs.Texts.{IsRefusalText}
+use Rattle.vsi_answers.specs.Texts.{IsRefusalText}
 use Rattle.vsi_answers.specs.Judged.{IsImageText, IsLoopedText}
 use Rattle.vsi_conform.specs.declared.interface.Interface.{Interface}
 use Rattle.vsi_conform.specs.declared.interface.Judgement.{Judgement}

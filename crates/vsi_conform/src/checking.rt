@@ -1,7 +1,7 @@
 //! The answer of a check as a line of JSON.
 
 ghost use Rattle.std.specs.Prelude.{◌≡◌, IfOk, option_map};
-ghost use Rattle.vsi_diagnostics.specs.View.{diagnostic_of};
+ghost use Rattle.vsi_answers.specs.View.{diagnostic_of};
 ghost use Rattle.vsi_steady.specs.declared.source.UnsteadyError.TheVariants as unsteady;
 ghost use Rattle.vsi_conform.specs.Checking as spec;
 
@@ -9,12 +9,12 @@ use crate::conforming::judged_of;
 use crate::interface::Judgement;
 use crate::texts::{is_steady, refusal_lines, refusal_lines_of};
 use std::alloc::{AllocError, Global};
-use vsi_answers::{Observer, Unobserved};
+use vsi_answers::{
+    Diagnostic, Field, Observer, Unobserved, accepted_json, refusal_diagnostic, refusal_json,
+    refusal_json_of,
+};
 use vsi_audit::AuditError;
 use vsi_compiler::{CompileError, Source, read_source};
-use vsi_diagnostics::{
-    Diagnostic, Field, accepted_json, refusal_diagnostic, refusal_json, refusal_json_of,
-};
 use vsi_lattice::Lattice;
 use vsi_steady::{SteadyError, UnsteadyError};
 use vsi_types::Profile;

@@ -12,7 +12,6 @@ ghost use Rattle.vsi_conform.specs.declared.interface.Bounded.TheVariants.{AtMos
 ghost use Rattle.vsi_conform.specs.Points as spec;
 ghost use Rattle.vsi_conform.specs.Shown as shown_spec;
 ghost use Rattle.vsi_conform.specs.Conforms as conforms_spec;
-ghost use Rattle.vsi_conform.specs.Points as points_spec;
 ghost use Rattle.vsi_conform.specs.Bounded as bounded_spec;
 
 use crate::interface::{Answer, Bounded, Interface, Judgement, Point, Trial, put_told};
@@ -326,7 +325,7 @@ pub fn judged(
 
 /// The word given for a name, or 0.
 fn given_word(entries: &[(Vec<u8>, i64)], name: &[u8]) -> i64
-    ensures { result ≡ points_spec.given_word (points_spec.entries entries.now) name.now }
+    ensures { result ≡ spec.given_word (spec.entries entries.now) name.now }
 {
     for entry in entries {
         if entry.0.as_slice() == name {
@@ -338,7 +337,7 @@ fn given_word(entries: &[(Vec<u8>, i64)], name: &[u8]) -> i64
 
 /// The word of the global with a name.
 fn word_of(variables: &[(Vec<u8>, Vec<u8>)], words: &[i64], name: &[u8]) -> Option<i64>
-    ensures { result ≡ points_spec.word_of (globals variables.now) words.now name.now }
+    ensures { result ≡ spec.word_of (globals variables.now) words.now name.now }
 {
     for (i, variable) in variables.iter().enumerate() {
         let word = words.get(i)?;
@@ -357,7 +356,7 @@ fn expected_point(
     variables: &[(Vec<u8>, Vec<u8>)],
     words: &[i64],
 ) -> Option<Point>
-    ensures { result ≡ points_spec.expected_point trial wanted (points_spec.entry entry.now)
+    ensures { result ≡ spec.expected_point trial wanted (spec.entry entry.now)
         (globals variables.now) words.now }
 {
     let Some(word) = word_of(variables, words, entry.0.as_slice()) else {
@@ -382,7 +381,7 @@ fn put_words(
     words: &[i64],
 ) -> Result<(), AllocError>
     ensures { OnOk result (points.new.items ≡ points.old.items
-        ++ points_spec.word_points trial 0 (points_spec.entries expect.now) (globals variables.now) words.now) }
+        ++ spec.word_points trial 0 (spec.entries expect.now) (globals variables.now) words.now) }
 {
     for (wanted, entry) in expect.iter().enumerate() {
         let point = expected_point(trial, wanted, entry, variables, words);
@@ -400,7 +399,7 @@ fn put_trial(
     trial: &Trial,
 ) -> Result<(), AllocError>
     ensures { OnOk result (points.new.items ≡ points.old.items
-        ++ points_spec.trial_points verified.now number trial.now) }
+        ++ spec.trial_points verified.now number trial.now) }
 {
     let variables = verified.image().globals.as_slice();
     let mut words = Vec::new(alloc);

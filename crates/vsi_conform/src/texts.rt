@@ -13,9 +13,11 @@ use crate::conforming::declarations;
 use crate::interface::{Answer, Interface, Judgement};
 use crate::rows::{Detail, Judged, Kind, Row, rows_of};
 use std::alloc::{AllocError, Global};
-use vsi_answers::{image_text, image_text_of, looped_text, looped_text_of};
+use vsi_answers::{
+    Object, Objects, image_text, image_text_of, looped_text, looped_text_of, refusal_text,
+    refusal_text_of,
+};
 use vsi_compiler::{CompileError, Source};
-use vsi_diagnostics::{Object, Objects, refusal_text, refusal_text_of};
 use vsi_lattice::Lattice;
 use vsi_steady::UnsteadyError;
 use vsi_syntax::{put_line_column, put_number, put_word};

@@ -3,7 +3,7 @@ use Rattle.std.specs.Prelude.{◌≡◌, ℕ, Bool, true, false, List, [], None}
 use Rattle.vsi_lattice.specs.LatticeView.{class_named, order}
 use Rattle.vsi_lattice.specs.declared.lattice.Lattice.{Lattice}
 use Rattle.vsi_image.specs.declared.instr.Image.{Image}
-use Rattle.vsi_diagnostics.specs.Diagnostic.{Diagnostic}
+use Rattle.vsi_answers.specs.Diagnostic.{Diagnostic}
 use Rattle.vsi_conform.specs.declared.interface.Judgement.{Judgement}
 use Rattle.vsi_conform.specs.ImageConforms.{IsJudged}
 use Rattle.vsi_conform.specs.ImageLines.{IsRefusedAs}

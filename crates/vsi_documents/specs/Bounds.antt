@@ -7,7 +7,7 @@ use Rattle.vsi_machine.specs.declared.bound.Bound.{Bound}
 use Rattle.vsi_machine.specs.declared.bound.Bound.TheVariants.{Halts, Endless, Unstructured, TooLarge}
 use Rattle.vsi_answers.specs.Bounds.{bound_line, is_bounded}
 use Rattle.vsi_answers.specs.declared.bounds.Place.{Place}
-use Rattle.vsi_diagnostics.specs.Members.{without_end, with_text, with_natural, object_line}
+use Rattle.vsi_answers.specs.Members.{without_end, with_text, with_natural, object_line}
 
 -- The numbers of a bound: the least and the most instructions of a run, or the instruction for which there is none.
 abbrev pub with_bound : Bound → Members → Members

@@ -4,7 +4,7 @@ use Rattle.vsi_lattice.specs.declared.lattice.Lattice.{Lattice}
 use Rattle.vsi_lattice.specs.LatticeView.{class_named, order}
 use Rattle.vsi_image.specs.declared.instr.Image.{Image}
 use Rattle.vsi_steady.specs.declared.source.UnsteadyError.{UnsteadyError}
-use Rattle.vsi_diagnostics.specs.Diagnostic.{Diagnostic}
+use Rattle.vsi_answers.specs.Diagnostic.{Diagnostic}
 use Rattle.vsi_conform.specs.declared.interface.Judgement.{Judgement}
 use Rattle.vsi_conform.specs.Checking.{unsteady_diagnostic}
 use Rattle.vsi_conform.specs.Conforms.{IsAcceptedAs, IsRefusedAs}

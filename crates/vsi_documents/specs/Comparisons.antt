@@ -12,7 +12,7 @@ use Rattle.vsi_store.specs.declared.comparing.Comparison.{Comparison}
 use Rattle.vsi_answers.specs.Answers.{Judges}
 use Rattle.vsi_answers.specs.Judged.{IsViewFault, TellsFault}
 use Rattle.vsi_answers.specs.declared.unanswered.Unanswered.{Unanswered}
-use Rattle.vsi_diagnostics.specs.Members.{with_text, object_line}
+use Rattle.vsi_answers.specs.Members.{with_text, object_line}
 use Rattle.vsi_documents.specs.Words.{with_after, with_ending, with_pairs}
 use Rattle.vsi_documents.specs.declared.answer.Reply.{Reply}
 

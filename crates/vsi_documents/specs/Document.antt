@@ -2,7 +2,7 @@
 use Rattle.std.specs.Prelude.{ℕ, List, [], ◌∷◌, ◌++◌, codes}
 use Rattle.serde_json.specs.Data.{Data, object, Members, no_members}
 use Rattle.serde_json.specs.Written.{compact_text}
-use Rattle.vsi_diagnostics.specs.Members.{with_text}
+use Rattle.vsi_answers.specs.Members.{with_text}
 use Rattle.vsi_documents.specs.Objects.{array_members, with_array, with_object}
 
 -- The members of the driver: its name, its rules and its version.

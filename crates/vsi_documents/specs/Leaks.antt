@@ -13,7 +13,7 @@ use Rattle.vsi_leak.specs.Leaks.{IsLeak, IsWanted, most_pairs}
 use Rattle.vsi_leak.specs.declared.check.Finding.TheVariants as finding
 use Rattle.vsi_leak.specs.declared.check.Leak.{Leak}
 use Rattle.vsi_leak.specs.declared.whole.Wanted.{Wanted}
-use Rattle.vsi_diagnostics.specs.Members.{with_text, with_natural, object_line}
+use Rattle.vsi_answers.specs.Members.{with_text, with_natural, object_line}
 use Rattle.vsi_documents.specs.Words.{with_after, with_ending, with_pairs}
 
 -- The members with the class of a leak, which has this name.

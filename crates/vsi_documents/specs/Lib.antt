@@ -17,3 +17,8 @@ pub mod Refusals
 pub mod Checking
 pub mod Findings
 pub mod Auditing
+pub mod Shapes
+pub mod Named
+pub mod Roles
+pub mod Rows
+pub mod Changes

@@ -2,7 +2,7 @@
 use Rattle.std.specs.Prelude.{ℕ, List, Option, Some, None, codes}
 use Rattle.percent_encoding.specs.Percent.{percent_encode}
 use Rattle.serde_json.specs.Data.{Members, no_members}
-use Rattle.vsi_diagnostics.specs.Members.{with_natural}
+use Rattle.vsi_answers.specs.Members.{with_natural}
 use Rattle.vsi_documents.specs.Objects.{with_object, text_members}
 use Rattle.vsi_documents.specs.declared.refusal.TheConstants.{ESCAPED}
 

@@ -2,7 +2,7 @@
 use Rattle.std.specs.Prelude.{ℕ, Bool, List, codes}
 use Rattle.serde_json.specs.Data.{Data, boolean, array, object, Members, no_members, put}
 use Rattle.serde_json.specs.View.{items_of}
-use Rattle.vsi_diagnostics.specs.Members.{with_text, object_line}
+use Rattle.vsi_answers.specs.Members.{with_text, object_line}
 
 -- An object at a key.
 abbrev pub with_object : List ℕ → Members → Members → Members

@@ -3,8 +3,8 @@ use Rattle.std.specs.Prelude.{◌≡◌, ℕ, ◌-◌, List, [], ◌∷◌, leng
 use Rattle.serde_json.specs.Data.{Data, object, Members, no_members}
 use Rattle.vsi_lattice.specs.declared.lattice.Lattice.{Lattice}
 use Rattle.vsi_types.specs.declared.rules.Step.{Step}
-use Rattle.vsi_diagnostics.specs.Diagnostic.{nothing, number, pair, place, word, numbered, Diagnostic, Field}
-use Rattle.vsi_diagnostics.specs.Members.{without_end, with_text, with_natural}
+use Rattle.vsi_answers.specs.Diagnostic.{nothing, number, pair, place, word, numbered, Diagnostic, Field}
+use Rattle.vsi_answers.specs.Members.{without_end, with_text, with_natural}
 use Rattle.vsi_documents.specs.Document.{document_text}
 use Rattle.vsi_documents.specs.Location.{location_members}
 use Rattle.vsi_documents.specs.Objects.{array_members, text_members, with_array, with_object}

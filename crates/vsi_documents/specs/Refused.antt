@@ -3,9 +3,9 @@ use Rattle.std.specs.Prelude.{ℕ, List, None, false, codes}
 use Rattle.serde_json.specs.Data.{boolean, Members, no_members, put}
 use Rattle.vsi_conform.specs.Faulty.{name_of}
 use Rattle.vsi_conform.specs.declared.interface.InterfaceError.{InterfaceError}
-use Rattle.vsi_diagnostics.specs.Diagnostic.{Diagnostic}
-use Rattle.vsi_diagnostics.specs.Json.{refusal_line}
-use Rattle.vsi_diagnostics.specs.Members.{without_end, with_text, object_line}
+use Rattle.vsi_answers.specs.Diagnostic.{Diagnostic}
+use Rattle.vsi_answers.specs.Json.{refusal_line}
+use Rattle.vsi_answers.specs.Members.{without_end, with_text, object_line}
 
 -- The line of a refusal with this text, which is that of `check --json` without the steps of a flow.
 abbrev pub refused_line : Diagnostic → List ℕ → List ℕ

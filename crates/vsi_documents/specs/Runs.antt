@@ -7,7 +7,7 @@ use Rattle.vsi_image.specs.Fields.{globals}
 use Rattle.vsi_machine.specs.Counting.{HaltsIn}
 use Rattle.vsi_machine.specs.Runs.{HaltsWith}
 use Rattle.vsi_answers.specs.Requests.{IsSpent}
-use Rattle.vsi_diagnostics.specs.Members.{object_line}
+use Rattle.vsi_answers.specs.Members.{object_line}
 use Rattle.vsi_documents.specs.Words.{end_members, word_objects}
 
 -- The members of the object of a run that halts after this many instructions, with the objects of the globals.

@@ -7,7 +7,7 @@ use Rattle.vsi_scope.specs.Program.{Resolved}
 use Rattle.vsi_types.specs.declared.rules.Step.{Step}
 use Rattle.vsi_infer.specs.Explanation.{name_of, rule_text}
 use Rattle.vsi_compiler.specs.Stands.{Stands}
-use Rattle.vsi_diagnostics.specs.Source.{line_of, column_of}
+use Rattle.vsi_answers.specs.Source.{line_of, column_of}
 use Rattle.vsi_documents.specs.Location.{location_members}
 use Rattle.vsi_documents.specs.Objects.{with_object, text_members}
 

@@ -8,7 +8,7 @@ use Rattle.vsi_lattice.specs.Order.{Lattice}
 use Rattle.vsi_store.specs.declared.comparing.RunEnding.{RunEnding}
 use Rattle.vsi_store.specs.declared.comparing.RunEnding.TheVariants.{Halted, OutOfBudget}
 use Rattle.vsi_leak.specs.Texts.{is_shown}
-use Rattle.vsi_diagnostics.specs.Members.{with_text, with_natural, with_word}
+use Rattle.vsi_answers.specs.Members.{with_text, with_natural, with_word}
 
 -- The members of the object of a global: its name and its word.
 abbrev pub word_members : List ℕ → ℤ → Members

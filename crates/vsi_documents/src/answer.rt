@@ -2,7 +2,7 @@
 
 ghost use Rattle.std.specs.Prelude.{◌≡◌, false, IfOk, OnOk, ◌++◌, length, map, IfSome};
 ghost use Rattle.serde_json.specs.View.{members_view, view};
-ghost use Rattle.vsi_diagnostics.specs.View.{diagnostic_of};
+ghost use Rattle.vsi_answers.specs.View.{diagnostic_of};
 ghost use Rattle.vsi_image.specs.Fields.{globals};
 ghost use Rattle.vsi_lattice.specs.LatticeView.{class_named, order};
 ghost use Rattle.vsi_lattice.specs.Order.{IsClass};
@@ -11,8 +11,8 @@ ghost use Rattle.vsi_documents.specs.Refused as spec;
 ghost use Rattle.vsi_documents.specs.Words as words_spec;
 
 use std::alloc::{AllocError, Global};
+use vsi_answers::{Diagnostic, Object, Objects, refusal_object, without_end};
 use vsi_conform::{Checked, InterfaceError, fault_name};
-use vsi_diagnostics::{Diagnostic, Object, Objects, refusal_object, without_end};
 use vsi_lattice::{Class, Lattice};
 use vsi_leak::is_shown;
 use vsi_store::RunEnding;

@@ -11,7 +11,7 @@ ghost use Rattle.vsi_compiler.specs.Refusal.{RefusesProgram};
 ghost use Rattle.vsi_compiler.specs.declared.source.CompileError.TheVariants.{Memory};
 ghost use Rattle.vsi_documents.specs.Audits as spec;
 ghost use Rattle.vsi_documents.specs.Bounds as bounds_spec;
-ghost use Rattle.vsi_diagnostics.specs.Members as lines;
+ghost use Rattle.vsi_answers.specs.Members as lines;
 ghost use Rattle.vsi_documents.specs.Runs as runs_spec;
 ghost use Rattle.vsi_documents.specs.Words as words_spec;
 ghost use Rattle.vsi_documents.specs.Comparisons as comparisons_spec;
@@ -19,10 +19,11 @@ ghost use Rattle.vsi_documents.specs.Leaks as leaks_spec;
 
 use crate::answer::{Reply, end_object, with_after, with_ending, with_pairs, word_objects};
 use std::alloc::{AllocError, Global};
-use vsi_answers::{BoundAnswer, Unanswered, bound, bound_in};
+use vsi_answers::{
+    BoundAnswer, Object, Unanswered, accepted_json, bound, bound_in, refusal_json, without_end,
+};
 use vsi_compiler::CompileError;
 use vsi_conform::{Judgement, refused_image};
-use vsi_diagnostics::{Object, accepted_json, refusal_json, without_end};
 use vsi_image::{Image, Verified};
 use vsi_lattice::{Class, Lattice};
 use vsi_leak::{Finding, Leak, Wanted, leak_of_text};

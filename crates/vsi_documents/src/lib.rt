@@ -21,15 +21,34 @@
 //! their text.
 //!
 //! To be believed: all files of `specs/`.
+//!
+//! Policies: the lattice file that a source text names, lattice files of usual shapes, and what each
+//! class sees and may do.
+//!
+//! `named_policy` returns the path in the first comment of a text, `# policy: FILE`. `lattice_text`
+//! returns a lattice file for a shape and names. `read_lattice` has read the file, and it declares
+//! exactly the classes and the order of the shape (clause `shaped`). `seen_table` writes the classes
+//! that each class of a lattice sees, and `visible_table` the globals that it sees under an interface
+//! and, for each table `[[cycle]]`, those that it sets, reads and releases. `seen_changes` and
+//! `visible_changes` compare with an older lattice or interface (`specs/{Roles, Rows, Changes}`).
+//! `unused_warnings` warns about classes that no global has.
+//!
+//! To be believed: all files of `specs/`.
 #![tactic(auto)]
 
 mod answer;
 mod images;
 mod refusal;
+mod roles;
 mod sarif;
+mod shape;
 mod texts;
+mod warnings;
 
 pub use answer::{Reply, refused_interface_json, refused_json};
 pub use images::{audit_json, bound_json, bound_json_in, compare_json, leak_json, run_json};
+pub use roles::{seen_changes, seen_table, unused_warnings, visible_changes, visible_table};
 pub use sarif::{audit_sarif, check_sarif, image_sarif, points_sarif};
+pub use shape::{Shape, ShapeError, lattice_text, named_policy};
 pub use texts::{classes_json, flows_json, mend_json};
+pub use warnings::policy_warnings;

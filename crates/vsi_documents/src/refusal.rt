@@ -3,7 +3,7 @@
 ghost use Rattle.std.specs.Prelude.{◌≡◌, decimal, map, option_map, string_bytes, IfOk};
 ghost use Rattle.serde_json.specs.View.{members_view, view};
 ghost use Rattle.vsi_lattice.specs.declared.lattice.Lattice.{Lattice as Named};
-ghost use Rattle.vsi_diagnostics.specs.View.{diagnostic_of};
+ghost use Rattle.vsi_answers.specs.View.{diagnostic_of};
 ghost use Rattle.vsi_documents.specs.Location as location_spec;
 ghost use Rattle.vsi_documents.specs.Refusals as spec;
 ghost use Rattle.vsi_documents.specs.Steps as steps_spec;
@@ -11,8 +11,8 @@ ghost use Rattle.vsi_documents.specs.Steps as steps_spec;
 use crate::sarif::document;
 use percent_encoding::{AsciiSet, NON_ALPHANUMERIC, ascii_set, percent_encode};
 use std::alloc::{AllocError, Global};
+use vsi_answers::{Diagnostic, Field, Object, Objects, without_end};
 use vsi_compiler::Source;
-use vsi_diagnostics::{Diagnostic, Field, Object, Objects, without_end};
 use vsi_infer::{rule_text, variable_name};
 use vsi_scope::Resolved;
 use vsi_syntax::{line_column, put_number};

@@ -13,12 +13,12 @@ ghost use Rattle.vsi_documents.specs.Checking as checking_spec;
 use crate::answer::Reply;
 use crate::refusal::{location, refusal_document, result_object, source_document, uri_of};
 use std::alloc::{AllocError, Global};
+use vsi_answers::{Object, Objects};
 use vsi_compiler::{CompileError, Source, read_source};
 use vsi_conform::{
     Answer, Interface, Judgement, Kind, Row, image_rows, images, judged_of, put_row, refusal_lines,
     refusal_lines_of, refused_image, text_rows, unsteady_diagnostic,
 };
-use vsi_diagnostics::{Object, Objects};
 use vsi_image::{Image, Verified};
 use vsi_lattice::Lattice;
 use vsi_steady::UnsteadyError;

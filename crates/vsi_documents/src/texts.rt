@@ -14,9 +14,9 @@ ghost use Rattle.vsi_documents.specs.Json.{IsRaisesJson};
 
 use crate::answer::{Reply, refused, verdict_line};
 use std::alloc::{AllocError, Global};
+use vsi_answers::{Object, Objects};
 use vsi_compiler::{CompileError, Source, judge, read_source};
 use vsi_conform::{check_json, check_json_of, judgement_by, unread_json};
-use vsi_diagnostics::{Object, Objects};
 use vsi_flows::{FlowsError, Pair, Raise, Raising, flows_in, name_start, raises_of};
 use vsi_infer::{class_name, declared_class, variable_name};
 use vsi_lattice::{Class, Lattice};

@@ -4,14 +4,14 @@ use crate::diagnostics::{START, error_list, objects_in};
 use crate::document::{DocumentText, Made, joined};
 use serde_json::Value;
 use std::alloc::{AllocError, Global};
+use vsi_answers::{Fault, fault_diagnostic, fault_text};
 use vsi_client::{Encoding, Marked, path_beside};
 use vsi_conform::{
     InterfaceError, InterfaceFile, Policy as Place, interface_text, read_interface, unknown_class,
     unknown_cycle,
 };
-use vsi_diagnostics::{Fault, fault_diagnostic, fault_text};
+use vsi_documents::named_policy;
 use vsi_lattice::{LatticeError, read_lattice};
-use vsi_policy::named_policy;
 use vsi_syntax::Span;
 use vsi_types::Profile;
 

@@ -12,7 +12,7 @@ use crate::reading::{answer, is_topic};
 use serde_json::{Value, json};
 use std::alloc::{AllocError, Global};
 use vsi_client::{Change, Encoding, Marked, Piece, changed_by, next_piece, path_beside};
-use vsi_policy::named_policy;
+use vsi_documents::named_policy;
 use vsi_types::Profile;
 
 /// The line about texts that name no lattice file.

@@ -8,7 +8,6 @@ ghost use Rattle.vsi_machine.specs.Values.{Acts, IsOperator, Operates};
 ghost use Rattle.vsi_machine.specs.Search.{Fails, IsChoice, Passes, Reaches, Stuck};
 ghost use Rattle.vsi_machine.specs.Stopping.{OnEndless};
 ghost use Rattle.vsi_image.specs.declared.instr.Instr.TheVariants as spec;
-ghost use Rattle.vsi_image.specs.declared.instr.Instr.TheVariants as instr;
 
 use crate::bound::{Cost, Fault, Stop, Test, either, exactly, finish, guard_at, sum};
 use crate::loops::{Known, applied, entry_of, join};
@@ -158,7 +157,7 @@ pub(crate) fn is_at(code: &[Instr], place: usize, instr: Instr) -> bool
 
 /// The target of the jump at a position.
 fn jump_at(code: &[Instr], place: usize) -> Option<usize>
-    ensures { IfSome result (λ end. slice_get code.now place ≡ Some (instr.Jmp end)) }
+    ensures { IfSome result (λ end. slice_get code.now place ≡ Some (spec.Jmp end)) }
 {
     if place >= code.len() {
         return None;

@@ -26,9 +26,9 @@ use crate::sections::{
     put_walk, refused_walks,
 };
 use std::alloc::{AllocError, Global};
+use vsi_answers::{Field, refusal_diagnostic};
 use vsi_client::mentions_of;
 use vsi_compiler::{CompileError, Source, image_of, judge, read_source};
-use vsi_diagnostics::{Field, refusal_diagnostic};
 use vsi_image::{Verified, listing};
 use vsi_lattice::{Class, Lattice};
 use vsi_scope::Resolved;

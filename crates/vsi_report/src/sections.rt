@@ -8,8 +8,8 @@ use crate::picture::{Scene, lattice_drawing, put_arrow_rows, put_lattice, put_le
 use crate::report::View;
 use sha2::{Digest, Sha256};
 use std::alloc::AllocError;
+use vsi_answers::refusal_text;
 use vsi_compiler::{CompileError, Source};
-use vsi_diagnostics::refusal_text;
 use vsi_flows::{WalkedPair, raise_lines_of, refused_pairs, walks_of};
 use vsi_infer::rule_text;
 use vsi_scope::Var;

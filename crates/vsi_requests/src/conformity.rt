@@ -16,7 +16,7 @@ ghost use Rattle.vsi_subject.specs.Supplied as supplied;
 use crate::conformance::begins_image;
 use crate::images::version;
 use std::alloc::{AllocError, Global};
-use vsi_answers::{enough_budget, judged_image};
+use vsi_answers::{enough_budget, judged_image, without_end};
 use vsi_arguments::{AnswerForm, Conformance};
 use vsi_compiler::{CompileError, unjudged_image};
 use vsi_conform::{
@@ -24,7 +24,6 @@ use vsi_conform::{
     compare_reference, image_reaches, json_with, judged, lines_with, path_beside, reference_line,
     refusal_lines, text_reaches, with_reached_json, with_reached_lines,
 };
-use vsi_diagnostics::without_end;
 use vsi_image::Verified;
 use vsi_lattice::Lattice;
 use vsi_steady::UnsteadyError;

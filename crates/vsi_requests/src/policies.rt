@@ -11,11 +11,11 @@ ghost use Rattle.vsi_subject.specs.Visible.{ShowsFiles, ToldVisible};
 use std::alloc::{AllocError, Global};
 use vsi_arguments::{Looking, Visibility};
 use vsi_conform::{Interface, InterfaceFile};
-use vsi_lattice::Lattice;
-use vsi_policy::{
+use vsi_documents::{
     Shape, ShapeError, lattice_text, policy_warnings, seen_changes, seen_table, unused_warnings,
     visible_changes, visible_table,
 };
+use vsi_lattice::Lattice;
 use vsi_subject::{Failure, Fallible, Files, Subject};
 use vsi_telling::put_safe;
 

@@ -9,11 +9,11 @@ ghost use Rattle.vsi_lattice.specs.LatticeView.{order};
 use crate::row::{Row, Wrong, bytes_of};
 use std::alloc::Global;
 use std::str::from_utf8;
+use vsi_answers::refusal_text;
 use vsi_compiler::{
     CompileError, RunError, Source, classes_text, classes_text_in, compile, compile_in,
     explanation_text, read_source, run_source,
 };
-use vsi_diagnostics::refusal_text;
 use vsi_drive::Controller;
 use vsi_image::{Verified, listing};
 use vsi_infer::{InferError, Walk, check_walk, check_walk_in, check_walk_once, infer, infer_in};

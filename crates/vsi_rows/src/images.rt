@@ -4,7 +4,7 @@
 
 use crate::row::{Row, Wrong, byte_of};
 use std::str::from_utf8;
-use vsi_diagnostics::Fault;
+use vsi_answers::Fault;
 use vsi_image::{Image, Instr, decode, encode, listing, verify};
 use vsi_machine::{Machine, bound_of};
 

@@ -4,7 +4,7 @@ ghost use Rattle.std.specs.Prelude.{IfOk};
 ghost use Rattle.vsi_lattice.specs.Pairs.{ArePairsBelow};
 
 use crate::row::{Row, Wrong};
-use vsi_diagnostics::Fault;
+use vsi_answers::Fault;
 use vsi_lattice::{Class, Classes, Lattice, MaskLattice, OrderError, PairLattice, read_lattice};
 
 /// Adds, for two classes, whether the first is at or below the second, their join and their meet.

@@ -21,10 +21,9 @@ ghost use Rattle.vsi_drive.specs.declared.boundary.StartFault.TheVariants as sta
 
 use crate::steering::Steering;
 use std::alloc::{AllocError, Global};
-use vsi_answers::refused_start;
+use vsi_answers::{Fault, refused_start};
 use vsi_arguments::{DrivePolicy, NameLists};
 use vsi_conform::Cycle;
-use vsi_diagnostics::Fault;
 use vsi_drive::{
     Boundary, BoundaryFault, Controller, CycleEnding, LineFault, StartFault, names_of,
 };

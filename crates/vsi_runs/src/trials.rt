@@ -13,18 +13,18 @@ ghost use Rattle.vsi_subject.specs.Served.{Serves, unended_line};
 ghost use Rattle.vsi_subject.specs.Failures.{TellsFault, status_of};
 ghost use Rattle.vsi_drive.specs.Counted.{device_of, faults_of};
 ghost use Rattle.vsi_client.specs.Frames.{AreFrames};
-ghost use Rattle.vsi_policy.specs.Named as named;
+ghost use Rattle.vsi_documents.specs.Named as named;
 
 use crate::running::keep_settings;
 use std::alloc::{AllocError, Global};
 use std::io::{Read, Write};
 use vsi_answers::start_words;
 use vsi_arguments::{Attempt, Serving};
+use vsi_documents::named_policy;
 use vsi_drive::Counted;
 use vsi_image::Verified;
 use vsi_lattice::{Class, Lattice};
 use vsi_lsp::{Server, TWO_SAID};
-use vsi_policy::named_policy;
 use vsi_subject::{
     Failure, Fallible, Files, InputCache, InputKind, STREAM, Subject, answered, declared_lattice,
     made_image, profile, two_classes, viewer_of, whole_in, write,

@@ -19,8 +19,8 @@ use Rattle.vsi_answers.specs.Requests.{BeginsWith}
 use Rattle.vsi_answers.specs.declared.unanswered.Cause.TheVariants as cause
 use Rattle.vsi_answers.specs.declared.unanswered.Unanswered.{Unanswered}
 use Rattle.vsi_answers.specs.declared.unanswered.Unanswered.TheVariants as unanswered
-use Rattle.vsi_diagnostics.specs.declared.diagnostic.Fault.{Fault}
-use Rattle.vsi_diagnostics.specs.declared.diagnostic.Fault.TheVariants as fault
+use Rattle.vsi_answers.specs.declared.diagnostic.Fault.{Fault}
+use Rattle.vsi_answers.specs.declared.diagnostic.Fault.TheVariants as fault
 use Rattle.vsi_drive.specs.Engine.{IsOfWriting}
 use Rattle.vsi_drive.specs.declared.engine.EngineError.{EngineError}
 use Rattle.vsi_drive.specs.declared.engine.EngineError.TheVariants as engine

@@ -6,7 +6,7 @@ use Rattle.vsi_drive.specs.declared.settings.LineFault.{LineFault}
 use Rattle.vsi_drive.specs.declared.settings.LineFault.TheVariants.{TooLong, BadSetting, UnknownGlobal, AboveClass, NotAnInput, NotANumber}
 use Rattle.vsi_drive.specs.declared.boundary.StartFault.{StartFault}
 use Rattle.vsi_drive.specs.declared.boundary.StartFault.TheVariants as start
-use Rattle.vsi_diagnostics.specs.Diagnostic.{Diagnostic, nothing, number, refusal}
+use Rattle.vsi_answers.specs.Diagnostic.{Diagnostic, nothing, number, refusal}
 
 -- The diagnostic of a wrong setting.
 abbrev pub setting_diagnostic : LineFault → Diagnostic

@@ -4,9 +4,9 @@ use Rattle.std.specs.Io.KnownBytes.{Appends}
 use Rattle.vsi_answers.specs.declared.unanswered.Cause.{Cause}
 use Rattle.vsi_answers.specs.declared.unanswered.Cause.TheVariants.{Source, File as InFile, Start, Steady, Raised}
 use Rattle.vsi_conform.specs.Checking.{unsteady_diagnostic}
-use Rattle.vsi_diagnostics.specs.Diagnostic.{Diagnostic, line_text}
-use Rattle.vsi_diagnostics.specs.Files.{fault_diagnostic}
-use Rattle.vsi_diagnostics.specs.Source.{refusal_diagnostic}
+use Rattle.vsi_answers.specs.Diagnostic.{Diagnostic, line_text}
+use Rattle.vsi_answers.specs.Files.{fault_diagnostic}
+use Rattle.vsi_answers.specs.Source.{refusal_diagnostic}
 use Rattle.vsi_documents.specs.Refused.{refused_interface_line, refused_line}
 use Rattle.vsi_arguments.specs.declared.request.AnswerForm.{AnswerForm}
 use Rattle.vsi_arguments.specs.declared.request.AnswerForm.TheVariants as form

@@ -28,7 +28,7 @@ use Rattle.vsi_answers.specs.Requests.{Answer, BuildsTo, ComparesTo, ListsTo, Re
 use Rattle.vsi_answers.specs.declared.unanswered.Unanswered.{Unanswered}
 use Rattle.vsi_answers.specs.declared.unanswered.Unanswered.TheVariants as unanswered
 use Rattle.vsi_types.specs.declared.rules.Profile.TheVariants.{Base}
-use Rattle.vsi_policy.specs.Named.{named_policy}
+use Rattle.vsi_documents.specs.Named.{named_policy}
 use Rattle.vsi_arguments.specs.declared.request.Attempt.{Attempt}
 use Rattle.vsi_arguments.specs.declared.request.Audit.{Audit}
 use Rattle.vsi_arguments.specs.declared.request.Bounding.{Bounding}

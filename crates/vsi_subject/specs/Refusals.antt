@@ -9,8 +9,8 @@ use Rattle.vsi_image.specs.declared.decoder.DecodeError.TheVariants as decoder
 use Rattle.vsi_image.specs.declared.instr.Image.{Image}
 use Rattle.vsi_store.specs.declared.reader.StoreError.TheVariants as store
 use Rattle.vsi_store.specs.declared.endings.ViewError.TheVariants as views
-use Rattle.vsi_diagnostics.specs.declared.diagnostic.Fault.{Fault}
-use Rattle.vsi_diagnostics.specs.declared.diagnostic.Fault.TheVariants as fault
+use Rattle.vsi_answers.specs.declared.diagnostic.Fault.{Fault}
+use Rattle.vsi_answers.specs.declared.diagnostic.Fault.TheVariants as fault
 use Rattle.vsi_answers.specs.Answers.{Because}
 use Rattle.vsi_answers.specs.Bounds as bounds
 use Rattle.vsi_answers.specs.Judged.{Declares, IsProgramFault, IsStoreFault, TellsFault, TellsSource}

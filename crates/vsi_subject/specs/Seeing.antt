@@ -3,8 +3,8 @@ use Rattle.std.specs.Prelude.{◌≡◌, ℕ, List, Option, Some, None}
 use Rattle.std.specs.Borrow.{Bor}
 use Rattle.std.specs.Global.{Vec}
 use Rattle.vsi_lattice.specs.declared.lattice.Lattice.{Lattice}
-use Rattle.vsi_policy.specs.Changes.{seen_changes}
-use Rattle.vsi_policy.specs.Rows.{seen_table}
+use Rattle.vsi_documents.specs.Changes.{seen_changes}
+use Rattle.vsi_documents.specs.Rows.{seen_table}
 use Rattle.vsi_arguments.specs.declared.request.Looking.{Looking}
 use Rattle.vsi_subject.specs.Holding.{Holding, IsLatticeAt}
 

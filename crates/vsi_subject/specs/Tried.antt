@@ -7,7 +7,7 @@ use Rattle.vsi_lattice.specs.NamePlaces.{texts}
 use Rattle.vsi_lattice.specs.declared.lattice.Lattice.{Lattice}
 use Rattle.vsi_types.specs.declared.rules.Profile.TheVariants.{Base}
 use Rattle.vsi_image.specs.declared.instr.Image.{Image}
-use Rattle.vsi_policy.specs.Named.{named_policy}
+use Rattle.vsi_documents.specs.Named.{named_policy}
 use Rattle.vsi_conform.specs.Beside.{beside}
 use Rattle.vsi_answers.specs.Judged.{AreImage, Declares}
 use Rattle.vsi_answers.specs.Requests.{Answer, BeginsWith, BuildsTo, RunsTo, ViewsTo}

@@ -4,8 +4,8 @@ use Rattle.std.specs.Borrow.{Bor}
 use Rattle.std.specs.Global.{Vec}
 use Rattle.vsi_lattice.specs.declared.lattice.Lattice.{Lattice}
 use Rattle.vsi_conform.specs.declared.reader.InterfaceFile.{InterfaceFile}
-use Rattle.vsi_policy.specs.Changes.{visible_changes}
-use Rattle.vsi_policy.specs.Rows.{visible_table}
+use Rattle.vsi_documents.specs.Changes.{visible_changes}
+use Rattle.vsi_documents.specs.Rows.{visible_table}
 use Rattle.vsi_arguments.specs.declared.request.Visibility.{Visibility}
 use Rattle.vsi_subject.specs.Holding.{Holding}
 use Rattle.vsi_subject.specs.Interfaces.{IsAskedAt, IsPolicyAt}

@@ -2,9 +2,8 @@
 
 use std::alloc::{AllocError, Global};
 use std::cell::RefCell;
-use vsi_answers::Observer;
+use vsi_answers::{Observer, warning_lines};
 use vsi_compiler::Source;
-use vsi_diagnostics::warning_lines;
 use vsi_image::Image;
 use vsi_lattice::Lattice;
 use vsi_telling::{ColourMode, flows_explanation};

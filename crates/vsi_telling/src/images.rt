@@ -3,7 +3,7 @@
 use crate::parts::{key_place, names_of};
 use crate::telling::{Part, Telling, Told};
 use std::alloc::AllocError;
-use vsi_diagnostics::Fault;
+use vsi_answers::Fault;
 use vsi_image::{DecodeError, VerifyError};
 use vsi_store::{StoreError, ViewError};
 use vsi_syntax::Span;

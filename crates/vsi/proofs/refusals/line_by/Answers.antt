@@ -1,5 +1,5 @@
 use Rattle.std.proofs.Common.{◌≡◌, ◌∙◌, ◌++◌, subst}
-use Rattle.vsi_diagnostics.specs.View.{diagnostic_of}
+use Rattle.vsi_answers.specs.View.{diagnostic_of}
 use Rattle.vsi.proofs.refusals.line_by.Goals as goal
 
 pub returns : goal.returns

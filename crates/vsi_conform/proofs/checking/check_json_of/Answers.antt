@@ -1,6 +1,6 @@
 use Rattle.std.proofs.Common.{◌≡◌, rules}
 use Rattle.vsi_lattice.specs.LatticeView.{class_named, order}
-use Rattle.vsi_diagnostics.specs.Json.{accepted_line}
+use Rattle.vsi_answers.specs.Json.{accepted_line}
 use Rattle.vsi_conform.specs.Conforms.{IsAcceptedAs, IsRefusedAs}
 use Rattle.vsi_conform.proofs.Profiles.{tells_refused}
 use Rattle.vsi_conform.proofs.checking.check_json_of.Goals as goal

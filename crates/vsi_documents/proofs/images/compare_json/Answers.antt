@@ -5,7 +5,7 @@ use Rattle.vsi_image.specs.Fields.{globals}
 use Rattle.vsi_image.specs.declared.instr.Image.{Image}
 use Rattle.vsi_lattice.specs.LatticeView.{class_named, order}
 use Rattle.vsi_documents.specs.Comparisons.{comparison_members}
-use Rattle.vsi_diagnostics.specs.Members.{object_line}
+use Rattle.vsi_answers.specs.Members.{object_line}
 use Rattle.vsi_documents.proofs.images.compare_json.Goals as goal
 
 pub returns-in_ok-text-in-Ok : goal.returns-in_ok-text-in-Ok

@@ -1,5 +1,5 @@
 use Rattle.std.proofs.Common.{ap, ◌∙◌}
-use Rattle.vsi_diagnostics.specs.Members.{object_line}
+use Rattle.vsi_answers.specs.Members.{object_line}
 use Rattle.vsi_answers.specs.Bounds.{bound_line}
 use Rattle.vsi_documents.specs.Bounds.{bound_members}
 use Rattle.vsi_documents.proofs.images.document_of.Goals as goal

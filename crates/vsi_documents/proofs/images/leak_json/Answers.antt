@@ -3,7 +3,7 @@ use Rattle.vsi_image.specs.Fields.{globals}
 use Rattle.vsi_lattice.specs.LatticeView.{class_named, order}
 use Rattle.vsi_leak.specs.Leaks.{IsFinding, IsWanted}
 use Rattle.vsi_documents.specs.Leaks.{leak_members}
-use Rattle.vsi_diagnostics.specs.Members.{object_line}
+use Rattle.vsi_answers.specs.Members.{object_line}
 use Rattle.vsi_documents.proofs.images.leak_json.Goals as goal
 
 pub returns-in-Leak-clause-answer : goal.returns-in-Leak-clause-answer

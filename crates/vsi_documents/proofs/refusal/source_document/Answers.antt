@@ -1,6 +1,6 @@
 use Rattle.std.proofs.Common.{◌∙◌, map, option_map, sym, subst}
 use Rattle.serde_json.specs.View.{view}
-use Rattle.vsi_diagnostics.specs.View.{diagnostic_of}
+use Rattle.vsi_answers.specs.View.{diagnostic_of}
 use Rattle.vsi_documents.specs.Refusals.{IsRefusalDocument}
 use Rattle.vsi_documents.specs.Steps.{LocatesFlow}
 use Rattle.vsi_documents.proofs.refusal.source_document.Goals as goal

@@ -5,7 +5,7 @@ use Rattle.vsi_subject.specs.Refusals.{NoOther, FailsBy}
 use Rattle.vsi_subject.specs.Reasons.{RefusesNamed}
 use Rattle.vsi_subject.specs.Tried.{IsNamedLattice}
 use Rattle.vsi_subject.specs.declared.failure.Failure.TheVariants as fails
-use Rattle.vsi_policy.specs.Named.{named_policy}
+use Rattle.vsi_documents.specs.Named.{named_policy}
 use Rattle.vsi_subject.proofs.Unrun.{memory_fails}
 use Rattle.vsi_runs.proofs.trials.own_lattice.Goals as goal
 

@@ -1,5 +1,0 @@
-use Rattle.std.proofs.Common.{rules}
-use Rattle.vsi_diagnostics.proofs.texts.refusal_text_of.Goals as goal
-
-pub returns : goal.returns
-returns c = record { text = (c.in_ok-more.more.items, c.in_ok-more.ensures, search rules) }

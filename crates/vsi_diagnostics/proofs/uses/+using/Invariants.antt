@@ -1,7 +1,0 @@
-use Rattle.std.proofs.Common.{◌≡◌, take, false}
-use Rattle.vsi_diagnostics.specs.Warned.{used}
-use Rattle.vsi_scope.specs.View.{sequence}
-use Rattle.vsi_diagnostics.proofs.uses.+using.Given as goal
-
-abbrev pub invariant-are_using-loop-c : goal.invariant-are_using-loop-c
-invariant-are_using-loop-c l = used l.counts (sequence (take l.c-index l.body)) l.location ≡ false

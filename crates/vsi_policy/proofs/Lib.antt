@@ -1,4 +1,0 @@
-mod Below
-mod Digits
-mod First
-mod Shaped

@@ -1,8 +1,0 @@
-use Rattle.std.proofs.Common.{◌≡◌, ◌++◌}
-use Rattle.vsi_policy.specs.Roles.{view}
-use Rattle.vsi_policy.specs.Rows.{each_below, seen_row}
-use Rattle.vsi_policy.proofs.roles.put_seen.Given as goal
-
--- The text has the rows of the classes so far.
-abbrev pub invariant-loop-class : goal.invariant-loop-class
-invariant-loop-class l = l.text.items ≡ l.initial.text.items ++ each_below (seen_row (view l.side)) l.class

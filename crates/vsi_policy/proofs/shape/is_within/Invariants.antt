@@ -1,9 +1,0 @@
-use Rattle.std.proofs.Common.{◌≡◌}
-use Rattle.vsi_policy.specs.Shapes.{is_within}
-use Rattle.vsi_policy.proofs.shape.is_within.Given as goal
-
-abbrev pub invariant-loop-left : goal.invariant-loop-left
-invariant-loop-left l = is_within l.left l.inner l.outer ≡ is_within l.digits l.low l.high
-
-abbrev pub decreases-loop-left : goal.decreases-loop-left
-decreases-loop-left l = l.left

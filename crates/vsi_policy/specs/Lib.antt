@@ -1,5 +1,0 @@
-pub mod Shapes
-pub mod Named
-pub mod Roles
-pub mod Rows
-pub mod Changes
