@@ -20,11 +20,6 @@
 //! and `specs/Findings` say which answers are written, `specs/Refusals` and `specs/Document` define
 //! their text.
 //!
-//! To be believed: all files of `specs/`.
-//!
-//! Policies: the lattice file that a source text names, lattice files of usual shapes, and what each
-//! class sees and may do.
-//!
 //! `named_policy` returns the path in the first comment of a text, `# policy: FILE`. `lattice_text`
 //! returns a lattice file for a shape and names. `read_lattice` has read the file, and it declares
 //! exactly the classes and the order of the shape (clause `shaped`). `seen_table` writes the classes

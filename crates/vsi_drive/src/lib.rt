@@ -11,13 +11,7 @@
 //! `first_words` returns the words with which a run begins, from a store file and from globals that
 //! are set after it: see `specs/Starts`.
 //!
-//! To be believed: `specs/Control`, `specs/Cycles`, `specs/Drives`, `specs/Fields`, `specs/Laws`,
-//! `specs/Settings`, `specs/Settled`, `specs/Starts`, `specs/Views`. The other files of `specs/`
-//! only support proofs.
-//!
-//! Devices with counted faults, and the calls that use them.
-//!
-//! `read_all` and `write_out` move whole texts. `build` reads a source text and writes the bytes of
+//! The calls that use devices count their faults. `read_all` and `write_out` move whole texts. `build` reads a source text and writes the bytes of
 //! its image. `run_image` reads an image and writes the output of its run, and `run_words` runs a
 //! verified image and returns the text of its store. `image_bytes`, `image_bytes_of` and
 //! `verified_image` do their work without a device. The clauses say which device failed and what

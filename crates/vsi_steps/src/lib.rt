@@ -5,9 +5,6 @@
 //! the first of them. The laws of steps are in [`laws`]: every evaluation has exactly one list of
 //! steps, and a run that is cut gives the first of its steps.
 //!
-//! To be believed: all files of `specs/` but `specs/Extents` and `specs/Ran`, stepping stones
-//! of proofs.
-//!
 //! A dynamic monitor: each word has a label, and the program counter has a class. At an assignment
 //! under a counter that isn't at or below the label of the variable, a run is stopped
 //! (no-sensitive-upgrade after Austin and Flanagan, 2009), or the word is marked as partly leaked,
@@ -19,7 +16,8 @@
 //! such runs from stores that agree below a class end in stores that agree there, and permissive
 //! upgrade stops fewer runs.
 //!
-//! To be believed: all files of `specs/`.
+//! To be believed: all files of `specs/` but `specs/Extents` and `specs/Ran`, stepping stones
+//! of proofs.
 #![tactic(auto)]
 
 mod answer;
