@@ -16,8 +16,8 @@
 //! such runs from stores that agree below a class end in stores that agree there, and permissive
 //! upgrade stops fewer runs.
 //!
-//! To be believed: all files of `specs/` but `specs/Extents` and `specs/Ran`, stepping stones
-//! of proofs.
+//! To be believed: all files of `specs/` but `specs/Extents` and `specs/Ran`, stepping stones of
+//! proofs.
 #![tactic(auto)]
 
 mod answer;

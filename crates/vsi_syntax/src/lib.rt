@@ -8,17 +8,17 @@
 //! `put_word`, `put_line_column` and `put_place` write numbers and positions for all of them.
 //!
 //! `layout` writes the tokens of a text as its canonical text has them, and each comment between
-//! the same two tokens. The written text is a proposal: `layout` lexes it, and answers with it only if it has the tokens
-//! and the comments of the text and is laid out as itself; otherwise the answer is the text. So
-//! clause `laid` promises the same tokens and the same comments in their order, and the law
-//! `laid_again` that a layout is laid out as itself, and `canonical_kept` that it has the canonical
-//! text of the text.
+//! the same two tokens. The written text is a proposal: `layout` lexes it, and answers with it only
+//! if it has the tokens and the comments of the text and is laid out as itself; otherwise the
+//! answer is the text. So clause `laid` promises the same tokens and the same comments in their
+//! order, and the law `laid_again` that a layout is laid out as itself, and `canonical_kept` that
+//! it has the canonical text of the text.
 //!
-//! To be believed: `specs/Apart`, `specs/Canon`, `specs/CommandView`, `specs/Comments`, `specs/Cut`,
-//! `specs/FaultPlaces`, `specs/Given`, `specs/Layout`, `specs/Limits`, `specs/Lines`,
+//! To be believed: `specs/Apart`, `specs/Canon`, `specs/CommandView`, `specs/Comments`,
+//! `specs/Cut`, `specs/FaultPlaces`, `specs/Given`, `specs/Layout`, `specs/Limits`, `specs/Lines`,
 //! `specs/Operators`, `specs/Places`, `specs/ProgramView`, `specs/Spelling`, `specs/Tree`,
-//! `specs/View` and `specs/Words`. The other files in `specs/` are stepping stones of proofs, or say
-//! how a text is laid out, on which no promise depends.
+//! `specs/View` and `specs/Words`. The other files in `specs/` are stepping stones of proofs, or
+//! say how a text is laid out, on which no promise depends.
 #![tactic(auto)]
 
 pub mod laws;
