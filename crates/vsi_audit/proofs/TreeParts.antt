@@ -7,7 +7,7 @@ use Rattle.vsi_syntax.specs.declared.tree.Op.{Op}
 use Rattle.vsi_syntax.specs.declared.tree.Op.TheVariants as o
 use Rattle.vsi_syntax.specs.Tree as tree
 use Rattle.vsi_syntax.specs.CommandView as syntax
-use Rattle.vsi_scope.specs.declared.resolved.Cmd.{Cmd}
+use Rattle.vsi_scope.specs.declared.program.Cmd.{Cmd}
 use Rattle.vsi_scope.specs.Language.{Expression, Number, Operator, Command, Skip, If, While, Letvar}
 use Rattle.vsi_scope.specs.Scopes.{Scope}
 use Rattle.vsi_scope.specs.View.{command, sequence}

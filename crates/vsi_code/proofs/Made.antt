@@ -6,7 +6,7 @@ use Rattle.vsi_image.specs.declared.instr.Instr.{Instr}
 use Rattle.vsi_image.specs.Fields as image
 use Rattle.vsi_image.specs.Fields.{Fields, AreGlobals, IsAllowed, fields}
 use Rattle.vsi_image.specs.Valid.{IsValid}
-use Rattle.vsi_scope.specs.declared.resolved.Cmd.{Cmd}
+use Rattle.vsi_scope.specs.declared.program.Cmd.{Cmd}
 use Rattle.vsi_scope.specs.declared.resolved.Global.{Global}
 use Rattle.vsi_scope.specs.Language.{nesting, size}
 use Rattle.vsi_scope.specs.Program.{Resolved, IsResolved}

@@ -1,9 +1,9 @@
 -- The parts of a command fit if the command does.
 use Rattle.std.proofs.Common.{◌≡◌, ℕ, zero, suc, ◌+◌, ◌<◌, ◌≤◌, List, [], ◌∷◌, ◌++◌, length, take, get_or, Vec, Global, sym, ap, ◌∙◌, subst, arith, append_assoc}
 use Rattle.std.proofs.lemmas.List.{take_more, append-nil}
-use Rattle.vsi_scope.specs.declared.resolved.Ex.{Ex}
-use Rattle.vsi_scope.specs.declared.resolved.Cmd.{Cmd}
-use Rattle.vsi_scope.specs.declared.resolved.Cmd.TheViews as view
+use Rattle.vsi_scope.specs.declared.program.Ex.{Ex}
+use Rattle.vsi_scope.specs.declared.program.Cmd.{Cmd}
+use Rattle.vsi_scope.specs.declared.program.Cmd.TheViews as view
 use Rattle.vsi_scope.specs.Language.{Expression, Command, If, While, Letvar, expression_size, size, nesting}
 use Rattle.vsi_scope.specs.View.{expression, command, sequence}
 use Rattle.vsi_scope.proofs.Views.{command_If, command_While, command_Letvar}

@@ -1,9 +1,9 @@
 -- How a command relates to the parts that a walk reads from it.
 use Rattle.std.proofs.Common.{◌≡◌, ℕ, ◌+◌, ◌-◌, ◌<◌, List, take, length, get_or, Vec, Global, sym, ap, ◌∙◌, subst, arith}
 use Rattle.std.proofs.lemmas.List.{get_or-map}
-use Rattle.vsi_scope.specs.declared.resolved.Ex.{Ex}
-use Rattle.vsi_scope.specs.declared.resolved.Cmd.{Cmd}
-use Rattle.vsi_scope.specs.declared.resolved.Cmd.TheViews as view
+use Rattle.vsi_scope.specs.declared.program.Ex.{Ex}
+use Rattle.vsi_scope.specs.declared.program.Cmd.{Cmd}
+use Rattle.vsi_scope.specs.declared.program.Cmd.TheViews as view
 use Rattle.vsi_scope.specs.declared.resolved.Entry.{Entry}
 use Rattle.vsi_scope.specs.Language.{Expression, Command, If, While, Letvar, letvars, HasPlaces}
 use Rattle.vsi_scope.specs.View.{expression, command, sequence}

@@ -1,8 +1,8 @@
 -- The result of folding each kind of command.
 use Rattle.std.proofs.Common.{◌≡◌, Bool, Option, Some, Vec, Global, sym, ap, ◌∙◌}
-use Rattle.vsi_scope.specs.declared.resolved.Ex.{Ex}
-use Rattle.vsi_scope.specs.declared.resolved.Cmd.{Cmd}
-use Rattle.vsi_scope.specs.declared.resolved.Cmd.TheViews as view
+use Rattle.vsi_scope.specs.declared.program.Ex.{Ex}
+use Rattle.vsi_scope.specs.declared.program.Cmd.{Cmd}
+use Rattle.vsi_scope.specs.declared.program.Cmd.TheViews as view
 use Rattle.vsi_scope.specs.Language.{Command, If, While, Letvar}
 use Rattle.vsi_scope.specs.View.{expression, command, sequence}
 use Rattle.vsi_scope.proofs.Views.{command_If, command_While, command_Letvar}

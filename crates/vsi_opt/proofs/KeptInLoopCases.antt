@@ -1,10 +1,10 @@
 -- The result of removal inside a loop, for each kind of command.
 use Rattle.std.proofs.Common.{◌≡◌, ℕ, ◌+◌, Bool, true, false, List, [], ◌∷◌, ◌++◌, Vec, Global, sym, ap, ◌∙◌}
 use Rattle.vsi_syntax.specs.declared.token.Span.{Span}
-use Rattle.vsi_scope.specs.declared.resolved.Ex.{Ex}
-use Rattle.vsi_scope.specs.declared.resolved.Cmd.{Cmd}
-use Rattle.vsi_scope.specs.declared.resolved.Cmd as cmd
-use Rattle.vsi_scope.specs.declared.resolved.Cmd.TheViews.{If, While, Letvar}
+use Rattle.vsi_scope.specs.declared.program.Ex.{Ex}
+use Rattle.vsi_scope.specs.declared.program.Cmd.{Cmd}
+use Rattle.vsi_scope.specs.declared.program.Cmd as cmd
+use Rattle.vsi_scope.specs.declared.program.Cmd.TheViews.{If, While, Letvar}
 use Rattle.vsi_scope.specs.Language.{Assign}
 use Rattle.vsi_scope.specs.View.{expression, command, sequence}
 use Rattle.vsi_scope.proofs.Views.{command_If, command_While, command_Letvar}

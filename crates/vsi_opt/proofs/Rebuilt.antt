@@ -1,7 +1,7 @@
 -- The optimised program is within the limits, its locations exist, and it has an entry for each letvar.
 use Rattle.std.proofs.Common.{◌≡◌, ℕ, ◌+◌, ◌≤◌, Bool, true, false, Option, Some, None, List, [], ◌++◌, length, slice_get, refl, sym, ap, ◌∙◌, subst, arith, length-append}
 use Rattle.std.proofs.lemmas.List.{length-map}
-use Rattle.vsi_scope.specs.declared.resolved.Cmd.{Cmd}
+use Rattle.vsi_scope.specs.declared.program.Cmd.{Cmd}
 use Rattle.vsi_scope.specs.declared.resolved.Entry.{Entry}
 use Rattle.vsi_scope.specs.Language.{Expression, Command, Skip, Assign, Sequence, If, While, Letvar, letvars, HasPlaces, size, nesting, expressions_depth}
 use Rattle.vsi_scope.specs.Program.{Resolved, IsResolved, resolved_of}

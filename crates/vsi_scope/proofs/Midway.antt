@@ -7,7 +7,7 @@ use Rattle.vsi_scope.proofs.Faulty.{fault_behind, refuses_first, refuses_as}
 use Rattle.vsi_scope.proofs.Walks.{same_names, declared_after}
 use Rattle.vsi_syntax.specs.declared.tree.Stmt.{Stmt}
 use Rattle.vsi_syntax.specs.CommandView as syntax
-use Rattle.vsi_scope.specs.declared.resolved.Cmd.{Cmd}
+use Rattle.vsi_scope.specs.declared.program.Cmd.{Cmd}
 use Rattle.vsi_scope.specs.declared.resolution.command.Resolver.{Resolver}
 use Rattle.vsi_scope.specs.View.{command}
 use Rattle.vsi_scope.specs.Places.{commands_of, all_commands}

@@ -7,7 +7,7 @@ use Rattle.std.proofs.lemmas.List.Elements.{All-nil, All-cons}
 use Rattle.vsi_syntax.specs.Tree as tree
 use Rattle.vsi_syntax.specs.Spelling.{IsGlobalsSpelled}
 use Rattle.vsi_syntax.specs.Words.{is_name}
-use Rattle.vsi_scope.specs.declared.resolved.Cmd.{Cmd}
+use Rattle.vsi_scope.specs.declared.program.Cmd.{Cmd}
 use Rattle.vsi_scope.specs.declared.resolved.Global.{Global}
 use Rattle.vsi_scope.specs.declared.resolution.command.Resolver.{Resolver}
 use Rattle.vsi_scope.specs.declared.resolution.ScopeError.{ScopeError}

@@ -2,9 +2,9 @@
 use Rattle.std.proofs.Common.{◌≡◌, List, [], ◌∷◌, ◌++◌, Vec, Global, refl, sym, ap, ◌∙◌, ℕ, ◌+◌, ◌<◌, length, map, get_or, take, arith}
 use Rattle.std.proofs.lemmas.List.{take_more}
 use mathlib.Core.Former.{Count}
-use Rattle.vsi_scope.specs.declared.resolved.Ex.{Ex}
-use Rattle.vsi_scope.specs.declared.resolved.Cmd.{Cmd, While', Row_of-Cmd, end_of-Cmd, more_of-Cmd, items-the_row-Cmd, items_hidden-the_row-Cmd-0}
-use Rattle.vsi_scope.specs.declared.resolved.Cmd.TheViews as view
+use Rattle.vsi_scope.specs.declared.program.Ex.{Ex}
+use Rattle.vsi_scope.specs.declared.program.Cmd.{Cmd, While', Row_of-Cmd, end_of-Cmd, more_of-Cmd, items-the_row-Cmd, items_hidden-the_row-Cmd-0}
+use Rattle.vsi_scope.specs.declared.program.Cmd.TheViews as view
 use Rattle.vsi_scope.specs.Language.{letvars, Command, Sequence, If, While, Letvar}
 use Rattle.vsi_scope.specs.View.{expression, command, row, sequence}
 use Rattle.vsi_scope.specs.Scopes.{in_sequence}

@@ -3,7 +3,7 @@ use Rattle.std.specs.Prelude.{◌≡◌, ◌+◌, ◌≤◌, List, length, map, 
 use Rattle.std.specs.List.{All, IsDistinct}
 use Rattle.vsi_syntax.specs.Limits.{max_depth}
 use Rattle.vsi_syntax.specs.Words.{is_name}
-use Rattle.vsi_scope.specs.declared.resolved.Cmd.{Cmd}
+use Rattle.vsi_scope.specs.declared.program.Cmd.{Cmd}
 use Rattle.vsi_scope.specs.declared.resolved.Global.{Global}
 use Rattle.vsi_scope.specs.declared.resolved.Entry.{Entry}
 use Rattle.vsi_scope.specs.Language.{letvars, size, nesting, expressions_depth, HasPlaces}

@@ -1,7 +1,7 @@
 -- The effect of a walk through the text.
 use Rattle.std.specs.Prelude.{◌≡◌, ℕ, ◌+◌, ◌≤◌, List, [], ◌++◌, length, map, Option}
 use Rattle.vsi_syntax.specs.Tree as tree
-use Rattle.vsi_scope.specs.declared.resolved.Cmd.{Cmd}
+use Rattle.vsi_scope.specs.declared.program.Cmd.{Cmd}
 use Rattle.vsi_scope.specs.declared.resolution.whole.Names.{Names}
 use Rattle.vsi_scope.specs.declared.resolution.whole.Globals.{Globals}
 use Rattle.vsi_scope.specs.declared.resolution.command.Resolver.{Resolver}

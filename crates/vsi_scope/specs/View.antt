@@ -1,9 +1,9 @@
 -- The meaning of the program's types.
 use Rattle.std.specs.Prelude.{List, [], ◌∷◌}
-use Rattle.vsi_scope.specs.declared.resolved.Ex.{Ex}
-use Rattle.vsi_scope.specs.declared.resolved.Ex.TheVariants.{Num, Loc, Op'}
-use Rattle.vsi_scope.specs.declared.resolved.Cmd.{Cmd, Row_of-Cmd, end_of-Cmd, more_of-Cmd}
-use Rattle.vsi_scope.specs.declared.resolved.Cmd as cmd
+use Rattle.vsi_scope.specs.declared.program.Ex.{Ex}
+use Rattle.vsi_scope.specs.declared.program.Ex.TheVariants.{Num, Loc, Op'}
+use Rattle.vsi_scope.specs.declared.program.Cmd.{Cmd, Row_of-Cmd, end_of-Cmd, more_of-Cmd}
+use Rattle.vsi_scope.specs.declared.program.Cmd as cmd
 use Rattle.vsi_scope.specs.Language.{Expression, Number, Location, Operator, Command, Skip, Assign, Sequence, If, While, Letvar}
 
 -- The expression that a value of the code denotes.

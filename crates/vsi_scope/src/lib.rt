@@ -12,8 +12,12 @@
 #![tactic(auto)]
 
 pub mod laws;
+mod measure;
+mod program;
 mod resolution;
 mod resolved;
 
+pub use measure::size;
+pub use program::{Cmd, Ex};
 pub use resolution::{ScopeError, resolve};
-pub use resolved::{Cmd, Entry, Ex, Global, Resolved, Var, size};
+pub use resolved::{Entry, Global, Resolved, Var};

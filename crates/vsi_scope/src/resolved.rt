@@ -1,53 +1,12 @@
-//! A resolved program: commands and expressions over locations, and the size of their code.
+//! A resolved program: its globals, the entries of its letvars and its body.
 
-ghost use Rattle.std.specs.Prelude.{◌≡◌, List, ℕ, IfOk, IfErr, min};
-ghost use Rattle.vsi_scope.specs.Language.{size, expression_size};
-ghost use Rattle.vsi_scope.specs.View.{command, sequence, expression};
+ghost use Rattle.std.specs.Prelude.{◌≡◌, List, ℕ, IfOk, IfErr};
 
+use crate::program::Cmd;
 use std::alloc::{AllocError, Global as Heap};
 use std::marker::Model;
 use vsi_lattice::Class;
-use vsi_syntax::{Op, Span};
-
-/// An expression over locations. Location `k` below the number of globals is global `k`, and a
-/// `letvar` has the next location above those in scope.
-#[derive(Drop)]
-pub enum Ex {
-    /// A word.
-    Num(i64),
-    /// The contents of a location; the span is that of the name.
-    Loc(u16, Span),
-    /// An operator on two operands.
-    Op(Op, Box<Ex>, Box<Ex>),
-}
-
-/// A command over locations. Brackets and blocks disappear; a block in a sequence becomes part of
-/// it.
-#[derive(Drop)]
-pub enum Cmd {
-    /// Stores the value at the location; the span is that of the name.
-    Assign {
-        loc: u16,
-        span: Span,
-        value: Ex,
-    },
-    /// Runs the first branch if the guard isn't 0, else the second.
-    If {
-        guard: Ex,
-        yes: Vec<Cmd>,
-        no: Vec<Cmd>,
-    },
-    /// Runs the body again and again, as long as the guard isn't 0.
-    While {
-        guard: Ex,
-        body: Vec<Cmd>,
-    },
-    /// Stores the value, which is read in the outer scope, at a new location for the body alone.
-    Letvar {
-        value: Ex,
-        body: Vec<Cmd>,
-    },
-}
+use vsi_syntax::Span;
 
 /// A variable: the number of its declaration, globals first, then letvars in text order.
 #[derive(Clone, Copy, Debug, PartialEq, Eq)]
@@ -167,48 +126,5 @@ impl<'a> Resolved<'a> {
         ensures resolved { IsResolved self.now }
     {
         &self.body
-    }
-}
-
-/// The size of an expression.
-fn size_of(e: &Ex) -> u32
-    ensures { result ≡ min (expression_size (expression e.now)) 4294967295 }
-{
-    match e {
-        Ex::Num(_) => 1,
-        Ex::Loc(_, _) => 1,
-        Ex::Op(_, a, b) => size_of(a).saturating_add(size_of(b)).saturating_add(1),
-    }
-}
-
-/// The number of instructions that the commands need, or 4,294,967,295 if it is larger.
-///
-/// A number or a name counts 1; an operator, its operands plus 1; an assignment, its value plus 1;
-/// an `if`, its guard, both branches and 2; a `while`, its guard, its body and 2; a `letvar`, its
-/// initial value, its body and 1; a sequence, the sum of its commands.
-#[cycle(size)]
-pub fn size(body: &[Cmd]) -> u32
-    ensures { result ≡ min (size (sequence body.now)) 4294967295 }
-{
-    let mut n: u32 = 0;
-    for c in body {
-        n = n.saturating_add(size_in(c));
-    }
-    n
-}
-
-/// The size of one command.
-#[cycle(size)]
-fn size_in(c: &Cmd) -> u32
-    ensures { result ≡ min (size (command c.now)) 4294967295 }
-{
-    match c {
-        Cmd::Assign { value, .. } => size_of(value).saturating_add(1),
-        Cmd::If { guard, yes, no } => size_of(guard)
-            .saturating_add(size(yes))
-            .saturating_add(size(no))
-            .saturating_add(2),
-        Cmd::While { guard, body } => size_of(guard).saturating_add(size(body)).saturating_add(2),
-        Cmd::Letvar { value, body } => size_of(value).saturating_add(size(body)).saturating_add(1),
     }
 }

@@ -3,7 +3,7 @@ use Rattle.std.proofs.Common.{◌≡◌, ◌≢◌, ℕ, ◌+◌, ◌<◌, ◌�
 use Rattle.std.specs.Prelude.{Bool, true, false, Some, None}
 use Rattle.std.proofs.lemmas.List.{length-append, length_push, length-take-le, append-nil}
 use Rattle.vsi_syntax.specs.declared.token.Span.{Span}
-use Rattle.vsi_scope.specs.declared.resolved.Cmd.{Cmd}
+use Rattle.vsi_scope.specs.declared.program.Cmd.{Cmd}
 use Rattle.vsi_scope.specs.Language.{Expression, Command, Skip, Assign, Sequence, If, While, Letvar, HasPlaces}
 use Rattle.vsi_scope.specs.Limits.{max_size}
 use Rattle.vsi_scope.specs.Meaning.{Store, value}

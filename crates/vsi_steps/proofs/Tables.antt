@@ -2,10 +2,10 @@
 use Rattle.std.proofs.Common.{◌≡◌, ℕ, ◌+◌, ◌<◌, List, [], ◌∷◌, ◌++◌, Vec, Global, length, get_or, set, ◌⊎◌, inl, inr, refl, sym, ap, ◌∙◌, subst, arith, append_assoc}
 use Rattle.std.proofs.lemmas.List.{length-append, append-nil}
 use Rattle.std.proofs.Math.Seq.{set-append_seam, get_or-append_seam}
-use Rattle.vsi_scope.specs.declared.resolved.Ex.{Ex}
-use Rattle.vsi_scope.specs.declared.resolved.Cmd.{Cmd}
-use Rattle.vsi_scope.specs.declared.resolved.Cmd.TheViews as view
-use Rattle.vsi_scope.specs.declared.resolved.Cmd as cmd
+use Rattle.vsi_scope.specs.declared.program.Ex.{Ex}
+use Rattle.vsi_scope.specs.declared.program.Cmd.{Cmd}
+use Rattle.vsi_scope.specs.declared.program.Cmd.TheViews as view
+use Rattle.vsi_scope.specs.declared.program.Cmd as cmd
 use Rattle.vsi_scope.specs.Language.{Expression, Command, Skip, Assign, Sequence, If, While, Letvar}
 use Rattle.vsi_scope.specs.View.{command, sequence}
 use Rattle.vsi_steps.specs.declared.run.Extent.{Extent}

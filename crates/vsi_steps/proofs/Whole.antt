@@ -5,7 +5,7 @@ use Rattle.std.specs.List.{All}
 use Rattle.std.proofs.lemmas.List.{length-map, length-take-le, take_at}
 use Rattle.std.proofs.lemmas.List.Elements.{All-get_or, All-take}
 use Rattle.vsi_lattice.specs.Order.{Lattice, IsLattice, IsClass}
-use Rattle.vsi_scope.specs.declared.resolved.Cmd.{Cmd}
+use Rattle.vsi_scope.specs.declared.program.Cmd.{Cmd}
 use Rattle.vsi_scope.specs.Language.{letvars, HasPlaces}
 use Rattle.vsi_scope.specs.Meaning.{Store}
 use Rattle.vsi_scope.specs.Program.{Resolved, IsResolved}

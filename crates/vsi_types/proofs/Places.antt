@@ -5,7 +5,7 @@ use Rattle.std.proofs.lemmas.List.{take_all}
 use Rattle.std.proofs.Math.Seq.{take-append_seam}
 use Rattle.vsi_lattice.specs.Order.{Lattice}
 use Rattle.vsi_syntax.specs.declared.token.Span.{Span}
-use Rattle.vsi_scope.specs.declared.resolved.Cmd.{Cmd}
+use Rattle.vsi_scope.specs.declared.program.Cmd.{Cmd}
 use Rattle.vsi_scope.specs.Language.{Expression, Command, Assign, Sequence, If, While, Letvar, letvars, has_loop, HasPlaces}
 use Rattle.vsi_scope.specs.View.{command, sequence}
 use Rattle.vsi_scope.proofs.Views.{letvars_more}

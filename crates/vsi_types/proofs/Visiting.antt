@@ -2,9 +2,9 @@
 use Rattle.std.proofs.Common.{◌≡◌, ℕ, ◌+◌, List, [], ◌∷◌, ◌++◌, take, length, Vec, Global, refl, sym, ap, ◌∙◌}
 use Rattle.std.specs.Prelude.{◌||◌, true, ⊤, Result, Ok, Err, IsErrAnd}
 use Rattle.vsi_lattice.specs.Order.{Lattice}
-use Rattle.vsi_scope.specs.declared.resolved.Ex.{Ex}
-use Rattle.vsi_scope.specs.declared.resolved.Cmd.{Cmd}
-use Rattle.vsi_scope.specs.declared.resolved.Cmd.TheViews as view
+use Rattle.vsi_scope.specs.declared.program.Ex.{Ex}
+use Rattle.vsi_scope.specs.declared.program.Cmd.{Cmd}
+use Rattle.vsi_scope.specs.declared.program.Cmd.TheViews as view
 use Rattle.vsi_scope.specs.Language.{If, While, Letvar, has_loop}
 use Rattle.vsi_scope.specs.View.{expression, command, sequence}
 use Rattle.vsi_scope.proofs.Views.{command_If, command_While, command_Letvar}

@@ -14,9 +14,10 @@ ghost use Rattle.vsi_lattice.specs.LatticeView.{class_named};
 ghost use Rattle.vsi_scope.specs.Resolving.{class_of};
 ghost use Rattle.vsi_syntax.specs.CommandView as syntax;
 
+use crate::program::{Cmd, Ex};
 use crate::resolution::whole::Names;
 use crate::resolution::{MAX_DECLARATIONS, ScopeError};
-use crate::resolved::{Cmd, Entry, Ex};
+use crate::resolved::Entry;
 use std::alloc::Global;
 use vsi_lattice::{Class, Lattice};
 use vsi_syntax::{Expr, Name, Stmt};

@@ -14,10 +14,11 @@ ghost use Rattle.vsi_scope.specs.View.{sequence};
 ghost use Rattle.vsi_scope.specs.Resolving.{Resolves, AreBelow, HasClassesBelow, IsResolution, ExplainsScope};
 ghost use Rattle.vsi_syntax.specs.CommandView as syntax;
 
+use crate::measure::size;
 use crate::resolution::command::{Resolver, sequence};
 use crate::resolution::{MAX_GLOBALS, MAX_SIZE, ScopeError};
 use crate::resolved;
-use crate::resolved::{Resolved, size};
+use crate::resolved::Resolved;
 use indexmap::IndexSet;
 use std::alloc::Global;
 use vsi_lattice::{Class, Lattice};

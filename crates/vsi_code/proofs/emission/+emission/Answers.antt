@@ -1,6 +1,6 @@
 use Rattle.std.proofs.Common.{rules, ◌≡◌, ◌+◌, ◌++◌, ◌∙◌, append_assoc, arith, ap, sym, subst, refl, length-append, length, take}
 use Rattle.std.proofs.lemmas.Grind.{common_steps}
-use Rattle.vsi_scope.specs.declared.resolved.Cmd.{the_lemmas}
+use Rattle.vsi_scope.specs.declared.program.Cmd.{the_lemmas}
 use Rattle.vsi_scope.specs.Language.{If, While, expression_size, size}
 use Rattle.vsi_scope.specs.View.{expression, command, sequence}
 use Rattle.vsi_code.specs.Layout.{Fits, expression_code, code_at}

@@ -1,6 +1,6 @@
 use Rattle.std.proofs.Common.{◌≡◌, take, max, ◌+◌, ◌*◌}
 use denote.Param.Weighed.{most}
-use Rattle.vsi_scope.proofs.resolved.Cmd.TheLaws.{the_size}
+use Rattle.vsi_scope.proofs.program.Cmd.TheLaws.{the_size}
 use Rattle.vsi_scope.specs.Language.{has_loop}
 use Rattle.vsi_scope.specs.View.{sequence}
 use Rattle.vsi_infer.specs.Leading.{row_reads, IsNoted, position_of}

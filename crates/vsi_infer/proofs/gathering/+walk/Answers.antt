@@ -1,7 +1,7 @@
 use Rattle.std.proofs.Common.{rules, ◌≡◌, ◌∙◌, ◌++◌, ◌∷◌, [], ◌||◌, sym, ap, subst, arith, refl, ◌+◌, ◌≤◌, length, take, true}
 use Rattle.std.proofs.lemmas.Grind.{common_steps}
 use Rattle.std.proofs.lemmas.List.{take_all}
-use Rattle.vsi_scope.specs.declared.resolved.Cmd.{the_lemmas}
+use Rattle.vsi_scope.specs.declared.program.Cmd.{the_lemmas}
 use Rattle.vsi_scope.specs.Language.{Assign, has_loop}
 use Rattle.vsi_scope.specs.View.{expression, command, sequence}
 use Rattle.vsi_types.specs.declared.rules.Rule.TheVariants as typing

@@ -1,7 +1,7 @@
 use Rattle.std.proofs.Common.{◌≡◌, ℕ, ◌∷◌, [], length, List, sym, subst}
 use Rattle.std.specs.Prelude.{slice_index}
 use Rattle.std.proofs.lemmas.List.{get_or_read}
-use Rattle.vsi_scope.specs.declared.resolved.Ex.{Ex}
+use Rattle.vsi_scope.specs.declared.program.Ex.{Ex}
 use Rattle.vsi_scope.specs.Language.{HasLocations}
 use Rattle.vsi_scope.specs.View.{expression}
 use Rattle.vsi_types.specs.declared.rules.Step.{Step}

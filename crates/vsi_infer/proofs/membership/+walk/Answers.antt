@@ -1,6 +1,6 @@
 use Rattle.std.proofs.Common.{rules, sym, subst, arith, length}
 use Rattle.std.proofs.lemmas.Grind.{common_steps}
-use Rattle.vsi_scope.specs.declared.resolved.Cmd.{the_lemmas}
+use Rattle.vsi_scope.specs.declared.program.Cmd.{the_lemmas}
 use Rattle.vsi_types.specs.Security.{name_place}
 use Rattle.vsi_infer.specs.Membership.{IsFor, IsPast, stand_of}
 use Rattle.vsi_infer.proofs.CommandLemmas.{choice_read, loop_read, letvar_read}

@@ -1,6 +1,6 @@
 use Rattle.std.proofs.Common.{take, max, ◌+◌, ◌*◌}
 use denote.Param.Weighed.{most}
-use Rattle.vsi_scope.proofs.resolved.Cmd.TheLaws.{the_size}
+use Rattle.vsi_scope.proofs.program.Cmd.TheLaws.{the_size}
 use Rattle.vsi_scope.specs.View.{sequence}
 use Rattle.vsi_types.specs.Security.{name_place}
 use Rattle.vsi_infer.specs.Membership.{IsPast, stand_of}

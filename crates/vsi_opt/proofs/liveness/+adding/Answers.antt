@@ -1,6 +1,6 @@
 use Rattle.std.proofs.Common.{rules, ◌+◌, sym, ap, ◌∙◌, subst, arith}
 use Rattle.std.proofs.lemmas.Grind.{common_steps}
-use Rattle.vsi_scope.specs.declared.resolved.Cmd.{the_lemmas}
+use Rattle.vsi_scope.specs.declared.program.Cmd.{the_lemmas}
 use Rattle.vsi_scope.specs.Language.{letvars}
 use Rattle.vsi_scope.specs.View.{command, sequence}
 use Rattle.vsi_opt.specs.Liveness.{all_reads}

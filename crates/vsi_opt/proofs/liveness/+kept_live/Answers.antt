@@ -1,6 +1,6 @@
 use Rattle.std.proofs.Common.{rules, ◌+◌, sym, ap, ◌∙◌, arith}
 use Rattle.std.proofs.lemmas.Grind.{common_steps}
-use Rattle.vsi_scope.specs.declared.resolved.Cmd.{the_lemmas}
+use Rattle.vsi_scope.specs.declared.program.Cmd.{the_lemmas}
 use Rattle.vsi_opt.specs.Ranges.{bits}
 use Rattle.vsi_opt.proofs.ReadingCases.{fits_if, fits_while, fits_letvar, fits_list, fits_at}
 use Rattle.vsi_scope.specs.View.{sequence}

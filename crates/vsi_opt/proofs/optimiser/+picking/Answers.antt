@@ -1,7 +1,7 @@
 use Rattle.std.proofs.Common.{rules, sym, ap, ◌∙◌, arith}
 use Rattle.std.proofs.lemmas.Grind.{common_steps}
 use Rattle.std.proofs.lemmas.Result.{on_ok_weaker}
-use Rattle.vsi_scope.specs.declared.resolved.Cmd.{the_lemmas}
+use Rattle.vsi_scope.specs.declared.program.Cmd.{the_lemmas}
 use Rattle.vsi_scope.specs.Language.{letvars}
 use Rattle.vsi_scope.specs.View.{sequence}
 use Rattle.vsi_opt.proofs.Numbers.{letvars_if, letvars_while, letvars_letvar, letvars_from, letvars_end, picks_more, picks_end, picks_if, picks_while, picks_letvar}

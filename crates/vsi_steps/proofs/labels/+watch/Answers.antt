@@ -2,7 +2,7 @@ use Rattle.std.proofs.Common.{rules, subst, refl, arith, ap, ◌∙◌, ◌+◌,
 use Rattle.std.proofs.lemmas.Int.{to_z-of_z}
 use Rattle.std.proofs.lemmas.List.{get_or_read}
 use Rattle.std.specs.Prelude.{Ok, Err}
-use Rattle.vsi_scope.specs.declared.resolved.Cmd.{the_lemmas}
+use Rattle.vsi_scope.specs.declared.program.Cmd.{the_lemmas}
 use Rattle.vsi_scope.specs.Language.{letvars}
 use Rattle.vsi_scope.specs.Meaning.{value}
 use Rattle.vsi_scope.specs.View.{command, expression, sequence}

@@ -1,6 +1,6 @@
 use Rattle.std.proofs.Common.{drop, ◌+◌, ◌*◌}
 use denote.Param.Weighed.{most}
-use Rattle.vsi_scope.proofs.resolved.Cmd.TheLaws.{the_size}
+use Rattle.vsi_scope.proofs.program.Cmd.TheLaws.{the_size}
 use Rattle.vsi_scope.specs.Language.{While}
 use Rattle.vsi_scope.specs.View.{expression, sequence}
 use Rattle.vsi_types.specs.Security.{class_of}

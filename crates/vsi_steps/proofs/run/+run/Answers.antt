@@ -2,7 +2,7 @@ use Rattle.std.proofs.Common.{rules, subst, refl, arith, ap, ◌∙◌, ◌++◌
 use Rattle.std.proofs.lemmas.Grind.{common_steps}
 use Rattle.std.proofs.lemmas.Int.{to_z-of_z}
 use Rattle.std.proofs.lemmas.Result.{IfOk-weaker}
-use Rattle.vsi_scope.specs.declared.resolved.Cmd.{the_lemmas}
+use Rattle.vsi_scope.specs.declared.program.Cmd.{the_lemmas}
 use Rattle.vsi_scope.specs.Language.{Assign, If, Letvar}
 use Rattle.vsi_scope.specs.View.{command, expression, sequence}
 use Rattle.vsi_steps.specs.Ran.{Past, past, IsReady, Met, Ran}

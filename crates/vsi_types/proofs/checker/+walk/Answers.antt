@@ -5,7 +5,7 @@ use Rattle.vsi_types.specs.Walker.{walker_place}
 use Rattle.vsi_types.specs.Security.{class_of}
 use Rattle.std.proofs.lemmas.List.Elements.{All-nil}
 use Rattle.vsi_scope.specs.Language.{HasPlaces}
-use Rattle.vsi_scope.specs.declared.resolved.Cmd.{the_lemmas}
+use Rattle.vsi_scope.specs.declared.program.Cmd.{the_lemmas}
 use Rattle.vsi_types.proofs.Places.{reached_more, reached_asks, reached_fault, reached_all}
 use Rattle.vsi_types.proofs.Visiting.{seen_if, seen_while, seen_letvar, choice_guard, choice_first, choice_second, choice_judged, loop_guard, loop_body, loop_judged, letvar_value, letvar_inside, letvar_judged}
 use Rattle.vsi_types.proofs.checker.+walk.Goals as goal

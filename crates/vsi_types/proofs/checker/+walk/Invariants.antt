@@ -1,6 +1,6 @@
 use Rattle.std.proofs.Common.{max, ◌+◌, ◌*◌}
 use denote.Param.Weighed.{most}
-use Rattle.vsi_scope.proofs.resolved.Cmd.TheLaws.{the_size}
+use Rattle.vsi_scope.proofs.program.Cmd.TheLaws.{the_size}
 use Rattle.vsi_types.specs.Security.{class_of}
 use Rattle.vsi_types.specs.Walker.{walker_place}
 use Rattle.vsi_types.proofs.Places.{Reached}

@@ -1,7 +1,7 @@
 use Rattle.std.proofs.Common.{◌≡◌, min, drop, ◌+◌, ◌≤◌}
 use Rattle.vsi_scope.specs.Language.{size}
 use Rattle.vsi_scope.specs.View.{sequence}
-use Rattle.vsi_scope.proofs.resolved.+size.Given as goal
+use Rattle.vsi_scope.proofs.measure.+size.Given as goal
 
 abbrev pub invariant-size-loop-c : goal.invariant-size-loop-c
 invariant-size-loop-c l =
