@@ -8,7 +8,7 @@ ghost use Rattle.vsi_drive.specs.Counted.{device_of, faults_of};
 ghost use Rattle.vsi_subject.specs.FaultyFiles.{IsRefusalBy};
 ghost use Rattle.vsi_answers.specs.View.{diagnostic_of};
 ghost use Rattle.vsi_subject.specs.Diagnosing as spec;
-ghost use Rattle.vsi_subject.specs.FaultyFiles as faultyFiles_spec;
+ghost use Rattle.vsi_subject.specs.FaultyFiles as faulty_spec;
 
 use std::alloc::AllocError;
 use std::io::Write;
@@ -92,7 +92,7 @@ pub(crate) fn failure_diagnostic<'s>(
 
 /// Whether a document is a line of JSON.
 fn document_answers_json(document: &Document<'_>) -> bool
-    ensures { result ≡ faultyFiles_spec.document_answers_json document.now }
+    ensures { result ≡ faulty_spec.document_answers_json document.now }
 {
     match document {
         Document::Sarif(_) | Document::AuditSarif(_) => false,
@@ -104,7 +104,7 @@ fn document_answers_json(document: &Document<'_>) -> bool
 
 /// Whether an answer is written as a line of JSON.
 fn is_json(form: AnswerForm) -> bool
-    ensures { result ≡ faultyFiles_spec.is_json form }
+    ensures { result ≡ faulty_spec.is_json form }
 {
     match form {
         AnswerForm::Json => true,
@@ -114,7 +114,7 @@ fn is_json(form: AnswerForm) -> bool
 
 /// Whether a request answers with a line of JSON.
 pub(crate) fn answers_json(request: &Request<'_>) -> bool
-    ensures { result ≡ faultyFiles_spec.answers_json request.now }
+    ensures { result ≡ faulty_spec.answers_json request.now }
 {
     match request {
         Request::Check(asked) => asked.is_json,
@@ -130,7 +130,7 @@ pub(crate) fn answers_json(request: &Request<'_>) -> bool
 
 /// Whether a file is refused, a setting, or a text that has to be compiled.
 fn is_refusal(failure: &Failure<'_>) -> bool
-    ensures { result ≡ faultyFiles_spec.is_refusal failure.now }
+    ensures { result ≡ faulty_spec.is_refusal failure.now }
 {
     match failure {
         Failure::Refused(_, Some(_)) | Failure::Interface(_, _) => true,
@@ -148,7 +148,7 @@ fn begins_with(text: &[u8], line: &[u8]) -> bool
 /// The line of JSON of the refusal with this cause and this text. An error means that memory ran
 /// out, or that the text isn't that of the cause, which it always is.
 fn line_by(inputs: &Inputs, cause: &Cause, text: &[u8]) -> Result<Vec<u8>, AllocError>
-    ensures { IfOk result (λ line. faultyFiles_spec.IsLineBy cause.now text.now line.items) }
+    ensures { IfOk result (λ line. faulty_spec.IsLineBy cause.now text.now line.items) }
 {
     let Some(diagnostic) = cause_diagnostic(source_of(inputs), cause) else {
         return Err(AllocError);
@@ -163,7 +163,7 @@ fn line_by(inputs: &Inputs, cause: &Cause, text: &[u8]) -> Result<Vec<u8>, Alloc
 
 /// The line of JSON of a refusal.
 fn refusal_line(inputs: &Inputs, failure: &Failure<'_>) -> Result<Vec<u8>, AllocError>
-    ensures { IfOk result (λ line. faultyFiles_spec.IsRefusalLine failure.now line.items) }
+    ensures { IfOk result (λ line. faulty_spec.IsRefusalLine failure.now line.items) }
 {
     match failure {
         Failure::Refused(text, Some(cause)) => line_by(inputs, cause, text.as_slice()),
@@ -205,7 +205,7 @@ pub(crate) fn tell_refusal<'a, W: Write>(
     ensures fault { faults_of output.old < faults_of output.new → status_of result ≡ 4 }
     ensures late { 3 < status_of failure.entry → result ≡ failure.entry }
     ensures early { status_of result < 4 → result ≡ failure.entry }
-    ensures told { faultyFiles_spec.TellsRefusal (faultyFiles_spec.has_line is_json failure.entry)
+    ensures told { faulty_spec.TellsRefusal (faulty_spec.has_line is_json failure.entry)
         failure.entry (W.contents (device_of output.old)) (W.contents (device_of output.new))
         result }
 {
