@@ -14,7 +14,7 @@ use Rattle.vsi_types.specs.declared.rules.Profile.{Profile}
 use Rattle.vsi_image.specs.declared.instr.Image.{Image}
 use Rattle.vsi_image.specs.Fields.{Fields, fields, global}
 use Rattle.vsi_store.specs.View.{Views}
-use Rattle.vsi_store.specs.declared.endings.View.TheVariants.{Text}
+use Rattle.vsi_store.specs.declared.views.View.TheVariants.{Text}
 use Rattle.vsi_compiler.specs.Observation.{AgreeAt, IsStoreOf}
 use Rattle.vsi_drive.specs.Starts.{Begins}
 use Rattle.vsi_drive.specs.Building.{IsBuilt}

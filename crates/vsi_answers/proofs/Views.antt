@@ -10,7 +10,7 @@ use Rattle.vsi_image.specs.Fields.{Fields, fields, global, globals}
 use Rattle.vsi_image.specs.Meaning.{State, after, going}
 use Rattle.vsi_lattice.specs.Known.{Known}
 use Rattle.vsi_store.specs.View.{Views, view_text_of}
-use Rattle.vsi_store.specs.declared.endings.View.TheVariants.{Text}
+use Rattle.vsi_store.specs.declared.views.View.TheVariants.{Text}
 
 -- The class has this view of the run of an image with these fields.
 record Sees (known : Known) (L : Lattice) (a : ℕ) (f : Fields) (m : List ℤ) (budget : ℕ) (text : List ℕ) : Type 0 where

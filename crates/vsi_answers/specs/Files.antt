@@ -8,8 +8,8 @@ use Rattle.vsi_image.specs.declared.verifier.VerifyError.{VerifyError}
 use Rattle.vsi_image.specs.declared.verifier.VerifyError.TheVariants as verifier
 use Rattle.vsi_store.specs.declared.reader.StoreError.{StoreError}
 use Rattle.vsi_store.specs.declared.reader.StoreError.TheVariants as store
-use Rattle.vsi_store.specs.declared.endings.ViewError.{ViewError}
-use Rattle.vsi_store.specs.declared.endings.ViewError.TheVariants as views
+use Rattle.vsi_store.specs.declared.views.ViewError.{ViewError}
+use Rattle.vsi_store.specs.declared.views.ViewError.TheVariants as views
 use Rattle.vsi_answers.specs.declared.diagnostic.Fault.{Fault}
 use Rattle.vsi_answers.specs.declared.diagnostic.Fault.TheVariants as fault
 use Rattle.vsi_answers.specs.Diagnostic.{Field, nothing, number, word, numbered, Diagnostic}

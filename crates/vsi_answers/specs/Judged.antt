@@ -17,7 +17,7 @@ use Rattle.vsi_image.specs.Valid.{IsValid}
 use Rattle.vsi_store.specs.File.{IsRefusal}
 use Rattle.vsi_store.specs.View.{first_unknown}
 use Rattle.vsi_store.specs.declared.reader.StoreError.TheVariants as store
-use Rattle.vsi_store.specs.declared.endings.ViewError.TheVariants as views
+use Rattle.vsi_store.specs.declared.views.ViewError.TheVariants as views
 use Rattle.vsi_compiler.specs.Headline.{IsImageOf}
 use Rattle.vsi_compiler.specs.Readable.{HasProgram}
 use Rattle.vsi_compiler.specs.Refusal.{IsRefused, RefusesProgram, RefusesTree}

@@ -14,7 +14,7 @@ use Rattle.vsi_store.specs.Compare.{Compares}
 use Rattle.vsi_store.specs.Text.{store_text_of}
 use Rattle.vsi_store.specs.View.{Views}
 use Rattle.vsi_store.specs.declared.comparing.Comparison.{Comparison}
-use Rattle.vsi_store.specs.declared.endings.View.TheVariants as view
+use Rattle.vsi_store.specs.declared.views.View.TheVariants as view
 use Rattle.vsi_compiler.specs.Acceptance.{IsAccepted}
 use Rattle.vsi_compiler.specs.Classes.{IsClassText}
 use Rattle.vsi_compiler.specs.Headline.{IsCompiled}

@@ -5,7 +5,7 @@ use Rattle.vsi_lattice.specs.Order.{Lattice, IsClass}
 use Rattle.vsi_types.specs.declared.rules.Profile.{Profile}
 use Rattle.vsi_image.specs.declared.instr.Image.{Image}
 use Rattle.vsi_store.specs.View.{Views}
-use Rattle.vsi_store.specs.declared.endings.View.TheVariants.{Text}
+use Rattle.vsi_store.specs.declared.views.View.TheVariants.{Text}
 use Rattle.vsi_compiler.specs.Headline.{IsCompiled}
 use Rattle.vsi_lattice.specs.Known.{Known}
 use Rattle.vsi_compiler.specs.Observation.{AgreeAt, IsStoreOf}

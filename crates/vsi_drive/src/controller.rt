@@ -6,7 +6,7 @@ ghost use Rattle.vsi_lattice.specs.LatticeView.{class_named, order};
 ghost use Rattle.vsi_lattice.specs.NamePlaces.{texts};
 ghost use Rattle.vsi_lattice.specs.Order.{IsClass};
 ghost use Rattle.vsi_store.specs.View.{first_unknown, is_seen};
-ghost use Rattle.vsi_store.specs.declared.endings.ViewError.TheVariants.{Memory};
+ghost use Rattle.vsi_store.specs.declared.views.ViewError.TheVariants.{Memory};
 
 use crate::boundary::{Boundary, BoundaryFault, Role, is_among, is_listed};
 use crate::settings::{LineFault, words_set};

@@ -8,8 +8,8 @@ use Rattle.vsi_image.specs.declared.instr.Image.{Image}
 use Rattle.vsi_image.specs.Fields.{globals}
 use Rattle.vsi_store.specs.File.{Tells}
 use Rattle.vsi_store.specs.View.{first_unknown}
-use Rattle.vsi_store.specs.declared.endings.ViewError.{ViewError}
-use Rattle.vsi_store.specs.declared.endings.ViewError.TheVariants as views
+use Rattle.vsi_store.specs.declared.views.ViewError.{ViewError}
+use Rattle.vsi_store.specs.declared.views.ViewError.TheVariants as views
 use Rattle.vsi_answers.specs.declared.diagnostic.Fault.TheVariants as fault
 use Rattle.vsi_drive.specs.Boundary.{Boundary}
 use Rattle.vsi_drive.specs.BoundaryFaults.{boundary_fault}

@@ -15,8 +15,8 @@ use Rattle.vsi_machine.proofs.Progress.{never_stuck}
 use Rattle.vsi_store.specs.Text.{line_of}
 use Rattle.vsi_lattice.specs.Known.{Known}
 use Rattle.vsi_store.specs.View.{ViewsState, line_seen, view_text_of}
-use Rattle.vsi_store.specs.declared.endings.View.{View}
-use Rattle.vsi_store.specs.declared.endings.View.TheVariants.{Text, OutOfBudget}
+use Rattle.vsi_store.specs.declared.views.View.{View}
+use Rattle.vsi_store.specs.declared.views.View.TheVariants.{Text, OutOfBudget}
 use Rattle.vsi_compiler.specs.Observation.{AgreeAt}
 use Rattle.vsi_steady.specs.Laws.{seen, RunsAlike, SteadyViewsAlike, ViewsAlike}
 use Rattle.vsi_steady.specs.Steady.{IsSteady}

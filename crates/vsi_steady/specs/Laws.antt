@@ -11,8 +11,8 @@ use Rattle.vsi_image.specs.Meaning.{State, stepped, start}
 use Rattle.vsi_machine.specs.Runs.{globals_of, run_of}
 use Rattle.vsi_lattice.specs.Known.{Known}
 use Rattle.vsi_store.specs.View.{Views, is_seen}
-use Rattle.vsi_store.specs.declared.endings.View.{View}
-use Rattle.vsi_store.specs.declared.endings.View.TheVariants.{Text, OutOfBudget}
+use Rattle.vsi_store.specs.declared.views.View.{View}
+use Rattle.vsi_store.specs.declared.views.View.TheVariants.{Text, OutOfBudget}
 use Rattle.vsi_compiler.specs.Observation.{AgreeAt}
 use Rattle.vsi_steady.specs.Steady.{IsSteady}
 

@@ -8,8 +8,8 @@ use Rattle.vsi_image.specs.Fields.{Global, globals}
 use Rattle.vsi_image.specs.Meaning.{State}
 use Rattle.vsi_machine.specs.Runs.{globals_of, run_of}
 use Rattle.vsi_store.specs.Text.{line_of}
-use Rattle.vsi_store.specs.declared.endings.View.{View}
-use Rattle.vsi_store.specs.declared.endings.View.TheVariants.{Text, OutOfBudget}
+use Rattle.vsi_store.specs.declared.views.View.{View}
+use Rattle.vsi_store.specs.declared.views.View.TheVariants.{Text, OutOfBudget}
 
 -- The number of the first of these globals whose class name denotes no class, where they have numbers from n on.
 abbrev pub first_unknown : Known → ℕ → List Global → Option ℕ

@@ -5,10 +5,11 @@ ghost use Rattle.vsi_image.specs.Fields.{global, globals};
 ghost use Rattle.vsi_lattice.specs.LatticeView.{class_named, names, order};
 ghost use Rattle.vsi_lattice.specs.Order.{IsClass};
 ghost use Rattle.vsi_store.specs.View.{first_unknown};
-ghost use Rattle.vsi_store.specs.declared.endings.ViewError.TheVariants.{Memory};
+ghost use Rattle.vsi_store.specs.declared.views.ViewError.TheVariants.{Memory};
 ghost use Rattle.vsi_store.specs.Compare as spec;
 
-use crate::endings::{ViewError, ending_of, sees, unknown_in};
+use crate::endings::{ending_of, sees, unknown_in};
+use crate::views::ViewError;
 use std::alloc::{AllocError, Global};
 use vsi_image::Verified;
 use vsi_lattice::{Class, Lattice};

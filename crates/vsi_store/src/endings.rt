@@ -1,9 +1,9 @@
-//! What an observer at a class sees of stores and of runs, and the reasons for seeing none.
+//! What an observer at a class sees of stores and of runs.
 
 ghost use Rattle.std.specs.Prelude.{◌≡◌, ◌≤◌, ◌-◌, length, Some, true, false, IfOk, IfErr, ◌≢◌, ◌++◌, ℕ, None, Err, OnOk, MatchResult};
-ghost use Rattle.vsi_store.specs.declared.endings.ViewError.TheVariants.{Memory};
 ghost use Rattle.vsi_image.specs.Meaning.{start};
 ghost use Rattle.vsi_machine.specs.Runs.{HaltsWith};
+ghost use Rattle.vsi_store.specs.declared.views.ViewError.TheVariants.{Memory};
 ghost use Rattle.vsi_image.specs.Fields.{global, globals};
 ghost use Rattle.vsi_lattice.specs.LatticeView.{class_named, order};
 ghost use Rattle.vsi_lattice.specs.Order.{IsClass};
@@ -12,52 +12,12 @@ ghost use Rattle.vsi_store.specs.Text.{line_of, store_text_of};
 ghost use Rattle.vsi_store.specs.Compare as spec;
 
 use crate::comparing::RunEnding;
-use std::alloc::{AllocError, AllocFailed, Global};
-use thiserror::Error;
+use crate::views::{View, ViewError};
+use std::alloc::{AllocError, Global};
 use vsi_image::{Image, Verified};
 use vsi_lattice::{Class, Classes, Lattice};
 use vsi_machine::{Machine, Outcome, StartError};
 use vsi_syntax::put_word;
-
-/// A class's view of a run.
-#[derive(Debug, Drop)]
-pub enum View {
-    /// The run halted, with these lines of the store.
-    Text(Vec<u8>),
-    /// The budget was spent before a HALT.
-    OutOfBudget,
-}
-
-/// Why there is no view.
-#[derive(Debug, PartialEq, Eq, Drop, Error)]
-pub enum ViewError {
-    /// The class name of the global with this number, from 0, is no class of the lattice; it is the
-    /// first such global.
-    #[error("a global has a class that the lattice lacks")]
-    ClassNotInLattice(usize),
-    /// The store has this many words, which isn't one for each global.
-    #[error("the store has not one word per global")]
-    WrongStore(usize),
-    /// An allocation failed.
-    #[error("out of memory")]
-    Memory,
-}
-
-impl From<AllocError> for ViewError {
-    ghost from_gives = { λ _ e. e ≡ Memory };
-
-    fn from(_error: AllocError) -> ViewError {
-        ViewError::Memory
-    }
-}
-
-impl<T: Drop> From<AllocFailed<T>> for ViewError {
-    ghost from_gives = { λ _ e. e ≡ Memory };
-
-    fn from(_error: AllocFailed<T>) -> ViewError {
-        ViewError::Memory
-    }
-}
 
 /// A machine at the start of the image, with the store's words in the globals.
 fn started<'a>(

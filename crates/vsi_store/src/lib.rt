@@ -13,10 +13,12 @@
 mod comparing;
 mod endings;
 mod reader;
+mod views;
 
 pub use comparing::{Comparison, RunEnding, compare};
-pub use endings::{View, ViewError, sees, store_text, view};
+pub use endings::{sees, store_text, view};
 pub use reader::{
     AuditProfile, Filed, StoreError, conformity, evidence, is_whole, named_globals, read_store,
     sealed,
 };
+pub use views::{View, ViewError};

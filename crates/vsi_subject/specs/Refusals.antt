@@ -8,7 +8,7 @@ use Rattle.vsi_lattice.specs.declared.reader.LatticeError.TheVariants as lattice
 use Rattle.vsi_image.specs.declared.decoder.DecodeError.TheVariants as decoder
 use Rattle.vsi_image.specs.declared.instr.Image.{Image}
 use Rattle.vsi_store.specs.declared.reader.StoreError.TheVariants as store
-use Rattle.vsi_store.specs.declared.endings.ViewError.TheVariants as views
+use Rattle.vsi_store.specs.declared.views.ViewError.TheVariants as views
 use Rattle.vsi_answers.specs.declared.diagnostic.Fault.{Fault}
 use Rattle.vsi_answers.specs.declared.diagnostic.Fault.TheVariants as fault
 use Rattle.vsi_answers.specs.Answers.{Because}
