@@ -16,7 +16,10 @@ fn is_option(options: &[&str], word: &[u8]) -> bool
     ensures { result ≡ spec.is_option (spec.shown options.now) word.now }
 {
     for option in options {
-        if word == option.as_bytes() || joined(option.as_bytes(), word).is_some() {
+        if word == option.as_bytes() {
+            return true;
+        }
+        if let Some(_) = joined(option.as_bytes(), word) {
             return true;
         }
     }

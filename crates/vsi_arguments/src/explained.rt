@@ -16,6 +16,28 @@ use store::STORE;
 pub use subjects::subject_page;
 use text::TEXT;
 
+/// Pages of refusals, as rows: a text; or a small program, `add` or `sum`, a text, and an example
+/// that comes after the lines that build the program's image. Each page ends with a line feed, which
+/// its row leaves out.
+macro_rules! pages {
+    (@ $text:literal) => { concat!($text, "\n") };
+    (@ add $text:literal $example:literal) => {
+        pages! { @ "add" "var x : L; var h : H; x := x + 2" $text $example }
+    };
+    (@ sum $text:literal $example:literal) => {
+        pages! { @ "sum" "var x : L; var y : L; var h : H; x := x + y; h := x" $text $example }
+    };
+    (@ $name:literal $source:literal $text:literal $example:literal) => {
+        concat!($text, "\n\n",
+            "  $ printf 'classes = [\"L\", \"H\"]\\nbelow = [[\"L\", \"H\"]]\\n' > two.toml\n",
+            "  $ printf '", $source, "' > ", $name, ".vsi\n",
+            "  $ vsi build two.toml ", $name, ".vsi ", $name, ".image", $example, "\n")
+    };
+    ($({ $($page:tt)* })*) => { [$(pages! { @ $($page)* }),*] };
+}
+
+pub(crate) use pages;
+
 /// The page at a place, counted from 0, if there are as many pages.
 fn page_at(pages: &[&'static str], place: u64) -> Option<&'static str>
     ensures known { IsSome result ↔ place < length pages.now }

@@ -31,7 +31,10 @@ pub enum ArgumentsError {
 ///
 /// `Help` if the arguments ask for help or the version, `Mistake` if they are wrong, `Memory`.
 pub fn manner_of(alloc: Global, arguments: &[String]) -> Result<Manner, ArgumentsError> {
-    parsed(alloc, arguments).map_err(|error| told(alloc, &error))
+    match parsed(alloc, arguments) {
+        Ok(manner) => Ok(manner),
+        Err(error) => Err(told(alloc, &error)),
+    }
 }
 
 /// Turns an answer of the command-line parser into a text.
@@ -45,7 +48,10 @@ fn told(alloc: Global, error: &clap::Error) -> ArgumentsError {
     if !error.use_stderr() {
         return ArgumentsError::Help(text);
     }
-    message(alloc, text.as_str()).map_or(ArgumentsError::Memory, ArgumentsError::Mistake)
+    match message(alloc, text.as_str()) {
+        Ok(text) => ArgumentsError::Mistake(text),
+        Err(_) => ArgumentsError::Memory,
+    }
 }
 
 /// Parses the arguments.
@@ -64,10 +70,15 @@ fn judged(matches: &ArgMatches<'_>) -> Result<Manner, &'static str> {
     let Some((name, inner)) = matches.subcommand() else {
         return Err("a subcommand is needed");
     };
-    let mistake = wrong_number(name, inner)
-        .or(broken_rule(name, inner))
-        .or(own_mistake(name, inner));
-    if let Some(mistake) = mistake {
+    if let Some(mistake) = wrong_number(name, inner) {
+        return Err(mistake);
+    }
+    for rule in &RULES {
+        if rule.is_broken(name, inner) {
+            return Err(rule.mistake);
+        }
+    }
+    if let Some(mistake) = own_mistake(name, inner) {
         return Err(mistake);
     }
     let reporting = match (inner.get_flag("explain"), inner.get_str("color")) {
@@ -100,23 +111,29 @@ const NUMBERS: [(&str, &str); 4] = numbers! {
 const BUDGET_OR_AUTO: &str =
     "--budget takes `auto`, or a number from 0 to 18446744073709551615, in digits alone";
 
-/// A subcommand, or `*` for each that has the arguments; an argument; whether it needs one of the
-/// others, or goes with none of them; the others; and the mistake if the rule is broken.
-type Rule = (
-    &'static str,
-    &'static str,
-    bool,
-    &'static [&'static str],
-    &'static str,
-);
+/// A rule about an argument of a subcommand, or of each one that has it, which is `*`: whether it
+/// needs one of the others, or goes with none of them; and the mistake if the rule is broken.
+struct Rule {
+    subcommand: &'static str,
+    argument: &'static str,
+    needs: bool,
+    others: &'static [&'static str],
+    mistake: &'static str,
+}
 
 /// Rules, as rows.
 macro_rules! rules {
     (@ needs) => { true };
     (@ without) => { false };
     ($($subcommand:literal $argument:literal $needs:ident
-    [$($other:literal)*] $mistake:literal;)*) => {
-        [$(($subcommand, $argument, rules! { @ $needs }, &[$($other),*], $mistake)),*]
+    [$($others:literal)*] $mistake:literal;)*) => {
+        [$(Rule {
+            subcommand: $subcommand,
+            argument: $argument,
+            needs: rules! { @ $needs },
+            others: &[$($others),*],
+            mistake: $mistake,
+        }),*]
     };
 }
 
@@ -164,17 +181,19 @@ fn wrong_number(name: &str, matches: &ArgMatches<'_>) -> Option<&'static str> {
     None
 }
 
-/// The mistake of the first rule of the subcommand that its arguments break.
-fn broken_rule(name: &str, matches: &ArgMatches<'_>) -> Option<&'static str> {
-    for (subcommand, argument, needs, others, mistake) in &RULES {
-        if (*subcommand == "*" || *subcommand == name)
-            && is_given(matches, argument)
-            && others.iter().any(|other| is_given(matches, other)) != *needs
-        {
-            return Some(*mistake);
+impl Rule {
+    /// Whether the arguments of a subcommand break the rule.
+    fn is_broken(&self, name: &str, matches: &ArgMatches<'_>) -> bool {
+        if self.subcommand != "*" && self.subcommand != name || !is_given(matches, self.argument) {
+            return false;
         }
+        for other in self.others {
+            if is_given(matches, other) {
+                return !self.needs;
+            }
+        }
+        self.needs
     }
-    None
 }
 
 /// Whether an argument is given.

@@ -1,7 +1,7 @@
 //! The requests that the arguments of a command line can make. Each file is given by its path.
 
 /// A compilation of a source text under a lattice file, by the strict or the base profile.
-#[derive(Clone, Copy, PartialEq, Eq)]
+#[derive(Clone, Copy)]
 pub struct Compilation<'a> {
     pub lattice: &'a str,
     pub source: &'a str,
@@ -10,14 +10,14 @@ pub struct Compilation<'a> {
 
 /// The most instructions of a run: a number, or the bound of its image, within which it halts from
 /// every store.
-#[derive(Clone, Copy, Debug, PartialEq, Eq)]
+#[derive(Clone, Copy)]
 pub enum Budget {
     Number(u64),
     Auto,
 }
 
 /// A run of an image, which begins with zeros if there is no store file.
-#[derive(Clone, Copy, PartialEq, Eq)]
+#[derive(Clone, Copy)]
 pub struct Execution<'a> {
     pub image: &'a str,
     pub budget: Budget,
@@ -26,7 +26,7 @@ pub struct Execution<'a> {
 
 /// The rest of a run's input and output: settings after the store file, each `NAME=NUMBER`, whether
 /// each global must be given, and the file for the store's text.
-#[derive(Drop, PartialEq, Eq)]
+#[derive(Drop)]
 pub struct InitialStore<'a> {
     pub settings: Vec<&'a [u8]>,
     pub is_full: bool,
@@ -34,7 +34,7 @@ pub struct InitialStore<'a> {
 }
 
 /// The lists of names that bound a controller, each with commas between its names.
-#[derive(Clone, Copy, PartialEq, Eq)]
+#[derive(Clone, Copy)]
 pub struct NameLists<'a> {
     pub inputs: Option<&'a str>,
     pub outputs: Option<&'a str>,
@@ -43,7 +43,7 @@ pub struct NameLists<'a> {
 
 /// The policy of a drive or of a view, who sees what and what bounds the controller: a lattice file
 /// and lists of the command line, or an interface file, which the image must conform to.
-#[derive(Clone, Copy, PartialEq, Eq)]
+#[derive(Clone, Copy)]
 pub enum DrivePolicy<'a> {
     Lattice(&'a str, NameLists<'a>),
     Interface(&'a str),
@@ -53,7 +53,7 @@ pub enum DrivePolicy<'a> {
 /// `every` lines, to the path that it is read from if there is a `start`: the path of a store to begin
 /// with if there is no file at that path. If `is_unbounded`, a run may exceed the budget for a reason
 /// unseen by the class.
-#[derive(Clone, Copy, PartialEq, Eq)]
+#[derive(Clone, Copy)]
 pub struct Driving<'a> {
     pub policy: DrivePolicy<'a>,
     pub class: &'a str,
@@ -67,7 +67,7 @@ pub struct Driving<'a> {
 
 /// A view within a boundary. With a lattice file, the outputs or the released outputs are listed,
 /// and the inputs aren't. `is_unbounded` is as for a drive.
-#[derive(Drop, PartialEq, Eq)]
+#[derive(Drop)]
 pub struct Viewing<'a> {
     pub policy: DrivePolicy<'a>,
     pub class: &'a str,
@@ -77,7 +77,7 @@ pub struct Viewing<'a> {
 }
 
 /// A comparison of runs from two store files. `is_unbounded` is as for a drive.
-#[derive(Clone, Copy, PartialEq, Eq)]
+#[derive(Clone, Copy)]
 pub struct Comparison<'a> {
     pub lattice: &'a str,
     pub image: &'a str,
@@ -88,7 +88,7 @@ pub struct Comparison<'a> {
 }
 
 /// A search for a leak to a class, or to every class, in at most `tries` pairs of runs.
-#[derive(Clone, Copy, PartialEq, Eq)]
+#[derive(Clone, Copy)]
 pub struct Search<'a> {
     pub lattice: &'a str,
     pub source: &'a str,
@@ -102,7 +102,7 @@ pub struct Search<'a> {
 
 /// A run of a source text in steps, from a store file, or from zeros without one, and settings, each
 /// `NAME=NUMBER`.
-#[derive(Drop, PartialEq, Eq)]
+#[derive(Drop)]
 pub struct Stepping<'a> {
     pub lattice: &'a str,
     pub source: &'a str,
@@ -114,7 +114,7 @@ pub struct Stepping<'a> {
 
 /// By which rule a monitor judges an assignment in a branch or a loop whose guard depends on a class
 /// that isn't at or below the label of the variable.
-#[derive(Clone, Copy, Debug, PartialEq, Eq)]
+#[derive(Clone, Copy)]
 pub enum MonitorRule {
     /// The run is stopped before the assignment.
     NoSensitiveUpgrade,
@@ -123,7 +123,7 @@ pub enum MonitorRule {
 }
 
 /// A comparison of two runs of a source text in steps, from two store files.
-#[derive(Clone, Copy, PartialEq, Eq)]
+#[derive(Clone, Copy)]
 pub struct StepComparison<'a> {
     pub lattice: &'a str,
     pub source: &'a str,
@@ -133,7 +133,7 @@ pub struct StepComparison<'a> {
 }
 
 /// An audit of an image, by its commands, or by its jumps if `is_steady`.
-#[derive(Clone, Copy, PartialEq, Eq)]
+#[derive(Clone, Copy)]
 pub struct Audit<'a> {
     pub lattice: &'a str,
     pub image: &'a str,
@@ -143,7 +143,7 @@ pub struct Audit<'a> {
 }
 
 /// How an answer is written: as lines, as a line of JSON, or as a document of SARIF.
-#[derive(Clone, Copy, Debug, PartialEq, Eq)]
+#[derive(Clone, Copy)]
 pub enum AnswerForm {
     Lines,
     Json,
@@ -151,7 +151,7 @@ pub enum AnswerForm {
 }
 
 /// A judgement of a source text or an image by an interface, with one budget for all its runs.
-#[derive(Clone, Copy, PartialEq, Eq)]
+#[derive(Clone, Copy)]
 pub struct Conformance<'a> {
     pub interface: &'a str,
     pub source: &'a str,
@@ -161,7 +161,7 @@ pub struct Conformance<'a> {
 }
 
 /// A drawing of a lattice, and of the flows of a source text if there is one, or of these alone.
-#[derive(Clone, Copy, PartialEq, Eq)]
+#[derive(Clone, Copy)]
 pub struct Drawing<'a> {
     pub lattice: &'a str,
     pub source: Option<&'a str>,
@@ -170,21 +170,21 @@ pub struct Drawing<'a> {
 }
 
 /// A look at a lattice file, which is compared with an older one if there is one.
-#[derive(Clone, Copy, PartialEq, Eq)]
+#[derive(Clone, Copy)]
 pub struct Looking<'a> {
     pub lattice: &'a str,
     pub old: Option<&'a str>,
 }
 
 /// A look at who sees which globals of an interface, which is compared with an older one, if any.
-#[derive(Clone, Copy, PartialEq, Eq)]
+#[derive(Clone, Copy)]
 pub struct Visibility<'a> {
     pub interface: &'a str,
     pub old: Option<&'a str>,
 }
 
 /// C from an image or, with a lattice file, from a source text; `name` is the prefix of its names.
-#[derive(Clone, Copy, PartialEq, Eq)]
+#[derive(Clone, Copy)]
 pub struct Emission<'a> {
     pub lattice: Option<&'a str>,
     pub file: &'a str,
@@ -194,14 +194,14 @@ pub struct Emission<'a> {
 }
 
 /// A search for a bound of an image or, with a lattice file, of a source text.
-#[derive(Clone, Copy, PartialEq, Eq)]
+#[derive(Clone, Copy)]
 pub struct Bounding<'a> {
     pub lattice: Option<&'a str>,
     pub file: &'a str,
 }
 
 /// A judgement of a source text, whose image must also be steady if `is_steady`.
-#[derive(Clone, Copy, PartialEq, Eq)]
+#[derive(Clone, Copy)]
 pub struct Judging<'a> {
     pub compilation: Compilation<'a>,
     pub is_steady: bool,
@@ -210,7 +210,7 @@ pub struct Judging<'a> {
 }
 
 /// An attempt to judge and run a source text, with settings, each `NAME=NUMBER`.
-#[derive(Drop, PartialEq, Eq)]
+#[derive(Drop)]
 pub struct Attempt<'a> {
     pub source: &'a str,
     pub lattice: Option<&'a str>,
@@ -220,7 +220,7 @@ pub struct Attempt<'a> {
 }
 
 /// A request for raises, or for the text with the raised classes if `is_applied`.
-#[derive(Clone, Copy, PartialEq, Eq)]
+#[derive(Clone, Copy)]
 pub struct Mending<'a> {
     pub compilation: Compilation<'a>,
     pub is_applied: bool,
@@ -228,14 +228,14 @@ pub struct Mending<'a> {
 }
 
 /// A language server, with a lattice file for texts that name none.
-#[derive(Clone, Copy, PartialEq, Eq)]
+#[derive(Clone, Copy)]
 pub struct Serving<'a> {
     pub lattice: Option<&'a str>,
     pub is_strict: bool,
 }
 
 /// A layout that keeps comments; whether the text is only compared with it or replaced by it.
-#[derive(Clone, Copy, PartialEq, Eq)]
+#[derive(Clone, Copy)]
 pub struct Layout<'a> {
     pub source: &'a str,
     pub is_kept: bool,
@@ -245,7 +245,7 @@ pub struct Layout<'a> {
 
 /// A request whose answer is one document, which a program reads, on standard output: SARIF of
 /// `check` or `audit`, or JSON of another subcommand.
-#[derive(Drop, PartialEq, Eq)]
+#[derive(Drop)]
 pub enum Document<'a> {
     Sarif(Judging<'a>),
     Classes(Compilation<'a>),
@@ -262,7 +262,7 @@ pub enum Document<'a> {
 }
 
 /// Whether an explanation is coloured.
-#[derive(Clone, Copy, Debug, PartialEq, Eq)]
+#[derive(Clone, Copy)]
 pub enum Colour {
     /// If standard error is a terminal and the environment doesn't forbid colour.
     Auto,
@@ -271,21 +271,21 @@ pub enum Colour {
 }
 
 /// How a refusal is reported: by its fixed text, alone or with an explanation after it.
-#[derive(Clone, Copy, Debug, PartialEq, Eq)]
+#[derive(Clone, Copy)]
 pub enum Reporting {
     Fixed,
     Explained(Colour),
 }
 
 /// How a refusal of a request is reported, and whether its file replaces one of another kind.
-#[derive(Clone, Copy, PartialEq, Eq)]
+#[derive(Clone, Copy)]
 pub struct Manner {
     pub reporting: Reporting,
     pub is_forced: bool,
 }
 
 /// A subcommand with its arguments.
-#[derive(Drop, PartialEq, Eq)]
+#[derive(Drop)]
 pub enum Request<'a> {
     Try(Attempt<'a>),
     Check(Judging<'a>),

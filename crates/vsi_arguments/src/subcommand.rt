@@ -3,9 +3,6 @@
 use clap::{Arg, ArgAction, Command};
 use std::alloc::{AllocError, Global};
 
-/// The arguments that say how a refusal is reported.
-const MANNER: [Argument; 2] = [EXPLAIN, COLOR];
-
 /// A subcommand: its name, its short and long help, an example, its usage, which is empty where the
 /// parser's is right, and its arguments.
 pub(crate) struct Subcommand {
@@ -55,11 +52,15 @@ impl Subcommand {
         } else {
             command.override_usage(self.usage)
         };
-        let command = taking(alloc, command, self.arguments)?;
-        match self.name {
-            "lattice" | "lsp" | "explain" => Ok(command),
-            _ => taking(alloc, command, &MANNER),
+        let mut arguments = Vec::new(alloc);
+        for argument in self.arguments {
+            arguments.push(argument.made(alloc)?)?;
         }
+        if !matches!(self.name, "lattice" | "lsp" | "explain") {
+            arguments.push(EXPLAIN.made(alloc)?)?;
+            arguments.push(COLOR.made(alloc)?)?;
+        }
+        command.args(arguments)
     }
 
     /// Whether one of its arguments is this option.
@@ -67,19 +68,6 @@ impl Subcommand {
         let is_it = |argument: &Argument| argument.is_option() && argument.name == name;
         self.arguments.iter().any(is_it)
     }
-}
-
-/// Adds arguments to a command.
-fn taking<'a>(
-    alloc: Global,
-    command: Command<'a>,
-    arguments: &[Argument],
-) -> Result<Command<'a>, AllocError> {
-    let mut command = command;
-    for argument in arguments {
-        command = command.arg(argument.made(alloc)?)?;
-    }
-    Ok(command)
 }
 
 /// How an argument is given: by position, or by `--NAME`, with the name of its value in the help.

@@ -2,7 +2,7 @@
 
 use crate::row::{Row, Wrong};
 use std::alloc::{AllocError, Global};
-use vsi_arguments::{ArgumentsError, Request, asks_help, manner_of, request_of};
+use vsi_arguments::{ArgumentsError, asks_help, manner_of, request_of};
 
 /// The arguments in a line, each after a single space; an empty line has none.
 fn words_of(alloc: Global, line: &str) -> Result<Vec<String>, AllocError> {
@@ -15,30 +15,17 @@ fn words_of(alloc: Global, line: &str) -> Result<Vec<String>, AllocError> {
     Ok(words)
 }
 
-/// Adds a line that says whether the arguments make the request.
-fn put_asked(row: &mut Row<'_>, words: &[String], request: &Request<'_>) -> Result<(), Wrong> {
-    match request_of(row.alloc, words)? {
-        Some(made) => row.put_verdict(made == *request),
-        None => row.put_verdict(false),
-    }
-}
-
-/// `asked LINE | OTHER`: whether the arguments of the other line make the request that those of the
-/// first make.
+/// `asked LINE`: whether the arguments of the line make a request, which is then all that its
+/// contract says; none if the parser of the command line disagrees.
 pub(crate) fn asked(row: &mut Row<'_>) -> Result<(), Wrong> {
-    let (alloc, rest) = (row.alloc, row.rest);
-    let (line, other) = rest.split_once(" | ").unwrap_or((rest, ""));
-    let words = words_of(alloc, line)?;
-    let others = words_of(alloc, other)?;
-    match manner_of(alloc, words.as_slice()) {
-        Ok(_) => {}
-        Err(ArgumentsError::Memory) => return Err(Wrong::Memory),
-        Err(_) => return Err(Wrong::Row),
+    let words = words_of(row.alloc, row.rest)?;
+    let is_made = request_of(row.alloc, words.as_slice())?.is_some();
+    match manner_of(row.alloc, words.as_slice()) {
+        Ok(_) if is_made => row.put_verdict(true),
+        Err(ArgumentsError::Mistake(_)) if !is_made => row.put_verdict(false),
+        Err(ArgumentsError::Memory) => Err(Wrong::Memory),
+        _ => Err(Wrong::Row),
     }
-    let Some(request) = request_of(alloc, words.as_slice())? else {
-        return Err(Wrong::Row);
-    };
-    put_asked(row, others.as_slice(), &request)
 }
 
 /// `help LINE`: whether the arguments of the line ask for help or the version.

@@ -21,8 +21,7 @@ pub fn subject_page(name: &[u8]) -> Option<&'static str>
 }
 
 /// The page of the language: a program that uses each part of it.
-const LANGUAGE: &str = "\
-The language, in a program that uses all of it
+const LANGUAGE: &str = "The language, in a program that uses all of it
 
   var high : H; var low : L;        # globals come first, each with a class
   low := 1 + 2 * 3 - (4 - 5);       # no division; `0 - 1` in place of -1
@@ -62,8 +61,7 @@ store file (`vsi explain store`), and their values at the end are the result.
 ";
 
 /// The page of lattice files.
-const LATTICE: &str = "\
-Lattice files: the classes, and which is below which
+const LATTICE: &str = "Lattice files: the classes, and which is below which
 
 A lattice file is a TOML file with two keys. `classes` names the classes, at
 most 64 of them. `below` lists pairs of classes: the first class of a pair is
@@ -96,8 +94,7 @@ lattice files of usual shapes, and `vsi draw` makes a picture of a lattice.
 ";
 
 /// The page of store files.
-const STORE: &str = "\
-Store files: the initial values of globals
+const STORE: &str = "Store files: the initial values of globals
 
 A declaration has no initial value. Each global begins as 0, or with the value
 that a store file or `--set` gives it. A store file is a TOML file with a line
@@ -123,8 +120,7 @@ over the file. With `--full-store` no global may be left out.
 ";
 
 /// The page of interface files.
-const INTERFACE: &str = "\
-Interface files: what `vsi conform` requires of a text
+const INTERFACE: &str = "Interface files: what `vsi conform` requires of a text
 
 An interface is a TOML file that says which globals a text must have, of which
 classes, under which profile it must be accepted, and how some runs must end:
@@ -158,8 +154,7 @@ halts.
 ";
 
 /// The page of classes and flows.
-const CLASSES: &str = "\
-Classes: what the compiler checks
+const CLASSES: &str = "Classes: what the compiler checks
 
 The class of a variable says who may learn its value: whoever sees a class sees
 the variables of that class and of the classes below it. A text is accepted only
@@ -193,8 +188,7 @@ written after its name, or else the least one that fits, as `vsi classes` shows.
 ";
 
 /// The page of the profiles.
-const PROFILES: &str = "\
-Profiles: how much of a run must reveal nothing
+const PROFILES: &str = "Profiles: how much of a run must reveal nothing
 
   base      the final values of globals, if runs halt: the default profile
   strict    also whether the run ends: no loop depends on a variable above the

@@ -1,10 +1,11 @@
 //! The pages of the refusals of a text for its tokens and its tree, and of a program for its names,
 //! its size and its flows.
 
+use crate::explained::pages;
+
 /// The pages of the refusals from 11 on, and that of 25.
-pub(crate) const TEXT: [&str; 13] = [
-    "\
-11 TooLong
+pub(crate) const TEXT: [&str; 13] = pages! {
+    { "11 TooLong
 
 The source text has more than 1048576 bytes. Nothing else in it was checked.
 
@@ -13,10 +14,8 @@ can come in through globals of a store file.
 
   $ head -c 1048577 /dev/zero | vsi
   refused: 11 TooLong
-  [1]
-",
-    "\
-12 BadByte LINE:COLUMN
+  [1]" }
+    { "12 BadByte LINE:COLUMN
 
 No token, blank or comment begins with the byte at LINE:COLUMN. Columns count
 bytes from 1.
@@ -29,10 +28,8 @@ accent or a byte order mark may have come in by copying.
 
   $ printf 'var x : L; x := x > 1' | vsi
   refused: 12 BadByte 1:19
-  [1]
-",
-    "\
-13 BadWord LINE:COLUMN
+  [1]" }
+    { "13 BadWord LINE:COLUMN
 
 The token at LINE:COLUMN isn't a name, a keyword or a number.
 
@@ -41,10 +38,8 @@ and has at most 32 of them. A number is digits alone: no `1_000`, no `0x1F`.
 
   $ printf 'var x : L; x := 1_000' | vsi
   refused: 13 BadWord 1:17
-  [1]
-",
-    "\
-14 BadNumber LINE:COLUMN
+  [1]" }
+    { "14 BadNumber LINE:COLUMN
 
 The number at LINE:COLUMN is above 9223372036854775807, the largest one.
 
@@ -53,10 +48,8 @@ What to do: use a smaller number. Numbers are from -9223372036854775808 to
 
   $ printf 'var x : L; x := 9223372036854775808' | vsi
   refused: 14 BadNumber 1:17
-  [1]
-",
-    "\
-15 Unexpected LINE:COLUMN
+  [1]" }
+    { "15 Unexpected LINE:COLUMN
 
 The token at LINE:COLUMN can't be there, or the text ends there before the
 program is complete.
@@ -80,10 +73,8 @@ brackets; a program without a command.
   [1]
   $ printf 'var x : L; x := -1' | vsi
   refused: 15 Unexpected 1:17
-  [1]
-",
-    "\
-16 TooDeep LINE:COLUMN
+  [1]" }
+    { "16 TooDeep LINE:COLUMN
 
 At LINE:COLUMN the program is nested more than 200 deep: in brackets, blocks,
 `if`, `while` and `letvar`, and in chains of operators.
@@ -94,10 +85,8 @@ than 200 parts needs two assignments.
 
   $ printf 'var x : L; x := %s' $(printf '%0201d' 0 | tr 0 '(') | vsi
   refused: 16 TooDeep 1:217
-  [1]
-",
-    "\
-17 Duplicate LINE:COLUMN
+  [1]" }
+    { "17 Duplicate LINE:COLUMN
 
 The global at LINE:COLUMN has the name of an earlier global.
 
@@ -106,10 +95,8 @@ name of a global, which isn't visible inside the `letvar`.
 
   $ printf 'var x : L; var x : H; x := 1' | vsi
   refused: 17 Duplicate 1:16
-  [1]
-",
-    "\
-18 UnknownClass LINE:COLUMN
+  [1]" }
+    { "18 UnknownClass LINE:COLUMN
 
 The class at LINE:COLUMN isn't in the lattice.
 
@@ -119,10 +106,8 @@ differ.
 
   $ printf 'var x : Low; x := 1' | vsi
   refused: 18 UnknownClass 1:9
-  [1]
-",
-    "\
-19 Unbound LINE:COLUMN
+  [1]" }
+    { "19 Unbound LINE:COLUMN
 
 The name at LINE:COLUMN isn't declared there.
 
@@ -133,10 +118,8 @@ not in `e`, and not after a `;` that follows. If `c` is several commands, write
 
   $ printf 'var x : L; letvar y := 1 in x := y; x := y' | vsi
   refused: 19 Unbound 1:42
-  [1]
-",
-    "\
-20 TooManyGlobals LINE:COLUMN
+  [1]" }
+    { "20 TooManyGlobals LINE:COLUMN
 
 The global at LINE:COLUMN is the 257th.
 
@@ -144,10 +127,8 @@ What to do: use `letvar` for values that aren't needed at the end of the run.
 
   $ (seq -f 'var x%g : L;' 257; printf 'x1 := 1') | vsi
   refused: 20 TooManyGlobals 257:5
-  [1]
-",
-    "\
-21 TooManyDeclarations LINE:COLUMN
+  [1]" }
+    { "21 TooManyDeclarations LINE:COLUMN
 
 The declaration at LINE:COLUMN is the 1025th, globals and `letvar`s together.
 
@@ -156,10 +137,8 @@ What to do: reuse a local variable whose earlier value isn't needed any more.
   $ seq -f 'letvar v%g := 0 in x := 1;' 1024 > lines
   $ (printf 'var x : L;\\n'; cat lines; printf 'x := 1') | vsi
   refused: 21 TooManyDeclarations 1025:8
-  [1]
-",
-    "\
-22 TooLarge
+  [1]" }
+    { "22 TooLarge
 
 The size of the program is above 65534. A number, a name that is read, an
 operator, an assignment and a `letvar` count 1 each, an `if` or a `while` 2.
@@ -168,10 +147,8 @@ What to do: put repeated commands into a loop, or split the program in two.
 
   $ (printf 'var x : L;\\n'; seq -f 'x := %g;' 32767; printf 'x := 1') | vsi
   refused: 22 TooLarge
-  [1]
-",
-    "\
-25 Refused
+  [1]" }
+    { "25 Refused
 
 Information could flow from a variable to one whose class isn't at or above
 its own. The lines below the first show how, step by step: where a name is
@@ -198,6 +175,5 @@ overwrites.
   refused: 25 Refused
   1:26 h flows to l by IF at 1:33
   h : H may not flow to l : L
-  [1]
-",
-];
+  [1]" }
+};
