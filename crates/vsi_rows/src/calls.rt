@@ -1,7 +1,7 @@
 //! The calls, by their names.
 
 use crate::row::{Row, Wrong};
-use crate::{compiling, flows, images, lattices, requests, texts};
+use crate::{compiling, images, lattices, requests, texts};
 use std::alloc::Global;
 use vsi_lattice::Lattice;
 
@@ -50,9 +50,9 @@ fn answer_over_lattice(call: &str, row: &mut Row<'_>, lattice: &Lattice) -> Resu
         "refusal" => compiling::refusal(row, lattice),
         "run" => compiling::ran(row, lattice),
         "drive" => compiling::driven(row, lattice),
-        "check" => flows::typed(row, lattice),
-        "infer" => flows::least_classes(row, lattice),
-        "walk" => flows::walked(row, lattice),
+        "check" => compiling::typed(row, lattice),
+        "infer" => compiling::least_classes(row, lattice),
+        "walk" => compiling::walked(row, lattice),
         _ => Err(Wrong::Row),
     }
 }

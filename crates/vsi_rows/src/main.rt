@@ -5,7 +5,7 @@
 //! of a call, its fields and the text, each after a space. `calls` lists the calls by name, and the
 //! comment of a call describes its fields and its answer. The row is printed too, followed by the
 //! lines of the answer, each after two spaces. The file `stdout` has the expected answer of each
-//! row; `escapes` defines the notation for texts.
+//! row; `row` defines the notation for texts.
 //!
 //! To add a row, write it into `stdin`, and write it into `stdout` with the answer that the
 //! language's pages define, worked by hand; `rt run < stdin` should then print `stdout`. Where a
