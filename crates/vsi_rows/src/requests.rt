@@ -15,8 +15,8 @@ fn words_of(alloc: Global, line: &str) -> Result<Vec<String>, AllocError> {
     Ok(words)
 }
 
-/// `asked LINE`: whether the arguments of the line make a request, which is then all that its
-/// contract says; none if the parser of the command line disagrees.
+/// `asked LINE`: whether the arguments of the line make a request, whose parts the contract of
+/// `request_of` determines; no answer if the parser of the command line disagrees.
 pub(crate) fn asked(row: &mut Row<'_>) -> Result<(), Wrong> {
     let words = words_of(row.alloc, row.rest)?;
     let is_made = request_of(row.alloc, words.as_slice())?.is_some();
