@@ -3,7 +3,7 @@
 ghost use Rattle.std.specs.Prelude.{IfOk, IfSome};
 ghost use Rattle.vsi_hints.specs.Hints.{OffersRead};
 
-use crate::drafts::{Found, Hint, Sense, Shape, put_sentence, say};
+use crate::drafts::{Found, Hint, Shape, put_sentence, say};
 use crate::expression::{FALSE, TRUE};
 use crate::names::{declaration, local, named};
 use crate::offers::{hint_of, offer};
@@ -20,19 +20,17 @@ const LONGEST: usize = 40;
 
 /// The construct of another language that a piece begins.
 fn shape_at(scan: &Scan, at: usize) -> Option<Found> {
-    if scan.is(at, b"var") {
-        return declaration(scan, at);
+    match scan.text(at) {
+        [b'v', b'a', b'r'] => declaration(scan, at),
+        [b'l', b'e', b't', b'v', b'a', b'r'] => local(scan, at),
+        [b'd', b'o'] if scan.is_command_start(at) => {
+            let rest = ": write the body before the loop too, as in `{ C; while E do { C } }` for \
+                the body C and the guard E.";
+            say(at, at.saturating_add(1), "no loop begins with ", rest)
+        }
+        _ if scan.is_name(at) => named(scan, at).or(sign(scan, at)),
+        _ => sign(scan, at),
     }
-    if scan.is(at, b"letvar") {
-        return local(scan, at);
-    }
-    if scan.is(at, b"do") && scan.is_command_start(at) {
-        let rest = ": write the body before the loop too, as in `{ C; while E do { C } }` for the \
-            body C and the guard E.";
-        return say(at, at.saturating_add(1), "no loop begins with ", rest);
-    }
-    let found = scan.is_name(at).then(|| named(scan, at)).flatten();
-    found.or_else(|| sign(scan, at))
 }
 
 /// The constructs of other languages in order; none begins inside another one. A loop is one with
@@ -58,22 +56,12 @@ fn all_shapes(scan: &Scan) -> Result<Vec<Found>, AllocError> {
     Ok(shapes)
 }
 
-/// The number of the last piece that begins at or before a position in the text, or the number of
-/// pieces after the last one.
-fn piece_number(scan: &Scan, at: usize) -> usize {
-    let count = scan.pieces.len();
-    if at >= scan.stop(count.saturating_sub(1)) {
-        return count;
-    }
-    let further = scan.pieces.iter().position(|piece| piece.at > at);
-    further.unwrap_or(count).saturating_sub(1)
-}
-
 /// A text with its constructs of other languages, and the piece at which it is refused.
 #[derive(Drop)]
 struct Advice<'s> {
     scan: Scan<'s>,
     shapes: Vec<Found>,
+    /// The last piece that begins at or before the refused byte, or the one after the last piece.
     piece: usize,
 }
 
@@ -82,7 +70,7 @@ impl<'s> Advice<'s> {
     fn of(alloc: Global, source: &'s [u8], at: usize) -> Result<Advice<'s>, AllocError> {
         let scan = Scan::of(alloc, source)?;
         let shapes = all_shapes(&scan)?;
-        let piece = piece_number(&scan, at);
+        let piece = scan.number_at(at);
         Ok(Advice {
             scan,
             shapes,
@@ -92,23 +80,36 @@ impl<'s> Advice<'s> {
 
     /// The last construct that the refused piece belongs to or directly follows.
     fn covering(&self) -> Option<Found> {
-        let covers = |found: &&Found| found.covers(self.piece);
-        self.shapes.iter().rev().find(covers).copied()
+        let mut last = None;
+        for found in &self.shapes {
+            if found.covers(self.piece) {
+                last = Some(*found);
+            }
+        }
+        last
     }
 
-    /// Whether a piece is within a construct that commands are offered for.
-    fn is_replaced(&self, at: usize) -> bool {
-        let replaces = |found: &Found| {
-            let is_within = found.first < at && at < found.next.saturating_sub(1);
-            is_within && matches!(found.shape, Shape::Offer(Sense::Commands, ..))
-        };
-        self.shapes.iter().any(replaces)
+    /// Whether a piece is in a construct, and the text that replaces it has or hasn't the piece.
+    fn is_in(&self, at: usize, is_kept: bool) -> bool {
+        for found in &self.shapes {
+            let keeps = match found.shape {
+                Shape::Commands if is_kept => found.first < at && at < found.next.saturating_sub(1),
+                Shape::Commands | Shape::Value | Shape::Comment => false,
+                _ => !is_kept && found.first <= at && at < found.next,
+            };
+            if keeps {
+                return true;
+            }
+        }
+        false
     }
 
-    /// Adds the keywords and signs that are missing or superfluous, where they remain.
-    fn put_structures(&self, all: &mut Vec<Found>) -> Result<(), AllocError> {
+    /// The constructs, and then the keywords and signs that are missing or superfluous where no
+    /// commands replace them.
+    fn all(&self) -> Result<Vec<Found>, AllocError> {
+        let mut all = Vec::from_slice(self.scan.alloc, &self.shapes)?;
         for at in 0..self.scan.pieces.len() {
-            if self.is_replaced(at) {
+            if self.is_in(at, true) {
                 continue;
             }
             for found in [structure_at(&self.scan, at), halved_at(&self.scan, at)] {
@@ -117,21 +118,19 @@ impl<'s> Advice<'s> {
                 }
             }
         }
-        Ok(())
+        Ok(all)
     }
 
     /// The constructs and then the structures that need advice of their own beside that for the
     /// refused piece: each that shares its advice with none before it, with whether it is a
     /// construct.
     fn chosen(&self) -> Result<Vec<(Found, bool)>, AllocError> {
-        let mut all = Vec::from_slice(self.scan.alloc, &self.shapes)?;
-        self.put_structures(&mut all)?;
         let mut keys = Vec::new(self.scan.alloc);
         let mut chosen = Vec::new(self.scan.alloc);
         if let Some(found) = self.covering() {
             keys.push(found.key(&self.scan))?;
         }
-        for (number, found) in all.iter().enumerate() {
+        for (number, found) in self.all()?.iter().enumerate() {
             let key = found.key(&self.scan);
             if !keys.contains(&key) && keys.len() <= MOST {
                 keys.push(key)?;
@@ -149,47 +148,39 @@ impl<'s> Advice<'s> {
             if is_refused || *is_construct && found.covers(self.piece) {
                 continue;
             }
-            let Some(hint) = hint_of(scan, found)? else {
-                continue;
-            };
-            words.extend_from_slice(b"Also at ")?;
-            put_place(words, scan.source, scan.piece(found.first).at)?;
-            words.extend_from_slice(b": ")?;
-            put_sentence(words, &hint)?;
-            words.extend_from_slice(b"\n")?;
+            if let Some(hint) = hint_of(scan, found)? {
+                words.extend_from_slice(b"Also at ")?;
+                put_place(words, scan.source, scan.piece(found.first).at)?;
+                words.extend_from_slice(b": ")?;
+                put_sentence(words, &hint)?;
+                words.extend_from_slice(b"\n")?;
+            }
         }
         Ok(())
-    }
-
-    /// Whether a piece belongs to a construct whose replacement doesn't contain the name.
-    fn is_said(&self, at: usize) -> bool {
-        let says = |found: &Found| {
-            let is_kept = matches!(
-                found.shape,
-                Shape::Value(_) | Shape::Comment | Shape::Offer(Sense::Commands, ..)
-            );
-            !is_kept && found.first <= at && at < found.next
-        };
-        self.shapes.iter().any(says)
     }
 
     /// Whether a name is declared after the hints for the text are followed.
     fn gets_declared(&self, name: &[u8]) -> bool {
         let scan = &self.scan;
-        let declares = |found: &Found| match found.shape {
-            Shape::Say(..) | Shape::Put(..) | Shape::Offer(Sense::Declarations, ..) => {
-                found.has(scan, found.next, name)
+        for found in &self.shapes {
+            let declares = match found.shape {
+                Shape::Say | Shape::Put | Shape::Declarations => {
+                    scan.has(found.first, found.next, name)
+                }
+                Shape::Commands => {
+                    found.after == COUNTED && scan.has(found.first, found.value, name)
+                }
+                // The offer for a name that isn't valid here begins with it.
+                Shape::Expression => {
+                    matches!(name.strip_prefix(scan.text(found.first)), Some([b'_', ..]))
+                }
+                _ => false,
+            };
+            if declares {
+                return true;
             }
-            Shape::Offer(Sense::Commands, _, rule, _) => {
-                rule == COUNTED && found.has(scan, found.value, name)
-            }
-            // The offer for a name that isn't valid here begins with it.
-            Shape::Offer(Sense::Expression, ..) => {
-                matches!(name.strip_prefix(scan.text(found.first)), Some([b'_', ..]))
-            }
-            _ => false,
-        };
-        self.shapes.iter().any(declares)
+        }
+        false
     }
 
     /// Whether a piece is a name that the text uses and doesn't declare.
@@ -198,7 +189,7 @@ impl<'s> Advice<'s> {
         let name = scan.text(at);
         scan.is_variable(at)
             && !scan.is_declared(name)
-            && !self.is_said(at)
+            && !self.is_in(at, false)
             && name != scan.text(self.piece)
             && !self.gets_declared(name)
             && !is_one_of(TRUE, name)

@@ -4,58 +4,71 @@ ghost use Rattle.std.specs.Prelude.{◌≡◌, ◌++◌, IfOk, OnOk, codes, is_s
 ghost use Rattle.vsi_hints.specs.Hints as spec;
 
 use crate::expression::rewritten;
-use crate::scan::{Scan, number_of};
+use crate::scan::{Scan, after, number_of};
 use crate::structure::counting_at;
 use std::alloc::AllocError;
 use vsi_syntax::put_number;
 
-/// The kind of a text that is offered.
-#[derive(Clone, Copy)]
-pub(crate) enum Sense {
-    Expression,
-    Commands,
-    Declarations,
-}
-
-/// The advice on some pieces.
-#[derive(Clone, Copy)]
+/// What takes the place of some pieces.
+#[derive(Clone, Copy, PartialEq, Eq)]
 pub(crate) enum Shape {
-    /// Nothing replaces the first piece: the two parts of a sentence around it.
-    Say(&'static str, &'static str),
-    /// The same, if the piece can't be shown.
-    Tell(&'static str),
-    /// Another text replaces them; then the rest of the sentence.
-    Put(&'static str, &'static str),
-    /// An expression, for the piece with this number.
-    Value(usize),
-    /// A text that is made from the pieces replaces them: what it must be, its letters, the reason
-    /// as the end of a sentence, and the sentence if the text can't be offered.
-    Offer(Sense, &'static [u8], &'static str, &'static str),
+    /// Nothing: the parts of a sentence stand around the first piece.
+    Say,
+    /// Nothing, and the first piece can't be shown: a sentence.
+    Tell,
+    /// A fixed text, and then the rest of a sentence.
+    Put,
+    /// An expression, for the piece `value`.
+    Value,
+    /// An expression that is made from the pieces.
+    Expression,
+    /// Commands that are made from the pieces.
+    Commands,
+    /// Declarations that are made from the pieces.
+    Declarations,
     /// A comment.
     Comment,
 }
 
-/// Some pieces, from the first one up to but not including the next one, the first one of the value
-/// in them, and what takes their place.
+/// Some pieces, from the first one up to but not including the next one, and the advice on them.
 #[derive(Clone, Copy)]
 pub(crate) struct Found {
     pub(crate) first: usize,
+    /// The first one of the value in them, or the one that the advice is for.
     pub(crate) value: usize,
     pub(crate) next: usize,
     pub(crate) shape: Shape,
+    /// The letters of the text that is made from the pieces, if one is.
+    pub(crate) letters: &'static [u8],
+    /// The end of the sentence, as the reason for an offer.
+    pub(crate) after: &'static str,
+    /// The beginning of the sentence, the fixed text, or the sentence if no text can be offered.
+    pub(crate) before: &'static str,
 }
 
-/// The texts of an offer: its letters, the reason, and the sentence if it can't be made.
+/// The last three parts of a `Found`.
 pub(crate) type Letters = (&'static [u8], &'static str, &'static str);
 
-/// These pieces have this shape.
-pub(crate) fn shaped(first: usize, next: usize, shape: Shape) -> Option<Found> {
+/// The advice on these pieces and the value in them.
+pub(crate) fn valued(
+    (first, value, next): (usize, usize, usize),
+    shape: Shape,
+    (letters, after, before): Letters,
+) -> Option<Found> {
     Some(Found {
         first,
-        value: first,
+        value,
         next,
         shape,
+        letters,
+        after,
+        before,
     })
+}
+
+/// The advice on these pieces.
+pub(crate) fn shaped(first: usize, next: usize, shape: Shape, letters: Letters) -> Option<Found> {
+    valued((first, first, next), shape, letters)
 }
 
 /// A sentence around the first of these pieces.
@@ -65,29 +78,22 @@ pub(crate) fn say(
     before: &'static str,
     after: &'static str,
 ) -> Option<Found> {
-    shaped(first, next, Shape::Say(before, after))
+    shaped(first, next, Shape::Say, (b"", after, before))
+}
+
+/// A sentence on these pieces, of which none can be shown.
+pub(crate) fn tell(first: usize, next: usize, sentence: &'static str) -> Option<Found> {
+    shaped(first, next, Shape::Tell, (b"", sentence, ""))
 }
 
 /// Another text in place of a piece.
 pub(crate) fn put(at: usize, text: &'static str, rest: &'static str) -> Option<Found> {
-    shaped(at, at.saturating_add(1), Shape::Put(text, rest))
-}
-
-/// A text that is made from pieces in their place.
-pub(crate) fn offered(
-    first: usize,
-    next: usize,
-    sense: Sense,
-    (text, rule, plain): Letters,
-) -> Option<Found> {
-    shaped(first, next, Shape::Offer(sense, text, rule, plain))
+    shaped(at, at.saturating_add(1), Shape::Put, (b"", rest, text))
 }
 
 /// Commands in place of pieces with a value.
 pub(crate) fn commands(first: usize, value: usize, next: usize, letters: Letters) -> Option<Found> {
-    let mut found = offered(first, next, Sense::Commands, letters)?;
-    found.value = value;
-    Some(found)
+    valued((first, value, next), Shape::Commands, letters)
 }
 
 impl Found {
@@ -96,21 +102,13 @@ impl Found {
         self.first <= piece && piece <= self.next
     }
 
-    /// Whether one of the pieces up to a number is this name.
-    pub(crate) fn has(&self, scan: &Scan, next: usize, name: &[u8]) -> bool {
-        (self.first..next).any(|at| scan.is(at, name))
-    }
-
     /// The part of the advice that constructs with the same advice share. Texts of the same length in
     /// place of a piece count as the same, as for `true` and `false`.
     pub(crate) fn key<'s>(&self, scan: &Scan<'s>) -> (&'s [u8], usize) {
         match self.shape {
-            Shape::Say(before, after) => (after.as_bytes(), before.len()),
-            Shape::Tell(sentence) => (sentence.as_bytes(), 0),
-            Shape::Put(text, _) => (b"", text.len()),
-            Shape::Value(cause) => (scan.text(cause), 0),
-            Shape::Offer(_, _, rule, plain) => (rule.as_bytes(), plain.len()),
-            Shape::Comment => (b"#", 0),
+            Shape::Put => (b"", self.before.len()),
+            Shape::Value => (scan.text(self.value), 0),
+            _ => (self.after.as_bytes(), self.before.len()),
         }
     }
 }
@@ -247,17 +245,13 @@ struct Draft<'s, 't> {
 }
 
 /// The text of an offer for pieces, if it can be written.
-pub(crate) fn text_of(
-    scan: &Scan,
-    found: &Found,
-    letters: &[u8],
-) -> Result<Option<Vec<u8>>, AllocError> {
+pub(crate) fn text_of(scan: &Scan, found: &Found) -> Result<Option<Vec<u8>>, AllocError> {
     let mut draft = Draft {
         scan,
         found: *found,
         words: Vec::new(scan.alloc),
     };
-    for letter in letters {
+    for letter in found.letters {
         if !draft.put_letter(*letter)? {
             return Ok(None);
         }
@@ -275,10 +269,13 @@ impl<'s, 't> Draft<'s, 't> {
 
     /// Adds the first of some names that occurs in no piece.
     fn put_fresh(&mut self, names: &'static [u8]) -> Result<bool, AllocError> {
-        let pieces = &self.scan.pieces;
-        let is_fresh = |name: &&[u8]| pieces.iter().all(|piece| piece.text != *name);
-        let fresh = names.split(|byte| *byte == b' ').find(is_fresh);
-        self.put(fresh.unwrap_or(b"a_name_of_its_own"))
+        let scan = self.scan;
+        for name in names.split(|byte| *byte == b' ') {
+            if !scan.has(0, scan.pieces.len(), name) {
+                return self.put(name);
+            }
+        }
+        self.put(b"a_name_of_its_own")
     }
 
     /// Adds the expression for a letter, written in this language.
@@ -294,8 +291,10 @@ impl<'s, 't> Draft<'s, 't> {
             b'W' => (stop, stop, 0),
             _ => (found.value, stop, 0),
         };
-        if (first..next).any(|at| scan.is_hyphened(at)) {
-            return Ok(false);
+        for at in first..next {
+            if scan.is_hyphened(at) {
+                return Ok(false);
+            }
         }
         let pieces = scan.pieces.get(first..next).unwrap_or(&[]);
         match rewritten(scan.alloc, pieces, level)? {
@@ -307,21 +306,17 @@ impl<'s, 't> Draft<'s, 't> {
     /// Adds the declarations of names, each with the class at the end of the pieces.
     fn put_declarations(&mut self) -> Result<bool, AllocError> {
         let (scan, found) = (self.scan, self.found);
+        let class = scan.text(found.next.saturating_sub(1));
+        let mut joint: &[u8] = b"var ";
         for at in found.first..found.next {
             if scan.is(at, b":") {
                 return Ok(true);
             }
             if scan.is_name(at) {
-                let joint: &[u8] = if self.words.is_empty() { b"" } else { b"; " };
-                for part in [
-                    joint,
-                    b"var ",
-                    scan.text(at),
-                    b" : ",
-                    scan.text(found.next.saturating_sub(1)),
-                ] {
+                for part in [joint, scan.text(at), b" : ", class] {
                     self.words.extend_from_slice(part)?;
                 }
+                joint = b"; var ";
             }
         }
         Ok(true)
@@ -361,41 +356,37 @@ impl<'s, 't> Draft<'s, 't> {
         Ok(true)
     }
 
-    /// Adds the first number that a loop doesn't count.
-    fn put_limit(&mut self, limit: usize) -> Result<bool, AllocError> {
-        let text = self.scan.text(limit);
-        if !self.scan.is_after(limit, b"to <=") {
-            return self.put(text);
-        }
-        if self.put_number(text, 1)? {
-            return Ok(true);
-        }
-        self.words.extend_from_slice(text)?;
-        self.put(b" + 1")
-    }
-
-    /// Adds what a letter stands for in the commands for a loop that counts.
+    /// Adds what a letter stands for in the commands for a loop that counts: the first number that it
+    /// doesn't count for a `G`.
     fn put_counting(&mut self, letter: u8) -> Result<bool, AllocError> {
         let scan = self.scan;
         let Some((counter, first, limit, _)) = counting_at(scan, self.found.first) else {
             return Ok(false);
         };
         match letter {
-            b'I' => self.put(scan.text(counter)),
-            b'F' if first == counter => self.put(b"0"),
-            b'F' => self.put(scan.text(first)),
-            _ => self.put_limit(limit),
+            b'I' => return self.put(scan.text(counter)),
+            b'F' if first == counter => return self.put(b"0"),
+            b'F' => return self.put(scan.text(first)),
+            _ => {}
         }
+        let is_counted = scan.is_after(limit, b"to <=");
+        if is_counted && self.put_number(scan.text(limit), 1)? {
+            return Ok(true);
+        }
+        self.words.extend_from_slice(scan.text(limit))?;
+        self.put(if is_counted { b" + 1" } else { b"" })
     }
 
     /// Adds what a letter of an offer stands for.
     fn put_letter(&mut self, letter: u8) -> Result<bool, AllocError> {
-        let scan = self.scan;
-        let first = self.found.first;
-        if let Some(number) = b"NAPCQ".iter().position(|other| *other == letter) {
-            return self.put(scan.text(first.saturating_add(number)));
-        }
+        let (scan, first) = (self.scan, self.found.first);
+        let (second, third, fourth, fifth, _) = after(first);
         match letter {
+            b'N' => self.put(scan.text(first)),
+            b'A' => self.put(scan.text(second)),
+            b'P' => self.put(scan.text(third)),
+            b'C' => self.put(scan.text(fourth)),
+            b'Q' => self.put(scan.text(fifth)),
             b'K' => self.put_fresh(b"t old kept former"),
             b'R' => self.put_fresh(b"r left rest remainder"),
             b'T' => self.put_fresh(b"q times count quotient"),

@@ -2,7 +2,7 @@
 //! translations of its operators.
 
 use crate::drafts::LONGEST;
-use crate::scan::{Piece, Sort, is_one_of, number_of};
+use crate::scan::{Piece, Sort, is_decimal, is_one_of, number_of};
 use std::alloc::{AllocError, Global};
 use vsi_syntax::put_number;
 
@@ -65,28 +65,17 @@ const BEFORE: [Form; 2] = [
 
 /// The operator with a sign in a table.
 fn form_in(forms: &[Form], sign: &[u8]) -> Option<Form> {
-    let is_this = |form: &&Form| is_one_of(form.0, sign);
-    forms.iter().find(is_this).copied()
-}
-
-/// The operator between two operands with this sign.
-fn form_between(sign: &[u8]) -> Option<Form> {
-    form_in(&BETWEEN, sign)
-}
-
-/// The operator before one operand with this sign.
-fn form_before(sign: &[u8]) -> Option<Form> {
-    form_in(&BEFORE, sign)
-}
-
-/// Whether an operator has one operand.
-fn is_before(form: Form) -> bool {
-    form.1 == NOT || form.1 == NEGATIVE
+    for form in forms {
+        if is_one_of(form.0, sign) {
+            return Some(*form);
+        }
+    }
+    None
 }
 
 /// Whether a sign or a name is an operator of this language or another one.
 pub(crate) fn is_operator(sign: &[u8]) -> bool {
-    form_between(sign).is_some() || form_before(sign).is_some()
+    form_in(&BETWEEN, sign).is_some() || form_in(&BEFORE, sign).is_some()
 }
 
 /// The translation of an operator, if it has one. The flag says whether its operands are always 0
@@ -106,7 +95,7 @@ fn pattern_of(form: Form, are_truths: bool, exponent: Option<u64>) -> Option<Pat
 /// The translation of the operator between two operands with this sign, where P and Q are its
 /// operands and each is 0 or 1.
 pub(crate) fn operator_text(sign: &[u8]) -> Option<&'static [u8]> {
-    let (text, ..) = pattern_of(form_between(sign)?, true, Some(2))?;
+    let (text, ..) = pattern_of(form_in(&BETWEEN, sign)?, true, Some(2))?;
     Some(text)
 }
 
@@ -135,9 +124,10 @@ struct Operand {
     is_truth: bool,
     /// Its value, if it is a number.
     value: Option<u64>,
-    /// The translation of its sign, and its last operand, if it is a comparison without brackets
-    /// around it.
-    compared: Option<(&'static [u8], Part)>,
+    /// The translation of its sign, if it is a comparison without brackets around it.
+    compared: &'static [u8],
+    /// Its last operand, if it is a comparison.
+    last: Part,
 }
 
 /// Adds a part in brackets if its level is below this one.
@@ -174,18 +164,18 @@ impl Operand {
         let pattern = if self.is_truth { same } else { TRUTH };
         joined(alloc, pattern, &self.part, &self.part)
     }
+
+    /// Whether a comparison of this one compares its last operand once more, as in `a < b < c`, and
+    /// doesn't ask whether it holds, as in `a < 5 = 1`.
+    fn is_chained(&self, text: &[u8], last: Option<u64>) -> bool {
+        let is_truth = self.compared != b"P = Q".as_slice() && matches!(last, Some(0 | 1));
+        let is_number = is_decimal(&self.last.text);
+        let asks = text.contains(&b'=') && last.is_some() && (is_number || is_truth);
+        !self.compared.is_empty() && !asks
+    }
 }
 
-/// Whether a comparison with a number asks whether the one before it holds, as in `a < 5 = 1`, and
-/// compares its last operand no further.
-fn asks_truth(text: &[u8], last: Option<u64>, before: &[u8], middle: &Part) -> bool {
-    let is_number = middle.text.iter().all(|byte| byte.is_ascii_digit());
-    let is_truth = before != b"P = Q".as_slice() && matches!(last, Some(0 | 1));
-    text.contains(&b'=') && last.is_some() && (is_number || is_truth)
-}
-
-/// An operator between two operands, or before one that is given twice, if it can be written. A
-/// comparison is chained to its left operand if that is one: `a < b < c` compares twice.
+/// An operator between two operands, or before one that is given twice, if it can be written.
 fn applied(
     alloc: Global,
     form: Form,
@@ -196,31 +186,25 @@ fn applied(
     let Some(pattern) = pattern_of(form, are_truths, right.value) else {
         return Ok(None);
     };
-    if form.1 == AND {
+    let part = if form.1 == AND {
         let first = left.truth(alloc)?;
-        return Ok(Some(joined(alloc, pattern, &first, &right.truth(alloc)?)?));
-    }
-    if form.1 == COMPARISON {
-        if let Some((before, middle)) = &left.compared {
-            if !asks_truth(pattern.0, right.value, *before, middle) {
-                let second = joined(alloc, pattern, middle, &right.part)?;
-                return Ok(Some(joined(alloc, BOTH, &left.part, &second)?));
-            }
-        }
-    }
-    Ok(Some(joined(alloc, pattern, &left.part, &right.part)?))
+        joined(alloc, pattern, &first, &right.truth(alloc)?)?
+    } else if form.1 == COMPARISON && left.is_chained(pattern.0, right.value) {
+        let second = joined(alloc, pattern, &left.last, &right.part)?;
+        joined(alloc, BOTH, &left.part, &second)?
+    } else {
+        joined(alloc, pattern, &left.part, &right.part)?
+    };
+    Ok(Some(part))
 }
 
 /// The operand of a piece, if it is one.
 fn operand_of(alloc: Global, piece: Piece) -> Result<Option<Operand>, AllocError> {
-    let value = if piece.sort == Sort::Number {
-        number_of(piece.text)
-    } else if is_one_of(TRUE, piece.text) {
-        Some(1)
-    } else if is_one_of(FALSE, piece.text) {
-        Some(0)
-    } else {
-        None
+    let value = match piece.sort {
+        Sort::Number => number_of(piece.text),
+        _ if is_one_of(TRUE, piece.text) => Some(1),
+        _ if is_one_of(FALSE, piece.text) => Some(0),
+        _ => None,
     };
     let mut text = Vec::new(alloc);
     if let Some(number) = value {
@@ -234,7 +218,11 @@ fn operand_of(alloc: Global, piece: Piece) -> Result<Option<Operand>, AllocError
         part: Part { text, level: 3 },
         is_truth: matches!(value, Some(0 | 1)),
         value,
-        compared: None,
+        compared: b"",
+        last: Part {
+            text: Vec::new(alloc),
+            level: 3,
+        },
     }))
 }
 
@@ -262,7 +250,7 @@ impl Reading {
         let Some(right) = self.operands.pop() else {
             return Ok(false);
         };
-        let made = if is_before(form) {
+        let made = if form.1 == NOT || form.1 == NEGATIVE {
             applied(self.alloc, form, &right, &right)?
         } else {
             let Some(left) = self.operands.pop() else {
@@ -274,16 +262,12 @@ impl Reading {
             return Ok(false);
         };
         let Operand { part: last, .. } = right;
-        let (_, strength, (text, ..)) = form;
         self.put(Operand {
             part,
-            is_truth: strength <= COMPARISON,
+            is_truth: form.1 <= COMPARISON,
             value: None,
-            compared: if strength == COMPARISON {
-                Some((text, last))
-            } else {
-                None
-            },
+            compared: if form.1 == COMPARISON { form.2.0 } else { b"" },
+            last,
         })
     }
 
@@ -304,23 +288,6 @@ impl Reading {
         Ok(true)
     }
 
-    /// Reads a piece where an operand may begin.
-    fn read_operand(&mut self, piece: Piece) -> Result<bool, AllocError> {
-        let form = match piece.text {
-            [b'('] => Some(OPEN),
-            sign => form_before(sign),
-        };
-        if let Some(form) = form {
-            self.waiting.push(form)?;
-            return Ok(true);
-        }
-        self.wants_operand = false;
-        match operand_of(self.alloc, piece)? {
-            Some(operand) => self.put(operand),
-            None => Ok(false),
-        }
-    }
-
     /// Reads a closing bracket.
     fn close(&mut self) -> Result<bool, AllocError> {
         if !self.join_stronger(0)? {
@@ -330,27 +297,30 @@ impl Reading {
             return Ok(false);
         };
         let mut operand = operand;
-        operand.compared = None;
+        operand.compared = b"";
         self.put(operand)
     }
 
     /// Reads a piece, and returns whether an expression may go on with it.
     fn read(&mut self, piece: Piece) -> Result<bool, AllocError> {
-        if self.wants_operand {
-            return self.read_operand(piece);
-        }
-        if matches!(piece.text, [b')']) {
-            return self.close();
-        }
-        let Some(form) = form_between(piece.text) else {
-            return Ok(false);
+        let wants_operand = self.wants_operand;
+        let form = match piece.text {
+            [b'('] if wants_operand => Some(OPEN),
+            [b')'] if !wants_operand => return self.close(),
+            sign if wants_operand => form_in(&BEFORE, sign),
+            sign => form_in(&BETWEEN, sign),
         };
-        if !self.join_stronger(form.1)? {
-            return Ok(false);
+        if let Some(form) = form {
+            self.wants_operand = true;
+            let is_joined = wants_operand || self.join_stronger(form.1)?;
+            self.waiting.push(form)?;
+            return Ok(is_joined);
         }
-        self.waiting.push(form)?;
-        self.wants_operand = true;
-        Ok(true)
+        self.wants_operand = false;
+        match operand_of(self.alloc, piece)? {
+            Some(operand) if wants_operand => self.put(operand),
+            _ => Ok(false),
+        }
     }
 }
 

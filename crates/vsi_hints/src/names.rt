@@ -1,6 +1,6 @@
 //! The constructs of other languages that begin with a name, and declarations.
 
-use crate::drafts::{Found, Letters, Sense, Shape, commands, offered, put, say, shaped};
+use crate::drafts::{Found, Letters, Shape, commands, put, say, shaped, tell};
 use crate::expression::{FALSE, TRUE, is_operator};
 use crate::offers::{CALLS, COMMANDS, NONE, Saying, said, saying_in};
 use crate::scan::{Scan, Sort, after, is_one_of};
@@ -38,66 +38,54 @@ const KEYWORD: Letters = (b"N_1", ": a keyword can't be a name.", "");
 
 /// A name that declares a variable, or does nothing.
 fn declaring_word(scan: &Scan, at: usize) -> Option<Found> {
-    if !scan.is_command_start(at) {
-        return None;
-    }
-    let word = scan.text(at);
     let (next, colon, _, _, value) = after(at);
-    if is_one_of(IDLE, word) {
-        let rest = ": assign a variable to itself to do nothing, as in `x := x`.";
-        return say(at, next, NONE, rest);
-    }
-    if !is_one_of(TYPES, word) {
+    if !scan.is_command_start(at) || !scan.is_any(at, TYPES) {
+        if scan.is_command_start(at) && scan.is_any(at, IDLE) {
+            let rest = ": assign a variable to itself to do nothing, as in `x := x`.";
+            return say(at, next, NONE, rest);
+        }
         return None;
     }
     let (sign, stop) = local_value(scan, at);
     if scan.is_any(sign, b":= =") && scan.is(stop, b"in") {
-        let shape = Shape::Put("letvar", ": it declares a variable for one command.");
-        return shaped(at, sign, shape);
+        let rest = ": it declares a variable for one command.";
+        shaped(at, sign, Shape::Put, (b"", rest, "letvar"))
+    } else if scan.is(colon, b":") {
+        shaped(at, scan.value_stop(value), Shape::Declarations, INITIAL)
+    } else if scan.is_name(next) {
+        let rest = ": declare a global with `var x : L;` at the beginning, where L is a class of \
+            the lattice file, and set its value in the store, or begin the command that uses the \
+            variable with `letvar x := 1 in`.";
+        say(at, scan.command_stop(at), NONE, rest)
+    } else {
+        None
     }
-    if scan.is(colon, b":") {
-        return offered(at, scan.value_stop(value), Sense::Declarations, INITIAL);
-    }
-    if !scan.is_name(next) {
-        return None;
-    }
-    let rest = ": declare a global with `var x : L;` at the beginning, where L is a class of \
-        the lattice file, and set its value in the store, or begin the command that uses the \
-        variable with `letvar x := 1 in`.";
-    say(at, scan.command_stop(at), NONE, rest)
 }
 
-/// A name with a `-` in it, which begins with a piece.
-fn hyphen(scan: &Scan, at: usize) -> Option<Found> {
-    if !scan.is_hyphened(at) {
-        return None;
-    }
-    offered(at, at.saturating_add(3), Sense::Expression, HYPHEN)
-}
-
-/// A keyword in the position of a declared name.
+/// A name that no declaration can have, at a piece: a name with a `-` in it, or a keyword in its
+/// position.
 fn bad_name(scan: &Scan, at: usize) -> Option<Found> {
-    if !scan.is_keyword(at) {
-        return None;
+    if scan.is_keyword(at) {
+        shaped(at, at.saturating_add(1), Shape::Expression, KEYWORD)
+    } else if scan.is_hyphened(at) {
+        shaped(at, at.saturating_add(3), Shape::Expression, HYPHEN)
+    } else {
+        None
     }
-    offered(at, at.saturating_add(1), Sense::Expression, KEYWORD)
 }
 
-/// A declaration by `var` that isn't valid here.
+/// A declaration by `var` that isn't valid here: of a name that is none, or with no class and `;`
+/// after its name.
 pub(crate) fn declaration(scan: &Scan, at: usize) -> Option<Found> {
-    let name = at.saturating_add(1);
-    bad_name(scan, name)
-        .or_else(|| hyphen(scan, name))
-        .or_else(|| declared(scan, at))
-}
-
-/// A declaration by `var` of a name that is valid, but not followed by a class and a `;`.
-fn declared(scan: &Scan, at: usize) -> Option<Found> {
-    let (_, sign, _, end, value) = after(at);
+    let (name, sign, _, end, value) = after(at);
+    let found = bad_name(scan, name);
+    if found.is_some() {
+        return found;
+    }
     if scan.is(sign, b",") {
         let stop = scan.command_stop(at);
         if scan.is(stop, b":") {
-            return offered(at, stop.saturating_add(2), Sense::Declarations, LISTED);
+            return shaped(at, stop.saturating_add(2), Shape::Declarations, LISTED);
         }
         return say(at, stop, "", ONE_EACH);
     }
@@ -110,15 +98,13 @@ fn declared(scan: &Scan, at: usize) -> Option<Found> {
         return say(at, scan.command_stop(sign), "", rest);
     }
     match scan.text(end) {
-        [b'='] | [b':', b'='] => offered(at, scan.value_stop(value), Sense::Declarations, INITIAL),
+        [b'='] | [b':', b'='] => shaped(at, scan.value_stop(value), Shape::Declarations, INITIAL),
         [b';'] => None,
         [b','] => say(at, scan.command_stop(end), "", ONE_EACH),
-        _ => say(
-            at,
-            end,
-            "a declaration with ",
-            " needs a `;` after the class, as in `var x : L;`.",
-        ),
+        _ => {
+            let rest = " needs a `;` after the class, as in `var x : L;`.";
+            say(at, end, "a declaration with ", rest)
+        }
     }
 }
 
@@ -134,13 +120,19 @@ pub(crate) fn local_value(scan: &Scan, at: usize) -> (usize, usize) {
 
 /// A declaration by `letvar` that isn't valid here.
 pub(crate) fn local(scan: &Scan, at: usize) -> Option<Found> {
-    let found = bad_name(scan, at.saturating_add(1));
+    let name = at.saturating_add(1);
     let (sign, _) = local_value(scan, at);
-    if found.is_some() || !scan.is(sign, b"=") {
-        return found;
+    if scan.is_keyword(name) {
+        bad_name(scan, name)
+    } else if scan.is(sign, b"=") {
+        put(
+            sign,
+            ":=",
+            ": `=` compares, as in `letvar y := x + 1 in z := y`.",
+        )
+    } else {
+        None
     }
-    let rest = ": `=` compares, as in `letvar y := x + 1 in z := y`.";
-    put(sign, ":=", rest)
 }
 
 /// Names for an `if` in an `else`.
@@ -228,23 +220,29 @@ const CALL: Saying = (
 fn call(scan: &Scan, at: usize) -> Option<Found> {
     let next = at.saturating_add(1);
     let has_bracket = scan.is(next, b"(");
-    let is_call = has_bracket || scan.is_command_start(at);
-    let saying = saying_in(&CALLS, scan.text(at)).filter(|_| is_call);
-    let is_other = has_bracket && scan.touches(next);
-    let saying = saying.or(is_other.then_some(CALL))?;
+    let saying = match saying_in(&CALLS, scan.text(at)) {
+        Some(saying) if has_bracket || scan.is_command_start(at) => saying,
+        _ if has_bracket && scan.touches(next) => CALL,
+        _ => return None,
+    };
     said(at, call_stop(scan, at), saying)
 }
 
-/// The piece after a name that begins or ends a command, with what belongs to it.
-fn command_next(scan: &Scan, at: usize, saying: Saying) -> usize {
+/// A name that begins or ends a command.
+fn command_word(scan: &Scan, at: usize) -> Option<Found> {
+    let saying = saying_in(&COMMANDS, scan.text(at))?;
+    if !scan.is_after_operand(at) && !scan.is_command_start(at) {
+        return None;
+    }
     let next = at.saturating_add(1);
     let is_ended = scan.is(next, b".") || scan.is_keyword(next) && !scan.piece(next).is_first;
-    match saying.0 {
+    let stop = match saying.0 {
         [b'e', b'n', b'd', ..] if is_ended => next.saturating_add(1),
-        [b'e', b'n', b'd', ..] | [b'r', b'e', b'p', ..] | [b's', b'w', ..] => next,
-        [b't', b'r', b'y', ..] => next,
+        [b'e', b'n', b'd', ..] | [b'r', b'e', b'p', ..] => next,
+        [b's', b'w', ..] | [b't', b'r', b'y', ..] => next,
         _ => call_stop(scan, at),
-    }
+    };
+    said(at, stop, saying)
 }
 
 /// The construct that a name begins, unless it is a command that assigns.
@@ -264,22 +262,19 @@ fn word(scan: &Scan, at: usize) -> Option<Found> {
         }
     }
     declaring_word(scan, at)
-        .or_else(|| command_word(scan, at))
-        .or_else(|| call(scan, at))
-}
-
-/// A name that begins or ends a command.
-fn command_word(scan: &Scan, at: usize) -> Option<Found> {
-    let saying = saying_in(&COMMANDS, scan.text(at))?;
-    let is_apart = scan.is_after_operand(at) || scan.is_command_start(at);
-    is_apart.then(|| said(at, command_next(scan, at, saying), saying))?
+        .or(command_word(scan, at))
+        .or(call(scan, at))
 }
 
 /// Commands in place of pieces with a value up to a piece; in place of those before the value, if it
 /// has an operator without a translation.
 fn rewriting(scan: &Scan, at: usize, value: usize, stop: usize, letters: Letters) -> Option<Found> {
-    let is_whole = !(value..stop).any(|place| is_beyond(scan, place));
-    commands(at, value, if is_whole { stop } else { value }, letters)
+    for place in value..stop {
+        if is_beyond(scan, place) {
+            return commands(at, value, value, letters);
+        }
+    }
+    commands(at, value, stop, letters)
 }
 
 /// An operand that is divided by another one, in the value that a command assigns.
@@ -313,7 +308,7 @@ fn twice(scan: &Scan, at: usize) -> Option<Found> {
     let plain = "assign to one variable at a time, as in `y := 1; x := y`.";
     let next = scan.value_stop(value);
     if scan.is_any(next, b":= ,") || scan.is(end, b"=") {
-        return shaped(at, next, Shape::Tell(plain));
+        return tell(at, next, plain);
     }
     let text: &'static [u8] = if at == 0 || scan.is_after(at, b"; { }") {
         b"P := V; N := P"
@@ -353,11 +348,11 @@ fn assigned(scan: &Scan, at: usize) -> Option<Found> {
 
 /// The construct that a name begins.
 pub(crate) fn named(scan: &Scan, at: usize) -> Option<Found> {
-    let found = word(scan, at).or_else(|| hyphen(scan, at));
+    let found = word(scan, at).or(bad_name(scan, at));
     if found.is_some() || !scan.is_command_start(at) {
         return found;
     }
     twice(scan, at)
-        .or_else(|| division(scan, at))
-        .or_else(|| assigned(scan, at))
+        .or(division(scan, at))
+        .or(assigned(scan, at))
 }

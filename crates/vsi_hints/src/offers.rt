@@ -7,7 +7,7 @@ ghost use Rattle.vsi_syntax.specs.Tree.{Assign, Done, Named, Then, Tree};
 ghost use Rattle.vsi_hints.specs.Hints.{IsRead, OffersRead};
 ghost use Rattle.vsi_hints.specs.Offered.{IsExpression, IsProgramText, IsTreeOf, assigning};
 
-use crate::drafts::{Found, Hint, LONGEST, Reason, Sense, Shape, say, text_of};
+use crate::drafts::{Found, Hint, LONGEST, Reason, Shape, say, text_of};
 use crate::expression::operator_text;
 use crate::scan::{Scan, is_one_of};
 use std::alloc::{AllocError, Global};
@@ -250,14 +250,14 @@ fn declares(alloc: Global, text: &[u8]) -> Result<bool, AllocError>
     is_program(alloc, &program)
 }
 
-/// Whether a text is what it must be, by the reader of the language.
-fn is_read(alloc: Global, text: &[u8], sense: Sense) -> Result<bool, AllocError>
+/// Whether a text is what it must be in this place, by the reader of the language.
+fn is_read(alloc: Global, text: &[u8], shape: Shape) -> Result<bool, AllocError>
     ensures { IfOk result (λ is. is ≡ true → IsRead text.now) }
 {
-    match sense {
-        Sense::Expression => Ok(is_expression(alloc, text)?),
-        Sense::Commands => Ok(is_program(alloc, text)?),
-        Sense::Declarations => Ok(declares(alloc, text)?),
+    match shape {
+        Shape::Commands => Ok(is_program(alloc, text)?),
+        Shape::Declarations => Ok(declares(alloc, text)?),
+        _ => Ok(is_expression(alloc, text)?),
     }
 }
 
@@ -265,18 +265,13 @@ fn is_read(alloc: Global, text: &[u8], sense: Sense) -> Result<bool, AllocError>
 pub(crate) fn offer(scan: &Scan, found: &Found) -> Result<Option<Vec<u8>>, AllocError>
     ensures { IfOk result (λ found. IfSome found (λ text. IsRead text.items)) }
 {
-    let (letters, sense) = match found.shape {
-        Shape::Value(_) => (b"E".as_slice(), Sense::Expression),
-        Shape::Offer(sense, letters, _, _) => (letters, sense),
-        _ => return Ok(None),
-    };
-    let Some(text) = text_of(scan, found, letters)? else {
-        return Ok(None);
-    };
-    if text.len() > LONGEST {
+    if found.letters.is_empty() {
         return Ok(None);
     }
-    if is_read(scan.alloc, &text, sense)? {
+    let Some(text) = text_of(scan, found)? else {
+        return Ok(None);
+    };
+    if text.len() <= LONGEST && is_read(scan.alloc, &text, found.shape)? {
         Ok(Some(text))
     } else {
         Ok(None)
@@ -284,15 +279,14 @@ pub(crate) fn offer(scan: &Scan, found: &Found) -> Result<Option<Vec<u8>>, Alloc
 }
 
 /// The reason why a text is offered as a replacement for pieces.
-fn reason<'s>(scan: &Scan<'s>, shape: Shape) -> Reason<'s> {
-    match shape {
-        Shape::Value(cause) => match scan.text(cause) {
-            [b'-'] => Reason::Rule(": a number has no sign before it."),
-            [b'<'] | [b'='] => Reason::Rule(": a comparison has two sides."),
-            text => Reason::Lacking(text),
-        },
-        Shape::Offer(_, _, rule, _) => Reason::Rule(rule),
-        _ => Reason::Rule("."),
+fn reason<'s>(scan: &Scan<'s>, found: &Found) -> Reason<'s> {
+    if found.shape != Shape::Value {
+        return Reason::Rule(found.after);
+    }
+    match scan.text(found.value) {
+        [b'-'] => Reason::Rule(": a number has no sign before it."),
+        [b'<'] | [b'='] => Reason::Rule(": a comparison has two sides."),
+        text => Reason::Lacking(text),
     }
 }
 
@@ -305,22 +299,23 @@ fn fixed_hint<'s>(scan: &Scan<'s>, found: &Found, replaced: &'s [u8]) -> Option<
     ensures { IfSome result OffersRead }
 {
     let text = scan.text(found.first);
+    let (before, after) = (found.before, found.after);
     match found.shape {
-        Shape::Say("remove ", after) => Some(Hint::Piece("remove ", replaced, after)),
-        Shape::Say(before, after) => Some(Hint::Piece(before, narrow(text), after)),
-        Shape::Tell(sentence) => Some(Hint::Plain(sentence)),
-        Shape::Put(new, rest) => Some(Hint::Put(new, text, rest)),
+        Shape::Say if before == "remove " => Some(Hint::Piece(before, replaced, after)),
+        Shape::Say => Some(Hint::Piece(before, narrow(text), after)),
+        Shape::Tell => Some(Hint::Plain(after)),
+        Shape::Put => Some(Hint::Put(before, text, after)),
         Shape::Comment if text.starts_with(b"/*") => Some(Hint::Plain(BLOCK)),
         Shape::Comment => {
             let rest = ": a comment ends with its line, as in `# count`.";
             Some(Hint::Put("#", &text[..text.len().min(2)], rest))
         }
-        Shape::Value(cause) => match scan.text(cause) {
+        Shape::Value => match scan.text(found.value) {
             [b'<' | b'='] => None,
             sign => Some(Hint::Operator(operator_text(sign)?, sign)),
         },
-        Shape::Offer(_, _, _, "") => None,
-        Shape::Offer(_, _, _, plain) => Some(Hint::Plain(plain)),
+        _ if before.is_empty() => None,
+        _ => Some(Hint::Plain(before)),
     }
 }
 
@@ -337,7 +332,7 @@ pub(crate) fn hint_of<'s>(scan: &Scan<'s>, found: &Found) -> Result<Option<Hint<
     let replaced = scan.span(found.first, found.next);
     if can_show(replaced) {
         if let Some(text) = offer(scan, found)? {
-            return Ok(Some(Hint::Offer(text, replaced, reason(scan, found.shape))));
+            return Ok(Some(Hint::Offer(text, replaced, reason(scan, found))));
         }
     }
     Ok(fixed_hint(scan, found, replaced))

@@ -43,17 +43,20 @@ pub(crate) fn is_one_of(words: &[u8], word: &[u8]) -> bool {
     words.split(|byte| *byte == b' ').any(|one| one == word)
 }
 
-/// The number of bytes of a text before the first of these, or of all.
-fn up_to(text: &[u8], stop: u8) -> usize {
-    let found = text.iter().position(|byte| *byte == stop);
-    found.unwrap_or(text.len())
+/// A text up to the end of its first line.
+fn line(text: &[u8]) -> &[u8] {
+    let end = text.iter().position(|byte| *byte == b'\n');
+    text.get(..end.unwrap_or(text.len())).unwrap_or(text)
 }
 
-/// The number of bytes of a text up to the end of a part of it that begins before `from`.
+/// The number of bytes of a text up to the end of a part of it that begins at or after `from`.
 fn up_to_end(text: &[u8], from: usize, end: &[u8]) -> usize {
-    let is_end = |at: &usize| text.get(*at..).unwrap_or(b"").starts_with(end);
-    let found = (from..text.len()).find(is_end);
-    found.map_or(text.len(), |at| at.saturating_add(end.len()))
+    for at in from..text.len() {
+        if text.get(at..).unwrap_or(b"").starts_with(end) {
+            return at.saturating_add(end.len());
+        }
+    }
+    text.len()
 }
 
 /// The number of bytes of the name or the number at the beginning of a text. A point belongs to a
@@ -69,27 +72,14 @@ fn word_length(rest: &[u8], is_number: bool) -> usize {
     rest.len()
 }
 
-/// The number of bytes of a text between quotes. It ends with its line at the latest.
-fn quoted_length(rest: &[u8], quote: u8) -> usize {
-    let line = &rest[..up_to(rest, b'\n').min(rest.len())];
-    up_to_end(line, 1, &[quote])
-}
-
-/// The number of bytes of a character outside of ASCII.
-fn strange_length(rest: &[u8]) -> usize {
-    let further = rest.iter().skip(1).take(3);
-    further
-        .take_while(|byte| matches!(**byte, 128..=191))
-        .count()
-        .saturating_add(1)
-}
-
 /// The number of bytes of the sign at the beginning of a text.
 fn sign_length(rest: &[u8]) -> usize {
-    let mut signs = SIGNS.split(|byte| *byte == b' ');
-    signs
-        .find(|sign| rest.starts_with(*sign))
-        .map_or(1, |sign| sign.len())
+    for sign in SIGNS.split(|byte| *byte == b' ') {
+        if rest.starts_with(sign) {
+            return sign.len();
+        }
+    }
+    1
 }
 
 /// Whether a text begins with a comment that ends with its line. In Python `//` divides by the
@@ -102,18 +92,21 @@ fn is_line_comment(rest: &[u8], is_begun: bool) -> bool {
     !matches!(after.trim_ascii_start().first(), Some(b'0'..=b'9'))
 }
 
-/// The sort and the length of the piece at the beginning of a text.
+/// The sort and the length of the piece at the beginning of a text. A quotation ends with its line
+/// at the latest.
 fn measured(rest: &[u8], is_begun: bool) -> (Sort, usize) {
     if is_line_comment(rest, is_begun) {
-        return (Sort::Comment, up_to(rest, b'\n'));
+        return (Sort::Comment, line(rest).len());
     }
     match rest {
         [b'/', b'*', ..] => (Sort::Comment, up_to_end(rest, 2, b"*/")),
         [b'a'..=b'z' | b'A'..=b'Z' | b'_', ..] => (Sort::Word, word_length(rest, false)),
         [b'0'..=b'9', ..] => (Sort::Number, word_length(rest, true)),
-        [b'"', ..] => (Sort::Quoted, quoted_length(rest, b'"')),
-        [b'\'', ..] => (Sort::Quoted, quoted_length(rest, b'\'')),
-        [128..=255, ..] => (Sort::Strange, strange_length(rest)),
+        [quote @ (b'"' | b'\''), ..] => (Sort::Quoted, up_to_end(line(rest), 1, &[*quote])),
+        [128..=255, 128..=191, 128..=191, 128..=191, ..] => (Sort::Strange, 4),
+        [128..=255, 128..=191, 128..=191, ..] => (Sort::Strange, 3),
+        [128..=255, 128..=191, ..] => (Sort::Strange, 2),
+        [128..=255, ..] => (Sort::Strange, 1),
         _ => (Sort::Sign, sign_length(rest)),
     }
 }
@@ -125,31 +118,28 @@ fn pieces_of<'a>(alloc: Global, source: &'a [u8]) -> Result<Vec<Piece<'a>>, Allo
     let mut is_first = true;
     let mut is_begun = true;
     for _ in 0..source.len() {
-        let rest = &source[at.min(source.len())..];
-        let [byte, ..] = rest else {
-            return Ok(pieces);
-        };
-        if pieces.len() >= MOST {
-            return Ok(pieces);
+        let rest = source.get(at..).unwrap_or(b"");
+        let mut length = 1;
+        match rest {
+            [b'#', ..] => length = line(rest).len(),
+            [b' ' | b'\t' | b'\r', ..] => {}
+            [b'\n', ..] => is_first = true,
+            [_, ..] if pieces.len() < MOST => {
+                let (sort, size) = measured(rest, is_first || is_begun);
+                let text = rest.get(..size).unwrap_or(rest);
+                pieces.push(Piece {
+                    sort,
+                    text,
+                    at,
+                    is_first,
+                })?;
+                is_first = false;
+                is_begun = matches!(text, [b';' | b'{' | b'}']);
+                length = size.max(1);
+            }
+            _ => return Ok(pieces),
         }
-        if *byte == b'#' {
-            at = at.saturating_add(up_to(rest, b'\n'));
-        } else if matches!(*byte, b' ' | b'\t' | b'\r' | b'\n') {
-            is_first = is_first || *byte == b'\n';
-            at = at.saturating_add(1);
-        } else {
-            let (sort, length) = measured(rest, is_first || is_begun);
-            let text = &rest[..length.min(rest.len())];
-            pieces.push(Piece {
-                sort,
-                text,
-                at,
-                is_first,
-            })?;
-            is_first = false;
-            is_begun = matches!(text, [b';' | b'{' | b'}']);
-            at = at.saturating_add(length.max(1));
-        }
+        at = at.saturating_add(length);
     }
     Ok(pieces)
 }
@@ -163,6 +153,16 @@ fn digits_of(text: &[u8]) -> (&[u8], u64) {
         [digits @ .., b'l' | b'L' | b'u' | b'U'] => (digits, 10),
         other => (other, 10),
     }
+}
+
+/// Whether a text has digits alone.
+pub(crate) fn is_decimal(text: &[u8]) -> bool {
+    for byte in text {
+        if !byte.is_ascii_digit() {
+            return false;
+        }
+    }
+    true
 }
 
 /// The value of a whole number of another language, if this language can write it.
@@ -291,6 +291,22 @@ impl<'s> Scan<'s> {
         self.is_any(at, KEYWORDS)
     }
 
+    /// The number of the last piece that begins at or before a position in the text, or the number
+    /// of pieces after the last one.
+    pub(crate) fn number_at(&self, at: usize) -> usize {
+        let count = self.pieces.len();
+        if at >= self.stop(count.saturating_sub(1)) {
+            return count;
+        }
+        let mut number = 0;
+        for further in 1..count {
+            if self.piece(further).at <= at {
+                number = further;
+            }
+        }
+        number
+    }
+
     /// The position after a piece.
     pub(crate) fn stop(&self, at: usize) -> usize {
         let piece = self.piece(at);
@@ -316,13 +332,28 @@ impl<'s> Scan<'s> {
 
     /// Whether a name is declared somewhere in the text.
     pub(crate) fn is_declared(&self, name: &[u8]) -> bool {
-        (1..self.pieces.len()).any(|at| self.is(at, name) && self.is_after(at, DECLARING))
+        for at in 1..self.pieces.len() {
+            if self.is(at, name) && self.is_after(at, DECLARING) {
+                return true;
+            }
+        }
+        false
+    }
+
+    /// Whether one of the pieces from a number up to another one is one of these texts.
+    pub(crate) fn has(&self, first: usize, next: usize, texts: &[u8]) -> bool {
+        for at in first..next {
+            if self.is_any(at, texts) {
+                return true;
+            }
+        }
+        false
     }
 
     /// Whether a sign comes after a name with which a command begins.
     pub(crate) fn is_assignment(&self, at: usize) -> bool {
-        let is_begun = |name| self.is_name(name) && self.is_command_start(name);
-        at.checked_sub(1).is_some_and(is_begun)
+        let name = at.saturating_sub(1);
+        0 < at && self.is_name(name) && self.is_command_start(name)
     }
 
     /// The piece with which the expression around a piece begins.
@@ -431,8 +462,11 @@ impl<'s> Scan<'s> {
 
     /// The piece at which the command around a piece has ended.
     pub(crate) fn command_stop(&self, at: usize) -> usize {
-        let count = self.pieces.len();
-        let ends = |place: &usize| self.piece(*place).is_first || self.is_any(*place, b"; { } :");
-        (at.saturating_add(1)..count).find(ends).unwrap_or(count)
+        for place in at.saturating_add(1)..self.pieces.len() {
+            if self.piece(place).is_first || self.is_any(place, b"; { } :") {
+                return place;
+            }
+        }
+        self.pieces.len()
     }
 }

@@ -1,47 +1,30 @@
 //! Keywords and signs that are missing or superfluous, and constructs that begin with a sign.
 
-use crate::drafts::{Found, LONGEST, Letters, Sense, Shape, commands, offered, put, say, shaped};
+use crate::drafts::{Found, LONGEST, Letters, Shape, commands, put, say, shaped, tell, valued};
 use crate::expression::is_operator;
 use crate::names::{ELSE_IF, local_value};
 use crate::offers::{
     BITS, COMMANDS, NONE, SIGNS, Saying, character_saying, narrow, said, saying_in,
 };
-use crate::scan::{DECLARING, Scan, Sort, number_of};
+use crate::scan::{DECLARING, Scan, Sort, is_decimal, number_of};
 
 /// The keywords with which an `if` goes on after its first branch.
 const ELSE: &[u8] = b"else elif elsif elseif ELSE";
-
-/// The keyword after a guard, and the two parts of a sentence if it is missing.
-type Guard = (&'static str, &'static str, &'static str);
-
-/// A guard of a branch.
-const THEN: Guard = (
-    "then",
-    "put `then` after the guard of this ",
-    ", as in `if x < 1 then { y := 1 } else y := 2`.",
-);
-
-/// A guard of a loop.
-const DO: Guard = (
-    "do",
-    "put `do` after the guard of this ",
-    ", as in `while x < 9 do { x := x + 1 }`.",
-);
 
 /// A `;` before a keyword or sign that ends something.
 fn superfluous(scan: &Scan, at: usize) -> Option<Found> {
     let next = at.saturating_add(1);
     let is_last = next >= scan.pieces.len();
+    let is_declared = 4 <= at && scan.is(at.saturating_sub(4), b"var");
     if scan.is(next, b"else") {
         let rest = " before `else`, as in `if x then y := 1 else y := 2`.";
-        return say(at, next, "remove the ", rest);
+        say(at, next, "remove the ", rest)
+    } else if scan.is(next, b"}") || is_last && !is_declared {
+        let rest = " after a last command: it separates two commands, as in `{ x := 1; y := 2 }`.";
+        say(at, next, "remove the ", rest)
+    } else {
+        None
     }
-    let is_declared = 4 <= at && scan.is(at.saturating_sub(4), b"var");
-    if !is_last && !scan.is(next, b"}") || is_last && is_declared {
-        return None;
-    }
-    let rest = " after a last command: it separates two commands, as in `{ x := 1; y := 2 }`.";
-    say(at, next, "remove the ", rest)
 }
 
 /// Whether a piece seems to begin a command. The guard at the end of another language's loop is
@@ -55,17 +38,23 @@ fn is_command(scan: &Scan, at: usize) -> bool {
 
 /// Whether the line before a piece begins with a keyword that takes a guard or a branch.
 fn is_after_guard(scan: &Scan, at: usize) -> bool {
-    let first = (0..at).rev().find(|place| scan.piece(*place).is_first);
-    first.is_some_and(|place| scan.is_any(place, b"if while }") || scan.is_any(place, ELSE))
+    for place in (0..at).rev() {
+        if scan.piece(place).is_first {
+            return scan.is_any(place, b"if while }") || scan.is_any(place, ELSE);
+        }
+    }
+    false
 }
 
 /// A command on a line of its own, after one that has no `;`.
 fn unended(scan: &Scan, at: usize) -> Option<Found> {
     let before = at.checked_sub(1)?;
-    if !scan.piece(at).is_first || !scan.ends_operand(before) || !is_command(scan, at) {
-        return None;
-    }
-    if is_after_guard(scan, at) || saying_in(&COMMANDS, scan.text(before)).is_some() {
+    if !scan.piece(at).is_first
+        || !scan.ends_operand(before)
+        || !is_command(scan, at)
+        || is_after_guard(scan, at)
+        || saying_in(&COMMANDS, scan.text(before)).is_some()
+    {
         return None;
     }
     let rest = " with a `;`: it separates two commands, as in `x := 1; y := 2`.";
@@ -81,19 +70,25 @@ fn unended(scan: &Scan, at: usize) -> Option<Found> {
 fn branch_stop(scan: &Scan, at: usize) -> Option<usize> {
     if scan.is(at, b"{") {
         let stop = scan.after_closing(at, b'{', b'}');
-        return scan.is(stop.saturating_sub(1), b"}").then_some(stop);
+        scan.is(stop.saturating_sub(1), b"}").then_some(stop)
+    } else if is_command(scan, at) && !scan.is_keyword(at) {
+        Some(scan.value_stop(at.saturating_add(2)))
+    } else {
+        None
     }
-    let is_assignment = is_command(scan, at) && !scan.is_keyword(at);
-    is_assignment.then(|| scan.value_stop(at.saturating_add(2)))
 }
 
 /// Whether an `else` comes after more than one command.
 fn has_late_else(scan: &Scan, stop: usize) -> bool {
-    let is_end = |at: &usize| scan.is_any(*at, b"else if { }");
-    let mut rest = stop..scan.pieces.len();
-    scan.is(stop, b";")
-        && !scan.is(stop.saturating_add(1), b"else")
-        && rest.find(is_end).is_some_and(|at| scan.is(at, b"else"))
+    if !scan.is(stop, b";") || scan.is(stop.saturating_add(1), b"else") {
+        return false;
+    }
+    for at in stop..scan.pieces.len() {
+        if scan.is_any(at, b"else if { }") {
+            return scan.is(at, b"else");
+        }
+    }
+    false
 }
 
 /// A `letvar` without its `in`.
@@ -122,17 +117,22 @@ fn conditional(scan: &Scan, at: usize) -> Option<Found> {
     say(at, next, NONE, rest)
 }
 
-/// A guard without the keyword after it.
-fn unguarded(scan: &Scan, at: usize, (word, before, after): Guard) -> Option<Found> {
+/// A guard of a branch or of a loop without the keyword after it.
+fn unguarded(scan: &Scan, at: usize) -> Option<Found> {
+    let is_branch = scan.is(at, b"if");
     let stop = scan.value_stop(at.saturating_add(1));
     if scan.is(stop, b":") {
         let rest = " after a guard, as in `if x < 1 then y := 1 else while x < 9 do x := x + 1`.";
-        return put(stop, word, rest);
+        put(stop, if is_branch { "then" } else { "do" }, rest)
+    } else if !scan.is(stop, b"{") && !is_command(scan, stop) {
+        None
+    } else if is_branch {
+        let rest = ", as in `if x < 1 then { y := 1 } else y := 2`.";
+        say(at, stop, "put `then` after the guard of this ", rest)
+    } else {
+        let rest = ", as in `while x < 9 do { x := x + 1 }`.";
+        say(at, stop, "put `do` after the guard of this ", rest)
     }
-    if !scan.is(stop, b"{") && !is_command(scan, stop) {
-        return None;
-    }
-    say(at, stop, before, after)
 }
 
 /// A keyword or a sign that is missing or superfluous at a piece.
@@ -153,8 +153,7 @@ pub(crate) fn structure_at(scan: &Scan, at: usize) -> Option<Found> {
             say(at, next, "put a `;` after the ", rest)
         }
         [b'}'] => None,
-        [b'i', b'f'] => unguarded(scan, at, THEN),
-        [b'w', b'h', b'i', b'l', b'e'] => unguarded(scan, at, DO),
+        [b'i', b'f'] | [b'w', b'h', b'i', b'l', b'e'] => unguarded(scan, at),
         [b'e', b'l', b's', b'e'] if scan.is(next, b":") => {
             let rest = " without a `:` after it, as in `if x < 1 then y := 1 else y := 2`.";
             say(at, at.saturating_add(2), "write ", rest)
@@ -212,10 +211,17 @@ pub(crate) fn counting_at(scan: &Scan, start: usize) -> Option<(usize, usize, us
         let is_before = scan.is_any(counter, b"( int let var");
         counter = counter.saturating_add(usize::from(is_before));
     }
-    let is_begun = |form: &&Counting| scan.begins(counter.saturating_add(1), form.0);
-    let (_, first, limit, body) = *COUNTING.as_slice().iter().find(is_begun)?;
-    let place = |number: usize| counter.saturating_add(number);
-    Some((counter, place(first), place(limit), place(body)))
+    for (signs, first, limit, body) in COUNTING.as_slice() {
+        if scan.begins(counter.saturating_add(1), *signs) {
+            return Some((
+                counter,
+                counter.saturating_add(*first),
+                counter.saturating_add(*limit),
+                counter.saturating_add(*body),
+            ));
+        }
+    }
+    None
 }
 
 /// A loop that counts, if its body assigns neither to the counter nor to the limit.
@@ -264,9 +270,12 @@ pub(crate) fn loop_at(scan: &Scan, start: usize) -> Option<Found> {
         return None;
     };
     let longest = scan.piece(start).at.saturating_add(LONGEST);
-    let is_long = |at| scan.piece(at).is_first || scan.stop(at) > longest;
-    let is_short = !(start.saturating_add(1)..found.next).any(is_long);
-    is_short.then_some(found)
+    for at in start.saturating_add(1)..found.next {
+        if scan.piece(at).is_first || scan.stop(at) > longest {
+            return None;
+        }
+    }
+    Some(found)
 }
 
 /// The signs and names that compare.
@@ -275,12 +284,12 @@ const COMPARING: &[u8] = b"= == === < > <= =< >= != !== <> ~= not !";
 /// Whether a sign joins the bits of two numbers: a number follows it, or nothing around it
 /// compares.
 fn joins_bits(scan: &Scan, at: usize) -> bool {
-    let compares = || {
-        let start = scan.value_start(at);
-        (start..scan.value_stop(start)).any(|place| scan.is_any(place, COMPARING))
-    };
-    let is_before_number = scan.piece(at.saturating_add(1)).sort == Sort::Number;
-    scan.is_any(at, b"& |") && (is_before_number || !compares())
+    if !scan.is_any(at, b"& |") {
+        return false;
+    }
+    let start = scan.value_start(at);
+    scan.piece(at.saturating_add(1)).sort == Sort::Number
+        || !scan.has(start, scan.value_stop(start), COMPARING)
 }
 
 /// The sentence for an operator that no expression replaces, if it is one: it joins bits, or is a
@@ -335,7 +344,7 @@ fn operator(scan: &Scan, at: usize) -> Option<Found> {
     let next = at.saturating_add(1);
     if scan.is(at, b".") && scan.piece(next).sort == Sort::Number {
         let sentence = "numbers are whole, so count in a smaller unit, such as 50 cents for .50.";
-        return shaped(at, next, Shape::Tell(sentence));
+        return tell(at, next, sentence);
     }
     if let Some(saying) = unwritten(scan, at) {
         return said(at, next, saying);
@@ -345,10 +354,12 @@ fn operator(scan: &Scan, at: usize) -> Option<Found> {
     }
     let start = scan.value_start(at);
     let stop = scan.value_stop(start).max(next);
-    if (start..stop).any(|place| is_unwritten(scan, place)) {
-        return shaped(at, next, Shape::Value(at));
+    for place in start..stop {
+        if is_unwritten(scan, place) {
+            return shaped(at, next, Shape::Value, VALUE);
+        }
     }
-    shaped(start, stop, Shape::Value(at))
+    valued((start, at, stop), Shape::Value, VALUE)
 }
 
 /// The construct that a text between quotes begins: three quotes begin a comment of a function.
@@ -356,11 +367,14 @@ fn quoted(scan: &Scan, at: usize) -> Option<Found> {
     let next = at.saturating_add(1);
     if scan.text(at).len() == 2 && scan.piece(next).sort == Sort::Quoted && scan.touches(next) {
         let sentence = "begin each line of a comment with `#`, as in `# count`.";
-        return shaped(at, at.saturating_add(3), Shape::Tell(sentence));
+        return tell(at, at.saturating_add(3), sentence);
     }
     let rest = ": each variable holds a whole number, as in `x := 1`.";
     say(at, next, "there are no strings such as ", rest)
 }
+
+/// The expression around an operator.
+const VALUE: Letters = (b"E", "", "");
 
 /// A number in the digits of this language.
 const DIGITS: Letters = (b"D", ": a number has only digits.", "");
@@ -377,10 +391,10 @@ fn number(scan: &Scan, at: usize) -> Option<Found> {
         let before = "numbers are whole, so count in a smaller unit than ";
         return say(at, next, before, ", such as 150 cents for 1.50.");
     }
-    if text.iter().all(|byte| byte.is_ascii_digit()) || number_of(text).is_none() {
+    if is_decimal(text) || number_of(text).is_none() {
         return None;
     }
-    offered(at, next, Sense::Expression, DIGITS)
+    shaped(at, next, Shape::Expression, DIGITS)
 }
 
 /// A character outside of ASCII. A wide `=` after the name that a command assigns to is half of a
@@ -389,20 +403,24 @@ fn strange(scan: &Scan, at: usize) -> Option<Found> {
     let next = at.saturating_add(1);
     let text = scan.text(at);
     if narrow(text) == text {
-        return shaped(at, next, Shape::Tell(character_saying(text)?));
+        tell(at, next, character_saying(text)?)
+    } else if scan.is_assignment(at) && matches!(narrow(text), [b'=']) {
+        tell(
+            at,
+            next,
+            "write `:=` for this character, which only looks like `=`.",
+        )
+    } else {
+        let rest =
+            " for this character, which only looks like it: outside comments a text is ASCII.";
+        say(at, next, "write ", rest)
     }
-    if scan.is_assignment(at) && matches!(narrow(text), [b'=']) {
-        let sentence = "write `:=` for this character, which only looks like `=`.";
-        return shaped(at, next, Shape::Tell(sentence));
-    }
-    let rest = " for this character, which only looks like it: outside comments a text is ASCII.";
-    say(at, next, "write ", rest)
 }
 
 /// The construct that a sign, a number, a text or a comment begins.
 pub(crate) fn sign(scan: &Scan, at: usize) -> Option<Found> {
     match scan.piece(at).sort {
-        Sort::Comment => shaped(at, at.saturating_add(1), Shape::Comment),
+        Sort::Comment => shaped(at, at.saturating_add(1), Shape::Comment, (b"", "", "")),
         Sort::Strange => strange(scan, at),
         Sort::Quoted => quoted(scan, at),
         Sort::Number => number(scan, at),
