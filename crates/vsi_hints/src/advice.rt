@@ -104,8 +104,7 @@ impl<'s> Advice<'s> {
         false
     }
 
-    /// The constructs, and then the keywords and signs that are missing or superfluous where no
-    /// commands replace them.
+    /// The constructs, and then the structures where no commands replace them.
     fn all(&self) -> Result<Vec<Found>, AllocError> {
         let mut all = Vec::from_slice(self.scan.alloc, &self.shapes)?;
         for at in 0..self.scan.pieces.len() {
@@ -121,9 +120,8 @@ impl<'s> Advice<'s> {
         Ok(all)
     }
 
-    /// The constructs and then the structures that need advice of their own beside that for the
-    /// refused piece: each that shares its advice with none before it, with whether it is a
-    /// construct.
+    /// Those that share their advice with none before them or for the refused piece, with whether
+    /// each is a construct.
     fn chosen(&self) -> Result<Vec<(Found, bool)>, AllocError> {
         let mut keys = Vec::new(self.scan.alloc);
         let mut chosen = Vec::new(self.scan.alloc);
@@ -273,8 +271,7 @@ pub fn put_further(
     Ok(())
 }
 
-/// The places of a text for which `hint_at` and `put_further` have hints, if it is refused at this
-/// byte.
+/// The places for which `hint_at` and `put_further` have hints in a text refused at this byte.
 pub fn listed_places(alloc: Global, source: &[u8], at: usize) -> Result<Vec<usize>, AllocError> {
     let advice = Advice::of(alloc, source, at)?;
     let mut places = Vec::new(alloc);

@@ -356,8 +356,7 @@ impl<'s, 't> Draft<'s, 't> {
         Ok(true)
     }
 
-    /// Adds what a letter stands for in the commands for a loop that counts: the first number that it
-    /// doesn't count for a `G`.
+    /// Adds what a letter stands for in a loop that counts: `G` for the first number beyond it.
     fn put_counting(&mut self, letter: u8) -> Result<bool, AllocError> {
         let scan = self.scan;
         let Some((counter, first, limit, _)) = counting_at(scan, self.found.first) else {

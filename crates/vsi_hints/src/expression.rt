@@ -92,8 +92,7 @@ fn pattern_of(form: Form, are_truths: bool, exponent: Option<u64>) -> Option<Pat
     }
 }
 
-/// The translation of the operator between two operands with this sign, where P and Q are its
-/// operands and each is 0 or 1.
+/// The translation of the operator with this sign between P and Q, of which each is 0 or 1.
 pub(crate) fn operator_text(sign: &[u8]) -> Option<&'static [u8]> {
     let (text, ..) = pattern_of(form_in(&BETWEEN, sign)?, true, Some(2))?;
     Some(text)
@@ -165,8 +164,7 @@ impl Operand {
         joined(alloc, pattern, &self.part, &self.part)
     }
 
-    /// Whether a comparison of this one compares its last operand once more, as in `a < b < c`, and
-    /// doesn't ask whether it holds, as in `a < 5 = 1`.
+    /// Whether a comparison of this one is chained, as in `a < b < c`, and not as in `a < 5 = 1`.
     fn is_chained(&self, text: &[u8], last: Option<u64>) -> bool {
         let is_truth = self.compared != b"P = Q".as_slice() && matches!(last, Some(0 | 1));
         let is_number = is_decimal(&self.last.text);
@@ -324,8 +322,7 @@ impl Reading {
     }
 }
 
-/// The expression of these pieces, written in this language at least at a level, if possible and
-/// short.
+/// The expression of these pieces, written in this language at least at a level, if it is short.
 pub(crate) fn rewritten(
     alloc: Global,
     pieces: &[Piece],

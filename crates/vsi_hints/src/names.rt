@@ -3,7 +3,7 @@
 use crate::drafts::{Found, Letters, Shape, commands, put, say, shaped, tell};
 use crate::expression::{FALSE, TRUE, is_operator};
 use crate::offers::{CALLS, COMMANDS, NONE, Saying, said, saying_in};
-use crate::scan::{Scan, Sort, after, is_one_of};
+use crate::scan::{KEYWORDS, Scan, Sort, after, is_one_of};
 use crate::structure::is_beyond;
 
 /// Names that declare a variable.
@@ -62,10 +62,9 @@ fn declaring_word(scan: &Scan, at: usize) -> Option<Found> {
     }
 }
 
-/// A name that no declaration can have, at a piece: a name with a `-` in it, or a keyword in its
-/// position.
+/// A name that no declaration can have: one with a `-` in it, or a keyword in its position.
 fn bad_name(scan: &Scan, at: usize) -> Option<Found> {
-    if scan.is_keyword(at) {
+    if scan.is_any(at, KEYWORDS) {
         shaped(at, at.saturating_add(1), Shape::Expression, KEYWORD)
     } else if scan.is_hyphened(at) {
         shaped(at, at.saturating_add(3), Shape::Expression, HYPHEN)
@@ -74,8 +73,7 @@ fn bad_name(scan: &Scan, at: usize) -> Option<Found> {
     }
 }
 
-/// A declaration by `var` that isn't valid here: of a name that is none, or with no class and `;`
-/// after its name.
+/// A declaration by `var` that isn't valid here: its name, its class or its `;` is missing.
 pub(crate) fn declaration(scan: &Scan, at: usize) -> Option<Found> {
     let (name, sign, _, end, value) = after(at);
     let found = bad_name(scan, name);
@@ -108,8 +106,7 @@ pub(crate) fn declaration(scan: &Scan, at: usize) -> Option<Found> {
     }
 }
 
-/// The sign that assigns in a declaration by `letvar`, which may have a class before it, and the
-/// piece after the value that it assigns.
+/// The sign that assigns in a declaration by `letvar`, and the piece after the value.
 pub(crate) fn local_value(scan: &Scan, at: usize) -> (usize, usize) {
     let mut sign = at.saturating_add(2);
     if scan.is(sign, b":") {
@@ -122,7 +119,7 @@ pub(crate) fn local_value(scan: &Scan, at: usize) -> (usize, usize) {
 pub(crate) fn local(scan: &Scan, at: usize) -> Option<Found> {
     let name = at.saturating_add(1);
     let (sign, _) = local_value(scan, at);
-    if scan.is_keyword(name) {
+    if scan.is_any(name, KEYWORDS) {
         bad_name(scan, name)
     } else if scan.is(sign, b"=") {
         put(
@@ -235,7 +232,7 @@ fn command_word(scan: &Scan, at: usize) -> Option<Found> {
         return None;
     }
     let next = at.saturating_add(1);
-    let is_ended = scan.is(next, b".") || scan.is_keyword(next) && !scan.piece(next).is_first;
+    let is_ended = scan.is(next, b".") || scan.is_any(next, KEYWORDS) && !scan.piece(next).is_first;
     let stop = match saying.0 {
         [b'e', b'n', b'd', ..] if is_ended => next.saturating_add(1),
         [b'e', b'n', b'd', ..] | [b'r', b'e', b'p', ..] => next,

@@ -13,8 +13,7 @@ use crate::scan::{Scan, is_one_of};
 use std::alloc::{AllocError, Global};
 use vsi_syntax::{LexError, ParseError, Program, Stmt, lex, parse};
 
-/// Names or signs of other languages with blanks between them, and the two parts of a sentence
-/// around one of them.
+/// Names or signs with blanks between them, and the two parts of a sentence around one of them.
 pub(crate) type Saying = (&'static [u8], &'static str, &'static str);
 
 /// The beginning of most sentences.

@@ -59,8 +59,7 @@ fn up_to_end(text: &[u8], from: usize, end: &[u8]) -> usize {
     text.len()
 }
 
-/// The number of bytes of the name or the number at the beginning of a text. A point belongs to a
-/// number if a digit follows.
+/// The number of bytes of a name or a number. A point belongs to a number if a digit follows.
 fn word_length(rest: &[u8], is_number: bool) -> usize {
     for (at, byte) in rest.iter().enumerate() {
         let next = rest.get(at.saturating_add(1));
@@ -82,8 +81,7 @@ fn sign_length(rest: &[u8]) -> usize {
     1
 }
 
-/// Whether a text begins with a comment that ends with its line. In Python `//` divides by the
-/// number after it.
+/// Whether a comment of one line begins a text. In Python `//` divides by the number after it.
 fn is_line_comment(rest: &[u8], is_begun: bool) -> bool {
     if !rest.starts_with(b"//") {
         return is_begun && rest.starts_with(b"-- ");
@@ -92,8 +90,7 @@ fn is_line_comment(rest: &[u8], is_begun: bool) -> bool {
     !matches!(after.trim_ascii_start().first(), Some(b'0'..=b'9'))
 }
 
-/// The sort and the length of the piece at the beginning of a text. A quotation ends with its line
-/// at the latest.
+/// The sort and the length of the piece at the beginning of a text. A quotation is on one line.
 fn measured(rest: &[u8], is_begun: bool) -> (Sort, usize) {
     if is_line_comment(rest, is_begun) {
         return (Sort::Comment, line(rest).len());
@@ -202,7 +199,7 @@ const VALUE_STOPS: &[u8] = b"; { } : , then else do in := ?";
 const COMMAND_STARTS: &[u8] = b"; { } then else do in begin";
 
 /// The keywords of the language.
-const KEYWORDS: &[u8] = b"var letvar in if then else while do";
+pub(crate) const KEYWORDS: &[u8] = b"var letvar in if then else while do";
 
 /// The keywords that declare.
 pub(crate) const DECLARING: &[u8] = b"var letvar";
@@ -268,8 +265,7 @@ impl<'s> Scan<'s> {
         0 < at && self.is_any(at.saturating_sub(1), texts)
     }
 
-    /// Whether the pieces from this one on are these texts, which have blanks between them. A `*`
-    /// is any name or number.
+    /// Whether the pieces from this one on are these texts. A `*` is any name or number.
     pub(crate) fn begins(&self, at: usize, texts: &[u8]) -> bool {
         for (number, text) in texts.split(|byte| *byte == b' ').enumerate() {
             let place = at.saturating_add(number);
@@ -283,28 +279,21 @@ impl<'s> Scan<'s> {
 
     /// Whether a piece may be a name.
     pub(crate) fn is_name(&self, at: usize) -> bool {
-        self.piece(at).sort == Sort::Word && !self.is_keyword(at)
+        self.piece(at).sort == Sort::Word && !self.is_any(at, KEYWORDS)
     }
 
-    /// Whether a piece is a keyword.
-    pub(crate) fn is_keyword(&self, at: usize) -> bool {
-        self.is_any(at, KEYWORDS)
-    }
-
-    /// The number of the last piece that begins at or before a position in the text, or the number
-    /// of pieces after the last one.
+    /// The number of the piece at or before a position, or the number of pieces after the last one.
     pub(crate) fn number_at(&self, at: usize) -> usize {
         let count = self.pieces.len();
         if at >= self.stop(count.saturating_sub(1)) {
             return count;
         }
-        let mut number = 0;
-        for further in 1..count {
-            if self.piece(further).at <= at {
-                number = further;
+        for number in (1..count).rev() {
+            if self.piece(number).at <= at {
+                return number;
             }
         }
-        number
+        0
     }
 
     /// The position after a piece.
@@ -415,14 +404,6 @@ impl<'s> Scan<'s> {
             && !self.is_declared(self.text(last))
     }
 
-    /// Whether an expression has ended before a piece: an operand comes after an operand, or a
-    /// command begins on a line of its own.
-    fn has_ended(&self, at: usize) -> bool {
-        0 < at
-            && (self.is_after_operand(at) && (self.is_operand(at) || self.is_keyword(at))
-                || self.piece(at).is_first && self.is_command_start(at))
-    }
-
     /// The piece after the expression that begins with a piece.
     pub(crate) fn value_stop(&self, start: usize) -> usize {
         let mut open: usize = 0;
@@ -436,7 +417,10 @@ impl<'s> Scan<'s> {
             if self.is_any(at, VALUE_STOPS) || self.piece(at).sort == Sort::Comment {
                 return at;
             }
-            if at > start && open == 0 && self.has_ended(at) {
+            let is_apart = self.is_after_operand(at)
+                && (self.is_operand(at) || self.is_any(at, KEYWORDS))
+                || self.piece(at).is_first && self.is_command_start(at);
+            if is_apart && at > start && open == 0 {
                 return at;
             }
         }

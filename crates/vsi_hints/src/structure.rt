@@ -6,7 +6,7 @@ use crate::names::{ELSE_IF, local_value};
 use crate::offers::{
     BITS, COMMANDS, NONE, SIGNS, Saying, character_saying, narrow, said, saying_in,
 };
-use crate::scan::{DECLARING, Scan, Sort, is_decimal, number_of};
+use crate::scan::{DECLARING, KEYWORDS, Scan, Sort, is_decimal, number_of};
 
 /// The keywords with which an `if` goes on after its first branch.
 const ELSE: &[u8] = b"else elif elsif elseif ELSE";
@@ -71,7 +71,7 @@ fn branch_stop(scan: &Scan, at: usize) -> Option<usize> {
     if scan.is(at, b"{") {
         let stop = scan.after_closing(at, b'{', b'}');
         scan.is(stop.saturating_sub(1), b"}").then_some(stop)
-    } else if is_command(scan, at) && !scan.is_keyword(at) {
+    } else if is_command(scan, at) && !scan.is_any(at, KEYWORDS) {
         Some(scan.value_stop(at.saturating_add(2)))
     } else {
         None
@@ -281,8 +281,7 @@ pub(crate) fn loop_at(scan: &Scan, start: usize) -> Option<Found> {
 /// The signs and names that compare.
 const COMPARING: &[u8] = b"= == === < > <= =< >= != !== <> ~= not !";
 
-/// Whether a sign joins the bits of two numbers: a number follows it, or nothing around it
-/// compares.
+/// Whether a sign joins bits: a number follows it, or nothing around it compares.
 fn joins_bits(scan: &Scan, at: usize) -> bool {
     if !scan.is_any(at, b"& |") {
         return false;
@@ -292,8 +291,7 @@ fn joins_bits(scan: &Scan, at: usize) -> bool {
         || !scan.has(start, scan.value_stop(start), COMPARING)
 }
 
-/// The sentence for an operator that no expression replaces, if it is one: it joins bits, or is a
-/// power whose exponent is no small number.
+/// The sentence for a sign that joins bits, or a power whose exponent is no small number.
 fn unwritten(scan: &Scan, at: usize) -> Option<Saying> {
     let has_exponent = matches!(scan.text(at.saturating_add(1)), [b'2'..=b'4']);
     if scan.is_any(at, b"^ **") && !has_exponent {
@@ -338,8 +336,7 @@ fn is_foreign_operator(scan: &Scan, at: usize) -> bool {
     }
 }
 
-/// The construct that a sign begins: the value around a foreign operator, or the operator alone if
-/// the value can't be rewritten.
+/// The value around a foreign operator, or the operator alone if that can't be rewritten.
 fn operator(scan: &Scan, at: usize) -> Option<Found> {
     let next = at.saturating_add(1);
     if scan.is(at, b".") && scan.piece(next).sort == Sort::Number {
@@ -397,8 +394,7 @@ fn number(scan: &Scan, at: usize) -> Option<Found> {
     shaped(at, next, Shape::Expression, DIGITS)
 }
 
-/// A character outside of ASCII. A wide `=` after the name that a command assigns to is half of a
-/// `:=`.
+/// A character outside of ASCII. A wide `=` after an assigned name is half of a `:=`.
 fn strange(scan: &Scan, at: usize) -> Option<Found> {
     let next = at.saturating_add(1);
     let text = scan.text(at);
