@@ -131,15 +131,12 @@ struct Operand {
 
 /// Adds a part in brackets if its level is below this one.
 fn put_part(words: &mut Vec<u8>, part: &Part, level: u8) -> Result<(), AllocError> {
-    let is_bracketed = part.level < level;
-    if is_bracketed {
-        words.push(b'(')?;
+    if part.level >= level {
+        return words.extend_from_slice(&part.text);
     }
+    words.push(b'(')?;
     words.extend_from_slice(&part.text)?;
-    if is_bracketed {
-        words.push(b')')?;
-    }
-    Ok(())
+    words.extend_from_slice(b")")
 }
 
 /// An operator between two parts.

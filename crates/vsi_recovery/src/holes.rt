@@ -1,16 +1,10 @@
 //! The tokens of a text in which some bytes begin no token.
 
-use crate::open::{is_landmark, put_at, put_text, span, tokens_of};
+use crate::open::{is_landmark, put_text, span, spanned, tokens_of};
 use crate::search::NAME;
 use crate::walk::{Cause, Fault, Stretch, stop_of};
 use std::alloc::{AllocError, Global};
 use vsi_syntax::{LexError, Span, Token, lex};
-
-/// The number of bytes before the first of these, or of all.
-fn up_to(text: &[u8], stop: u8) -> usize {
-    let found = text.iter().position(|byte| *byte == stop);
-    found.unwrap_or(text.len())
-}
 
 /// The number of bytes of a quotation: its line has its end, or it is the quote alone.
 fn quotation(text: &[u8], quote: u8) -> usize {
@@ -30,7 +24,10 @@ fn block(text: &[u8]) -> usize {
 /// run of the byte or of bytes outside of ASCII.
 fn skipped(rest: &[u8]) -> usize {
     match rest {
-        [b'/', b'/', ..] => up_to(rest, b'\n'),
+        [b'/', b'/', ..] => {
+            let end = rest.iter().position(|byte| *byte == b'\n');
+            end.unwrap_or(rest.len())
+        }
         [b'/', b'*', ..] => block(rest),
         [quote, ..] if matches!(*quote, b'"' | b'\'') => quotation(rest, *quote),
         [first, ..] => {
@@ -77,7 +74,8 @@ impl<'a> Pieces<'a> {
     /// Adds tokens of the rest of the text.
     fn put_tokens(&mut self, tokens: &[Token<'a>]) -> Result<(), AllocError> {
         for token in tokens {
-            put_at(&mut self.list, *token, moved(token.span, self.from))?;
+            self.list
+                .push(spanned(token, moved(token.span, self.from)))?;
         }
         Ok(())
     }
@@ -92,7 +90,7 @@ impl<'a> Pieces<'a> {
             Cause::Lex(LexError::BadNumber(_)) => "0",
             _ => "",
         };
-        put_text(self.alloc, &mut self.list, put.as_bytes(), fault.span)?;
+        put_text(&mut self.list, put, fault.span)?;
         self.faults.push(fault)?;
         self.from = fault.span.stop;
         Ok(())

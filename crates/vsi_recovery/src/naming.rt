@@ -1,6 +1,6 @@
 //! The names of a program that can't be resolved.
 
-use crate::open::{number_of, put_at, put_numbered, put_text, span, tokens_of};
+use crate::open::{number_of, put_numbered, put_text, span, spanned, tokens_of};
 use crate::search::{DECLARATION, NAME};
 use crate::walk::{Cause, Fault, MAX_FAULTS, Walk};
 use indexmap::IndexSet;
@@ -60,7 +60,7 @@ impl<'a> Walk<'_, 'a> {
             let name = self.lattice.name(Class::at(number as u8));
             let tokens = tokens_of(self.alloc, name)?;
             for token in &tokens {
-                put_at(list, *token, span)?;
+                list.push(spanned(token, span))?;
             }
             if !tokens.is_empty() {
                 return Ok(());
@@ -83,11 +83,11 @@ impl<'a> Walk<'_, 'a> {
         let start = span(0, 0);
         let mut made = Vec::new(self.alloc);
         for name in names {
-            put_text(self.alloc, &mut made, b"var", start)?;
-            put_at(&mut made, *name, start)?;
-            put_text(self.alloc, &mut made, b":", start)?;
+            put_text(&mut made, "var", start)?;
+            made.push(spanned(name, start))?;
+            put_text(&mut made, ":", start)?;
             self.put_class(&mut made, start)?;
-            put_text(self.alloc, &mut made, b";", start)?;
+            put_text(&mut made, ";", start)?;
         }
         self.splice(0, 0, &made)
     }
@@ -119,10 +119,10 @@ impl<'a> Walk<'_, 'a> {
     fn is_in_doubt(&self, name: &[u8]) -> bool {
         for token in self.source {
             let at = token.span.start;
-            if is_declaring(token.kind) && self.is_cut(at) {
+            if is_declaring(token.kind) && self.is_within(at, true) {
                 return true;
             }
-            if token.text == name && self.is_within(at) {
+            if token.text == name && self.is_within(at, false) {
                 return true;
             }
         }
@@ -142,7 +142,7 @@ impl<'a> Walk<'_, 'a> {
     fn put_name_fault(&mut self, token: Token<'a>, error: ScopeError) -> Result<(), AllocError> {
         // Nothing of the text is in a token that a repair has put in.
         let is_put = token.span.start == token.span.stop;
-        if is_put || self.is_within(token.span.start) {
+        if is_put || self.is_within(token.span.start, false) {
             return Ok(());
         }
         if matches!(error, ScopeError::Unbound(_)) && self.is_in_doubt(token.text) {

@@ -45,26 +45,21 @@ pub(crate) fn tokens_of<'a>(alloc: Global, text: &'a [u8]) -> Result<Vec<Token<'
     }
 }
 
-/// Adds a token with another span.
-pub(crate) fn put_at<'a>(
-    list: &mut Vec<Token<'a>>,
-    token: Token<'a>,
-    span: Span,
-) -> Result<(), AllocError> {
-    let mut moved = token;
+/// A token with another span.
+pub(crate) fn spanned<'a>(token: &Token<'a>, span: Span) -> Token<'a> {
+    let mut moved = *token;
     moved.span = span;
-    Ok(list.push(moved)?)
+    moved
 }
 
 /// Adds the tokens of a text, all with this span.
 pub(crate) fn put_text<'a>(
-    alloc: Global,
     list: &mut Vec<Token<'a>>,
-    text: &'a [u8],
+    text: &'a str,
     span: Span,
 ) -> Result<(), AllocError> {
-    for token in &tokens_of(alloc, text)? {
-        put_at(list, *token, span)?;
+    for token in &tokens_of(*list.allocator(), text.as_bytes())? {
+        list.push(spanned(token, span))?;
     }
     Ok(())
 }
@@ -76,7 +71,7 @@ pub(crate) fn put_numbered<'a>(
 ) -> Result<(), AllocError> {
     for token in tokens {
         let start = list.len().saturating_mul(2);
-        put_at(list, *token, span(start, start.saturating_add(1)))?;
+        list.push(spanned(token, span(start, start.saturating_add(1))))?;
     }
     Ok(())
 }
@@ -177,21 +172,15 @@ impl<'a> Open<'a> {
         if is_declaration {
             return Ok(());
         }
-        put_text(
-            self.alloc,
-            &mut self.kept,
-            COMMAND.as_bytes(),
-            span(place, place),
-        )?;
-        put_at(&mut self.kept, token, span(number, number))
+        put_text(&mut self.kept, COMMAND, span(place, place))?;
+        Ok(self.kept.push(spanned(&token, span(number, number)))?)
     }
 
     /// Reads the token with this number.
     pub(crate) fn note(&mut self, number: usize, token: Token<'a>) -> Result<(), AllocError> {
         match token.kind {
             Kind::Semicolon => {
-                let place = self.now.item.place;
-                self.shorten(place, number, token)?;
+                self.shorten(self.now.item.place, number, token)?;
                 self.begin(number, true);
             }
             Kind::CloseBrace => {
@@ -201,13 +190,13 @@ impl<'a> Open<'a> {
                 }
             }
             Kind::OpenBrace => {
-                put_at(&mut self.kept, token, span(number, number))?;
+                self.kept.push(spanned(&token, span(number, number)))?;
                 self.outer.push(self.now)?;
                 self.now.mark = self.kept.len();
                 self.begin(number, true);
             }
             kind => {
-                put_at(&mut self.kept, token, span(number, number))?;
+                self.kept.push(spanned(&token, span(number, number)))?;
                 if matches!(kind, Kind::Do | Kind::Then | Kind::Else | Kind::In) {
                     self.begin(number, false);
                 }

@@ -125,6 +125,11 @@ impl Nest {
     }
 }
 
+/// Whether a token of this kind begins a construct that ends with another one.
+fn is_opening(kind: Kind) -> bool {
+    matches!(kind, If | While | Letvar | Var | OpenBrace | Kind::Open)
+}
+
 /// The kinds of tokens that are in no brackets.
 const UNBRACKETED: [Kind; 7] = [OpenBrace, CloseBrace, Then, Do, Else, In, Var];
 
@@ -190,15 +195,8 @@ fn replacing(start: Start, stop: usize, put: &'static str) -> Choice {
     }
 }
 
-/// Whether some of these tokens begin a construct that ends with another one.
-fn has_opening(tokens: &[Token<'_>]) -> bool {
-    tokens.iter().any(|token| {
-        matches!(
-            token.kind,
-            If | While | Letvar | Var | OpenBrace | Kind::Open
-        )
-    })
-}
+/// An attempt, which fails only if memory runs out.
+type Tried = Result<(), AllocError>;
 
 /// A search: it ends with the first repair with which reading goes on up to a landmark and over it.
 /// `open` has what was read up to the fault, and `rest` the tokens from it on.
@@ -255,7 +253,7 @@ impl Search<'_, '_> {
     }
 
     /// Tries a repair. It is kept if it is enough, or the first one that reaches so far.
-    fn attempt(&mut self, choice: Choice) -> Result<(), AllocError> {
+    fn attempt(&mut self, choice: Choice) -> Tried {
         if self.is_found || self.left == 0 || self.rest.len() < choice.stop {
             return Ok(());
         }
@@ -271,7 +269,7 @@ impl Search<'_, '_> {
     }
 
     /// Tries to put in a text at a beginning.
-    fn attempt_before(&mut self, start: Start, put: &'static str) -> Result<(), AllocError> {
+    fn attempt_before(&mut self, start: Start, put: &'static str) -> Tried {
         let mut choice = replacing(start, 0, put);
         choice.is_before = true;
         self.attempt(choice)
@@ -279,13 +277,9 @@ impl Search<'_, '_> {
 
     /// Tries to put each text in place of tokens. A token that begins a construct is left out only
     /// if reading goes on over two landmarks.
-    fn try_texts(
-        &mut self,
-        here: Start,
-        out: usize,
-        texts: &[&'static str],
-    ) -> Result<(), AllocError> {
-        if self.landmarks <= 1 && has_opening(self.rest.get(..out).unwrap_or(&[])) {
+    fn try_texts(&mut self, here: Start, out: usize, texts: &[&'static str]) -> Tried {
+        let left_out = self.rest.get(..out).unwrap_or(&[]);
+        if self.landmarks <= 1 && left_out.iter().any(|token| is_opening(token.kind)) {
             return Ok(());
         }
         for put in texts {
@@ -295,7 +289,7 @@ impl Search<'_, '_> {
     }
 
     /// Tries repairs of one token.
-    fn try_small(&mut self, here: Start) -> Result<(), AllocError> {
+    fn try_small(&mut self, here: Start) -> Tried {
         for (out, texts) in SMALL.as_slice() {
             self.try_texts(here, *out, *texts)?;
         }
@@ -304,7 +298,7 @@ impl Search<'_, '_> {
 
     /// Tries repairs with which reading goes on over two landmarks: of one token, without the token
     /// before, and with the beginning of a construct.
-    fn try_sure(&mut self, here: Start) -> Result<(), AllocError> {
+    fn try_sure(&mut self, here: Start) -> Tried {
         self.landmarks = 2;
         if let Some(number) = lone_end(self.rest, Kind::Open, Kind::Close, &UNBRACKETED) {
             self.attempt(replacing(here, number, ""))?;
@@ -326,7 +320,7 @@ impl Search<'_, '_> {
     }
 
     /// Tries to go on at a landmark.
-    fn try_landmark(&mut self, here: Start, number: usize, kind: Kind) -> Result<(), AllocError> {
+    fn try_landmark(&mut self, here: Start, number: usize, kind: Kind) -> Tried {
         for put in FILLINGS.as_slice() {
             self.attempt(replacing(here, number, *put))?;
         }
@@ -340,7 +334,7 @@ impl Search<'_, '_> {
     }
 
     /// Tries to go on at each landmark in turn.
-    fn try_landmarks(&mut self, here: Start) -> Result<(), AllocError> {
+    fn try_landmarks(&mut self, here: Start) -> Tried {
         let mut nest = OUTSIDE;
         let rest = self.rest;
         for (number, token) in rest.iter().enumerate().take(MAX_SKIPPED) {
@@ -359,7 +353,7 @@ impl Search<'_, '_> {
     }
 
     /// Leaves out a declaration that begins where only a command, or a `;` and a command, may come.
-    fn leave_declaration(&mut self, here: Start) -> Result<(), AllocError> {
+    fn leave_declaration(&mut self, here: Start) -> Tried {
         let Some(is_followed) = misplaced(self.rest) else {
             return Ok(());
         };
@@ -380,7 +374,7 @@ impl Search<'_, '_> {
     }
 
     /// Tries all repairs of the fault.
-    fn run(&mut self, here: Start) -> Result<(), AllocError> {
+    fn run(&mut self, here: Start) -> Tried {
         let Some(token) = self.rest.first() else {
             for put in ENDINGS.as_slice() {
                 if self.best.is_none() {

@@ -105,16 +105,11 @@ impl<'s, 'a> Walk<'s, 'a> {
         self.stretches.iter().any(is_near)
     }
 
-    /// Whether something is left out of the part to which a byte belongs.
-    pub(crate) fn is_cut(&self, at: usize) -> bool {
-        let is_cut = |part: &Stretch| part.is_out && part.first <= at && at < part.stop;
-        self.stretches.iter().any(is_cut)
-    }
-
-    /// Whether a name at a byte belongs to a part that was repaired.
-    pub(crate) fn is_within(&self, at: usize) -> bool {
-        let is_within = |part: &Stretch| part.first <= at && at < part.stop;
-        self.stretches.iter().any(is_within)
+    /// Whether a name at a byte belongs to a part that was repaired, or to one that has lost
+    /// something if `is_cut`.
+    pub(crate) fn is_within(&self, at: usize, is_cut: bool) -> bool {
+        let has = |part: &Stretch| part.first <= at && at < part.stop && (part.is_out || !is_cut);
+        self.stretches.iter().any(has)
     }
 
     /// Goes on over some tokens: none if it goes on after them.
@@ -150,28 +145,6 @@ impl<'s, 'a> Walk<'s, 'a> {
             }
         }
         Ok(Reading::Stopped)
-    }
-
-    /// Makes a repair.
-    pub(crate) fn repair(&mut self, choice: Choice) -> Result<(), AllocError> {
-        let from = choice.start.place;
-        let start = self.byte_at(from);
-        self.open = self.open.with(choice)?;
-        self.next = self.next.saturating_add(choice.stop);
-        let mut after = Vec::new(self.alloc);
-        if choice.is_before {
-            after.extend_from_slice(self.list.get(from..).unwrap_or(&[]))?;
-        }
-        self.list.truncate(from);
-        put_text(
-            self.alloc,
-            &mut self.list,
-            choice.put.as_bytes(),
-            span(start, start),
-        )?;
-        self.list.extend_from_slice(&after)?;
-        self.is_mended = true;
-        Ok(())
     }
 
     /// Adds the fault at the next token, unless it may come from a repair.
@@ -234,9 +207,20 @@ impl<'s, 'a> Walk<'s, 'a> {
             return Ok(false);
         };
         let stretch = self.stretch_of(choice);
+        self.is_mended = true;
         self.is_unclear = self.is_unclear || self.is_of_braces(choice);
         self.stretches.push(stretch)?;
-        self.repair(choice)?;
+        let from = choice.start.place;
+        let start = self.byte_at(from);
+        self.open = self.open.with(choice)?;
+        self.next = self.next.saturating_add(choice.stop);
+        let mut after = Vec::new(self.alloc);
+        if choice.is_before {
+            after.extend_from_slice(self.list.get(from..).unwrap_or(&[]))?;
+        }
+        self.list.truncate(from);
+        put_text(&mut self.list, choice.put, span(start, start))?;
+        self.list.extend_from_slice(&after)?;
         Ok(true)
     }
 
