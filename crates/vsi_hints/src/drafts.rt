@@ -251,13 +251,12 @@ pub(crate) fn text_of(scan: &Scan, found: &Found) -> Result<Option<Vec<u8>>, All
         found: *found,
         words: Vec::new(scan.alloc),
     };
-    for letter in found.letters {
-        if !draft.put_letter(*letter)? {
-            return Ok(None);
-        }
+    if draft.put_letters(found.letters)? {
+        let Draft { words, .. } = draft;
+        Ok(Some(words))
+    } else {
+        Ok(None)
     }
-    let Draft { words, .. } = draft;
-    Ok(Some(words))
 }
 
 impl<'s, 't> Draft<'s, 't> {
@@ -374,6 +373,16 @@ impl<'s, 't> Draft<'s, 't> {
         }
         self.words.extend_from_slice(scan.text(limit))?;
         self.put(if is_counted { b" + 1" } else { b"" })
+    }
+
+    /// Adds what the letters of an offer stand for.
+    fn put_letters(&mut self, letters: &[u8]) -> Result<bool, AllocError> {
+        for letter in letters {
+            if !self.put_letter(*letter)? {
+                return Ok(false);
+            }
+        }
+        Ok(true)
     }
 
     /// Adds what a letter of an offer stands for.

@@ -42,7 +42,7 @@ const BOTH: Pattern = (b"P * Q", 2, 2, 3);
 const TRUTH: Pattern = (b"1 - (P = 0)", 1, 1, 1);
 
 /// The operators between two operands.
-const BETWEEN: [Form; 12] = [
+static BETWEEN: [Form; 12] = [
     (b"or OR || |", OR, (b"1 - (P = 0) * (Q = 0)", 1, 1, 1)),
     (b"and AND && &", AND, BOTH),
     (b"= == ===", COMPARISON, (b"P = Q", 0, 1, 1)),
@@ -58,7 +58,7 @@ const BETWEEN: [Form; 12] = [
 ];
 
 /// The operators before one operand.
-const BEFORE: [Form; 2] = [
+static BEFORE: [Form; 2] = [
     (b"not NOT !", NOT, (b"P = 0", 0, 1, 1)),
     (b"-", NEGATIVE, (b"0 - P", 1, 2, 2)),
 ];
@@ -81,14 +81,13 @@ pub(crate) fn is_operator(sign: &[u8]) -> bool {
 /// The translation of an operator, if it has one. The flag says whether its operands are always 0
 /// or 1, and `exponent` is the last operand, if it is a number.
 fn pattern_of(form: Form, are_truths: bool, exponent: Option<u64>) -> Option<Pattern> {
-    let (_, strength, pattern) = form;
-    match (strength, are_truths, exponent) {
-        (OR, true, _) => Some((b"0 < P + Q", 0, 1, 2)),
-        (NOT, true, _) => Some((b"1 - P", 1, 2, 2)),
-        (POWER, _, Some(3)) => Some((b"P * P * P", 2, 3, 3)),
-        (POWER, _, Some(4)) => Some((b"P * P * P * P", 2, 3, 3)),
-        (POWER, _, exponent) if exponent != Some(2) => None,
-        _ => Some(pattern),
+    match form.1 {
+        OR if are_truths => Some((b"0 < P + Q", 0, 1, 2)),
+        NOT if are_truths => Some((b"1 - P", 1, 2, 2)),
+        POWER if exponent == Some(3) => Some((b"P * P * P", 2, 3, 3)),
+        POWER if exponent == Some(4) => Some((b"P * P * P * P", 2, 3, 3)),
+        POWER if exponent != Some(2) => None,
+        _ => Some(form.2),
     }
 }
 
@@ -317,6 +316,16 @@ impl Reading {
             _ => Ok(false),
         }
     }
+
+    /// Reads pieces, and returns whether they are an expression.
+    fn read_all(&mut self, pieces: &[Piece]) -> Result<bool, AllocError> {
+        for piece in pieces {
+            if !self.read(*piece)? {
+                return Ok(false);
+            }
+        }
+        Ok(!self.wants_operand && self.join_stronger(0)? && self.waiting.is_empty())
+    }
 }
 
 /// The expression of these pieces, written in this language at least at a level, if it is short.
@@ -331,18 +340,12 @@ pub(crate) fn rewritten(
         waiting: Vec::new(alloc),
         wants_operand: true,
     };
-    for piece in pieces {
-        if !reading.read(*piece)? {
-            return Ok(None);
+    let mut text = Vec::new(alloc);
+    if reading.read_all(pieces)? {
+        if let Some(operand) = reading.operands.last() {
+            put_part(&mut text, &operand.part, level)?;
+            return Ok(Some(text));
         }
     }
-    if reading.wants_operand || !reading.join_stronger(0)? || !reading.waiting.is_empty() {
-        return Ok(None);
-    }
-    let [operand] = reading.operands.as_slice() else {
-        return Ok(None);
-    };
-    let mut text = Vec::new(alloc);
-    put_part(&mut text, &operand.part, level)?;
-    Ok(Some(text))
+    Ok(None)
 }

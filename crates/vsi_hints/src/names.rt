@@ -142,7 +142,7 @@ const ASSIGNING: &[u8] = b":= = : , += -= *= /= %= ++ -- |= &= ^= <<= >>=";
 const WHOLE: &str = ": each variable holds a whole number.";
 
 /// Names that another text replaces: the names, the text, and the end of the sentence.
-const REPLACED: [(&[u8], &str, &str); 5] = [
+static REPLACED: [(&[u8], &str, &str); 5] = [
     (ELSE_IF, "else if", "."),
     (
         b"begin BEGIN",
@@ -184,7 +184,7 @@ const COMPARES: &str = ": `:=` assigns, and `=` compares.";
 const WRITE: &str = "write `:=` to assign, as in `x := 1`.";
 
 /// The signs that assign after a name in other languages, and the commands to offer.
-const ASSIGNMENTS: [(&[u8], Letters); 9] = [
+static ASSIGNMENTS: [(&[u8], Letters); 9] = [
     (b"=", (b"N := V", COMPARES, WRITE)),
     (b"==", (b"N := V", COMPARES, WRITE)),
     (b"< -", (b"N := V", COMPARES, WRITE)),

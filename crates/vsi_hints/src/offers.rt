@@ -21,7 +21,7 @@ pub(crate) const NONE: &str = "there is no ";
 
 /// Names that call something. Each line has the names, and below them what comes before the name in
 /// the sentence, if that isn't `NONE`, and what comes after it.
-pub(crate) const CALLS: [&str; 9] = [
+pub(crate) static CALLS: [&str; 9] = [
     "declassify endorse reveal release sanitize\n: nothing makes a secret public, so compute \
     what you publish from public variables alone, as in `l := l + 1`.",
     "input raw_input read readln readline scanf gets getchar cin argv\n: declare `var x : L;` \
@@ -41,7 +41,7 @@ pub(crate) const CALLS: [&str; 9] = [
 ];
 
 /// Names that begin or end commands, in the same form.
-pub(crate) const COMMANDS: [&str; 12] = [
+pub(crate) static COMMANDS: [&str; 12] = [
     "def fn func function fun void proc procedure sub\nyou can't define a function with \n: \
     write its commands where you need them, as in `x := x + 1`.",
     "return yield\n: assign the result to a global, as in `y := x`.",
@@ -67,7 +67,7 @@ pub(crate) const COMMANDS: [&str; 12] = [
 ];
 
 /// The signs between or before operands, in the same form.
-pub(crate) const SIGNS: [&str; 14] = [
+pub(crate) static SIGNS: [&str; 14] = [
     "<< <<=\n: double the value for each place, as in `x := x * 2`.",
     ">> >>= >>> >>>=\n: halve the value for each place, as `while 1 < r do { r := r - 2; q := q \
     + 1 }` does if r isn't negative.",

@@ -40,7 +40,12 @@ const SIGNS: &[u8] = b">>>= === !== **= //= <<= >>= >>> << >> |= &= ^= := == != 
 
 /// Whether a word is one of these, which have blanks between them.
 pub(crate) fn is_one_of(words: &[u8], word: &[u8]) -> bool {
-    words.split(|byte| *byte == b' ').any(|one| one == word)
+    for one in words.split(|byte| *byte == b' ') {
+        if one == word {
+            return true;
+        }
+    }
+    false
 }
 
 /// A text up to the end of its first line.
@@ -143,12 +148,16 @@ fn pieces_of<'a>(alloc: Global, source: &'a [u8]) -> Result<Vec<Piece<'a>>, Allo
 
 /// The digits of a number, and their base.
 fn digits_of(text: &[u8]) -> (&[u8], u64) {
+    let base = match text.get(1).copied().unwrap_or(0).to_ascii_lowercase() {
+        b'x' => 16,
+        b'b' => 2,
+        b'o' => 8,
+        _ => 10,
+    };
     match text {
-        [b'0', b'x' | b'X', digits @ ..] => (digits, 16),
-        [b'0', b'b' | b'B', digits @ ..] => (digits, 2),
-        [b'0', b'o' | b'O', digits @ ..] => (digits, 8),
+        [b'0', _, digits @ ..] if base != 10 => (digits, base),
         [digits @ .., b'l' | b'L' | b'u' | b'U'] => (digits, 10),
-        other => (other, 10),
+        _ => (text, 10),
     }
 }
 

@@ -189,7 +189,7 @@ pub(crate) fn halved_at(scan: &Scan, at: usize) -> Option<Found> {
 type Counting = (&'static [u8], usize, usize, usize);
 
 /// The counting loops of other languages.
-const COUNTING: [Counting; 6] = [
+static COUNTING: [Counting; 6] = [
     (b":= * to * do", 2, 4, 6),
     (b"= * to * do", 2, 4, 6),
     (b"in range ( * ) :", 0, 4, 7),

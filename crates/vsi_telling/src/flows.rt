@@ -53,25 +53,21 @@ impl<'w> RefusedFlow<'w> {
         (&steps[..NEAR], &steps[steps.len() - NEAR..])
     }
 
-    /// Whether the walk passes a step between the same variables at the same places.
-    fn passes(&self, wanted: &Step) -> bool {
-        self.steps.iter().any(|step| {
-            step.source == wanted.source
-                && step.target == wanted.target
-                && step.read.start == wanted.read.start
-                && step.written.start == wanted.written.start
-        })
-    }
-
     /// The step, among those that are reported, that most of these flows take, and how many do;
     /// among equals the last one.
     fn busiest(&self, flows: &[RefusedFlow<'_>]) -> Option<(Step, usize)> {
         let mut best: Option<(Step, usize)> = None;
         let (start, end) = self.ends();
         for step in start.iter().chain(end) {
+            let is_same = |other: &Step| {
+                other.source == step.source
+                    && other.target == step.target
+                    && other.read.start == step.read.start
+                    && other.written.start == step.written.start
+            };
             let mut count: usize = 0;
             for flow in flows {
-                count = count.saturating_add(usize::from(flow.passes(step)));
+                count = count.saturating_add(usize::from(flow.steps.iter().any(is_same)));
             }
             match best {
                 Some((_, most)) if count < most => {}

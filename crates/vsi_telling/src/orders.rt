@@ -139,11 +139,6 @@ fn base_name(pairs: &[(u8, u8)], class: usize) -> &'static [u8] {
     }
 }
 
-/// Whether one of the names is this one.
-fn has_name(names: &[&[u8]], fresh: &[Vec<u8>], name: &[u8]) -> bool {
-    names.contains(&name) || fresh.iter().any(|other| other.as_slice() == name)
-}
-
 /// A name for an added class that no class has: this one, or this one and a number.
 fn fresh_name(
     alloc: Global,
@@ -156,7 +151,8 @@ fn fresh_name(
         if turn > 1 {
             say(&mut name, "%", &[Part::Number(turn)])?;
         }
-        if !has_name(names, fresh, &name) {
+        let is_same = |other: &Vec<u8>| other.as_slice() == name.as_slice();
+        if !names.contains(&name.as_slice()) && !fresh.iter().any(is_same) {
             return Ok(name);
         }
     }
@@ -237,12 +233,7 @@ impl Telling<'_> {
         found: &[Placement],
     ) -> Result<(), AllocError> {
         let sentence = match found {
-            [
-                Placement {
-                    rank: Rank::Levels,
-                    ..
-                },
-            ] => "`below` is empty.",
+            [only] if only.rank == Rank::Levels => "`below` is empty.",
             _ => "% isn't in any pair of `below`.",
         };
         self.say(sentence, &[Part::Quoted(order.name(class))])?;
@@ -338,16 +329,12 @@ impl Telling<'_> {
         found: &[(u8, u8)],
     ) -> Result<(), AllocError> {
         let mut joint = begin;
-        for (low, high) in found {
-            let (one, other) = (Part::Text(order.name(*low)), Part::Text(order.name(*high)));
+        for pair in found {
+            let [one, other] = order.quoted(*pair);
+            self.add(joint)?;
             self.say(
-                "%`%` to `below` if `%` may flow to `%`",
-                &[
-                    Part::Text(joint.as_bytes()),
-                    order.listed((*low, *high)),
-                    one,
-                    other,
-                ],
+                "`%` to `below` if % may flow to %",
+                &[order.listed(*pair), one, other],
             )?;
             joint = "; or add ";
         }

@@ -6,7 +6,7 @@ ghost use Rattle.vsi_telling.specs.Places.{start_of};
 
 use crate::parts::{class_names, part_of};
 use crate::syntactic::{declaration, declared, file_hint, tokens_in};
-use crate::telling::{Part, Telling};
+use crate::telling::{Part, Telling, put_nearest};
 use std::alloc::AllocError;
 use vsi_answers::refusal_diagnostic;
 use vsi_compiler::CompileError;
@@ -222,7 +222,9 @@ impl Telling<'_> {
             self.say("The globals of the text are %.\n", &[Part::Names(&globals)])?;
         }
         let locals = declared(self.alloc, tokens, Kind::Letvar)?;
-        if self.nearest(name, &globals)? || self.nearest(name, &locals)? {
+        if put_nearest(&mut self.words, name, &globals)?
+            || put_nearest(&mut self.words, name, &locals)?
+        {
             return Ok(());
         }
         self.say(
@@ -280,14 +282,9 @@ impl Telling<'_> {
         let Some(diagnostic) = refusal_diagnostic(self.bytes, &error) else {
             return Ok(());
         };
-        self.say(
-            "Also at %: % ",
-            &[
-                Part::Place(self.bytes, fault.span.start),
-                Part::Number(diagnostic.code),
-            ],
-        )?;
-        self.say("%.\n", &[Part::Text(diagnostic.name)])
+        let place = Part::Place(self.bytes, fault.span.start);
+        let (code, name) = (Part::Number(diagnostic.code), Part::Text(diagnostic.name));
+        self.say("Also at %: % %.\n", &[place, code, name])
     }
 
     /// Adds the faults of a refused text after its first one, but none on a line for which a hint
@@ -320,24 +317,19 @@ impl Telling<'_> {
         Ok(())
     }
 
-    /// Adds the explanation of why a source text is refused.
-    fn put_cause(&mut self, lattice: &Lattice, error: &CompileError) -> Result<(), AllocError> {
-        match error {
-            CompileError::Lex(inner) => self.put_lexical(*inner),
-            CompileError::Parse(inner) => self.put_tree(inner),
-            CompileError::Scope(inner) => self.put_scopes(lattice, *inner),
-            CompileError::Flow(_) => self.add("A flow breaks the policy.\n"),
-            CompileError::Memory => Err(AllocError),
-        }
-    }
-
     /// Adds the explanation of a refused source text.
     pub(crate) fn put_source(
         &mut self,
         lattice: &Lattice,
         error: &CompileError,
     ) -> Result<(), AllocError> {
-        self.put_cause(lattice, error)?;
+        match error {
+            CompileError::Lex(inner) => self.put_lexical(*inner)?,
+            CompileError::Parse(inner) => self.put_tree(inner)?,
+            CompileError::Scope(inner) => self.put_scopes(lattice, *inner)?,
+            CompileError::Flow(_) => self.add("A flow breaks the policy.\n")?,
+            CompileError::Memory => return Err(AllocError),
+        }
         if file_hint(self.bytes).is_some() {
             return Ok(());
         }

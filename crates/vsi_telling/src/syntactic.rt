@@ -1,7 +1,7 @@
 //! The explanation of tokens that are no program, with hints for the commands.
 
 use crate::parts::part_of;
-use crate::telling::{Part, Telling};
+use crate::telling::{Part, Telling, put_nearest};
 use std::alloc::{AllocError, Global};
 use vsi_recovery::expected_after;
 use vsi_syntax::{Kind, ParseError, Span, Token, lex};
@@ -334,12 +334,8 @@ impl Telling<'_> {
 
     /// Adds which keyword was perhaps meant by a name that is declared nowhere, and returns whether
     /// one was.
-    fn put_keyword(
-        &mut self,
-        place: &TokenPlace,
-        token: Option<Token>,
-    ) -> Result<bool, AllocError> {
-        let Some(name) = token else {
+    fn put_keyword(&mut self, place: &TokenPlace, offset: isize) -> Result<bool, AllocError> {
+        let Some(name) = place.token(offset) else {
             return Ok(false);
         };
         let is_declared = declaration(place.tokens, Kind::Var, name.text).is_some()
@@ -347,7 +343,7 @@ impl Telling<'_> {
         if is_declared || name.kind != Kind::Name {
             return Ok(false);
         }
-        self.nearest(name.text, &KEYWORDS)
+        put_nearest(&mut self.words, name.text, &KEYWORDS)
     }
 
     /// Adds the token at a place, those that could be there, and a hint.
@@ -359,11 +355,11 @@ impl Telling<'_> {
         if self.add_any(file_hint(self.bytes))? || self.hint_at(place.start())? {
             return Ok(());
         }
-        if place.is_behind_target() && self.put_keyword(place, place.token(-1))? {
+        if place.is_behind_target() && self.put_keyword(place, -1)? {
             return Ok(());
         }
         self.put_expected(place.tokens_before())?;
-        if self.put_keyword(place, place.token(0))? {
+        if self.put_keyword(place, 0)? {
             return Ok(());
         }
         self.put_place_hint(place)

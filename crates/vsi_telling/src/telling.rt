@@ -51,15 +51,6 @@ fn put_names(words: &mut Vec<u8>, names: &[&[u8]]) -> Result<(), AllocError> {
     Ok(())
 }
 
-/// Adds a pair of names as a lattice file writes it.
-fn put_pair(words: &mut Vec<u8>, low: &[u8], high: &[u8]) -> Result<(), AllocError> {
-    let pair: [&[u8]; 5] = [b"[\"", low, b"\", \"", high, b"\"]"];
-    for piece in pair {
-        words.extend_from_slice(piece)?;
-    }
-    Ok(())
-}
-
 /// How far a word is from another one, where it is near it: 0 where only capital and small letters
 /// differ.
 fn distance(alloc: Global, written: &[u8], meant: &[u8]) -> Result<Option<usize>, AllocError> {
@@ -119,7 +110,12 @@ fn put_part(words: &mut Vec<u8>, part: Part<'_>) -> Result<(), AllocError> {
         Part::Names(names) => put_names(words, names),
         Part::Number(number) => put_number(words, number),
         Part::Place(source, at) => put_place(words, source, at),
-        Part::Pair(low, high) => put_pair(words, low, high),
+        Part::Pair(low, high) => {
+            for piece in [b"[\"".as_slice(), low, b"\", \"", high, b"\"]"] {
+                words.extend_from_slice(piece)?;
+            }
+            Ok(())
+        }
         Part::Nearest(written, choices, otherwise) => {
             if !put_nearest(words, written, choices)? {
                 words.extend_from_slice(otherwise.as_bytes())?;
@@ -195,15 +191,6 @@ impl<'s> Telling<'s> {
     pub(crate) fn hint_at(&mut self, at: usize) -> Result<bool, AllocError> {
         let hint = hint_at(self.alloc, self.bytes, at)?;
         put_hint(&mut self.words, &hint)
-    }
-
-    /// Adds which of the words was perhaps meant, and returns whether one was.
-    pub(crate) fn nearest(
-        &mut self,
-        written: &[u8],
-        choices: &[&[u8]],
-    ) -> Result<bool, AllocError> {
-        put_nearest(&mut self.words, written, choices)
     }
 }
 
