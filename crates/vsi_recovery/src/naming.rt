@@ -167,8 +167,7 @@ impl<'a> Walk<'_, 'a> {
         self.declare(&names)
     }
 
-    /// Adds the first fault of the names, and repairs it. The answer is no if there is none, or none
-    /// that can be repaired.
+    /// Adds the first fault of the names, and repairs it, if there is one that can be repaired.
     fn put_name(&mut self) -> Result<bool, AllocError> {
         let Some((place, error)) = self.name_fault()? else {
             return Ok(false);

@@ -23,8 +23,7 @@ pub(crate) fn is_landmark(kind: Kind) -> bool {
     )
 }
 
-/// The number of the first token from this one on at which reading can go on, or the number of
-/// tokens.
+/// The number of the first token from this one on at which reading can go on, or of tokens.
 pub(crate) fn landmark_from(list: &[Token<'_>], place: usize) -> usize {
     let rest = list.get(place..).unwrap_or(&[]);
     let found = rest.iter().position(|token| is_landmark(token.kind));

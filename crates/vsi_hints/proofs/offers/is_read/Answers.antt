@@ -1,8 +1,8 @@
 use Rattle.vsi_hints.specs.Hints as spec
 use Rattle.vsi_hints.proofs.offers.is_read.Goals as goal
 
-pub returns-in_ok-is_expression-in-Expression : goal.returns-in_ok-is_expression-in-Expression
-returns-in_ok-is_expression-in-Expression c = λ is. spec.expression _ (c.in_ok-is_expression-in-Expression.ensures is)
+pub returns-in_ok-is_expression-in_default : goal.returns-in_ok-is_expression-in_default
+returns-in_ok-is_expression-in_default c = λ is. spec.expression _ (c.in_ok-is_expression-in_default.ensures is)
 
 pub returns-in_ok-is_program-in-Commands : goal.returns-in_ok-is_program-in-Commands
 returns-in_ok-is_program-in-Commands c = λ is. spec.commands _ (c.in_ok-is_program-in-Commands.ensures is)
