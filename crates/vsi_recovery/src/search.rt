@@ -38,8 +38,7 @@ const ASSIGNED: &str = ":= 0";
 /// A class of a declaration.
 const CLASS: &str = ": put_in_by_a_repair";
 
-/// The repairs of one token that are tried at each fault, in this order: how many tokens are left
-/// out, and what is put in their place.
+/// The repairs of one token in their order: how many tokens are left out, and what is put there.
 const SMALL: [(usize, &[&str]); 6] = [
     (0, &[";", "0"]),
     (1, &["", ":="]),
@@ -86,8 +85,7 @@ struct Nest {
 const OUTSIDE: Nest = Nest { open: [0; 5] };
 
 impl Nest {
-    /// Whether reading can go on at a token of this kind: it doesn't belong to a construct of the
-    /// skipped part.
+    /// Whether reading can go on at this kind: no construct of the skipped part has the token.
     fn serves(&self, kind: Kind) -> bool {
         let [braces, rounds, ifs, whiles, letvars] = self.open;
         let is_outside = match kind {
@@ -154,8 +152,7 @@ fn lone_end(list: &[Token<'_>], begin: Kind, end: Kind, stops: &[Kind]) -> Optio
     None
 }
 
-/// Whether a command or a declaration follows the declaration with which these tokens begin, if
-/// they do.
+/// Whether a command or a declaration follows a declaration that begins here, if one does.
 fn misplaced(list: &[Token<'_>]) -> Option<bool> {
     for (number, kind) in DECLARED.iter().enumerate() {
         if list.get(number)?.kind != *kind {
@@ -182,8 +179,7 @@ pub(crate) struct Choice {
     reached: usize,
 }
 
-/// The repair that puts in a text in place of the tokens from a beginning up to one after the
-/// fault.
+/// The repair with a text in place of the tokens from a beginning up to one after the fault.
 fn replacing(start: Start, stop: usize, put: &'static str) -> Choice {
     Choice {
         start,

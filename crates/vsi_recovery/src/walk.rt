@@ -91,8 +91,7 @@ impl<'s, 'a> Walk<'s, 'a> {
         &source[self.next.min(source.len())..]
     }
 
-    /// The byte at which the token at a place begins: one that was read, or else the next one, or
-    /// the end of the last one.
+    /// The byte at which a token that was read or the next one begins, or the last one ends.
     pub(crate) fn byte_at(&self, place: usize) -> usize {
         let read = self.list.get(place).map(|token| token.span.start);
         let next = self.rest().first().map(|token| token.span.start);
@@ -105,8 +104,7 @@ impl<'s, 'a> Walk<'s, 'a> {
         self.stretches.iter().any(is_near)
     }
 
-    /// Whether a name at a byte belongs to a part that was repaired, or to one that has lost
-    /// something if `is_cut`.
+    /// Whether a byte belongs to a part that was repaired, and has lost something if `is_cut`.
     pub(crate) fn is_within(&self, at: usize, is_cut: bool) -> bool {
         let has = |part: &Stretch| part.first <= at && at < part.stop && (part.is_out || !is_cut);
         self.stretches.iter().any(has)
@@ -314,8 +312,7 @@ fn sorted(alloc: Global, text: &[u8], faults: &[Fault]) -> Result<Vec<Fault>, Al
     Ok(kept)
 }
 
-/// The faults after the first one as they are returned. `sorted` proposes them, and they are
-/// examined here.
+/// The faults after the first one: `sorted` proposes them, and they are examined here.
 fn listed(alloc: Global, text: &[u8], faults: &[Fault]) -> Result<Vec<Fault>, AllocError>
     ensures few { IfOk result (λ faults. length faults.items ≤ 19) }
     ensures listed { IfOk result (λ faults. AreListed 0 (length text.now) faults.items) }

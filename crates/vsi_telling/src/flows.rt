@@ -43,8 +43,7 @@ impl<'w> RefusedFlow<'w> {
         self.steps.last().map_or(LOOP, |step| step.target)
     }
 
-    /// The steps that are reported: those near the beginning of a long walk, and those near its
-    /// end.
+    /// The steps that are reported: those near the beginning of a long walk, and near its end.
     fn ends(&self) -> (&'w [Step], &'w [Step]) {
         let steps = self.steps;
         if steps.len() <= WHOLE {
@@ -244,8 +243,7 @@ impl Subject<'_, '_> {
         self.say("Refused flows: %. Shown here: %.\n", &parts)
     }
 
-    /// Adds the least raise of classes with which the whole text is accepted, or that there is
-    /// none.
+    /// Adds the least raise of classes with which the whole text is accepted, if there is one.
     fn put_least_raise(&mut self, profile: Profile) -> Result<(), AllocError> {
         let lines = match raise_lines_of(self.alloc, profile, self.source) {
             Ok(lines) => lines,

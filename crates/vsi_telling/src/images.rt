@@ -59,8 +59,7 @@ fn image_words(fault: &Fault) -> &'static str {
 }
 
 impl Telling<'_> {
-    /// Adds that an image with these globals has no such one, and what to do, and returns the
-    /// place.
+    /// Adds that an image with these globals has no such one, and what to do.
     pub fn put_no_global<'x>(
         &mut self,
         globals: Globals<'x>,
@@ -79,8 +78,7 @@ impl Telling<'_> {
         self.tell(place, sentence, &[quoted, Part::Names(&names), nearest])
     }
 
-    /// Adds the explanation of a refused store file for an image with these globals, and answers
-    /// where it is wrong.
+    /// Adds the explanation of a refused store file for an image, and answers where it is wrong.
     pub(crate) fn put_store(&mut self, globals: Globals<'_>, error: &StoreError) -> Told {
         match error {
             StoreError::Memory => Err(AllocError),
@@ -126,8 +124,7 @@ impl Telling<'_> {
         )
     }
 
-    /// Adds the explanation of a refused lattice file, image or other file, and answers where it is
-    /// wrong.
+    /// Adds the explanation of any other refused file, and answers where it is wrong.
     pub(crate) fn put_file(&mut self, fault: &Fault) -> Told {
         match fault {
             Fault::Lattice(error) => self.put_lattice(*error),

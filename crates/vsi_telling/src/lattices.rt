@@ -132,8 +132,7 @@ impl Telling<'_> {
         self.tell(place, sentence, &[Part::Quoted(key), SHAPE])
     }
 
-    /// Adds the explanation of a fault at a name, if it is known, and returns its place after so
-    /// many others.
+    /// Adds the explanation of a fault at a name, and returns its place after so many others.
     fn put_name(&mut self, name: Option<&[u8]>, others: usize, sentence: &str) -> Told {
         let Some(name) = name else {
             return self.tell(None, sentence, &[Part::Text(b"A name")]);

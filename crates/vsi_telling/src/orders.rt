@@ -248,8 +248,7 @@ impl Telling<'_> {
         self.add(".\n")
     }
 
-    /// Adds the pairs that place one of the two classes, if it is in no pair, and returns whether
-    /// there are any.
+    /// Adds the pairs that place one of the two classes that is in none, if there are any.
     fn put_unplaced(&mut self, order: &Order, lack: Lack) -> Result<bool, AllocError> {
         let class = if order.is_unplaced(lack.b) {
             lack.b

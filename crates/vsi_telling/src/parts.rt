@@ -54,8 +54,7 @@ pub fn quoted_place(bytes: &[u8], word: &[u8], others: usize) -> Option<Span> {
     None
 }
 
-/// The place of a word at the beginning of a line, after some of these blanks and so many other
-/// times.
+/// The place of a word at the beginning of a line, after these blanks and so many other times.
 pub fn line_place(bytes: &[u8], word: &[u8], blanks: &[u8], others: usize) -> Option<Span> {
     let mut left = others;
     let mut is_at_beginning = true;

@@ -144,8 +144,7 @@ pub(crate) fn ends_line(source: &[u8], at: usize) -> bool
     }
 }
 
-/// The beginning of the line of a position, or a position of that line that is far enough before
-/// it.
+/// The beginning of the line of a position, or a position far enough before it in that line.
 fn line_from(source: &[u8], start: usize) -> usize
     requires { start ≤ length source.now }
     ensures before { result ≤ start }

@@ -61,8 +61,7 @@ pub(crate) fn place_of(error: &CompileError) -> Option<Span>
     }
 }
 
-/// Whether the explanation of a fault lists all constructs of other languages, undeclared names and
-/// unknown classes.
+/// Whether the explanation of a fault lists constructs of other languages and unknown names.
 fn lists_names(error: &CompileError) -> bool {
     matches!(
         error,
@@ -214,8 +213,7 @@ impl Telling<'_> {
         )
     }
 
-    /// Adds the globals of a text, and which of them or of the local variables may have been meant,
-    /// or how to declare the name.
+    /// Adds the globals of a text, and which variable may have been meant, or how to declare it.
     fn put_choices(&mut self, tokens: &[Token], name: &[u8]) -> Result<(), AllocError> {
         let globals = declared(self.alloc, tokens, Kind::Var)?;
         if !globals.is_empty() {

@@ -332,8 +332,7 @@ impl Telling<'_> {
         self.put_idle(place, sentence)
     }
 
-    /// Adds which keyword was perhaps meant by a name that is declared nowhere, and returns whether
-    /// one was.
+    /// Adds which keyword was perhaps meant by an undeclared name, and returns whether one was.
     fn put_keyword(&mut self, place: &TokenPlace, offset: isize) -> Result<bool, AllocError> {
         let Some(name) = place.token(offset) else {
             return Ok(false);

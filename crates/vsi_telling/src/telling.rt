@@ -51,8 +51,7 @@ fn put_names(words: &mut Vec<u8>, names: &[&[u8]]) -> Result<(), AllocError> {
     Ok(())
 }
 
-/// How far a word is from another one, where it is near it: 0 where only capital and small letters
-/// differ.
+/// How far a word is from a near one: 0 where only capital and small letters differ.
 fn distance(alloc: Global, written: &[u8], meant: &[u8]) -> Result<Option<usize>, AllocError> {
     let length = written.len().min(meant.len());
     if written == meant || written.len().max(meant.len()) > LONGEST {
@@ -73,8 +72,7 @@ fn distance(alloc: Global, written: &[u8], meant: &[u8]) -> Result<Option<usize>
     Ok((far <= most).then_some(far))
 }
 
-/// Adds which of the words was perhaps meant, of those as near the first, and returns whether one
-/// was.
+/// Adds which word was perhaps meant, of equally near ones the first, and returns whether one was.
 pub fn put_nearest(
     words: &mut Vec<u8>,
     written: &[u8],
