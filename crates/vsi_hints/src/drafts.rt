@@ -9,12 +9,12 @@ use crate::structure::counting_at;
 use std::alloc::AllocError;
 use vsi_syntax::put_number;
 
-/// What takes the place of some pieces.
+/// The kind of advice on some pieces: whether a text takes their place.
 #[derive(Clone, Copy, PartialEq, Eq)]
 pub(crate) enum Shape {
-    /// Nothing: the parts of a sentence stand around the first piece.
+    /// No text: the parts of a sentence are around the first piece.
     Say,
-    /// Nothing, and the first piece can't be shown: a sentence.
+    /// No text, and the first piece can't be shown: a sentence.
     Tell,
     /// A fixed text, and then the rest of a sentence.
     Put,
