@@ -12,13 +12,6 @@ use std::alloc::{AllocError, Global};
 /// The result of a function that needs memory.
 pub(crate) type Made<T> = Result<T, AllocError>;
 
-/// A list with the same number at each index.
-pub(crate) fn filled(alloc: Global, count: usize, number: usize) -> Made<Vec<usize>> {
-    let mut list = Vec::new(alloc);
-    list.resize(count, number)?;
-    Ok(list)
-}
-
 /// The number at an index, or 0 past the end.
 pub(crate) fn at(list: &[usize], place: usize) -> usize {
     list.get(place).copied().unwrap_or(0)
@@ -48,26 +41,19 @@ pub(crate) fn apart(one: usize, other: usize) -> usize {
     one.max(other).saturating_sub(one.min(other))
 }
 
-/// The number that is `part` of `whole` on the way from a number to another.
-pub(crate) fn between(from: usize, to: usize, part: usize, whole: usize) -> usize {
-    if whole == 0 {
-        return from;
-    }
-    let moved = apart(from, to).saturating_mul(part) / whole;
-    if from <= to {
-        from.saturating_add(moved)
+/// A number moved by a distance, up or down.
+pub(crate) fn moved(number: usize, distance: usize, is_more: bool) -> usize {
+    if is_more {
+        number.saturating_add(distance)
     } else {
-        from.saturating_sub(moved)
+        number.saturating_sub(distance)
     }
 }
 
-/// The largest number of a list.
-pub(crate) fn greatest(list: &[usize]) -> usize {
-    let mut most: usize = 0;
-    for number in list {
-        most = most.max(*number);
-    }
-    most
+/// The number that is `part` of `whole` on the way from a number to another.
+pub(crate) fn between(from: usize, to: usize, part: usize, whole: usize) -> usize {
+    let way = apart(from, to).saturating_mul(part).checked_div(whole);
+    moved(from, way.unwrap_or(0), from <= to)
 }
 
 /// A node: the width and the height of its box, and the number of its group.
@@ -91,29 +77,18 @@ pub struct Graph<'a> {
 impl Graph<'_> {
     /// The number of a node's group, or the largest number for no node.
     pub(crate) fn group_of(self, node: usize) -> usize {
-        match self.nodes.get(node) {
-            Some(node) => node.group,
-            None => usize::MAX,
-        }
+        self.nodes.get(node).map_or(usize::MAX, |node| node.group)
     }
 
     /// The width of a node's box.
     pub(crate) fn width_of(self, node: usize) -> usize {
-        match self.nodes.get(node) {
-            Some(node) => node.wide,
-            None => 0,
-        }
+        self.nodes.get(node).map_or(0, |node| node.wide)
     }
 
     /// Whether a group is at or below another.
     pub(crate) fn is_below(self, low: usize, high: usize) -> bool {
         let set = self.above.get(low).copied().unwrap_or(0);
         set & (1u64 << (high % 64)) != 0
-    }
-
-    /// Whether an arrow joins two nodes of one group.
-    pub(crate) fn is_inside(self, arrow: (usize, usize)) -> bool {
-        arrow.0 != arrow.1 && self.group_of(arrow.0) == self.group_of(arrow.1)
     }
 }
 
@@ -163,23 +138,14 @@ pub struct Drawing {
 fn stretch_within(from: usize, length: usize, outer: usize, whole: usize) -> bool
     ensures { IsTrue result → (outer ≤ from) × (from + length ≤ outer + whole) }
 {
-    if from < outer {
-        return false;
-    }
-    if whole < length {
-        return false;
-    }
-    from - outer <= whole - length
+    outer <= from && length <= whole && from - outer <= whole - length
 }
 
 /// Whether a stretch ends before a number.
 fn ends_before(from: usize, length: usize, other: usize) -> bool
     ensures { IsTrue result → from + length ≤ other }
 {
-    if other < from {
-        return false;
-    }
-    length <= other - from
+    from <= other && length <= other - from
 }
 
 /// Whether a box has the size that its node asks for, and isn't empty.
@@ -237,29 +203,17 @@ fn are_laid_out(places: &[Place], frame: Place) -> bool
     true
 }
 
-/// Whether the box of each node is within the box of its group.
-fn are_all_within(nodes: &[Node], places: &[Place], groups: &[Place]) -> bool
+/// Whether each node's box has the size that the node asks for, and is within the box of its group.
+fn are_all_placed(nodes: &[Node], places: &[Place], groups: &[Place]) -> bool
     requires { length nodes.now ≤ length places.now }
-    ensures { IsTrue result → AllWithin nodes.now places.now groups.now }
+    ensures sized { IsTrue result → AllSized nodes.now places.now }
+    ensures within { IsTrue result → AllWithin nodes.now places.now groups.now }
 {
     for node in 0..nodes.len() {
-        if groups.len() <= nodes[node].group {
+        if !has_size(nodes[node], places[node]) || groups.len() <= nodes[node].group {
             return false;
         }
         if !is_within(places[node], groups[nodes[node].group]) {
-            return false;
-        }
-    }
-    true
-}
-
-/// Whether each node's box has the size that the node asks for.
-fn are_all_sized(nodes: &[Node], places: &[Place]) -> bool
-    requires { length nodes.now ≤ length places.now }
-    ensures { IsTrue result → AllSized nodes.now places.now }
-{
-    for node in 0..nodes.len() {
-        if !has_size(nodes[node], places[node]) {
             return false;
         }
     }
@@ -274,22 +228,15 @@ pub(crate) fn is_sound(nodes: &[Node], drawing: &Drawing) -> bool
     if drawing.places.len() != nodes.len() {
         return false;
     }
-    if !are_all_sized(nodes, &drawing.places) {
-        return false;
-    }
-    if !are_all_within(nodes, &drawing.places, &drawing.groups) {
-        return false;
-    }
     let frame = Place {
         left: 0,
         top: 0,
         wide: drawing.wide,
         high: drawing.high,
     };
-    if !are_laid_out(&drawing.places, frame) {
-        return false;
-    }
-    are_laid_out(&drawing.groups, frame)
+    are_all_placed(nodes, &drawing.places, &drawing.groups)
+        && are_laid_out(&drawing.places, frame)
+        && are_laid_out(&drawing.groups, frame)
 }
 
 impl Placed<'_> {
@@ -310,17 +257,13 @@ impl Placed<'_> {
     }
 }
 
-/// The boxes of the nodes, and the lines of the arrows.
-fn lines_of(placed: &Placed<'_>) -> Made<(Vec<Place>, Vec<Vec<Point>>)> {
-    let places = placed.places()?;
-    Ok((places, placed.ways()?))
-}
-
 /// The drawing that the search finds.
 fn proposed(alloc: Global, graph: Graph<'_>) -> Made<Drawing> {
     let mut groups = groups_of(alloc, graph)?;
     let frame = frame_of(&mut groups)?;
-    let (places, ways) = lines_of(&placed_in(alloc, graph, &frame)?)?;
+    let placed = placed_in(alloc, graph, &frame)?;
+    let (places, ways) = (placed.places()?, placed.ways()?);
+    drop(placed);
     Ok(Drawing {
         places,
         groups: frame.boxes,

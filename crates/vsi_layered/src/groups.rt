@@ -5,7 +5,7 @@
 //! in the order. The box of a group reaches over the columns beside its own whose groups it can be
 //! compared with.
 
-use crate::drawing::{Graph, Made, Place, add_at, apart, at, filled, greatest, raise_at, write_at};
+use crate::drawing::{Graph, Made, Place, add_at, apart, at, raise_at, write_at};
 use std::alloc::Global;
 
 /// The groups of a graph: for each the number of its nodes, its level, its column, the first and
@@ -24,23 +24,6 @@ pub(crate) struct Groups<'a> {
     pub(crate) heights: Vec<usize>,
     pub(crate) widths: Vec<usize>,
     pub(crate) count: usize,
-}
-
-/// For each group the length of the longest chain of groups with nodes that leads up to it.
-fn levels_of(alloc: Global, graph: Graph<'_>, nodes: &[usize]) -> Made<Vec<usize>> {
-    let mut levels = filled(alloc, nodes.len(), 0)?;
-    for _ in 0..nodes.len() {
-        for high in 0..nodes.len() {
-            for low in 0..nodes.len() {
-                let have_nodes = at(nodes, low) > 0 && at(nodes, high) > 0;
-                if low != high && have_nodes && graph.is_below(low, high) {
-                    let least = at(&levels, low).saturating_add(1);
-                    raise_at(&mut levels, high, least);
-                }
-            }
-        }
-    }
-    Ok(levels)
 }
 
 /// The layer of a node that has none yet.
@@ -70,25 +53,38 @@ fn swap(columns: &mut Vec<usize>, one: usize, other: usize) {
     }
 }
 
-/// Orders the columns so that arrows go over few of them: swaps two if that shortens the arrows.
-fn order_columns(graph: Graph<'_>, columns: &mut Vec<usize>, count: usize) {
-    if count > MOST {
-        return;
-    }
-    for _ in 0..count {
-        for one in 0..count {
-            for other in 0..one {
-                let before = cost(graph, columns);
-                swap(columns, one, other);
-                if cost(graph, columns) >= before {
-                    swap(columns, one, other);
+impl Groups<'_> {
+    /// Gives each group the length of the longest chain of groups with nodes that leads up to it.
+    fn put_levels(&mut self) {
+        for _ in 0..self.nodes.len() {
+            for high in 0..self.nodes.len() {
+                for low in 0..self.nodes.len() {
+                    let have_nodes = at(&self.nodes, low) > 0 && at(&self.nodes, high) > 0;
+                    if low != high && have_nodes && self.graph.is_below(low, high) {
+                        let least = at(&self.levels, low).saturating_add(1);
+                        raise_at(&mut self.levels, high, least);
+                    }
                 }
             }
         }
     }
-}
 
-impl Groups<'_> {
+    /// Orders the columns so that arrows go over few of them: swaps two if that shortens the
+    /// arrows.
+    fn order_columns(&mut self) {
+        for _ in 0..self.count {
+            for one in 0..self.count {
+                for other in 0..one {
+                    let before = cost(self.graph, &self.columns);
+                    swap(&mut self.columns, one, other);
+                    if cost(self.graph, &self.columns) >= before {
+                        swap(&mut self.columns, one, other);
+                    }
+                }
+            }
+        }
+    }
+
     /// Puts a group on top of the column with the highest top that is below it, or into a new one.
     fn put(&mut self, tops: &mut Vec<usize>, group: usize) -> Made<()> {
         let mut found = tops.len();
@@ -111,7 +107,7 @@ impl Groups<'_> {
     /// Puts the groups into columns, level by level.
     fn put_all(&mut self) -> Made<()> {
         let mut tops = Vec::new(self.alloc);
-        for level in 0..greatest(&self.levels).saturating_add(1) {
+        for level in 0..self.level_count() {
             for group in 0..self.nodes.len() {
                 if at(&self.nodes, group) > 0 && at(&self.levels, group) == level {
                     self.put(&mut tops, group)?;
@@ -119,7 +115,9 @@ impl Groups<'_> {
             }
         }
         self.count = tops.len();
-        order_columns(self.graph, &mut self.columns, tops.len());
+        if self.count <= MOST {
+            self.order_columns();
+        }
         self.firsts = self.columns.to_vec(self.alloc)?;
         self.lasts = self.columns.to_vec(self.alloc)?;
         Ok(())
@@ -127,16 +125,13 @@ impl Groups<'_> {
 
     /// Whether a group can be compared with each other one whose box is in a column.
     fn can_reach(&self, group: usize, column: usize) -> bool {
-        let graph = self.graph;
-        for other in 0..self.nodes.len() {
-            let first = at(&self.firsts, other);
-            let is_there = first <= column && column <= at(&self.lasts, other);
-            let is_comparable = graph.is_below(group, other) || graph.is_below(other, group);
-            if is_there && at(&self.nodes, other) > 0 && !is_comparable {
-                return false;
-            }
-        }
-        true
+        (0..self.nodes.len()).all(|other| {
+            let is_there = at(&self.firsts, other) <= column && column <= at(&self.lasts, other);
+            !is_there
+                || at(&self.nodes, other) == 0
+                || self.graph.is_below(group, other)
+                || self.graph.is_below(other, group)
+        })
     }
 
     /// Widens the box of a group over the columns beside it that it can reach.
@@ -148,8 +143,7 @@ impl Groups<'_> {
             }
             write_at(&mut self.lasts, group, column);
         }
-        for step in 0..own {
-            let column = own.saturating_sub(1).saturating_sub(step);
+        for column in (0..own).rev() {
             if !self.can_reach(group, column) {
                 break;
             }
@@ -160,23 +154,24 @@ impl Groups<'_> {
 
 /// The groups of a graph, with their levels and columns, and without layers.
 pub(crate) fn groups_of(alloc: Global, graph: Graph<'_>) -> Made<Groups<'_>> {
-    let mut nodes = filled(alloc, graph.titles.len(), 0)?;
-    for node in graph.nodes {
-        add_at(&mut nodes, node.group, 1);
-    }
+    let count = graph.titles.len();
     let mut groups = Groups {
         alloc,
         graph,
-        levels: levels_of(alloc, graph, &nodes)?,
-        columns: filled(alloc, nodes.len(), 0)?,
+        nodes: vec![in alloc; 0; count]?,
+        levels: vec![in alloc; 0; count]?,
+        columns: vec![in alloc; 0; count]?,
         firsts: Vec::new(alloc),
         lasts: Vec::new(alloc),
-        layers: filled(alloc, graph.nodes.len(), UNPLACED)?,
-        heights: filled(alloc, nodes.len(), 0)?,
-        widths: filled(alloc, nodes.len(), 0)?,
-        nodes,
+        layers: vec![in alloc; UNPLACED; graph.nodes.len()]?,
+        heights: vec![in alloc; 0; count]?,
+        widths: vec![in alloc; 0; count]?,
         count: 0,
     };
+    for node in graph.nodes {
+        add_at(&mut groups.nodes, node.group, 1);
+    }
+    groups.put_levels();
     groups.put_all()?;
     for group in 0..groups.nodes.len() {
         if at(&groups.nodes, group) > 0 {
@@ -195,24 +190,34 @@ const LEAST: usize = 230;
 
 /// The first layer from `least` on that has room for a width.
 fn layer_with_room(widths: &[usize], least: usize, wide: usize, full: usize) -> usize {
-    for layer in least..widths.len() {
-        let used = at(widths, layer);
-        if used == 0 || used.saturating_add(wide) <= full {
-            return layer;
-        }
-    }
-    least
+    let has_room = |used: usize| used == 0 || used.saturating_add(wide) <= full;
+    let found = (least..widths.len()).find(|layer| has_room(at(widths, *layer)));
+    found.unwrap_or(least)
 }
 
 impl Groups<'_> {
+    /// The number of levels.
+    fn level_count(&self) -> usize {
+        self.levels
+            .iter()
+            .copied()
+            .max()
+            .unwrap_or(0)
+            .saturating_add(1)
+    }
+
+    /// The number of columns over which the box of a group reaches.
+    fn columns_of(&self, group: usize) -> usize {
+        let last = at(&self.lasts, group).saturating_add(1);
+        last.saturating_sub(at(&self.firsts, group))
+    }
+
     /// The width at which a layer of a group is full: its share of the columns.
     fn full_width(&self, group: usize) -> usize {
-        let last = at(&self.lasts, group).saturating_add(1);
-        let columns = last.saturating_sub(at(&self.firsts, group));
-        if self.count == 0 {
-            return FULL;
-        }
-        (FULL.saturating_mul(columns) / self.count).max(LEAST)
+        let share = FULL
+            .saturating_mul(self.columns_of(group))
+            .checked_div(self.count);
+        share.map_or(FULL, |share| share.max(LEAST))
     }
 
     /// How many arrows come to a node from others of its group without a layer, and the first layer
@@ -220,9 +225,10 @@ impl Groups<'_> {
     fn wait_of(&self, node: usize) -> (usize, usize) {
         let mut waits: usize = 0;
         let mut least: usize = 0;
-        let arrows = self.graph.arrows;
-        for arrow in arrows {
-            if arrow.1 == node && self.graph.is_inside(*arrow) {
+        let group = self.graph.group_of(node);
+        for arrow in self.graph.arrows {
+            let is_inside = arrow.0 != arrow.1 && self.graph.group_of(arrow.0) == group;
+            if arrow.1 == node && is_inside {
                 let layer = at(&self.layers, arrow.0);
                 if layer == UNPLACED {
                     waits = waits.saturating_add(1);
@@ -234,30 +240,22 @@ impl Groups<'_> {
         (waits, least)
     }
 
-    /// The next node of a group, with its first layer: the one to which the fewest arrows come from
-    /// nodes without a layer.
-    fn next_of(&self, group: usize) -> Option<(usize, usize)> {
-        let mut found = None;
-        let mut fewest = usize::MAX;
-        for node in 0..self.layers.len() {
-            if self.graph.group_of(node) == group && at(&self.layers, node) == UNPLACED {
-                let (waits, least) = self.wait_of(node);
-                if waits < fewest {
-                    fewest = waits;
-                    found = Some((node, least));
-                }
-            }
-        }
-        found
+    /// The next node of a group: the one to which the fewest arrows come from nodes without a layer.
+    fn next_of(&self, group: usize) -> Option<usize> {
+        let is_left = |node: usize| at(&self.layers, node) == UNPLACED;
+        (0..self.layers.len())
+            .filter(|node| self.graph.group_of(*node) == group && is_left(*node))
+            .min_by_key(|node| self.wait_of(*node).0)
     }
 
     /// Gives the nodes of a group their layers.
     fn put_layers(&mut self, group: usize) -> Made<()> {
         let full = self.full_width(group);
         let count = at(&self.nodes, group);
-        let mut used = filled(self.alloc, count, 0)?;
+        let mut used = vec![in self.alloc; 0; count]?;
         for _ in 0..count {
-            if let Some((node, least)) = self.next_of(group) {
+            if let Some(node) = self.next_of(group) {
+                let least = self.wait_of(node).1;
                 let wide = self.graph.width_of(node).saturating_add(GAP);
                 let layer = layer_with_room(&used, least, wide, full);
                 add_at(&mut used, layer, wide);
@@ -298,11 +296,9 @@ pub(crate) struct Frame {
 
 /// The sum of the numbers before an index.
 fn sum_before(list: &[usize], place: usize) -> usize {
-    let mut sum: usize = 0;
-    for index in 0..place {
-        sum = sum.saturating_add(at(list, index));
-    }
-    sum
+    list.iter()
+        .take(place)
+        .fold(0usize, |sum, number| sum.saturating_add(*number))
 }
 
 /// The left edge of a column, without the margin.
@@ -320,9 +316,7 @@ fn columns_width(widths: &[usize], first: usize, last: usize) -> usize {
 /// The height of the bottom of a level above the bottom of the drawing.
 fn level_foot(rows: &[usize], level: usize) -> usize {
     let spaces = level.saturating_mul(HEAD + FOOT + BETWEEN + 2 * HALF - ROW);
-    sum_before(rows, level)
-        .saturating_mul(ROW)
-        .saturating_add(spaces)
+    spaces.saturating_add(sum_before(rows, level).saturating_mul(ROW))
 }
 
 /// The height of a level's boxes.
@@ -346,7 +340,7 @@ fn row_heights(alloc: Global, rows: &[usize], high: usize) -> Made<Vec<usize>> {
 impl Groups<'_> {
     /// The number of rows of each level.
     fn level_rows(&self) -> Made<Vec<usize>> {
-        let mut rows = filled(self.alloc, greatest(&self.levels).saturating_add(1), 1)?;
+        let mut rows = vec![in self.alloc; 1; self.level_count()]?;
         for group in 0..self.levels.len() {
             raise_at(&mut rows, at(&self.levels, group), at(&self.heights, group));
         }
@@ -356,28 +350,25 @@ impl Groups<'_> {
     /// Widens the columns of a group until its box is wide enough.
     fn put_width(&self, widths: &mut Vec<usize>, group: usize) {
         let (first, last) = (at(&self.firsts, group), at(&self.lasts, group));
-        let count = last.saturating_add(1).saturating_sub(first);
-        let inner = at(&self.widths, group).saturating_sub(GAP);
-        let needed = inner
-            .max(at(self.graph.titles, group))
-            .saturating_add(2 * SIDE);
+        let inner = at(&self.widths, group)
+            .saturating_sub(GAP)
+            .max(at(self.graph.titles, group));
+        let needed = inner.saturating_add(2 * SIDE);
         let lacks = needed.saturating_sub(columns_width(widths, first, last));
-        if count == 0 || lacks == 0 {
-            return;
-        }
-        for column in first..last.saturating_add(1) {
-            add_at(widths, column, (lacks / count).saturating_add(1));
+        if lacks > 0 {
+            let share = lacks.checked_div(self.columns_of(group)).unwrap_or(0);
+            for column in first..last.saturating_add(1) {
+                add_at(widths, column, share.saturating_add(1));
+            }
         }
     }
 
     /// The widths of the columns: those of the groups with one column first.
     fn column_widths(&self) -> Made<Vec<usize>> {
-        let mut widths = filled(self.alloc, self.count, 0)?;
+        let mut widths = vec![in self.alloc; 0; self.count]?;
         for columns in 1..self.count.saturating_add(1) {
             for group in 0..self.nodes.len() {
-                let last = at(&self.lasts, group).saturating_add(1);
-                let is_next = last.saturating_sub(at(&self.firsts, group)) == columns;
-                if is_next && at(&self.nodes, group) > 0 {
+                if self.columns_of(group) == columns && at(&self.nodes, group) > 0 {
                     self.put_width(&mut widths, group);
                 }
             }

@@ -1,7 +1,7 @@
 //! The lines of the arrows, which avoid the boxes of the rows between their ends, and the points on
 //! them for the numbers of arrows.
 
-use crate::drawing::{Drawing, Made, Place, Point, apart, at, between};
+use crate::drawing::{Drawing, Made, Place, Point, apart, at, between, moved};
 use crate::groups::HALF;
 use crate::rows::Placed;
 use std::alloc::{AllocError, Global};
@@ -13,45 +13,23 @@ const CLEAR: usize = 8;
 /// The space between the end of a line and the box of its target.
 const TIP: usize = 5;
 
-/// A number moved by a distance, up or down.
-fn moved(number: usize, distance: usize, is_more: bool) -> usize {
-    if is_more {
-        number.saturating_add(distance)
-    } else {
-        number.saturating_sub(distance)
-    }
-}
-
 /// The position at a height of the straight line between two points.
 fn position(from: Point, to: Point, y: usize) -> usize {
     between(from.x, to.x, apart(from.y, y), apart(from.y, to.y))
 }
 
-/// The line between two points of one row, above the row.
-fn flat(alloc: Global, from: Point, to: Point) -> Made<Vec<Point>> {
-    let rise = (apart(from.x, to.x) / 24).min(16).saturating_add(14);
-    let y = from.y.saturating_sub(rise);
-    let (near, far) = (Point { x: from.x, y }, Point { x: to.x, y });
-    Ok(Vec::from_array(alloc, [from, near, far, to])?)
-}
-
 impl Placed<'_> {
-    /// Whether an arrow has its end at a node at the upper side of the box.
-    fn is_above(&self, node: usize, other: usize) -> bool {
-        self.row_of(node) <= self.row_of(other)
-    }
-
     /// The position of the end of an arrow at a node: those at one side of a box are ordered by the
     /// nodes at their other ends, and then by their places in the list of all ends.
     fn port(&self, node: usize, other: usize, place: usize) -> usize {
         let own = at(&self.middles, other);
-        let is_above = self.is_above(node, other);
+        let row = self.row_of(node);
+        let is_above = row <= self.row_of(other);
         let mut count: usize = 0;
         let mut before: usize = 0;
-        let arrows = self.graph.arrows;
-        for (index, arrow) in arrows.iter().enumerate() {
+        for (index, arrow) in self.graph.arrows.iter().enumerate() {
             for (number, from, to) in [(0, arrow.0, arrow.1), (1, arrow.1, arrow.0)] {
-                if from != to && from == node && self.is_above(from, to) == is_above {
+                if from != to && from == node && (row <= self.row_of(to)) == is_above {
                     let key = at(&self.middles, to);
                     let number = index.saturating_mul(2).saturating_add(number);
                     count = count.saturating_add(1);
@@ -61,15 +39,11 @@ impl Placed<'_> {
                 }
             }
         }
-        let middle = at(&self.middles, node);
-        if count == 0 {
-            return middle;
-        }
-        let step = (self.graph.width_of(node).saturating_sub(24) / count).min(STEP);
+        let room = self.graph.width_of(node).saturating_sub(24);
+        let step = room.checked_div(count).unwrap_or(0).min(STEP);
         let half = count.saturating_sub(1).saturating_mul(step) / 2;
-        middle
-            .saturating_sub(half)
-            .saturating_add(before.saturating_mul(step))
+        let first = at(&self.middles, node).saturating_sub(half);
+        first.saturating_add(before.saturating_mul(step))
     }
 
     /// Whether no box of a row is near the positions from one to another.
@@ -89,11 +63,12 @@ impl Placed<'_> {
 
     /// The free position of a row nearest to another position: that one, or one beside a box.
     fn free_near(&self, row: usize, x: usize) -> usize {
-        if self.is_free(row, x, x) {
-            return x;
-        }
         let mut found = x;
-        let mut nearest = usize::MAX;
+        let mut nearest = if self.is_free(row, x, x) {
+            0
+        } else {
+            usize::MAX
+        };
         for node in 0..self.middles.len() {
             if self.row_of(node) != row {
                 continue;
@@ -126,50 +101,42 @@ impl Placed<'_> {
         Ok(end)
     }
 
-    /// The line between two points in different rows.
-    fn steep(&self, ends: (Point, Point), rows: (usize, usize)) -> Made<Vec<Point>> {
-        let (mut end, to) = ends;
+    /// The line of an arrow with an index: one between two nodes of a row is above the row.
+    fn way_of(&self, arrow: (usize, usize), index: usize) -> Made<Vec<Point>> {
         let mut line = Vec::new(self.alloc);
-        line.push(end)?;
-        for step in 1..apart(rows.0, rows.1) {
-            end = self.pass(&mut line, end, to, moved(rows.0, step, rows.0 < rows.1))?;
+        if arrow.0 == arrow.1 {
+            return Ok(line);
+        }
+        let (low, high) = (self.row_of(arrow.0), self.row_of(arrow.1));
+        let (source, target) = (at(&self.frame.heights, low), at(&self.frame.heights, high));
+        let place = index.saturating_mul(2);
+        let from = Point {
+            x: self.port(arrow.0, arrow.1, place),
+            y: moved(source, HALF, source < target),
+        };
+        let to = Point {
+            x: self.port(arrow.1, arrow.0, place.saturating_add(1)),
+            y: moved(target, HALF + TIP, source >= target && low != high),
+        };
+        line.push(from)?;
+        if low == high {
+            let rise = (apart(from.x, to.x) / 24).min(16).saturating_add(14);
+            let y = from.y.saturating_sub(rise);
+            line.push(Point { x: from.x, y })?;
+            line.push(Point { x: to.x, y })?;
+        }
+        let mut end = from;
+        for step in 1..apart(low, high) {
+            end = self.pass(&mut line, end, to, moved(low, step, low < high))?;
         }
         line.push(to)?;
         Ok(line)
     }
 
-    /// The line of an arrow with an index.
-    fn way_of(&self, arrow: (usize, usize), index: usize) -> Made<Vec<Point>> {
-        if arrow.0 == arrow.1 {
-            return Ok(Vec::new(self.alloc));
-        }
-        let rows = (self.row_of(arrow.0), self.row_of(arrow.1));
-        let (source, target) = (
-            at(&self.frame.heights, rows.0),
-            at(&self.frame.heights, rows.1),
-        );
-        let is_downwards = source < target;
-        let is_flat = rows.0 == rows.1;
-        let place = index.saturating_mul(2);
-        let from = Point {
-            x: self.port(arrow.0, arrow.1, place),
-            y: moved(source, HALF, is_downwards),
-        };
-        let to = Point {
-            x: self.port(arrow.1, arrow.0, place.saturating_add(1)),
-            y: moved(target, HALF + TIP, !is_downwards && !is_flat),
-        };
-        if is_flat {
-            return flat(self.alloc, from, to);
-        }
-        self.steep((from, to), rows)
-    }
-
     /// The lines of the arrows.
     pub(crate) fn ways(&self) -> Made<Vec<Vec<Point>>> {
         let mut ways = Vec::new(self.alloc);
-        let arrows = self.graph.arrows;
-        for (index, arrow) in arrows.iter().enumerate() {
+        for (index, arrow) in self.graph.arrows.iter().enumerate() {
             ways.push(self.way_of(*arrow, index)?)?;
         }
         Ok(ways)
@@ -196,23 +163,24 @@ fn points_of(alloc: Global, line: &[Point]) -> Made<Vec<Point>> {
 
 /// The distance of a point from a box, 0 inside it.
 fn distance_from_box(point: Point, place: Place) -> usize {
-    let right = place.left.saturating_add(place.wide);
-    let foot = place.top.saturating_add(place.high);
-    let aside = place.left.saturating_sub(point.x);
-    let beyond = place.top.saturating_sub(point.y);
-    aside
-        .max(point.x.saturating_sub(right))
-        .max(beyond)
+    let (right, foot) = (
+        place.left.saturating_add(place.wide),
+        place.top.saturating_add(place.high),
+    );
+    let across = place
+        .left
+        .saturating_sub(point.x)
+        .max(point.x.saturating_sub(right));
+    across
+        .max(place.top.saturating_sub(point.y))
         .max(point.y.saturating_sub(foot))
 }
 
 /// The least distance of a point from others, up to `ENOUGH`.
 fn distance_from(point: Point, others: &[Point]) -> usize {
-    let mut found = ENOUGH;
-    for other in others {
-        found = found.min(point.distance(*other));
-    }
-    found
+    others
+        .iter()
+        .fold(ENOUGH, |found, other| found.min(point.distance(*other)))
 }
 
 /// How free a point of a line is: its distance from all other lines, from the boxes of nodes, and
@@ -276,8 +244,7 @@ pub fn badges_of(
     }
     let mut points = Vec::new(alloc);
     for own in arrows {
-        let point = badge_of(&drawing.places, &lines, *own, &points);
-        points.push(point)?;
+        points.push(badge_of(&drawing.places, &lines, *own, &points))?;
     }
     Ok(points)
 }
