@@ -46,3 +46,24 @@ apart_more places i here before j k d less lt =
     subst (λ x. AreApart (slice_index_or places j d) (slice_index_or places x d)) same
     (here j d (omega (arith, less, same))))
     (cases_lt k i)
+
+-- One more node has its box within the box of its group.
+pub framed_more : (nodes : List Node) (places groups : List Place) (i : ℕ) (m : Node) (e f : Place) →
+    i < length nodes → i < length places → (slice_index_or nodes i m).group < length groups →
+    IsWithin (slice_index_or places i e) (slice_index_or groups (slice_index_or nodes i m).group f) →
+    ((k : ℕ) (n : Node) (d : Place) → k < i
+    → IsWithin (slice_index_or places k d) (slice_index_or groups (slice_index_or nodes k n).group d)) →
+    (k : ℕ) (n : Node) (d : Place) → k < i + 1
+    → IsWithin (slice_index_or places k d) (slice_index_or groups (slice_index_or nodes k n).group d)
+framed_more nodes places groups i m e f there beside room here before k n d lt =
+    ⊎_elim (λ below. before k n d below)
+    (λ le.
+    let same : i ≡ k = omega (arith, lt, le) in
+    subst (λ j. IsWithin (slice_index_or places j d) (slice_index_or groups (slice_index_or nodes j n).group d)) same
+    (subst (λ p. IsWithin p (slice_index_or groups (slice_index_or nodes i n).group d))
+    (get_or_default places i e d beside)
+    (subst (λ x. IsWithin (slice_index_or places i e) (slice_index_or groups x.group d))
+    (get_or_default nodes i m n there)
+    (subst (λ g. IsWithin (slice_index_or places i e) g)
+    (get_or_default groups (slice_index_or nodes i m).group f d room) here))))
+    (cases_lt k i)

@@ -228,15 +228,19 @@ pub(crate) fn is_sound(nodes: &[Node], drawing: &Drawing) -> bool
     if drawing.places.len() != nodes.len() {
         return false;
     }
+    if !are_all_placed(nodes, &drawing.places, &drawing.groups) {
+        return false;
+    }
     let frame = Place {
         left: 0,
         top: 0,
         wide: drawing.wide,
         high: drawing.high,
     };
-    are_all_placed(nodes, &drawing.places, &drawing.groups)
-        && are_laid_out(&drawing.places, frame)
-        && are_laid_out(&drawing.groups, frame)
+    if !are_laid_out(&drawing.places, frame) {
+        return false;
+    }
+    are_laid_out(&drawing.groups, frame)
 }
 
 impl Placed<'_> {

@@ -240,7 +240,7 @@ impl Groups<'_> {
         (waits, least)
     }
 
-    /// The next node of a group: the one to which the fewest arrows come from nodes without a layer.
+    /// The next node of a group: the one with the fewest arrows from nodes without a layer.
     fn next_of(&self, group: usize) -> Option<usize> {
         let is_left = |node: usize| at(&self.layers, node) == UNPLACED;
         (0..self.layers.len())

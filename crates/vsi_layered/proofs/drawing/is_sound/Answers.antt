@@ -9,12 +9,12 @@ returns c =
     let whole = frame drawing.wide drawing.high in
     λ t. record {
       count = first_of (search rules, grind arith);
-      sized = subst (λ l. AllSized nodes l) c.deref.ensures.value (c.if-not-are_all_sized.ensures refl);
-      inside = subst (λ l. AllInside whole l) c.deref-4.ensures.value (c.if-not-are_laid_out.ensures.inside refl);
-      framed = subst (λ l. AllInside whole l) c.deref-5.ensures.value (c.are_laid_out-2.ensures.inside t);
-      within = subst (λ l. AllWithin nodes drawing.places.items l) c.deref-3.ensures.value
-          (subst (λ l. AllWithin nodes l c.deref-3.result.now) c.deref-2.ensures.value
-          (c.if-not-are_all_within.ensures refl));
-      apart = subst (λ l. AllApart l) c.deref-4.ensures.value (c.if-not-are_laid_out.ensures.apart refl);
-      groups = subst (λ l. AllApart l) c.deref-5.ensures.value (c.are_laid_out-2.ensures.apart t);
+      sized = subst (λ l. AllSized nodes l) c.deref.ensures.value (c.if-not-are_all_placed.ensures.sized refl);
+      inside = subst (λ l. AllInside whole l) c.deref-3.ensures.value (c.if-not-are_laid_out.ensures.inside refl);
+      framed = subst (λ l. AllInside whole l) c.deref-4.ensures.value (c.are_laid_out-2.ensures.inside t);
+      within = subst (λ l. AllWithin nodes drawing.places.items l) c.deref-2.ensures.value
+          (subst (λ l. AllWithin nodes l c.deref-2.result.now) c.deref.ensures.value
+          (c.if-not-are_all_placed.ensures.within refl));
+      apart = subst (λ l. AllApart l) c.deref-3.ensures.value (c.if-not-are_laid_out.ensures.apart refl);
+      groups = subst (λ l. AllApart l) c.deref-4.ensures.value (c.are_laid_out-2.ensures.apart t);
     }
