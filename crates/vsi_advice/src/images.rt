@@ -10,6 +10,7 @@ use vsi_opt::optimise;
 use vsi_scope::{Cmd, Ex, Resolved};
 use vsi_steady::{SteadyError, chain_source};
 use vsi_syntax::{Span, line_column};
+use vsi_telling::Part::{Names, Number, Quoted, Text};
 use vsi_telling::{Part, Telling, Told, class_names, part_of, say};
 
 /// A refused image, and the lattice by which it was judged.
@@ -18,6 +19,14 @@ pub(crate) struct Judged<'a> {
     pub(crate) lattice: &'a Lattice,
     pub(crate) image: &'a Image,
 }
+
+/// The sentences about an image whose fields aren't those of its commands.
+const WRONG_FIELDS: &str = "The image has the fields slots % and stack %, but its commands need \
+    another number for one of them.\nHint: `vsi source IMAGE` prints the commands as a text; build \
+    an image from that.\n";
+/// The sentences about commands that no text has.
+const NO_TEXT: &str = "The code has more commands, or nests them deeper, than a text may.\n\
+    Hint: `vsi list IMAGE` shows the instructions.\n";
 
 /// The rule for an instruction in an image's commands.
 fn rule_of(instruction: Option<&Instr>) -> &'static [u8] {
@@ -60,7 +69,7 @@ impl Judged<'_> {
         let Some(instruction) = self.image.code.get(number) else {
             return Ok(());
         };
-        telling.say("  %: ", &[Part::Number(number)])?;
+        telling.say("  %: ", &[Number(number)])?;
         instruction.write_to(&mut telling.words)?;
         telling.add("\n")
     }
@@ -71,29 +80,21 @@ impl Judged<'_> {
             return Ok(None);
         };
         let classes = class_names(telling.alloc, self.lattice)?;
-        telling.tell(
-            None,
-            "The global % has the class %, which the lattice file lacks: its classes are %.\n\
-            Hint: give the lattice file with which the image was built; `vsi list IMAGE` shows \
-            each global with its class.\n",
-            &[
-                Part::Quoted(name),
-                Part::Quoted(class),
-                Part::Names(&classes),
-            ],
-        )
+        let sentence = "The global % has the class %, which the lattice file lacks: its classes \
+            are %.\nHint: give the lattice file with which the image was built; `vsi list IMAGE` \
+            shows each global with its class.\n";
+        let parts = [Quoted(name), Quoted(class), Names(&classes)];
+        telling.tell(None, sentence, &parts)
     }
 
     /// Explains code that doesn't consist of commands.
     fn bad_code(self, telling: &mut Telling<'_>, number: usize) -> Told {
         let sentence = "The image is valid, but its code isn't that of commands from here on:\n";
         self.put_at(telling, sentence, &[], number)?;
-        telling.tell(
-            None,
-            "%Hint: build the image again from its source text. Code without commands is judged by \
-            `vsi audit LATTICE IMAGE --steady`.\n",
-            &[Part::Text(rule_of(self.image.code.get(number)))],
-        )
+        let sentence = "%Hint: build the image again from its source text. Code without commands \
+            is judged by `vsi audit LATTICE IMAGE --steady`.\n";
+        let parts = [Text(rule_of(self.image.code.get(number)))];
+        telling.tell(None, sentence, &parts)
     }
 
     /// Explains a flow that breaks the policy.
@@ -107,47 +108,34 @@ impl Judged<'_> {
         if to != from {
             self.put_at(telling, "and ends at\n", &[], to)?;
         }
-        telling.tell(
-            None,
-            "Hint: `vsi source IMAGE` prints the image as a text, and `vsi check LATTICE TEXT \
-            --explain` shows each step of the flow in that text.\n",
-            &[],
-        )
+        let sentence = "Hint: `vsi source IMAGE` prints the image as a text, and `vsi check \
+            LATTICE TEXT --explain` shows each step of the flow in that text.\n";
+        telling.tell(None, sentence, &[])
     }
 
     /// Explains a jump or a global with a forbidden flow into it.
     fn bad_chain(self, telling: &mut Telling<'_>, number: usize) -> Told {
         let slot = chain_source(telling.alloc, self.lattice, self.image, number)?;
         let mut source = Vec::new(telling.alloc);
-        let global = match slot {
-            Some(slot) => self.image.globals.get(slot as usize),
-            None => None,
-        };
-        match global {
-            Some((name, class)) => {
-                say(&mut source, "% : %", &[Part::Text(name), Part::Text(class)])?;
-            }
+        let slot = slot.map_or(usize::MAX, |slot| slot as usize);
+        match self.image.globals.get(slot) {
+            Some((name, class)) => say(&mut source, "% : %", &[Text(name), Text(class)])?,
             None => source.extend_from_slice(b"(something)")?,
         }
-        let source = Part::Quoted(&source);
+        let source = Quoted(&source);
         if let Some(Instr::Store(_)) = self.image.code.get(number) {
             let sentence = "This instruction writes a value that depends on %:\n";
             self.put_at(telling, sentence, &[source], number)?;
-            return telling.tell(
-                None,
-                "Hint: give the global that it writes a class at or above that one, or write a \
-                value there that doesn't depend on it.\n",
-                &[],
-            );
+            let sentence = "Hint: give the global that it writes a class at or above that one, or \
+                write a value there that doesn't depend on it.\n";
+            return telling.tell(None, sentence, &[]);
         }
         self.put_at(telling, "This jump depends on %:\n", &[source], number)?;
-        telling.tell(
-            None,
-            "With --steady a jump depends on nothing above the least class, which is %.\nHint: \
-            compute both results and select one by arithmetic, as in `out := g * a + (1 - g) * b` \
-            for a guard g that is 0 or 1, and build the image again.\n",
-            &[Part::Quoted(self.lattice.name(self.lattice.bottom()))],
-        )
+        let sentence = "With --steady a jump depends on nothing above the least class, which is \
+            %.\nHint: compute both results and select one by arithmetic, as in `out := g * a + (1 \
+            - g) * b` for a guard g that is 0 or 1, and build the image again.\n";
+        let parts = [Quoted(self.lattice.name(self.lattice.bottom()))];
+        telling.tell(None, sentence, &parts)
     }
 
     /// Adds the explanation of an image whose commands are judged.
@@ -156,22 +144,12 @@ impl Judged<'_> {
             AuditError::Memory => Err(AllocError),
             AuditError::UnknownClass(number) => self.bad_class(telling, *number),
             AuditError::Unstructured(number) => self.bad_code(telling, *number),
-            AuditError::WrongFields => telling.tell(
-                None,
-                "The image has the fields slots % and stack %, but its commands need another \
-                number for one of them.\nHint: `vsi source IMAGE` prints the commands as a text; \
-                build an image from that.\n",
-                &[
-                    Part::Number(self.image.slots as usize),
-                    Part::Number(self.image.stack as usize),
-                ],
-            ),
-            AuditError::NoText => telling.tell(
-                None,
-                "The code has more commands, or nests them deeper, than a text may.\n\
-                Hint: `vsi list IMAGE` shows the instructions.\n",
-                &[],
-            ),
+            AuditError::WrongFields => {
+                let slots = Number(self.image.slots as usize);
+                let stack = Number(self.image.stack as usize);
+                telling.tell(None, WRONG_FIELDS, &[slots, stack])
+            }
+            AuditError::NoText => telling.tell(None, NO_TEXT, &[]),
             AuditError::Flow(walk) => self.bad_flow(telling, walk),
         }
     }
@@ -395,14 +373,10 @@ fn sharers(
     let Some((one, other)) = shared_pair(alloc, &flows, first as usize, target)? else {
         return Ok(None);
     };
-    let numbers = (one.min(other), one.max(other));
     let entries = program.letvars();
-    let first = entries.get(numbers.0.saturating_sub(flows.globals));
-    let second = entries.get(numbers.1.saturating_sub(flows.globals));
-    match (first, second) {
-        (Some(first), Some(second)) => Ok(Some((first.span, second.span))),
-        _ => Ok(None),
-    }
+    let first = entries.get(one.min(other).saturating_sub(flows.globals));
+    let second = entries.get(one.max(other).saturating_sub(flows.globals));
+    Ok(first.zip(second).map(|pair| (pair.0.span, pair.1.span)))
 }
 
 /// Adds the explanation of a text whose flows are allowed, but whose image isn't steady, and
@@ -420,16 +394,12 @@ pub(crate) fn of_shared(telling: &mut Telling<'_>, lattice: &Lattice, error: &St
     let Some((first, second)) = sharers(telling.alloc, &source, *place)? else {
         return Ok(None);
     };
-    telling.tell(
-        Some(second),
-        "The flows of the text are allowed, but its image isn't steady: % (line %) and % (line %) \
-        have the same slot of the image, one after the other, and a slot has one class for the \
-        whole code.\nHint: nest one `letvar` in the other, and each has a slot of its own.\n",
-        &[
-            Part::Quoted(part_of(text, first)),
-            Part::Number(line_column(text, first.start).0),
-            Part::Quoted(part_of(text, second)),
-            Part::Number(line_column(text, second.start).0),
-        ],
-    )
+    let sentence = "The flows of the text are allowed, but its image isn't steady: % (line %) and \
+        % (line %) have the same slot of the image, one after the other, and a slot has one class \
+        for the whole code.\nHint: nest one `letvar` in the other, and each has a slot of its \
+        own.\n";
+    let name = |span: Span| Quoted(part_of(text, span));
+    let line = |span: Span| Number(line_column(text, span.start).0);
+    let parts = [name(first), line(first), name(second), line(second)];
+    telling.tell(Some(second), sentence, &parts)
 }

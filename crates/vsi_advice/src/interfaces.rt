@@ -6,12 +6,13 @@ use toml::{Table, Value};
 use vsi_conform::InterfaceError;
 use vsi_lattice::Lattice;
 use vsi_syntax::Span;
+use vsi_telling::Part::{Names, Nearest, Number, Quoted, Text};
 use vsi_telling::{
     Part, Telling, Told, array_in, class_names, key_place, part_of, quoted_place, table_classes,
 };
 
 /// An example of the head of an interface.
-const SHAPE: Part<'static> = Part::Text(
+const SHAPE: Part<'static> = Text(
     b"An interface begins like this:\n  lattice = \"two.toml\"\n  profile = \"base\"\n  \
     globals = [[\"key\", \"H\"], [\"out\", \"L\"]]\n",
 );
@@ -35,6 +36,16 @@ const PROFILES: [&[u8]; 3] = [b"base", b"strict", b"steady"];
 
 /// The orders.
 const ORDERS: [&[u8]; 2] = [b"exact", b"set"];
+
+/// The sentences about a bound that isn't valid.
+const BOUNDED: &str = "The value of `bounded` must be `true`, `false` or a number of at least 1, \
+    without quotes. Hint: write `bounded = true` if `vsi bound` must find a number of instructions \
+    within which every run halts, `bounded = 200` if the number must be at most 200, or leave out \
+    the key.\n";
+
+/// The sentences about a reference that isn't accepted.
+const REFUSED: &str = "The reference of the interface isn't accepted under its lattice and its \
+    profile. Hint: `vsi check --explain` says more about it.\n";
 
 /// The most globals of a program.
 const MOST_GLOBALS: usize = 256;
@@ -73,7 +84,7 @@ fn not_toml(telling: &mut Telling<'_>, error: &toml::de::Error) -> Told {
     let Some(range) = error.span() else {
         return Err(AllocError);
     };
-    let why = Part::Text(error.message().as_bytes());
+    let why = Text(error.message().as_bytes());
     telling.say("The file isn't a TOML document: %.\n", &[why])?;
     let start = telling.bytes.trim_ascii_start();
     let sentence = if start.starts_with(b"VSI") {
@@ -92,15 +103,6 @@ fn not_toml(telling: &mut Telling<'_>, error: &toml::de::Error) -> Told {
 }
 
 impl<'t> Interface<'t> {
-    /// The interface with these bytes and this table.
-    fn new(bytes: &'t [u8], table: &'t Table, lattice: Option<&'t Lattice>) -> Interface<'t> {
-        Interface {
-            bytes,
-            table,
-            lattice,
-        }
-    }
-
     /// The text at a key.
     fn text(self, key: &str) -> Option<&'t [u8]> {
         let text = self.table.get(key)?.as_str()?;
@@ -128,16 +130,9 @@ impl<'t> Interface<'t> {
 
     /// The pair with a name, after this many others.
     pub(crate) fn pair_named(self, name: &[u8], others: usize) -> Option<usize> {
-        let mut left = others;
-        for (number, pair) in array_in(self.table, "globals").iter().enumerate() {
-            if side_of(pair, 0) == Some(name) {
-                if left == 0 {
-                    return Some(number);
-                }
-                left -= 1;
-            }
-        }
-        None
+        let pairs = array_in(self.table, "globals").iter().enumerate();
+        let mut named = pairs.filter(|pair| side_of(pair.1, 0) == Some(name));
+        Some(named.nth(others)?.0)
     }
 
     /// The number of occurrences of a text in `globals` before one side of a pair.
@@ -167,107 +162,80 @@ impl<'t> Interface<'t> {
     /// Explains a key that no interface has.
     fn unknown_key(self, telling: &mut Telling<'_>, key: &[u8]) -> Told {
         let place = key_place(self.bytes, key);
-        let quoted = Part::Quoted(key);
+        let quoted = Quoted(key);
         if RUN_KEYS.contains(&key) {
-            return telling.tell(
-                place,
-                "An interface has no key % of its own. Hint: it is a key of a run, and goes after \
-                a line `[[runs]]`.\n",
-                &[quoted],
-            );
+            let sentence = "An interface has no key % of its own. Hint: it is a key of a run, and \
+                goes after a line `[[runs]]`.\n";
+            return telling.tell(place, sentence, &[quoted]);
         }
-        let (some, others) = (Part::Names(&KEYS[..5]), Part::Names(&KEYS[5..]));
-        let nearest = Part::Nearest(key, &KEYS, "Hint: remove the line.\n");
+        let (some, others) = (Names(&KEYS[..5]), Names(&KEYS[5..]));
+        let nearest = Nearest(key, &KEYS, "Hint: remove the line.\n");
         let sentence = "An interface has no key %: its keys are %, %.\n%";
         telling.tell(place, sentence, &[quoted, some, others, nearest])
+    }
+
+    /// Explains the value of a key that isn't a text, or leads to a file outside the folder.
+    fn bad_path(self, telling: &mut Telling<'_>, key: &str, file: &str, hint: &str) -> Told {
+        let place = key_place(self.bytes, key.as_bytes());
+        if self.text(key).is_none() {
+            let parts = [Text(key.as_bytes()), Text(hint.as_bytes())];
+            let sentence = "The value of `%` isn't a text. Hint: write the path of a %.\n";
+            return telling.tell(place, sentence, &parts);
+        }
+        let file = Text(file.as_bytes());
+        let sentence = "The path of the % leads out of the folder of the interface. Hint: put the \
+            % into that folder, or into one in it, and write its path without `..` and without `/` \
+            at the beginning.\n";
+        telling.tell(place, sentence, &[file, file])
     }
 
     /// Explains a lattice that is missing, named twice, not a text or outside the folder.
     fn bad_lattice(self, telling: &mut Telling<'_>) -> Told {
         if self.table.get("lattice").is_none() {
-            return telling.tell(
-                None,
-                "The interface has no lattice. Hint: name a lattice file in the same folder, as in \
-                `lattice = \"two.toml\"`, or write `classes` and `below` as in such a file.\n%",
-                &[SHAPE],
-            );
+            let sentence = "The interface has no lattice. Hint: name a lattice file in the same \
+                folder, as in `lattice = \"two.toml\"`, or write `classes` and `below` as in such \
+                a file.\n%";
+            return telling.tell(None, sentence, &[SHAPE]);
         }
-        let has_classes = self.table.get("classes").is_some() || self.table.get("below").is_some();
-        let sentence = if has_classes {
-            "The interface names a lattice file and also has classes of its own. Hint: leave out \
-            `lattice`, or leave out `classes` and `below`.\n"
-        } else if self.text("lattice").is_some() {
-            "The path of the lattice file leads out of the folder of the interface. Hint: put the \
-            lattice file into that folder, or into one in it, and write its path without `..` and \
-            without `/` at the beginning.\n"
-        } else {
-            "The value of `lattice` isn't a text. Hint: write the path of a lattice file between \
-            quotes, as in `lattice = \"two.toml\"`.\n"
-        };
-        telling.tell(key_place(self.bytes, b"lattice"), sentence, &[])
+        if self.table.get("classes").is_some() || self.table.get("below").is_some() {
+            let sentence = "The interface names a lattice file and also has classes of its own. \
+                Hint: leave out `lattice`, or leave out `classes` and `below`.\n";
+            return telling.tell(key_place(self.bytes, b"lattice"), sentence, &[]);
+        }
+        let hint = "lattice file between quotes, as in `lattice = \"two.toml\"`";
+        self.bad_path(telling, "lattice", "lattice file", hint)
     }
 
-    /// Explains a reference that isn't accepted, isn't a text or is outside the folder.
-    fn bad_reference(self, telling: &mut Telling<'_>, error: &InterfaceError) -> Told {
-        let sentence = if let InterfaceError::RefusedReference(_) = error {
-            "The reference of the interface isn't accepted under its lattice and its profile. \
-            Hint: `vsi check --explain` says more about it.\n"
-        } else if self.text("reference").is_some() {
-            "The path of the reference leads out of the folder of the interface. Hint: put the \
-            reference into that folder, or into one in it, and write its path without `..` and \
-            without `/` at the beginning.\n"
-        } else {
-            "The value of `reference` isn't a text. Hint: write the path of a source text between \
-            quotes, as in `reference = \"lock.vsi\"`.\n"
-        };
-        telling.tell(key_place(self.bytes, b"reference"), sentence, &[])
-    }
-
-    /// Explains a key whose value isn't one of the choices; the sentence is about a text that isn't
-    /// one.
-    fn bad_choice(
-        self,
-        telling: &mut Telling<'_>,
-        key: &'t str,
-        sentence: &str,
-        choices: &'t [&'t [u8]],
-    ) -> Told {
-        let names = Part::Names(choices);
+    /// Explains a key whose value isn't one of the choices, of which this text names the sort.
+    fn bad_choice(self, telling: &mut Telling<'_>, key: &'t str, choices: &'t [&'t [u8]]) -> Told {
+        let (sort, names) = (Text(key.as_bytes()), Names(choices));
         if let Some(text) = self.text(key) {
-            let nearest = Part::Nearest(text, choices, "");
+            let article = Text(if key == "order" { b"an" } else { b"a" });
+            let nearest = Nearest(text, choices, "");
             let place = quoted_place(self.bytes, text, 0);
-            return telling.tell(place, sentence, &[Part::Quoted(text), names, nearest]);
+            let parts = [Quoted(text), article, sort, sort, names, nearest];
+            return telling.tell(place, "% isn't % %: the %s are %.\n%", &parts);
         }
-        let fault = match self.table.get(key) {
+        let sentence = match self.table.get(key) {
             Some(_) => "The key `%` must be one of %, between quotes.\n%",
             None => "The key `%` is missing. It must be one of %, between quotes.\n%",
         };
-        let key = key.as_bytes();
-        telling.tell(
-            key_place(self.bytes, key),
-            fault,
-            &[Part::Text(key), names, SHAPE],
-        )
+        let place = key_place(self.bytes, key.as_bytes());
+        telling.tell(place, sentence, &[sort, names, SHAPE])
     }
 
     /// Explains `globals` that aren't an array of at most 256 pairs of texts.
     fn bad_globals(self, telling: &mut Telling<'_>) -> Told {
         let place = key_place(self.bytes, b"globals");
         let Some(value) = self.table.get("globals") else {
-            return telling.tell(
-                None,
-                "The key `globals` is missing. Hint: name each global with its class, in the order \
-                in which a text must declare them.\n%",
-                &[SHAPE],
-            );
+            let sentence = "The key `globals` is missing. Hint: name each global with its class, \
+                in the order in which a text must declare them.\n%";
+            return telling.tell(None, sentence, &[SHAPE]);
         };
         if value.as_array().is_none() {
-            return telling.tell(
-                place,
-                "The value of `globals` isn't an array. Hint: write `[\"x\", \"L\"]` for each \
-                global `var x : L`.\n%",
-                &[SHAPE],
-            );
+            let sentence = "The value of `globals` isn't an array. Hint: write `[\"x\", \"L\"]` \
+                for each global `var x : L`.\n%";
+            return telling.tell(place, sentence, &[SHAPE]);
         }
         let pairs = array_in(self.table, "globals");
         if pairs.len() > MOST_GLOBALS {
@@ -276,32 +244,28 @@ impl<'t> Interface<'t> {
             return telling.tell(place, sentence, &[]);
         }
         let faulty = pairs.iter().position(|pair| !is_pair(pair)).unwrap_or(0);
-        telling.tell(
-            place,
-            "Entry % of `globals` isn't a pair of a name and a class. Hint: write `[\"x\", \"L\"]` \
-            for each global `var x : L`.\n%",
-            &[Part::Number(faulty.saturating_add(1)), SHAPE],
-        )
+        let sentence = "Entry % of `globals` isn't a pair of a name and a class. Hint: write \
+            `[\"x\", \"L\"]` for each global `var x : L`.\n%";
+        let parts = [Number(faulty.saturating_add(1)), SHAPE];
+        telling.tell(place, sentence, &parts)
     }
 
     /// Explains a name of a global, after this many others of the same name.
-    fn bad_name(
-        self,
-        telling: &mut Telling<'_>,
-        name: &[u8],
-        others: usize,
-        sentence: &str,
-    ) -> Told {
+    fn bad_name(self, telling: &mut Telling<'_>, name: &[u8], others: usize) -> Told {
+        let sentence = if others > 0 {
+            "% is in `globals` twice. Hint: leave one out.\n"
+        } else {
+            "% isn't a valid name. Hint: a name begins with a letter, continues with letters, \
+            digits and `_`, has at most 32 of them, and isn't a keyword.\n"
+        };
         let number = self.pair_named(name, others);
         let place = number.and_then(|number| self.pair_place(number, 0));
-        telling.tell(place, sentence, &[Part::Quoted(name)])
+        telling.tell(place, sentence, &[Quoted(name)])
     }
 
     /// Explains the class of a global that isn't a class of the lattice.
     fn unknown_class(self, telling: &mut Telling<'_>, name: &'t [u8]) -> Told {
-        let Some(number) = self.pair_named(name, 0) else {
-            return Ok(None);
-        };
+        let number = self.pair_named(name, 0).unwrap_or(usize::MAX);
         let pair = array_in(self.table, "globals").get(number);
         let Some(class) = pair.and_then(|pair| side_of(pair, 1)) else {
             return Ok(None);
@@ -309,65 +273,34 @@ impl<'t> Interface<'t> {
         let classes = self.classes(telling.alloc)?;
         let otherwise =
             "Hint: give the global one of these, or declare the class in the lattice.\n";
-        let nearest = Part::Nearest(class, &classes, otherwise);
-        telling.tell(
-            self.pair_place(number, 1),
-            "The class % of the global % isn't in the lattice. Its classes are %.\n%",
-            &[
-                Part::Quoted(class),
-                Part::Quoted(name),
-                Part::Names(&classes),
-                nearest,
-            ],
-        )
-    }
-
-    /// Explains a fault of a key of the whole interface, other than that of a global, or else of a
-    /// run or of a boundary.
-    fn of_key(self, telling: &mut Telling<'_>, error: &'t InterfaceError) -> Told {
-        match error {
-            InterfaceError::UnknownKey(key) => self.unknown_key(telling, key),
-            InterfaceError::BadLattice => self.bad_lattice(telling),
-            InterfaceError::BadProfile => {
-                let sentence = "% isn't a profile: the profiles are %.\n%";
-                self.bad_choice(telling, "profile", sentence, &PROFILES)
-            }
-            InterfaceError::BadOrder => {
-                let sentence = "% isn't an order: the orders are %.\n%";
-                self.bad_choice(telling, "order", sentence, &ORDERS)
-            }
-            InterfaceError::BadBounded => telling.tell(
-                key_place(self.bytes, b"bounded"),
-                "The value of `bounded` must be `true`, `false` or a number of at least 1, without \
-                quotes. Hint: write `bounded = true` if `vsi bound` must find a number of \
-                instructions within which every run halts, `bounded = 200` if the number must be \
-                at most 200, or leave out the key.\n",
-                &[],
-            ),
-            InterfaceError::BadReference | InterfaceError::RefusedReference(_) => {
-                self.bad_reference(telling, error)
-            }
-            other => self.of_table(telling, other),
-        }
+        let nearest = Nearest(class, &classes, otherwise);
+        let parts = [Quoted(class), Quoted(name), Names(&classes), nearest];
+        let sentence = "The class % of the global % isn't in the lattice. Its classes are %.\n%";
+        telling.tell(self.pair_place(number, 1), sentence, &parts)
     }
 
     /// Adds the explanation of a fault, and returns its position.
     fn explain(self, telling: &mut Telling<'_>, error: &'t InterfaceError) -> Told {
         match error {
             InterfaceError::BadGlobals => self.bad_globals(telling),
-            InterfaceError::BadName(name) => self.bad_name(
-                telling,
-                name,
-                0,
-                "% isn't a valid name. Hint: a name begins with a letter, continues with letters, \
-                digits and `_`, has at most 32 of them, and isn't a keyword.\n",
-            ),
-            InterfaceError::RepeatedGlobal(name) => {
-                let sentence = "% is in `globals` twice. Hint: leave one out.\n";
-                self.bad_name(telling, name, 1, sentence)
-            }
+            InterfaceError::BadName(name) => self.bad_name(telling, name, 0),
+            InterfaceError::RepeatedGlobal(name) => self.bad_name(telling, name, 1),
             InterfaceError::UnknownClass(name) => self.unknown_class(telling, name),
-            other => self.of_key(telling, other),
+            InterfaceError::UnknownKey(key) => self.unknown_key(telling, key),
+            InterfaceError::BadLattice => self.bad_lattice(telling),
+            InterfaceError::BadProfile => self.bad_choice(telling, "profile", &PROFILES),
+            InterfaceError::BadOrder => self.bad_choice(telling, "order", &ORDERS),
+            InterfaceError::BadBounded => {
+                telling.tell(key_place(self.bytes, b"bounded"), BOUNDED, &[])
+            }
+            InterfaceError::BadReference => {
+                let hint = "source text between quotes, as in `reference = \"lock.vsi\"`";
+                self.bad_path(telling, "reference", "reference", hint)
+            }
+            InterfaceError::RefusedReference(_) => {
+                telling.tell(key_place(self.bytes, b"reference"), REFUSED, &[])
+            }
+            other => self.of_table(telling, other),
         }
     }
 }
@@ -383,8 +316,14 @@ pub(crate) fn of_interface(
         return Err(AllocError);
     }
     let bytes = telling.bytes;
-    match toml::table_from_slice(telling.alloc, bytes) {
-        Ok(table) => Interface::new(bytes, &table, lattice).explain(telling, error),
-        Err(fault) => not_toml(telling, &fault),
-    }
+    let table = match toml::table_from_slice(telling.alloc, bytes) {
+        Ok(table) => table,
+        Err(fault) => return not_toml(telling, &fault),
+    };
+    let interface = Interface {
+        bytes,
+        table: &table,
+        lattice,
+    };
+    interface.explain(telling, error)
 }

@@ -4,6 +4,7 @@
 use vsi_drive::{BoundaryFault, LineFault, StartFault};
 use vsi_image::Image;
 use vsi_syntax::Span;
+use vsi_telling::Part::{Quoted, Text};
 use vsi_telling::{Part, Telling, Told, part_of, span_at};
 
 /// The part of a setting without blanks at its ends.
@@ -79,18 +80,18 @@ fn bad_setting(telling: &mut Telling<'_>, image: &Image, fault: LineFault) -> To
         LineFault::NotANumber(_) => telling.tell(
             Some(after),
             "% isn't a whole number from -9223372036854775808 to 9223372036854775807.\n%",
-            &[Part::Quoted(value), Part::Text(number_hint(value))],
+            &[Quoted(value), Text(number_hint(value))],
         ),
         LineFault::AboveClass(_) | LineFault::NotAnInput(_) => telling.tell(
             Some(before),
             "% isn't an input. With --interface a setting sets only the inputs of the class.\n\
             Hint: leave the setting out, or give the number in the store file of --store.\n",
-            &[Part::Quoted(name)],
+            &[Quoted(name)],
         ),
         LineFault::BadSetting(_) | LineFault::TooLong => telling.tell(
             Some(span_at(0, setting.len())),
             "A setting is NAME=NUMBER: the name of a global, `=`, and a whole number.\n%",
-            &[Part::Text(form_hint(setting, name, value))],
+            &[Text(form_hint(setting, name, value))],
         ),
     }
 }
@@ -108,16 +109,6 @@ fn name_part(list: &[u8], number: usize) -> Span {
         start: list.len(),
         stop: list.len(),
     }
-}
-
-/// The name of the class of the global with this name.
-fn class_of<'i>(image: &'i Image, name: &[u8]) -> Option<&'i [u8]> {
-    for global in &image.globals {
-        if global.0.as_slice() == name {
-            return Some(global.1.as_slice());
-        }
-    }
-    None
 }
 
 /// Adds the explanation of a faulty list, and returns the part with the name at fault.
@@ -143,15 +134,12 @@ fn bad_list(telling: &mut Telling<'_>, image: &Image, fault: BoundaryFault) -> T
     };
     let part = name_part(list, number);
     let name = part_of(list, part);
-    let Some(class) = class_of(image, name) else {
+    let mut globals = image.globals.iter();
+    let Some((_, class)) = globals.find(|global| global.0.as_slice() == name) else {
         let otherwise = "Hint: leave the name out of the list.\n";
         return telling.put_no_global(&image.globals, name, otherwise, Some(part));
     };
-    telling.tell(
-        Some(part),
-        sentence,
-        &[Part::Quoted(name), Part::Quoted(class)],
-    )
+    telling.tell(Some(part), sentence, &[Quoted(name), Quoted(class)])
 }
 
 /// Adds the explanation of a run of an image that doesn't begin, and returns the position of the
@@ -163,13 +151,10 @@ pub(crate) fn of_start(telling: &mut Telling<'_>, image: &Image, fault: StartFau
                 Some((name, _)) => name.as_slice(),
                 None => b"",
             };
-            telling.tell(
-                None,
-                "The global % has no value. With --full-store each global needs a line in the \
-                store file or a `--set`.\nHint: add `--set %=0` to the command, or the line \
-                `% = 0` to a store file, with the value that you mean.\n",
-                &[Part::Quoted(name), Part::Text(name), Part::Text(name)],
-            )
+            let sentence = "The global % has no value. With --full-store each global needs a line \
+                in the store file or a `--set`.\nHint: add `--set %=0` to the command, or the line \
+                `% = 0` to a store file, with the value that you mean.\n";
+            telling.tell(None, sentence, &[Quoted(name), Text(name), Text(name)])
         }
         StartFault::Boundary(fault) => bad_list(telling, image, fault),
         StartFault::Setting(fault) => bad_setting(telling, image, fault),
