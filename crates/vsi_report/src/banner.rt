@@ -10,7 +10,7 @@ ghost use Rattle.vsi_report.specs.Lead as spec;
 
 use crate::dot::{Order, name_of};
 use crate::page::Part::{Markup, Name, Number, Position, Text};
-use crate::page::{Added, Made, Page, either};
+use crate::page::{Added, Made, Page, either, put_escaped};
 use crate::panel::{ends_at, hidden_at};
 use crate::report::View;
 use crate::sections::{leaf, profile_text};
@@ -253,7 +253,8 @@ fn put_quote(page: &mut Page, source: &[u8], at: usize) -> Added {
             next = place.saturating_add(length);
             page.put(b"\xef\xbf\xbd")?;
         } else {
-            page.tell(source.get(place..place.saturating_add(1)).unwrap_or(b""))?;
+            let byte = source.get(place..place.saturating_add(1));
+            put_escaped(&mut page.text, byte.unwrap_or(b""))?;
         }
     }
     page.put(b"</code></p>\n")

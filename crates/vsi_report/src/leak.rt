@@ -77,16 +77,8 @@ fn leak_of_source(search: &Search<'_>, sign: Sign, class: Class) -> Made<Option<
     }
     let stores = (first.as_slice(), second.as_slice());
     let (lattice, verified) = (search.lattice, search.verified);
-    let budget = search.effort.budget;
-    check_leak(
-        search.view.alloc,
-        lattice,
-        verified,
-        sign,
-        class,
-        stores,
-        budget,
-    )
+    let (alloc, budget) = (search.view.alloc, search.effort.budget);
+    check_leak(alloc, lattice, verified, sign, class, stores, budget)
 }
 
 /// The first leak by a sign at a class. The first variable of the refused flow is changed first.

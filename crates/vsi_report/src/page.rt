@@ -229,11 +229,6 @@ impl Page {
         self.text.extend_from_slice(piece)
     }
 
-    /// Adds a text, escaped.
-    pub(crate) fn tell(&mut self, text: &[u8]) -> Added {
-        put_escaped(&mut self.text, text)
-    }
-
     /// Adds a piece of markup from the code, in which `%0` is a hole for the first part, and so on.
     pub(crate) fn fill(&mut self, markup: &'static [u8], parts: &[Part<'_>]) -> Added
         ensures { are_stated parts.now ≡ true → OnOk result (self.new.text.items

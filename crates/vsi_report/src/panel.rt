@@ -110,12 +110,8 @@ fn mark_at(
     is_comment: bool,
 ) -> (usize, &'static [u8], &'static [u8], bool) {
     if let Some((length, label)) = hidden_at(source, at) {
-        return (
-            at.saturating_add(length).min(stop),
-            b"mark",
-            label,
-            is_comment,
-        );
+        let end = at.saturating_add(length).min(stop);
+        return (end, b"mark", label, is_comment);
     }
     if ends_at(source, at) {
         return (at.saturating_add(1).min(stop), b"", b"", false);

@@ -355,12 +355,9 @@ pub(crate) fn put_legend(page: &mut Page, scene: &Scene) -> Added {
     page.put(b"<ul class=\"legend\">")?;
     for rule in RULES {
         if scene.arrows.iter().any(|arrow| arrow.rule == rule) {
-            let name = Markup(rule_text(rule));
-            let place = rule as usize;
-            page.fill(
-                MEANING,
-                &[Markup(STYLES[place]), name, Markup(MEANINGS[place])],
-            )?;
+            let (style, meaning) = (STYLES[rule as usize], MEANINGS[rule as usize]);
+            let parts = [Markup(style), Markup(rule_text(rule)), Markup(meaning)];
+            page.fill(MEANING, &parts)?;
         }
     }
     page.put(b"</ul>\n")

@@ -17,13 +17,13 @@ use crate::banner::{allowed_lead, lead_of, put_accepted, put_faulty, put_refused
 use crate::dot::{Order, order_of};
 use crate::facts::{Facts, facts_of, no_facts, reached_classes};
 use crate::leak::put_leak;
-use crate::page::Part::{Block, Number, Text};
+use crate::page::Part::{Block, Markup, Number, Text};
 use crate::page::{Made, Page, Verdict, either, whole_page};
 use crate::panel::{is_large, source_panel};
 use crate::picture::scene_of;
 use crate::sections::{
-    Filing, lattice_section, leaf, put_all_flows, put_fault, put_filing, put_fixes, put_promise,
-    put_walk, refused_walks,
+    BASE, Filing, PROMISE, STRICT, lattice_section, leaf, put_all_flows, put_fault, put_filing,
+    put_fixes, put_walk, refused_walks,
 };
 use std::alloc::{AllocError, Global};
 use vsi_answers::{Field, refusal_diagnostic};
@@ -193,7 +193,8 @@ fn accepted_sides(view: &View<'_>, verified: &Verified, lines: &[u8]) -> Made<(P
     put_accepted(&mut before, view, verified)?;
     after.put(either(is_large(view), LARGE, HINT))?;
     after.put(b"<div>\n")?;
-    put_promise(&mut after, view.profile)?;
+    let endings = Markup(either(view.profile == Profile::Base, BASE, STRICT));
+    after.fill(PROMISE, &[endings])?;
     let markup = either(is_wide, b"</div>\n%0", b"%0</div>\n");
     after.fill(markup, &[Block(&lattice)])?;
     put_all_flows(&mut after, view, &scene, &[])?;

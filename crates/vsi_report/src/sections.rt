@@ -28,9 +28,9 @@ const ARROWS: &[u8] =
     b"</figure>\n<details class=\"spare\"><summary>The arrows as a table</summary>\n<table><thead>\
 <tr><th scope=\"col\">From</th><th scope=\"col\">To</th><th scope=\"col\">By</th></tr></thead>\n\
 <tbody>\n";
-/// The name and the length of a file, up to its checksum.
+/// The name, the length and the checksum of a file.
 const FILE: &[u8] = b"<dt>%0</dt><dd><code>%1</code>, %2 bytes</dd>\n\
-<dd>SHA-256 <code class=\"sum\">";
+<dd>SHA-256 <code class=\"sum\">%3</code></dd>\n";
 /// The profile, the version, and the text of the lattice file, which opens on request.
 const MAKING: &[u8] = b"<dt>Judged by</dt><dd>the %0</dd>\n<dt>Made by</dt><dd>vsi %1</dd>\n</dl>\n\
 <details><summary>The lattice file</summary>\n<pre class=\"wrap\"><code>%2\
@@ -57,14 +57,17 @@ a thin red arrow goes against the order of the classes.";
 const NO_FLOWS: &[u8] = b"<p>No picture is drawn, since it would have too many variables or arrows \
 to be read.</p>\n";
 /// The limits of the base profile.
-const BASE: &[u8] = b"The base profile promises neither whether a run halts nor the number of its \
+pub(crate) const BASE: &[u8] =
+    b"The base profile promises neither whether a run halts nor the number of its \
 instructions.";
 /// The promise that the strict profile adds.
-const STRICT: &[u8] = b"Whether a run halts is promised too: from two stores that agree on each \
+pub(crate) const STRICT: &[u8] =
+    b"Whether a run halts is promised too: from two stores that agree on each \
 global of the least class, either both runs halt or neither does. The number of instructions isn't \
 promised by the profile.";
 /// The promises about an accepted text.
-const PROMISE: &[u8] = b"<section aria-labelledby=\"promise\"><h2 id=\"promise\">What is promised\
+pub(crate) const PROMISE: &[u8] =
+    b"<section aria-labelledby=\"promise\"><h2 id=\"promise\">What is promised\
 </h2>\n<p>The image does what the text says. Take any class, and two stores that agree on each \
 global whose class is at or below it: if the runs of the image from both halt, their final stores \
 agree on these globals too. So, in runs that halt, no final value at or below the class depends on \
@@ -131,12 +134,6 @@ pub(crate) fn put_all_flows(
     page.put(b"</section>\n")
 }
 
-/// Adds the promises.
-pub(crate) fn put_promise(page: &mut Page, profile: Profile) -> Added {
-    let endings = either(profile == Profile::Base, BASE, STRICT);
-    page.fill(PROMISE, &[Markup(endings)])
-}
-
 /// What a page says of its making: the names of its files, the bytes of the lattice file, and the
 /// version of the program.
 #[derive(Clone, Copy)]
@@ -175,10 +172,8 @@ fn put_file(
     text: &[u8],
 ) -> Added {
     let sum = hex::encode(view.alloc, Sha256::digest(text))?;
-    let parts = [Markup(kind), Text(leaf(path)), Number(text.len())];
-    page.fill(FILE, &parts)?;
-    page.tell(sum.as_bytes())?;
-    page.put(b"</code></dd>\n")
+    let (name, sum) = (Text(leaf(path)), Text(sum.as_bytes()));
+    page.fill(FILE, &[Markup(kind), name, Number(text.len()), sum])
 }
 
 /// Adds the section about the files of a page.
@@ -188,10 +183,8 @@ pub(crate) fn put_filing(page: &mut Page, view: &View<'_>) -> Added {
     put_file(page, view, b"Source text", filing.source, view.source)?;
     put_file(page, view, b"Lattice", filing.lattice, filing.policy)?;
     let profile = Markup(profile_text(view.profile));
-    page.fill(
-        MAKING,
-        &[profile, Text(filing.version), Text(filing.policy)],
-    )
+    let parts = [profile, Text(filing.version), Text(filing.policy)];
+    page.fill(MAKING, &parts)
 }
 
 /// A step: its number, its source, its target and its rule.
@@ -205,9 +198,9 @@ const BREAK: &[u8] = b"<p>This flow goes away if %1 no longer depends on %0.</p>
 /// The sentence about further refused flows.
 const OTHERS: &[u8] = b"<p>It is one of %4 refused flows: each is in <a href=\"#table\">the table\
 </a>.</p>\n";
-/// The beginning of the section about a fault.
+/// The section about a fault.
 const FAULT: &[u8] = b"<section aria-labelledby=\"why\"><h2 id=\"why\">Why it is refused</h2>\n\
-<pre class=\"wrap\"><code>";
+<pre class=\"wrap\"><code>%0%1</code></pre>\n</section>\n";
 /// The most pairs of a table that has a row for each.
 const MOST_PAIRS: usize = 100;
 /// The most steps of the walks of a table.
@@ -242,10 +235,10 @@ const MANY: &[u8] = b"<p class=\"paper\">The allowed flows aren't printed.</p>\n
 const ENDS: &[u8] = b"<p class=\"end\">So %1 depends on %0. But %0 has the class %2, %1 has the \
 class %3, and in the lattice the first isn't at or below the second. The text is judged, not a \
 run: a branch that is never taken counts too.</p>\n";
-/// The fix of raising classes, up to the raise.
+/// The fix of raising classes.
 const RAISES: &[u8] = b"<p>The whole text is accepted if the policy may change and these classes \
 are raised. It is the least raise that is enough:</p>\n\
-<pre class=\"raise\"><code>";
+<pre class=\"raise\"><code>%0</code></pre>\n";
 /// The text where no raise helps.
 const NO_RAISE: &[u8] =
     b"<p>No raise of classes makes the text accepted: whether a loop ends would \
@@ -310,11 +303,7 @@ pub(crate) fn put_fixes(page: &mut Page, view: &View<'_>, read: &Source<'_>) -> 
     page.put(b"<section aria-labelledby=\"fix\"><h2 id=\"fix\">What would fix it</h2>\n")?;
     let raise = raise_lines_of(view.alloc, view.profile, read);
     match &raise {
-        Ok(lines) => {
-            page.put(RAISES)?;
-            page.tell(lines.as_slice())?;
-            page.put(b"</code></pre>\n")?;
-        }
+        Ok(lines) => page.fill(RAISES, &[Text(lines.as_slice())])?,
         Err(CompileError::Memory) => return Err(AllocError),
         Err(_) => page.put(NO_RAISE)?,
     }
@@ -327,10 +316,7 @@ pub(crate) fn put_fault(page: &mut Page, view: &View<'_>, error: &CompileError) 
     let line = refusal_text(alloc, lattice, source, error)?;
     let (mode, name) = (ColourMode::Plain, view.filing.source);
     let more = source_explanation(alloc, mode, name, lattice, source, error)?;
-    page.put(FAULT)?;
-    page.tell(&line)?;
-    page.tell(&more)?;
-    page.put(b"</code></pre>\n</section>\n")
+    page.fill(FAULT, &[Text(&line), Text(&more)])
 }
 
 /// The first refused pairs, each with the steps of a shortest walk.
