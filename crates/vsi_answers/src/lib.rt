@@ -28,6 +28,7 @@ mod json;
 pub mod laws;
 mod lines;
 mod loops;
+mod object;
 mod texts;
 mod unanswered;
 mod uses;
@@ -38,11 +39,10 @@ pub use bounds::{
     list, run, run_source, start_words, view,
 };
 pub use diagnostic::{Diagnostic, Fault, Field, fault_diagnostic, line_text, refusal_diagnostic};
-pub use json::{
-    Object, Objects, accepted_json, refusal_json, refusal_json_of, refusal_object, without_end,
-};
+pub use json::{accepted_json, refusal_json, refusal_json_of, refusal_object, without_end};
 pub use lines::{fault_text, refusal_text, refusal_text_of};
 pub use loops::unchanged_guards;
+pub use object::{Object, Objects};
 pub use texts::{
     apply, build, check, check_steady, classes, flows, format, image_text, image_text_of,
     looped_text, looped_text_of, mend,
