@@ -2,7 +2,7 @@
 use Rattle.std.proofs.Common.{◌≡◌, ℕ, ◌+◌, ◌<◌, ◌≤◌, List, ◌++◌, length, get_or, drop, map, ap, sym, ◌∙◌, append_assoc}
 use Rattle.std.proofs.lemmas.List.{append-nil, at_drop_all, at_drop_more}
 use Rattle.std.specs.Global.{Vec}
-use Rattle.vsi_conform.specs.declared.tables.Cycle.{Cycle}
+use Rattle.vsi_conform.specs.declared.keys.Cycle.{Cycle}
 use Rattle.vsi_conform.specs.Reading.{ClassBoundary, bytes_of, cycle}
 use Rattle.vsi_conform.specs.Reaching.{Flowing, Released, all_released, released_at, released_by}
 

@@ -9,7 +9,7 @@ use Rattle.toml.specs.Parse.{parse_document}
 use Rattle.vsi_lattice.specs.Known.{Known}
 use Rattle.vsi_lattice.specs.Shape.{pair_of, all_of, array_at}
 use Rattle.vsi_image.specs.Fields.{Global, globals, is_taken}
-use Rattle.vsi_conform.specs.declared.tables.Cycle.{Cycle}
+use Rattle.vsi_conform.specs.declared.keys.Cycle.{Cycle}
 use Rattle.vsi_conform.specs.declared.interface.InterfaceError.{InterfaceError}
 use Rattle.vsi_conform.specs.declared.interface.InterfaceError.TheVariants.{NotToml, Memory}
 use Rattle.vsi_conform.specs.declared.interface.Bounded.{Bounded}

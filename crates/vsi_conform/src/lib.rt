@@ -25,11 +25,11 @@ mod checking;
 mod conforming;
 pub mod images;
 mod interface;
+mod keys;
 mod reaching;
 mod reader;
 mod reference;
 mod rows;
-mod tables;
 mod texts;
 
 pub use checking::{
@@ -45,13 +45,13 @@ pub use interface::{
     Answer, Bounded, Interface, InterfaceError, Judgement, Point, Trial, fault_name,
     interface_text, is_within,
 };
+pub use keys::{Cycle, unknown_cycle};
 pub use reaching::{
     Reach, are_within, flows_profile, is_among, text_reaches, with_reached_json, with_reached_lines,
 };
 pub use reader::{InterfaceFile, Policy, path_beside, read_interface, unknown_class};
 pub use reference::{Comparison, Contrast, Difference, Reference, compare_reference};
 pub use rows::{Detail, Kind, Row};
-pub use tables::{Cycle, unknown_cycle};
 pub use texts::{
     points_json, points_text, put_parts, put_row, refusal_lines, refusal_lines_of, text_rows,
 };

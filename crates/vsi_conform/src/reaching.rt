@@ -6,7 +6,7 @@ ghost use Rattle.vsi_conform.specs.Reaching as spec;
 ghost use Rattle.vsi_conform.specs.ReachedLines as lines_spec;
 
 use crate::interface::Judgement;
-use crate::tables::Cycle;
+use crate::keys::Cycle;
 use crate::texts::put_parts;
 use std::alloc::{AllocError, Global};
 use vsi_compiler::{CompileError, Source, read_source};

@@ -15,7 +15,7 @@ ghost use Rattle.vsi_conform.specs.Reading as spec;
 
 use crate::conforming::is_named;
 use crate::interface::{Bounded, Interface, InterfaceError, Judgement};
-use crate::tables::{
+use crate::keys::{
     Cycle, cycles_in, natural, other_key, path_at, table_in, text_at, trials_in, value_at,
 };
 use std::alloc::{AllocError, Global};

@@ -7,8 +7,8 @@ ghost use Rattle.vsi_conform.specs.Reference as spec;
 
 use crate::conforming::are_same;
 use crate::interface::Interface;
+use crate::keys::Cycle;
 use crate::reaching::is_among;
-use crate::tables::Cycle;
 use rand_core::{Rng, SeedableRng};
 use rand_xoshiro::SplitMix64;
 use std::alloc::{AllocError, Global};

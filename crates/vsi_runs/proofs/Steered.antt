@@ -4,7 +4,7 @@ use Rattle.std.specs.Prelude.{Bool, Option, IfErr, IfOk, bytes_eq, option_map}
 use Rattle.std.specs.Borrow.{Bor}
 use Rattle.std.proofs.lemmas.Result.{IfOk-weaker}
 use Rattle.vsi_conform.specs.Reading.{ClassBoundary, cycle}
-use Rattle.vsi_conform.specs.declared.tables.Cycle.{Cycle}
+use Rattle.vsi_conform.specs.declared.keys.Cycle.{Cycle}
 use Rattle.vsi_drive.specs.Boundary.{no_boundary}
 use Rattle.vsi_answers.specs.declared.unanswered.Unanswered.{Unanswered}
 use Rattle.vsi_arguments.specs.declared.request.DrivePolicy.{DrivePolicy}

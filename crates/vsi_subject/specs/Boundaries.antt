@@ -4,7 +4,7 @@ use Rattle.std.specs.Borrow.{Bor}
 use Rattle.std.specs.Global.{Vec}
 use Rattle.vsi_lattice.specs.NamePlaces.{texts}
 use Rattle.vsi_conform.specs.Reading.{ClassBoundary, cycle}
-use Rattle.vsi_conform.specs.declared.tables.Cycle.{Cycle}
+use Rattle.vsi_conform.specs.declared.keys.Cycle.{Cycle}
 use Rattle.vsi_drive.specs.Boundary.{Boundary, names_of, no_boundary}
 use Rattle.vsi_arguments.specs.declared.request.DrivePolicy.{DrivePolicy}
 use Rattle.vsi_arguments.specs.declared.request.DrivePolicy.TheVariants as policy

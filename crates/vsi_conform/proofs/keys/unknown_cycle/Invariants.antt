@@ -1,7 +1,7 @@
 use Rattle.std.proofs.Common.{◌≡◌, drop, map}
 use Rattle.vsi_lattice.specs.LatticeView.{class_named}
 use Rattle.vsi_conform.specs.Reading.{cycle, first_unbound}
-use Rattle.vsi_conform.proofs.tables.unknown_cycle.Given as goal
+use Rattle.vsi_conform.proofs.keys.unknown_cycle.Given as goal
 
 -- The first unknown class of the rest is the first of all.
 abbrev pub invariant-loop-i : goal.invariant-loop-i

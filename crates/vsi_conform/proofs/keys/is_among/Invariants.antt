@@ -1,6 +1,6 @@
 use Rattle.std.proofs.Common.{◌≡◌, drop}
 use Rattle.vsi_conform.specs.Reading as spec
-use Rattle.vsi_conform.proofs.tables.is_among.Given as goal
+use Rattle.vsi_conform.proofs.keys.is_among.Given as goal
 
 -- The key is among the remaining ones exactly if it is among all.
 abbrev pub invariant-loop-allowed : goal.invariant-loop-allowed

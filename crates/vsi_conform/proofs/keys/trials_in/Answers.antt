@@ -5,7 +5,7 @@ use Rattle.std.specs.List.{All}
 use Rattle.vsi_image.specs.Fields.{globals}
 use Rattle.vsi_lattice.proofs.ShapeLemmas.{so_far_push}
 use Rattle.vsi_conform.specs.Reading.{NamesGlobals, run, run_of}
-use Rattle.vsi_conform.proofs.tables.trials_in.Goals as goal
+use Rattle.vsi_conform.proofs.keys.trials_in.Goals as goal
 
 pub loop-i-preserved : goal.loop-i-preserved
 loop-i-preserved c =

@@ -1,6 +1,6 @@
 use Rattle.std.proofs.Common.{◌≡◌, length, map}
 use Rattle.vsi_conform.specs.Reading.{cycle, has_class}
-use Rattle.vsi_conform.proofs.tables.has_class.Given as goal
+use Rattle.vsi_conform.proofs.keys.has_class.Given as goal
 
 -- The class is that of one of the remaining boundaries exactly if it is that of one of all.
 abbrev pub invariant-loop-rest : goal.invariant-loop-rest

@@ -3,7 +3,7 @@ use Rattle.std.specs.List.{All}
 use Rattle.vsi_image.specs.Fields.{globals}
 use Rattle.vsi_lattice.proofs.ShapeLemmas.{IsSoFar}
 use Rattle.vsi_conform.specs.Reading.{BoundsGlobals, cycle, cycle_of}
-use Rattle.vsi_conform.proofs.tables.cycles_in.Given as goal
+use Rattle.vsi_conform.proofs.keys.cycles_in.Given as goal
 
 -- The boundaries found so far and those of the rest are all boundaries; those found name only globals of the interface.
 abbrev pub invariant-loop-i : goal.invariant-loop-i

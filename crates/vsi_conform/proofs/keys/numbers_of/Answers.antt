@@ -2,7 +2,7 @@ use Rattle.std.proofs.Common.{sym, rules, string_bytes}
 use Rattle.toml.specs.View.{view, members_view}
 use Rattle.vsi_conform.specs.Reading as spec
 use Rattle.vsi_conform.proofs.Numbers.{number_found}
-use Rattle.vsi_conform.proofs.tables.numbers_of.Goals as goal
+use Rattle.vsi_conform.proofs.keys.numbers_of.Goals as goal
 
 pub loop-key-preserved : goal.loop-key-preserved
 loop-key-preserved c =

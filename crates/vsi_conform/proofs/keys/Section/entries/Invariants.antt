@@ -2,7 +2,7 @@ use Rattle.std.proofs.Common.{◌≡◌, drop}
 use Rattle.vsi_image.specs.Fields.{globals}
 use Rattle.vsi_conform.specs.Points.{entries}
 use Rattle.vsi_conform.specs.Reading as spec
-use Rattle.vsi_conform.proofs.tables.Section.entries.Given as goal
+use Rattle.vsi_conform.proofs.keys.Section.entries.Given as goal
 
 -- All names are names of globals exactly if the remaining ones are.
 abbrev pub invariant-loop-entry : goal.invariant-loop-entry

@@ -1,6 +1,6 @@
 use Rattle.std.proofs.Common.{◌≡◌, length, map}
 use Rattle.vsi_conform.specs.Reading.{are_apart, cycle}
-use Rattle.vsi_conform.proofs.tables.repeated.Given as goal
+use Rattle.vsi_conform.proofs.keys.repeated.Given as goal
 
 -- The classes of the remaining boundaries differ exactly if those of all do.
 abbrev pub invariant-loop-rest : goal.invariant-loop-rest

@@ -8,7 +8,7 @@ use Rattle.toml.specs.View.{view}
 use Rattle.vsi_image.specs.Fields.{globals}
 use Rattle.vsi_lattice.proofs.ShapeLemmas.{so_far_push}
 use Rattle.vsi_conform.specs.Reading.{IsKnown, bytes_of}
-use Rattle.vsi_conform.proofs.tables.Section.names.Goals as goal
+use Rattle.vsi_conform.proofs.keys.Section.names.Goals as goal
 
 pub loop-value-preserved : goal.loop-value-preserved
 loop-value-preserved c =

@@ -2,7 +2,7 @@ use Rattle.std.proofs.Common.{◌≡◌, ◌++◌, option_map}
 use Rattle.toml.specs.View.{members_view}
 use Rattle.vsi_conform.specs.Points.{entries}
 use Rattle.vsi_conform.specs.Reading as spec
-use Rattle.vsi_conform.proofs.tables.numbers_of.Given as goal
+use Rattle.vsi_conform.proofs.keys.numbers_of.Given as goal
 
 -- The entries found so far and those of the rest are all entries.
 abbrev pub invariant-loop-key : goal.invariant-loop-key

@@ -1,5 +1,5 @@
 use Rattle.toml.proofs.Views.{table_get}
-use Rattle.vsi_conform.proofs.tables.value_at.Goals as goal
+use Rattle.vsi_conform.proofs.keys.value_at.Goals as goal
 
 pub returns : goal.returns
 returns c = table_get c.get.result c.args.key.now c.args.table.now.entries c.get.ensures.value
