@@ -7,8 +7,7 @@ loop-node-preserved c =
     let nodes = c.args.nodes.now in
     let places = c.args.places.now in
     let there = c.loop-node-test.true in
-    let beside : c.loop-node.node < length places = omega (arith, there, c.requires) in
-    (
+    let beside : c.loop-node.node < length places = omega (arith, there, c.requires) in (
       sized_more nodes places c.loop-node.node _ _ there beside (c.if-not-has_size.ensures refl)
           c.loop-node.invariant.0,
       framed_more nodes places c.args.groups.now c.loop-node.node _ _ _ there beside
