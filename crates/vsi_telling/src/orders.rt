@@ -139,6 +139,11 @@ fn base_name(pairs: &[(u8, u8)], class: usize) -> &'static [u8] {
     }
 }
 
+/// Whether one of the names is this one.
+fn has_name(names: &[&[u8]], fresh: &[Vec<u8>], name: &[u8]) -> bool {
+    names.contains(&name) || fresh.iter().any(|other| other.as_slice() == name)
+}
+
 /// A name for an added class that no class has: this one, or this one and a number.
 fn fresh_name(
     alloc: Global,
@@ -151,8 +156,7 @@ fn fresh_name(
         if turn > 1 {
             say(&mut name, "%", &[Part::Number(turn)])?;
         }
-        let is_same = |other: &Vec<u8>| other.as_slice() == name.as_slice();
-        if !names.contains(&name.as_slice()) && !fresh.iter().any(is_same) {
+        if !has_name(names, fresh, &name) {
             return Ok(name);
         }
     }

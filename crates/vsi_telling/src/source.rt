@@ -280,9 +280,14 @@ impl Telling<'_> {
         let Some(diagnostic) = refusal_diagnostic(self.bytes, &error) else {
             return Ok(());
         };
-        let place = Part::Place(self.bytes, fault.span.start);
-        let (code, name) = (Part::Number(diagnostic.code), Part::Text(diagnostic.name));
-        self.say("Also at %: % %.\n", &[place, code, name])
+        self.say(
+            "Also at %: % ",
+            &[
+                Part::Place(self.bytes, fault.span.start),
+                Part::Number(diagnostic.code),
+            ],
+        )?;
+        self.say("%.\n", &[Part::Text(diagnostic.name)])
     }
 
     /// Adds the faults of a refused text after its first one, but none on a line for which a hint
