@@ -28,9 +28,10 @@ const ARROWS: &[u8] =
     b"</figure>\n<details class=\"spare\"><summary>The arrows as a table</summary>\n<table><thead>\
 <tr><th scope=\"col\">From</th><th scope=\"col\">To</th><th scope=\"col\">By</th></tr></thead>\n\
 <tbody>\n";
-/// The name, the length and the checksum of a file.
-const FILE: &[u8] = b"<dt>%0</dt><dd><code>%1</code>, %2 bytes</dd>\n\
-<dd>SHA-256 <code class=\"sum\">%3</code></dd>\n";
+/// The name and the length of a file.
+const FILE: &[u8] = b"<dt>%0</dt><dd><code>%1</code>, %2 bytes</dd>\n";
+/// The checksum of a file.
+const SUM: &[u8] = b"<dd>SHA-256 <code class=\"sum\">%0</code></dd>\n";
 /// The profile, the version, and the text of the lattice file, which opens on request.
 const MAKING: &[u8] = b"<dt>Judged by</dt><dd>the %0</dd>\n<dt>Made by</dt><dd>vsi %1</dd>\n</dl>\n\
 <details><summary>The lattice file</summary>\n<pre class=\"wrap\"><code>%2\
@@ -172,8 +173,9 @@ fn put_file(
     text: &[u8],
 ) -> Added {
     let sum = hex::encode(view.alloc, Sha256::digest(text))?;
-    let (name, sum) = (Text(leaf(path)), Text(sum.as_bytes()));
-    page.fill(FILE, &[Markup(kind), name, Number(text.len()), sum])
+    let parts = [Markup(kind), Text(leaf(path)), Number(text.len())];
+    page.fill(FILE, &parts)?;
+    page.fill(SUM, &[Text(sum.as_bytes())])
 }
 
 /// Adds the section about the files of a page.
@@ -198,9 +200,11 @@ const BREAK: &[u8] = b"<p>This flow goes away if %1 no longer depends on %0.</p>
 /// The sentence about further refused flows.
 const OTHERS: &[u8] = b"<p>It is one of %4 refused flows: each is in <a href=\"#table\">the table\
 </a>.</p>\n";
-/// The section about a fault.
+/// The section about a fault, up to its explanation.
 const FAULT: &[u8] = b"<section aria-labelledby=\"why\"><h2 id=\"why\">Why it is refused</h2>\n\
-<pre class=\"wrap\"><code>%0%1</code></pre>\n</section>\n";
+<pre class=\"wrap\"><code>%0";
+/// The explanation of a fault, and the end of its section.
+const EXPLAINED: &[u8] = b"%0</code></pre>\n</section>\n";
 /// The most pairs of a table that has a row for each.
 const MOST_PAIRS: usize = 100;
 /// The most steps of the walks of a table.
@@ -316,7 +320,8 @@ pub(crate) fn put_fault(page: &mut Page, view: &View<'_>, error: &CompileError) 
     let line = refusal_text(alloc, lattice, source, error)?;
     let (mode, name) = (ColourMode::Plain, view.filing.source);
     let more = source_explanation(alloc, mode, name, lattice, source, error)?;
-    page.fill(FAULT, &[Text(&line), Text(&more)])
+    page.fill(FAULT, &[Text(&line)])?;
+    page.fill(EXPLAINED, &[Text(&more)])
 }
 
 /// The first refused pairs, each with the steps of a shortest walk.
