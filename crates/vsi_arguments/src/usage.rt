@@ -50,17 +50,21 @@ fn with_tips(alloc: Global, text: &str) -> Result<String, AllocError> {
     told.push_str(mistake)?;
     put_tips(&mut told, mistake)?;
     let is_owned = put_owners(alloc, &mut told, mistake)?;
-    match rest.split_once(GAP) {
-        Some((tips, behind)) if tips.starts_with(TIP) => {
-            if !is_owned && !tips.starts_with(DASHES) {
-                let (tip, _) = tips.split_once("\n").unwrap_or((tips, ""));
-                write!(told, "{GAP}{tip}")?;
-            }
+    match tip_of(rest) {
+        Some((tip, behind)) if is_owned || tip.starts_with(DASHES) => {
             write!(told, "{GAP}{behind}")?;
         }
-        _ => write!(told, "{GAP}{rest}")?,
+        Some((tip, behind)) => write!(told, "{GAP}{tip}{GAP}{behind}")?,
+        None => write!(told, "{GAP}{rest}")?,
     }
     Ok(told)
+}
+
+/// The first line of the tip at the beginning of the paragraphs, and the paragraphs after it.
+fn tip_of(rest: &str) -> Option<(&str, &str)> {
+    let (tips, behind) = rest.split_once(GAP)?;
+    let (first, _) = tips.split_once("\n").unwrap_or((tips, ""));
+    first.starts_with(TIP).then_some((first, behind))
 }
 
 /// Adds the tips for arguments that are missing or should be numbers, in a paragraph, and a tip that
@@ -166,16 +170,11 @@ Example:
 /// The version that `--version` prints after the program's name.
 const VERSION: &str = "0.1.0";
 
-/// All subcommands, as the help has them.
-const SUBCOMMANDS: [&[Subcommand]; 4] = [&TEXTS, &IMAGES, &RUNS, &PAGES];
-
-/// The subcommand with this name.
-fn subcommand_of(name: &str) -> Option<&'static Subcommand> {
-    for list in &SUBCOMMANDS {
-        for subcommand in *list {
-            if subcommand.name == name {
-                return Some(subcommand);
-            }
+/// The subcommand of a list with this name.
+fn subcommand_of<'b>(list: &'b [Subcommand], name: &str) -> Option<&'b Subcommand> {
+    for subcommand in list {
+        if subcommand.name == name {
+            return Some(subcommand);
         }
     }
     None
@@ -192,34 +191,61 @@ fn bare<'a>(alloc: Global) -> Result<Command<'a>, AllocError> {
         .bin_name("vsi")
 }
 
+/// Adds subcommands to the program.
+fn having<'a>(
+    alloc: Global,
+    program: Command<'a>,
+    subcommands: &[Subcommand],
+) -> Result<Command<'a>, AllocError> {
+    let mut program = program;
+    for subcommand in subcommands {
+        program = program.subcommand(subcommand.made(alloc)?)?;
+    }
+    Ok(program)
+}
+
+/// The program with all its subcommands.
+fn whole<'a>(alloc: Global) -> Result<Command<'a>, AllocError> {
+    let program = having(alloc, bare(alloc)?, &TEXTS)?;
+    let program = having(alloc, program, &IMAGES)?;
+    let program = having(alloc, program, &RUNS)?;
+    having(alloc, program, &PAGES)
+}
+
 /// The program with the subcommands that the parser needs for arguments that begin with this one.
 /// If it names a subcommand, this one reads all the others, and no message is about another one.
 /// Building all subcommands would take most of the time of a short run.
 pub(crate) fn program<'a>(alloc: Global, first: &str) -> Result<Command<'a>, AllocError> {
-    if let Some(subcommand) = subcommand_of(first) {
-        return bare(alloc)?.subcommand(subcommand.made(alloc)?);
+    if let Some(subcommand) = subcommand_of(&TEXTS, first)
+        .or(subcommand_of(&IMAGES, first))
+        .or(subcommand_of(&RUNS, first))
+        .or(subcommand_of(&PAGES, first))
+    {
+        let command = subcommand.made(alloc)?;
+        return bare(alloc)?.subcommand(command);
     }
-    let mut subcommands = Vec::new(alloc);
-    for list in &SUBCOMMANDS {
-        for subcommand in *list {
-            subcommands.push(subcommand.made(alloc)?)?;
-        }
-    }
-    bare(alloc)?.subcommands(subcommands)
+    whole(alloc)
 }
 
 /// The names of the subcommands with this option of their own, as the help has them, with commas
 /// between them.
-fn owners_of(alloc: Global, option: &str) -> Result<String, AllocError> {
+pub(crate) fn owners_of(alloc: Global, option: &str) -> Result<String, AllocError> {
     let mut owners = String::new(alloc);
-    for list in &SUBCOMMANDS {
-        for subcommand in *list {
-            if subcommand.has_option(option) {
-                let gap = if owners.is_empty() { "" } else { ", " };
-                owners.push_str(gap)?;
-                owners.push_str(subcommand.name)?;
-            }
+    add_owners(&mut owners, &TEXTS, option)?;
+    add_owners(&mut owners, &IMAGES, option)?;
+    add_owners(&mut owners, &RUNS, option)?;
+    add_owners(&mut owners, &PAGES, option)?;
+    Ok(owners)
+}
+
+/// Adds the names of the subcommands of a list that have the option.
+fn add_owners(owners: &mut String, list: &[Subcommand], option: &str) -> Result<(), AllocError> {
+    for subcommand in list {
+        if subcommand.has_option(option) {
+            let gap = if owners.is_empty() { "" } else { ", " };
+            owners.push_str(gap)?;
+            owners.push_str(subcommand.name)?;
         }
     }
-    Ok(owners)
+    Ok(())
 }
