@@ -1,14 +1,7 @@
 //! The answers of requests that don't write while they work, and where they go.
 
-ghost use Rattle.std.specs.Prelude.{◌≡◌, ◌⊎◌, [], IfErr, IfOk, OnOk, ◌<◌, true, false};
-ghost use Rattle.vsi_subject.specs.Noted.{IsNoteBefore, NotesAnswer, document_noting, Notes, noting};
-ghost use Rattle.vsi_subject.specs.Performed.{DocumentOf, PutsAnswer, Tells};
-ghost use Rattle.vsi_subject.specs.Reasons.{LacksDocument, RefusesDocument, Refuses, WhyAnswer};
-ghost use Rattle.vsi_subject.specs.Refusals.{NoOther, FailsBy};
-ghost use Rattle.std.specs.Io.KnownBytes.{Appends};
-ghost use Rattle.vsi_subject.specs.Failures.{TellsFault, status_of};
-ghost use Rattle.vsi_subject.specs.Partly.{WritesPart, AnswersText, Leaves};
-ghost use Rattle.vsi_subject.specs.Works.{Puts, Stays, out_of, cut_of, document_spends, end_of, spends};
+ghost use Rattle.std.specs.{Prelude.{◌≡◌, ◌⊎◌, [], IfErr, IfOk, OnOk, ◌<◌, true, false}, Io.KnownBytes.{Appends}};
+ghost use Rattle.vsi_subject.specs.{Noted.{IsNoteBefore, NotesAnswer, document_noting, Notes, noting}, Performed.{DocumentOf, PutsAnswer, Tells}, Reasons.{LacksDocument, RefusesDocument, Refuses, WhyAnswer}, Refusals.{NoOther, FailsBy}, Failures.{TellsFault, status_of}, Partly.{WritesPart, AnswersText, Leaves}, Works.{Puts, Stays, out_of, cut_of, document_spends, end_of, spends}};
 ghost use Rattle.vsi_drive.specs.Counted.{device_of, faults_of};
 ghost use Rattle.vsi_subject.specs.Works as spec;
 

@@ -1,14 +1,7 @@
 //! The arguments of a command line, carried out.
 
-ghost use Rattle.std.specs.Prelude.{◌≡◌, ◌≢◌, ◌<◌, ◌≤◌, ◌⊎◌, ◌++◌, [], false, Ok, Err, IfOk, IfErr, OnOk, codes, IsOkAnd};
-ghost use Rattle.std.specs.Io.KnownBytes.{Keeps};
-ghost use Rattle.vsi_subject.specs.Done.{Done, Failed, FailsAt};
-ghost use Rattle.vsi_subject.specs.Input.{AnswersInput, RefusesRun, SpendsRun, FailsRun, TellsFailure, WritesRun, WritesRunOf};
-ghost use Rattle.vsi_subject.specs.Noted.{NotesFailure, NotesOf, TellsNote};
-ghost use Rattle.vsi_subject.specs.Partly.{BytesOf, Partly};
-ghost use Rattle.vsi_subject.specs.Saved.{KeepsStateOf};
-ghost use Rattle.vsi_subject.specs.Screen.{tamed, tamed as tamed_text};
-ghost use Rattle.vsi_subject.specs.Failures.{note_after, status_of, text_of_failure, Gets, IsStreamFault, FailsFor, TellsFault};
+ghost use Rattle.std.specs.{Prelude.{◌≡◌, ◌≢◌, ◌<◌, ◌≤◌, ◌⊎◌, ◌++◌, [], false, Ok, Err, IfOk, IfErr, OnOk, codes, IsOkAnd}, Io.KnownBytes.{Keeps}};
+ghost use Rattle.vsi_subject.specs.{Done.{Done, Failed, FailsAt}, Input.{AnswersInput, RefusesRun, SpendsRun, FailsRun, TellsFailure, WritesRun, WritesRunOf}, Noted.{NotesFailure, NotesOf, TellsNote}, Partly.{BytesOf, Partly}, Saved.{KeepsStateOf}, Screen.{tamed, tamed as tamed_text}, Failures.{note_after, status_of, text_of_failure, Gets, IsStreamFault, FailsFor, TellsFault}};
 ghost use Rattle.vsi_answers.specs.Requests.{RunsSourceTo};
 ghost use Rattle.vsi_drive.specs.Counted.{device_of, faults_of};
 ghost use Rattle.vsi_subject.specs.Screen as screen_spec;

@@ -1,11 +1,8 @@
 //! Refusals as values, and their lines of JSON.
 
-ghost use Rattle.std.specs.Prelude.{◌≡◌, ◌<◌, ◌⊎◌, true, IfSome, ◌++◌, ℕ, List, IfOk};
-ghost use Rattle.std.specs.Io.KnownBytes.{Appends};
-ghost use Rattle.vsi_subject.specs.Failures.{status_of};
-ghost use Rattle.vsi_subject.specs.Partly.{WritesPart};
+ghost use Rattle.std.specs.{Prelude.{◌≡◌, ◌<◌, ◌⊎◌, true, IfSome, ◌++◌, ℕ, List, IfOk}, Io.KnownBytes.{Appends}};
+ghost use Rattle.vsi_subject.specs.{Failures.{status_of}, Partly.{WritesPart}, FaultyFiles.{IsRefusalBy}};
 ghost use Rattle.vsi_drive.specs.Counted.{device_of, faults_of};
-ghost use Rattle.vsi_subject.specs.FaultyFiles.{IsRefusalBy};
 ghost use Rattle.vsi_answers.specs.View.{diagnostic_of};
 ghost use Rattle.vsi_subject.specs.Diagnosing as spec;
 ghost use Rattle.vsi_subject.specs.FaultyFiles as faulty_spec;

@@ -1,19 +1,9 @@
 //! Carries out arguments.
 
 ghost use Rattle.std.specs.Prelude.{◌≡◌, ◌<◌, ◌⊎◌, ◌++◌, ℕ, List, [], false, None, IfErr, IfOk, OnOk};
-ghost use Rattle.vsi_subject.specs.Done.{Done, EndsEarly, IsMistake, Failed, Unread};
-ghost use Rattle.vsi_subject.specs.Noted.{IsFailureNote, IsNote, NotesFailure, NotesOf, noting, Notes};
-ghost use Rattle.vsi_subject.specs.Objections.{MayObject};
-ghost use Rattle.vsi_subject.specs.Performed.{Performs};
-ghost use Rattle.vsi_subject.specs.Saved.{KeepsState, KeepsStateOf};
-ghost use Rattle.vsi_subject.specs.Screen.{tamed};
-ghost use Rattle.vsi_subject.specs.Failures.{TellsFault, status_of};
-ghost use Rattle.vsi_subject.specs.declared.failure.Failure.TheVariants.{Memory};
+ghost use Rattle.vsi_subject.specs.{Done.{Done, EndsEarly, IsMistake, Failed, Unread}, Noted.{IsFailureNote, IsNote, NotesFailure, NotesOf, noting, Notes}, Objections.{MayObject}, Performed.{Performs}, Saved.{KeepsState, KeepsStateOf}, Screen.{tamed}, Failures.{TellsFault, status_of}, declared.failure.Failure.TheVariants.{Memory}, Partly.{Answers, Leaves}, Works.{cut_from}, Reasons.{Why}};
 ghost use Rattle.vsi_arguments.specs.Help.{AsksHelp};
 ghost use Rattle.vsi_drive.specs.Counted.{device_of, faults_of};
-ghost use Rattle.vsi_subject.specs.Partly.{Answers, Leaves};
-ghost use Rattle.vsi_subject.specs.Works.{cut_from};
-ghost use Rattle.vsi_subject.specs.Reasons.{Why};
 ghost use Rattle.vsi_subject.specs.Words as words_spec;
 
 use crate::answers::put_answer;

@@ -6,8 +6,7 @@
 #![tactic(auto)]
 
 ghost use Rattle.std.specs.Prelude.{◌≡◌, IfOk, true};
-ghost use Rattle.vsi_telling.specs.declared.place.ColourMode.TheVariants.{Plain};
-ghost use Rattle.vsi_telling.specs.Safe.{all_plain};
+ghost use Rattle.vsi_telling.specs.{declared.place.ColourMode.TheVariants.{Plain}, Safe.{all_plain}};
 
 mod images;
 mod interface_tables;

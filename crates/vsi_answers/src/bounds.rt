@@ -1,9 +1,7 @@
 //! The answers about an image: its runs and its bound.
 
 ghost use Rattle.std.specs.Prelude.{◌≡◌, length, IfOk, ◌++◌, MatchResult, OnOk};
-ghost use Rattle.vsi_lattice.specs.LatticeView.{order};
-ghost use Rattle.vsi_lattice.specs.NamePlaces.{texts};
-ghost use Rattle.vsi_lattice.specs.Order.{IsClass};
+ghost use Rattle.vsi_lattice.specs.{LatticeView.{order}, NamePlaces.{texts}, Order.{IsClass}};
 ghost use Rattle.vsi_answers.specs.Requests.{BeginsWith, ComparesTo, RunsSourceTo, RunsTo, ViewsTo, zeros, ListsTo, ReadsImage, ReadsLattice};
 ghost use Rattle.vsi_answers.specs.Bounds as spec;
 

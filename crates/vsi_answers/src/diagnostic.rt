@@ -1,8 +1,7 @@
 //! A refusal as a value, of whichever layer, and its line.
 
 ghost use Rattle.std.specs.Prelude.{◌≡◌, ◌++◌, IfOk, OnOk, option_map};
-ghost use Rattle.vsi_answers.specs.View.{diagnostic_of, field_of};
-ghost use Rattle.vsi_answers.specs.Diagnostic.{pair};
+ghost use Rattle.vsi_answers.specs.{View.{diagnostic_of, field_of}, Diagnostic.{pair}};
 ghost use Rattle.vsi_answers.specs.Diagnostic as spec;
 ghost use Rattle.vsi_answers.specs.Source as source_spec;
 ghost use Rattle.vsi_answers.specs.Lattice as lattice_spec;

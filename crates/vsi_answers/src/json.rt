@@ -82,8 +82,7 @@ fn walk_objects(
 impl Object {
     ghost use Rattle.std.specs.Prelude.{◌≡◌, IfOk};
     ghost use Rattle.serde_json.specs.View.{members_view};
-    ghost use Rattle.vsi_answers.specs.Json.{with_place};
-    ghost use Rattle.vsi_answers.specs.View.{field_of};
+    ghost use Rattle.vsi_answers.specs.{Json.{with_place}, View.{field_of}};
 
     /// The object with the line and the column of a refusal that has a position.
     fn place(self, field: Field) -> Result<Object, AllocError>

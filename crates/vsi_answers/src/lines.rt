@@ -1,8 +1,7 @@
 //! The texts of refusals, each a line that ends with a line feed.
 
 ghost use Rattle.std.specs.Prelude.{◌≡◌, IfOk, option_map};
-ghost use Rattle.vsi_answers.specs.Files.{fault_diagnostic};
-ghost use Rattle.vsi_answers.specs.View.{diagnostic_of};
+ghost use Rattle.vsi_answers.specs.{Files.{fault_diagnostic}, View.{diagnostic_of}};
 ghost use Rattle.vsi_answers.specs.Texts as spec;
 
 use crate::diagnostic::{Diagnostic, Fault, fault_diagnostic, line_text, refusal_diagnostic};

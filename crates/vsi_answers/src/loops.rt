@@ -6,8 +6,7 @@
 
 ghost use Rattle.std.specs.Prelude.{◌≡◌, IfOk, OnOk};
 ghost use Rattle.vsi_scope.specs.View.{command, expression, sequence};
-ghost use Rattle.vsi_answers.specs.Stamps.{IsWalked, reads_above, stamp, stamped};
-ghost use Rattle.vsi_answers.specs.Warned.{unchanged};
+ghost use Rattle.vsi_answers.specs.{Stamps.{IsWalked, reads_above, stamp, stamped}, Warned.{unchanged}};
 
 use std::alloc::{AllocError, Global};
 use vsi_scope::{Cmd, Ex, Resolved};

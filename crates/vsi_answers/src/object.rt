@@ -1,8 +1,7 @@
 //! Objects of JSON without fractional numbers, whose text is therefore known.
 
 ghost use Rattle.std.specs.Prelude.{◌≡◌, ◌++◌, ◌∷◌, [], map, OnErr, OnOk};
-ghost use Rattle.serde_json.specs.Data.{object};
-ghost use Rattle.serde_json.specs.View.{members_view, view};
+ghost use Rattle.serde_json.specs.{Data.{object}, View.{members_view, view}};
 
 use serde_json::{Map, Value, put};
 use std::alloc::{AllocError, Global};
@@ -16,13 +15,10 @@ pub struct Object {
 }
 
 impl Model for Object {
-    ghost use Rattle.std.specs.Prelude.{◌≡◌, false, List, String};
-    ghost use Rattle.std.specs.declared.alloc.Global.{Global};
-    ghost use Rattle.serde_json.specs.View.{members_view};
-    ghost use Rattle.serde_json.specs.Written.{members_have_float};
+    ghost use Rattle.std.specs.{Prelude.{◌≡◌, false, List, String}, declared.alloc.Global.{Global}, Coded.{codes}};
+    ghost use Rattle.serde_json.specs.{View.{members_view}, Written.{members_have_float}};
     ghost use Rattle.serde_json.specs.declared.value.Value as json;
     ghost use Rattle.serde_json.specs.contracts.value.Value as value;
-    ghost use Rattle.std.specs.Coded.{codes};
 
     ghost Value = { List (String Global × json.Value) };
 
@@ -41,12 +37,10 @@ pub struct Objects {
 }
 
 impl Model for Objects {
-    ghost use Rattle.std.specs.Prelude.{◌≡◌, false, List};
-    ghost use Rattle.serde_json.specs.View.{items_view};
-    ghost use Rattle.serde_json.specs.Written.{items_have_float};
+    ghost use Rattle.std.specs.{Prelude.{◌≡◌, false, List}, Coded.{codes}};
+    ghost use Rattle.serde_json.specs.{View.{items_view}, Written.{items_have_float}};
     ghost use Rattle.serde_json.specs.declared.value.Value as json;
     ghost use Rattle.serde_json.specs.contracts.value.Value as value;
-    ghost use Rattle.std.specs.Coded.{codes};
 
     ghost Value = { List json.Value };
 
@@ -68,8 +62,7 @@ fn put_item(items: &mut Vec<Value>, added: Map<String, Value>) -> Result<(), All
 
 impl Objects {
     ghost use Rattle.std.specs.Prelude.{◌≡◌, ◌++◌, ◌∷◌, [], map, IfOk, OnOk};
-    ghost use Rattle.serde_json.specs.Data.{object};
-    ghost use Rattle.serde_json.specs.View.{members_view, view};
+    ghost use Rattle.serde_json.specs.{Data.{object}, View.{members_view, view}};
 
     /// No objects.
     pub fn new(alloc: Global) -> Objects
@@ -102,10 +95,7 @@ impl Objects {
 
 impl Object {
     ghost use Rattle.std.specs.Prelude.{◌≡◌, IfOk, false};
-    ghost use Rattle.serde_json.specs.Data.{array, boolean, no_members, object, string};
-    ghost use Rattle.serde_json.specs.Data.{put as with};
-    ghost use Rattle.serde_json.specs.View.{items_view, members_view, view};
-    ghost use Rattle.serde_json.specs.Written.{has_float};
+    ghost use Rattle.serde_json.specs.{Data.{array, boolean, no_members, object, string, put as with}, View.{items_view, members_view, view}, Written.{has_float}};
     ghost use Rattle.vsi_answers.specs.Members as spec;
 
     /// An object without members.

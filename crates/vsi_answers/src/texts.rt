@@ -3,13 +3,10 @@
 ghost use Rattle.std.specs.Prelude.{◌≡◌, ◌≢◌, IfOk};
 ghost use Rattle.vsi_lattice.specs.LatticeView.{class_named, order};
 ghost use Rattle.vsi_types.specs.declared.rules.Profile.{Profile};
-ghost use Rattle.vsi_compiler.specs.Refusal.{RefusesProgram};
-ghost use Rattle.vsi_compiler.specs.declared.source.CompileError.TheVariants.{Memory};
+ghost use Rattle.vsi_compiler.specs.{Refusal.{RefusesProgram}, declared.source.CompileError.TheVariants.{Memory}};
 ghost use Rattle.vsi_steady.specs.Source.{RefusesSteady};
 ghost use Rattle.vsi_flows.specs.Answers.{RefusesRaisedText};
-ghost use Rattle.vsi_answers.specs.Answers.{Because};
-ghost use Rattle.vsi_answers.specs.Judged.{IsImageText, IsLoopedText, IsRaisedRefusal, IsSteadyText, TellsRaised, TellsSteady};
-ghost use Rattle.vsi_answers.specs.Requests.{AppliesTo, BuildsTo, ChecksSteadyTo, ChecksTo, ClassesTo, FlowsTo, FormatsTo, MendsTo, TellsUnraised};
+ghost use Rattle.vsi_answers.specs.{Answers.{Because}, Judged.{IsImageText, IsLoopedText, IsRaisedRefusal, IsSteadyText, TellsRaised, TellsSteady}, Requests.{AppliesTo, BuildsTo, ChecksSteadyTo, ChecksTo, ClassesTo, FlowsTo, FormatsTo, MendsTo, TellsUnraised}};
 
 use crate::unanswered::{Cause, Observer, Unanswered, refused_judged, refused_source};
 use crate::{refusal_text, refusal_text_of};

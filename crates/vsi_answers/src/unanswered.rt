@@ -1,9 +1,7 @@
 //! Why a request has no answer, and the text of a refusal.
 
 ghost use Rattle.std.specs.Prelude.{◌≡◌};
-ghost use Rattle.vsi_answers.specs.declared.unanswered.Unanswered.TheVariants.{Memory};
-ghost use Rattle.vsi_answers.specs.Answers.{Because};
-ghost use Rattle.vsi_answers.specs.Judged.{TellsFault, TellsSource, TellsStartFault};
+ghost use Rattle.vsi_answers.specs.{declared.unanswered.Unanswered.TheVariants.{Memory}, Answers.{Because}, Judged.{TellsFault, TellsSource, TellsStartFault}};
 
 use crate::{Fault, fault_text, refusal_text, refusal_text_of};
 use std::alloc::{AllocError, AllocFailed, Global};

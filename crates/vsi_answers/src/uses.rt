@@ -1,9 +1,7 @@
 //! The variables that commands read or assign, and those that nothing does.
 
 ghost use Rattle.std.specs.Prelude.{◌≡◌, ◌++◌, ◌+◌, ◌≤◌, IfOk, OnOk, length};
-ghost use Rattle.vsi_scope.specs.Language.{letvars};
-ghost use Rattle.vsi_scope.specs.Limits.{max_declarations};
-ghost use Rattle.vsi_scope.specs.View.{command, expression, sequence};
+ghost use Rattle.vsi_scope.specs.{Language.{letvars}, Limits.{max_declarations}, View.{command, expression, sequence}};
 ghost use Rattle.vsi_opt.specs.Liveness.{reads};
 ghost use Rattle.vsi_answers.specs.Warned.{is_unused, unread, used};
 

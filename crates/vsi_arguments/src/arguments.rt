@@ -1,10 +1,7 @@
 //! The arguments after a subcommand: its operands, flags, and options with their values.
 
-ghost use Rattle.std.specs.Prelude.{◌≡◌, ◌+◌, ◌*◌, ◌-◌, ◌<◌, ◌≤◌, ◌∷◌, [], IfOk, IfSome, IsTrue, MatchOption, None, Some, codes, drop, false, length, option_map, true};
-ghost use Rattle.std.specs.Char.{is_ascii_digit};
-ghost use Rattle.std.specs.List.{list_all};
-ghost use Rattle.vsi_arguments.specs.Asked.{given};
-ghost use Rattle.vsi_arguments.specs.declared.request.Budget.TheVariants.{Auto};
+ghost use Rattle.std.specs.{Prelude.{◌≡◌, ◌+◌, ◌*◌, ◌-◌, ◌<◌, ◌≤◌, ◌∷◌, [], IfOk, IfSome, IsTrue, MatchOption, None, Some, codes, drop, false, length, option_map, true}, Char.{is_ascii_digit}, List.{list_all}};
+ghost use Rattle.vsi_arguments.specs.{Asked.{given}, declared.request.Budget.TheVariants.{Auto}};
 ghost use Rattle.vsi_arguments.specs.Numbers as numbers;
 ghost use Rattle.vsi_arguments.specs.Words as spec;
 

@@ -1,20 +1,13 @@
 //! The judgement of an image, whose commands are within the limits of a resolved program.
 
 ghost use Rattle.std.specs.Prelude.{◌≡◌, true, IfSome, ℕ, ◌+◌, ◌≤◌, None, All, IfOk, IfErr, OnOk, length};
-ghost use Rattle.vsi_scope.specs.View.{expression, command, sequence};
-ghost use Rattle.vsi_audit.specs.Fitting.{Fits, FitsExpression};
-ghost use Rattle.vsi_image.specs.Fields.{fields, Spells};
-ghost use Rattle.vsi_image.specs.Valid.{IsValid};
+ghost use Rattle.vsi_scope.specs.{View.{expression, command, sequence}, Language.{size}, Program.{IsResolved}, Resolving.{AreBelow, HasClassesBelow}};
+ghost use Rattle.vsi_audit.specs.{Fitting.{Fits, FitsExpression}, Refusal.{Refuses}, Standing.{HasKnownClasses, HaveClasses, StandsFor}, Unread.{IsUnread}};
+ghost use Rattle.vsi_image.specs.{Fields.{fields, Spells}, Valid.{IsValid}};
 ghost use Rattle.vsi_lattice.specs.LatticeView.{class_named, order};
-ghost use Rattle.vsi_scope.specs.Language.{size};
-ghost use Rattle.vsi_scope.specs.Program.{IsResolved};
-ghost use Rattle.vsi_scope.specs.Resolving.{AreBelow, HasClassesBelow};
 ghost use Rattle.vsi_types.specs.declared.rules.Profile.TheVariants.{Strict};
 ghost use Rattle.vsi_code.specs.Behaves.{Behaves};
 ghost use Rattle.vsi_compiler.specs.Observation.{IsNoninterfering, EndsAlike};
-ghost use Rattle.vsi_audit.specs.Refusal.{Refuses};
-ghost use Rattle.vsi_audit.specs.Standing.{HasKnownClasses, HaveClasses, StandsFor};
-ghost use Rattle.vsi_audit.specs.Unread.{IsUnread};
 
 use crate::builder::{Commands, MAX_DECLARATIONS, commands_of};
 use crate::flow::{AuditError, Unread};

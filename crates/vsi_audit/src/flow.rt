@@ -1,12 +1,8 @@
 //! The flows of an image between its variables, and the report about one that breaks the policy.
 
-ghost use Rattle.std.specs.Prelude.{◌≡◌, ◌++◌, OnOk, IfOk, codes, decimal, IfErr};
-ghost use Rattle.vsi_audit.specs.declared.flow.AuditError.TheVariants.{Memory};
-ghost use Rattle.std.specs.List.{flat_map};
-ghost use Rattle.vsi_audit.specs.Telling.{IsAuditText};
+ghost use Rattle.std.specs.{Prelude.{◌≡◌, ◌++◌, OnOk, IfOk, codes, decimal, IfErr}, List.{flat_map}};
+ghost use Rattle.vsi_audit.specs.{declared.flow.AuditError.TheVariants.{Memory}, Telling.{IsAuditText}, Flows.{IsTableOfImage}, Refusal.{Refuses}};
 ghost use Rattle.vsi_lattice.specs.LatticeView.{class_named, order};
-ghost use Rattle.vsi_audit.specs.Flows.{IsTableOfImage};
-ghost use Rattle.vsi_audit.specs.Refusal.{Refuses};
 ghost use Rattle.vsi_audit.specs.declared.flow.Unread.TheVariants as unread;
 ghost use Rattle.vsi_image.specs.Fields as fields;
 ghost use Rattle.vsi_audit.specs.Telling as spec;

@@ -2,17 +2,11 @@
 //! code alone decides how it is read.
 
 ghost use Rattle.std.specs.Prelude.{◌≡◌, ℕ, [], ◌∷◌, ◌+◌, ◌-◌, ◌<◌, ◌≤◌, None, Some, true, IfSome, IfOk, IfErr, length, slice_get};
-ghost use Rattle.vsi_scope.specs.Language.{expression_size, letvars};
-ghost use Rattle.vsi_scope.specs.View.{expression, command, sequence};
+ghost use Rattle.vsi_scope.specs.{Language.{expression_size, letvars}, View.{expression, command, sequence}};
 ghost use Rattle.vsi_syntax.specs.declared.tree.Op.{Op as Operator};
 ghost use Rattle.vsi_code.specs.Layout.{expression_code};
-ghost use Rattle.vsi_audit.specs.Coding.{StandsAt};
-ghost use Rattle.vsi_audit.specs.Fitting.{FitsExpression};
-ghost use Rattle.vsi_audit.specs.Reading.{IsStop, IsValue, Readable, Begins, IsRead, Leaves};
-ghost use Rattle.vsi_audit.specs.Unread.{AreRead, IsUnread};
+ghost use Rattle.vsi_audit.specs.{Coding.{StandsAt}, Fitting.{FitsExpression}, Reading.{IsStop, IsValue, Readable, Begins, IsRead, Leaves}, Unread.{AreRead, IsUnread}, Steps.{IsStep, IsStore, IsPart}, declared.flow.Unread.TheVariants.{Memory}};
 ghost use Rattle.vsi_image.specs.Valid.{IsValid};
-ghost use Rattle.vsi_audit.specs.Steps.{IsStep, IsStore, IsPart};
-ghost use Rattle.vsi_audit.specs.declared.flow.Unread.TheVariants.{Memory};
 ghost use Rattle.vsi_image.specs.declared.instr.Instr.TheVariants as kinds;
 ghost use Rattle.vsi_code.specs.Layout as layout;
 ghost use Rattle.vsi_audit.specs.Reading as reading;

@@ -1,15 +1,9 @@
 //! The globals of an image as declarations, and their names.
 
 ghost use Rattle.std.specs.Prelude.{◌≡◌, ◌⊎◌, ◌++◌, false, true, OnOk, MatchOption, ℕ, map, IfOk, IfErr, IfSome};
-ghost use Rattle.vsi_audit.specs.MadeNames.{AreTaken, IsFreeAt, IsFirstFree, IsLast, IsForm};
-ghost use Rattle.vsi_audit.specs.Telling.{local_name, class_name};
+ghost use Rattle.vsi_audit.specs.{MadeNames.{AreTaken, IsFreeAt, IsFirstFree, IsLast, IsForm}, Telling.{local_name, class_name}, Text.{words}, Refusal.{IsUnknownAt}, Standing.{HaveClasses}, Unread.{IsUnread}};
 ghost use Rattle.vsi_lattice.specs.LatticeView.{class_named};
-ghost use Rattle.vsi_scope.specs.Program.{IsResolved};
-ghost use Rattle.vsi_scope.specs.Resolving.{AreBelow, HasClassesBelow};
-ghost use Rattle.vsi_audit.specs.Text.{words};
-ghost use Rattle.vsi_audit.specs.Refusal.{IsUnknownAt};
-ghost use Rattle.vsi_audit.specs.Standing.{HaveClasses};
-ghost use Rattle.vsi_audit.specs.Unread.{IsUnread};
+ghost use Rattle.vsi_scope.specs.{Program.{IsResolved}, Resolving.{AreBelow, HasClassesBelow}};
 ghost use Rattle.vsi_image.specs.declared.instr.Image.{Image as ImageValue};
 ghost use Rattle.vsi_image.specs.Fields as fields;
 ghost use Rattle.vsi_audit.specs.MadeNames as spec;

@@ -1,14 +1,10 @@
 //! Whether code or a tree writes commands, found by a walk through both.
 
 ghost use Rattle.std.specs.Prelude.{◌≡◌, [], ◌∷◌, true, IfSome, None, IfOk, OnOk, map, pos};
-ghost use Rattle.vsi_scope.specs.Language.{expression_size, size, Number, Location, Skip, If, While, Letvar};
-ghost use Rattle.vsi_scope.specs.View.{expression, command, sequence};
+ghost use Rattle.vsi_scope.specs.{Language.{expression_size, size, Number, Location, Skip, If, While, Letvar}, View.{expression, command, sequence}, Scopes.{Scope as Names, StandsFor}};
 ghost use Rattle.vsi_code.specs.Layout.{expression_code, code_at, whole_code};
-ghost use Rattle.vsi_audit.specs.Coding.{StandsAt};
+ghost use Rattle.vsi_audit.specs.{Coding.{StandsAt}, Written.{names_of}, Writing.{WritesExpression, WritesCommand, WritesPart, WritesAll}};
 ghost use Rattle.vsi_syntax.specs.declared.token.Span.{Span};
-ghost use Rattle.vsi_scope.specs.Scopes.{Scope as Names, StandsFor};
-ghost use Rattle.vsi_audit.specs.Written.{names_of};
-ghost use Rattle.vsi_audit.specs.Writing.{WritesExpression, WritesCommand, WritesPart, WritesAll};
 ghost use Rattle.vsi_image.specs.declared.instr.Instr.TheVariants as instr;
 ghost use Rattle.vsi_code.specs.Layout as layout;
 ghost use Rattle.vsi_syntax.specs.Tree as tree;

@@ -2,9 +2,7 @@
 
 ghost use Rattle.std.specs.Prelude.{◌≡◌, true, [], ◌∷◌, length, map, slice_set, IfOk, IfSome};
 ghost use Rattle.vsi_lattice.specs.LatticeView.{class_named};
-ghost use Rattle.vsi_client.specs.Changes.{changed_by};
-ghost use Rattle.vsi_client.specs.Names.{after_first, with_name};
-ghost use Rattle.vsi_client.specs.Respelled.{AreInOrder, parts_of, respelled};
+ghost use Rattle.vsi_client.specs.{Changes.{changed_by}, Names.{after_first, with_name}, Respelled.{AreInOrder, parts_of, respelled}};
 ghost use Rattle.vsi_client.specs.Renamed as spec;
 
 use crate::changes::{Change, changed_by};

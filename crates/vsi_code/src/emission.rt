@@ -3,11 +3,9 @@
 
 ghost use Rattle.std.specs.Prelude.{◌≡◌, ◌+◌, ◌<◌, ◌≤◌, [], ◌∷◌, ◌++◌, length, slice_set, IfOk, OnOk};
 ghost use Rattle.vsi_code.specs.Layout.{Fits, op_code, expression_code, guard_code, with_code, whole_code};
-ghost use Rattle.vsi_image.specs.declared.instr.Instr.{Instr};
+ghost use Rattle.vsi_image.specs.{declared.instr.Instr.{Instr}, Fields.{max_instructions}};
 ghost use Rattle.vsi_image.specs.declared.instr.Instr.TheVariants as spec;
-ghost use Rattle.vsi_scope.specs.Language.{expression_size};
-ghost use Rattle.vsi_scope.specs.View.{expression, command, sequence};
-ghost use Rattle.vsi_image.specs.Fields.{max_instructions};
+ghost use Rattle.vsi_scope.specs.{Language.{expression_size}, View.{expression, command, sequence}};
 
 use std::alloc::{AllocError, Global};
 use vsi_image::Instr;

@@ -1,12 +1,8 @@
 //! The verified image of a resolved program. It counts operands and letvars.
 
 ghost use Rattle.std.specs.Prelude.{◌≡◌, min, ◌+◌, IfOk, length};
-ghost use Rattle.vsi_code.specs.Needs.{expression_height, height, IsGreatestDepth, slots_of};
-ghost use Rattle.vsi_scope.specs.Language.{nesting, size};
-ghost use Rattle.vsi_scope.specs.View.{expression, command, sequence};
-ghost use Rattle.vsi_code.specs.Behaves.{Behaves};
-ghost use Rattle.vsi_code.specs.Layout.{whole_code};
-ghost use Rattle.vsi_code.specs.Names.{all_named};
+ghost use Rattle.vsi_code.specs.{Needs.{expression_height, height, IsGreatestDepth, slots_of}, Behaves.{Behaves}, Layout.{whole_code}, Names.{all_named}};
+ghost use Rattle.vsi_scope.specs.{Language.{nesting, size}, View.{expression, command, sequence}};
 ghost use Rattle.vsi_image.specs.Fields as fields;
 
 use crate::emission::whole_code;

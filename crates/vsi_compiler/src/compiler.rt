@@ -3,14 +3,8 @@
 ghost use Rattle.std.specs.Prelude.{All, ◌≡◌, IfOk, IfErr};
 ghost use Rattle.vsi_image.specs.Fields.{HasOpcode};
 ghost use Rattle.vsi_lattice.specs.LatticeView.{class_named, order};
-ghost use Rattle.vsi_types.specs.declared.rules.Profile.{Profile};
-ghost use Rattle.vsi_types.specs.declared.rules.Profile.TheVariants.{Strict, Base};
-ghost use Rattle.vsi_compiler.specs.Acceptance.{IsAccepted};
-ghost use Rattle.vsi_compiler.specs.Headline.{HasGlobals, KeepsMeaning, IsCoded, IsImageOf, IsNoLarger};
-ghost use Rattle.vsi_compiler.specs.Observation.{IsNoninterfering, EndsAlike};
-ghost use Rattle.vsi_compiler.specs.declared.source.CompileError.TheVariants.{Memory};
-ghost use Rattle.vsi_compiler.specs.Refusal.{Refuses, RefusesProgram};
-ghost use Rattle.vsi_compiler.specs.Readable.{HasProgram};
+ghost use Rattle.vsi_types.specs.declared.rules.{Profile.{Profile}, Profile.TheVariants.{Strict, Base}};
+ghost use Rattle.vsi_compiler.specs.{Acceptance.{IsAccepted}, Headline.{HasGlobals, KeepsMeaning, IsCoded, IsImageOf, IsNoLarger}, Observation.{IsNoninterfering, EndsAlike}, declared.source.CompileError.TheVariants.{Memory}, Refusal.{Refuses, RefusesProgram}, Readable.{HasProgram}};
 
 use crate::source::{CompileError, Source, judge, read_source};
 use std::alloc::{AllocError, Global};

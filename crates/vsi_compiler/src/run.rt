@@ -2,8 +2,7 @@
 
 ghost use Rattle.std.specs.Prelude.{◌≡◌, IfOk, IfErr};
 ghost use Rattle.vsi_lattice.specs.LatticeView.{class_named, order};
-ghost use Rattle.vsi_compiler.specs.Run.{Ran, RefusesRun};
-ghost use Rattle.vsi_compiler.specs.declared.run.RunError.TheVariants.{Memory};
+ghost use Rattle.vsi_compiler.specs.{Run.{Ran, RefusesRun}, declared.run.RunError.TheVariants.{Memory}};
 
 use crate::compiler::compile;
 use crate::source::CompileError;

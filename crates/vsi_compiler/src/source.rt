@@ -1,21 +1,12 @@
 //! A source text, read once under a lattice, whether its flows are allowed, and why it is refused.
 
 ghost use Rattle.std.specs.Prelude.{◌≡◌, ℕ, List, IfOk, IfErr, MatchResult};
-ghost use Rattle.vsi_compiler.specs.declared.source.CompileError.TheVariants.{Memory};
-ghost use Rattle.vsi_syntax.specs.Tree.{Whole};
-ghost use Rattle.vsi_syntax.specs.ProgramView.{whole};
-ghost use Rattle.vsi_compiler.specs.Source.{Reads};
-ghost use Rattle.vsi_compiler.specs.SourceView.{IsSource};
-ghost use Rattle.vsi_compiler.specs.Refusal.{RefusesTree, RefusesProgram, Refuses, RefusesFlow};
-ghost use Rattle.vsi_compiler.specs.Stands.{Stands};
+ghost use Rattle.vsi_compiler.specs.{declared.source.CompileError.TheVariants.{Memory}, Source.{Reads}, SourceView.{IsSource}, Refusal.{RefusesTree, RefusesProgram, Refuses, RefusesFlow}, Stands.{Stands}, Acceptance.{IsAccepted}, Explaining.{ExplainsWalk}};
+ghost use Rattle.vsi_syntax.specs.{Tree.{Whole}, ProgramView.{whole}};
 ghost use Rattle.vsi_lattice.specs.LatticeView.{class_named, order};
-ghost use Rattle.vsi_scope.specs.Language.{Command};
-ghost use Rattle.vsi_scope.specs.Program.{IsResolved};
-ghost use Rattle.vsi_scope.specs.Resolving.{AreBelow, HasClassesBelow, IsResolution};
+ghost use Rattle.vsi_scope.specs.{Language.{Command}, Program.{IsResolved}, Resolving.{AreBelow, HasClassesBelow, IsResolution}};
 ghost use Rattle.vsi_infer.specs.Inference.{IsLeast};
 ghost use Rattle.vsi_types.specs.Security.{program as program_of};
-ghost use Rattle.vsi_compiler.specs.Acceptance.{IsAccepted};
-ghost use Rattle.vsi_compiler.specs.Explaining.{ExplainsWalk};
 
 use std::alloc::{AllocError, AllocFailed, Global};
 use std::marker::Model;
@@ -143,13 +134,9 @@ impl<'a> Model for Source<'a> {
 impl<'a> Source<'a> {
     ghost use Rattle.std.specs.Prelude.{◌≡◌, map};
     ghost use Rattle.vsi_lattice.specs.LatticeView.{class_named, order};
-    ghost use Rattle.vsi_syntax.specs.CommandView.{declared};
-    ghost use Rattle.vsi_syntax.specs.ProgramView.{whole};
-    ghost use Rattle.vsi_syntax.specs.Tree.{Whole};
-    ghost use Rattle.vsi_scope.specs.Program.{IsResolved};
-    ghost use Rattle.vsi_scope.specs.Resolving.{HasClassesBelow, Resolves};
-    ghost use Rattle.vsi_compiler.specs.Source.{Reads};
-    ghost use Rattle.vsi_compiler.specs.SourceView.{source_of, IsSource, IsOnlyTree};
+    ghost use Rattle.vsi_syntax.specs.{CommandView.{declared}, ProgramView.{whole}, Tree.{Whole}};
+    ghost use Rattle.vsi_scope.specs.{Program.{IsResolved}, Resolving.{HasClassesBelow, Resolves}};
+    ghost use Rattle.vsi_compiler.specs.{Source.{Reads}, SourceView.{source_of, IsSource, IsOnlyTree}};
 
     /// The source of a text, its tree and its program.
     pub(crate) fn new(

@@ -1,19 +1,11 @@
 //! The canonical text of a program, and the lines of its classes.
 
-ghost use Rattle.std.specs.Prelude.{◌≡◌, ◌++◌, ◌≤◌, length, map, IfOk, IfErr, OnOk};
-ghost use Rattle.std.specs.List.{All};
-ghost use Rattle.vsi_lattice.specs.LatticeView.{class_named, names, order};
-ghost use Rattle.vsi_lattice.specs.Order.{IsClass};
+ghost use Rattle.std.specs.{Prelude.{◌≡◌, ◌++◌, ◌≤◌, length, map, IfOk, IfErr, OnOk}, List.{All}};
+ghost use Rattle.vsi_lattice.specs.{LatticeView.{class_named, names, order}, Order.{IsClass}};
 ghost use Rattle.vsi_scope.specs.Resolving.{variable};
-ghost use Rattle.vsi_syntax.specs.CommandView.{declared};
-ghost use Rattle.vsi_types.specs.Security.{program as program_of};
-ghost use Rattle.vsi_types.specs.declared.rules.Profile.TheVariants.{Base};
-ghost use Rattle.vsi_syntax.specs.Tree.{Whole};
-ghost use Rattle.vsi_compiler.specs.declared.source.CompileError.TheVariants.{Memory};
-ghost use Rattle.vsi_compiler.specs.Acceptance.{IsAccepted};
-ghost use Rattle.vsi_compiler.specs.Classes.{class_line, global_lines, letvar_lines, IsClassText};
-ghost use Rattle.vsi_compiler.specs.Refusal.{Refuses, RefusesFlow, RefusesTree};
-ghost use Rattle.vsi_compiler.specs.Source.{Reads, IsCanonicalText};
+ghost use Rattle.vsi_syntax.specs.{CommandView.{declared}, Tree.{Whole}};
+ghost use Rattle.vsi_types.specs.{Security.{program as program_of}, declared.rules.Profile.TheVariants.{Base}};
+ghost use Rattle.vsi_compiler.specs.{declared.source.CompileError.TheVariants.{Memory}, Acceptance.{IsAccepted}, Classes.{class_line, global_lines, letvar_lines, IsClassText}, Refusal.{Refuses, RefusesFlow, RefusesTree}, Source.{Reads, IsCanonicalText}};
 
 use crate::source::{CompileError, Source, judge, read_program, read_source};
 use std::alloc::{AllocError, Global};

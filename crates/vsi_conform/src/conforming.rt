@@ -4,11 +4,9 @@ ghost use Rattle.std.specs.Prelude.{◌≡◌, IfOk, map, IfSome, None, true, []
 ghost use Rattle.vsi_image.specs.Fields.{global, globals, is_taken};
 ghost use Rattle.vsi_syntax.specs.CommandView.{declared};
 ghost use Rattle.vsi_lattice.specs.LatticeView.{class_named, order};
-ghost use Rattle.vsi_conform.specs.Bounded.{ReportsBound};
-ghost use Rattle.vsi_conform.specs.Points.{is_conforming, points_of};
+ghost use Rattle.vsi_conform.specs.{Bounded.{ReportsBound}, Points.{is_conforming, points_of}, declared.interface.Bounded.TheVariants.{AtMost}};
 ghost use Rattle.vsi_types.specs.declared.rules.Profile.{Profile};
 ghost use Rattle.vsi_answers.specs.Bounds.{TellsBound};
-ghost use Rattle.vsi_conform.specs.declared.interface.Bounded.TheVariants.{AtMost};
 ghost use Rattle.vsi_conform.specs.Points as spec;
 ghost use Rattle.vsi_conform.specs.Shown as shown_spec;
 ghost use Rattle.vsi_conform.specs.Conforms as conforms_spec;

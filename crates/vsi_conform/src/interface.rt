@@ -1,10 +1,7 @@
 //! The requirements on a text, why they are refused, and how a text differs from them.
 
-ghost use Rattle.std.specs.Prelude.{◌≡◌, ◌<◌, ◌≤◌, false, true, IfOk, ◌++◌, OnOk};
-ghost use Rattle.std.specs.Option.{option_copied};
-ghost use Rattle.vsi_conform.specs.declared.interface.InterfaceError.TheVariants.{Memory};
-ghost use Rattle.vsi_conform.specs.Points.{told, is_conforming};
-ghost use Rattle.vsi_conform.specs.Totals.{total_of};
+ghost use Rattle.std.specs.{Prelude.{◌≡◌, ◌<◌, ◌≤◌, false, true, IfOk, ◌++◌, OnOk}, Option.{option_copied}};
+ghost use Rattle.vsi_conform.specs.{declared.interface.InterfaceError.TheVariants.{Memory}, Points.{told, is_conforming}, Totals.{total_of}};
 ghost use Rattle.vsi_conform.specs.Bounded as spec;
 ghost use Rattle.vsi_conform.specs.Faulty as faulty_spec;
 

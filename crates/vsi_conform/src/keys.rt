@@ -1,12 +1,8 @@
 //! Reads the tables of an interface file: the runs, and the boundary of each cycle.
 
-ghost use Rattle.std.specs.Prelude.{◌≡◌, false, true, IfOk, MatchResult, option_map, map, codes, Some, IfSome};
-ghost use Rattle.std.specs.Option.{MatchOption, option_copied};
-ghost use Rattle.toml.specs.Data.{get_member, as_bool, as_table, as_str};
-ghost use Rattle.toml.specs.View.{table_view, view, items_view};
-ghost use Rattle.vsi_conform.specs.declared.interface.InterfaceError.TheVariants.{Memory, NotToml};
-ghost use Rattle.vsi_conform.specs.Points.{entries};
-ghost use Rattle.std.specs.List.{All};
+ghost use Rattle.std.specs.{Prelude.{◌≡◌, false, true, IfOk, MatchResult, option_map, map, codes, Some, IfSome}, Option.{MatchOption, option_copied}, List.{All}};
+ghost use Rattle.toml.specs.{Data.{get_member, as_bool, as_table, as_str}, View.{table_view, view, items_view}};
+ghost use Rattle.vsi_conform.specs.{declared.interface.InterfaceError.TheVariants.{Memory, NotToml}, Points.{entries}};
 ghost use Rattle.vsi_lattice.specs.LatticeView.{class_named};
 ghost use Rattle.vsi_conform.specs.Reading as spec;
 ghost use Rattle.vsi_image.specs.Fields as image;

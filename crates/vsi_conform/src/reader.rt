@@ -1,13 +1,9 @@
 //! Reads an interface file.
 
-ghost use Rattle.std.specs.Prelude.{◌≡◌, ◌≤◌, length, take, codes, Some, None, false, IfOk, OnOk, option_map, string_bytes};
-ghost use Rattle.std.specs.Str.{IsUtf8};
-ghost use Rattle.std.specs.Str.Lossy.{utf8_lossy};
-ghost use Rattle.toml.specs.Data.{get_member};
-ghost use Rattle.toml.specs.View.{table_view, view};
+ghost use Rattle.std.specs.{Prelude.{◌≡◌, ◌≤◌, length, take, codes, Some, None, false, IfOk, OnOk, option_map, string_bytes}, Str.{IsUtf8}, Str.Lossy.{utf8_lossy}};
+ghost use Rattle.toml.specs.{Data.{get_member}, View.{table_view, view}};
 ghost use Rattle.vsi_image.specs.Fields.{global, globals};
-ghost use Rattle.vsi_conform.specs.Beside.{IsInside, beside, folder};
-ghost use Rattle.vsi_conform.specs.Tables.{IsTablesText, with_copy};
+ghost use Rattle.vsi_conform.specs.{Beside.{IsInside, beside, folder}, Tables.{IsTablesText, with_copy}};
 ghost use Rattle.vsi_lattice.specs.LatticeView.{class_named};
 ghost use Rattle.vsi_store.specs.View.{first_unknown};
 ghost use Rattle.vsi_lattice.specs.Shape as shape;

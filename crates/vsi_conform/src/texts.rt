@@ -1,8 +1,6 @@
 //! The lines and the JSON of an answer.
 
-ghost use Rattle.std.specs.Prelude.{◌≡◌, ◌++◌, codes, decimal, map, option_map, IfOk, OnOk};
-ghost use Rattle.std.specs.Fmt.{signed_decimal};
-ghost use Rattle.std.specs.List.{flat_map};
+ghost use Rattle.std.specs.{Prelude.{◌≡◌, ◌++◌, codes, decimal, map, option_map, IfOk, OnOk}, Fmt.{signed_decimal}, List.{flat_map}};
 ghost use Rattle.serde_json.specs.View.{members_view};
 ghost use Rattle.vsi_conform.specs.Rows.{row};
 ghost use Rattle.vsi_conform.specs.Rows as rows_spec;

@@ -4,8 +4,7 @@ ghost use Rattle.std.specs.Prelude.{◌≡◌, false, IfOk, OnOk, ◌++◌, leng
 ghost use Rattle.serde_json.specs.View.{members_view, view};
 ghost use Rattle.vsi_answers.specs.View.{diagnostic_of};
 ghost use Rattle.vsi_image.specs.Fields.{globals};
-ghost use Rattle.vsi_lattice.specs.LatticeView.{class_named, order};
-ghost use Rattle.vsi_lattice.specs.Order.{IsClass};
+ghost use Rattle.vsi_lattice.specs.{LatticeView.{class_named, order}, Order.{IsClass}};
 ghost use Rattle.vsi_documents.specs.Objects.{verdict_line as verdict_line_of};
 ghost use Rattle.vsi_documents.specs.Refused as spec;
 ghost use Rattle.vsi_documents.specs.Words as words_spec;

@@ -4,11 +4,8 @@ ghost use Rattle.std.specs.Prelude.{◌≡◌, IfOk, ℕ, List, length, slice_ge
 ghost use Rattle.serde_json.specs.View.{members_view};
 ghost use Rattle.vsi_answers.specs.Bounds.{TellsBound};
 ghost use Rattle.vsi_image.specs.Fields.{globals};
-ghost use Rattle.vsi_lattice.specs.LatticeView.{class_named, names, order};
-ghost use Rattle.vsi_lattice.specs.Order.{IsClass};
-ghost use Rattle.vsi_compiler.specs.Readable.{HasProgram};
-ghost use Rattle.vsi_compiler.specs.Refusal.{RefusesProgram};
-ghost use Rattle.vsi_compiler.specs.declared.source.CompileError.TheVariants.{Memory};
+ghost use Rattle.vsi_lattice.specs.{LatticeView.{class_named, names, order}, Order.{IsClass}};
+ghost use Rattle.vsi_compiler.specs.{Readable.{HasProgram}, Refusal.{RefusesProgram}, declared.source.CompileError.TheVariants.{Memory}};
 ghost use Rattle.vsi_documents.specs.Audits as spec;
 ghost use Rattle.vsi_documents.specs.Bounds as bounds_spec;
 ghost use Rattle.vsi_answers.specs.Members as lines;

@@ -1,10 +1,8 @@
 //! The globals that a class sees, sets, reads and releases, as tables and as differences.
 
-ghost use Rattle.std.specs.Prelude.{◌≡◌, is_some, map, option_map, ◌++◌, IfOk, OnOk};
-ghost use Rattle.std.specs.Option.{option_copied};
+ghost use Rattle.std.specs.{Prelude.{◌≡◌, is_some, map, option_map, ◌++◌, IfOk, OnOk}, Option.{option_copied}};
 ghost use Rattle.vsi_image.specs.Fields.{globals as globals_of, global, globals};
-ghost use Rattle.vsi_lattice.specs.LatticeView.{order};
-ghost use Rattle.vsi_lattice.specs.Order.{IsClass};
+ghost use Rattle.vsi_lattice.specs.{LatticeView.{order}, Order.{IsClass}};
 ghost use Rattle.vsi_documents.specs.Roles.{view};
 ghost use Rattle.vsi_conform.specs.Asked as asked;
 ghost use Rattle.vsi_conform.specs.Reading as reading;

@@ -2,8 +2,7 @@
 
 ghost use Rattle.std.specs.Prelude.{◌≡◌, map, IfOk, false, []};
 ghost use Rattle.serde_json.specs.View.{members_view, view};
-ghost use Rattle.vsi_conform.specs.Rows.{row};
-ghost use Rattle.vsi_conform.specs.Lines.{is_steady as is_steady_of};
+ghost use Rattle.vsi_conform.specs.{Rows.{row}, Lines.{is_steady as is_steady_of}};
 ghost use Rattle.vsi_documents.specs.Document.{document_text};
 ghost use Rattle.vsi_documents.specs.Findings as spec;
 ghost use Rattle.vsi_documents.specs.Document as document_spec;

@@ -1,10 +1,8 @@
 //! The shapes of lattices, and the lattice files that are made by them.
 
 ghost use Rattle.std.specs.Prelude.{◌≡◌, IfSome, IfOk, OnOk, ◌≤◌, option_map, length, ◌<◌, Some, IsTrue, true};
-ghost use Rattle.vsi_lattice.specs.NamePlaces.{texts};
-ghost use Rattle.vsi_lattice.specs.LatticeView.{class_named, order};
-ghost use Rattle.vsi_documents.specs.Shapes.{IsShapedText};
-ghost use Rattle.vsi_documents.specs.declared.shape.ShapeError.TheVariants.{Memory};
+ghost use Rattle.vsi_lattice.specs.{NamePlaces.{texts}, LatticeView.{class_named, order}};
+ghost use Rattle.vsi_documents.specs.{Shapes.{IsShapedText}, declared.shape.ShapeError.TheVariants.{Memory}};
 ghost use Rattle.vsi_documents.specs.Shapes as spec;
 ghost use Rattle.vsi_documents.specs.Named as named_spec;
 

@@ -1,16 +1,11 @@
 //! The classes, flows and raises of a source text as lines of JSON.
 
-ghost use Rattle.std.specs.Prelude.{◌≡◌, length, IfOk, MatchOption};
-ghost use Rattle.std.specs.List.{All};
-ghost use Rattle.vsi_lattice.specs.LatticeView.{order};
-ghost use Rattle.vsi_lattice.specs.Order.{IsClass};
+ghost use Rattle.std.specs.{Prelude.{◌≡◌, length, IfOk, MatchOption}, List.{All}};
+ghost use Rattle.vsi_lattice.specs.{LatticeView.{order}, Order.{IsClass}};
 ghost use Rattle.vsi_types.specs.Security.{program as program_of};
 ghost use Rattle.vsi_infer.specs.Inference.{AreClasses};
 ghost use Rattle.vsi_flows.specs.Answers.{HasClassesIn};
-ghost use Rattle.vsi_documents.specs.Answers.{HasNoRaises, TellsMended};
-ghost use Rattle.vsi_documents.specs.Classes.{TellsClasses};
-ghost use Rattle.vsi_documents.specs.Flows.{IsFlowsJson, TellsFlows, are_allowed as are_allowed_of};
-ghost use Rattle.vsi_documents.specs.Json.{IsRaisesJson};
+ghost use Rattle.vsi_documents.specs.{Answers.{HasNoRaises, TellsMended}, Classes.{TellsClasses}, Flows.{IsFlowsJson, TellsFlows, are_allowed as are_allowed_of}, Json.{IsRaisesJson}};
 
 use crate::answer::{Reply, refused, verdict_line};
 use std::alloc::{AllocError, Global};

@@ -1,8 +1,7 @@
 //! Warnings about a lattice that says, by its names, something else than its author may mean. A
 //! lattice with a warning is as good as any other.
 
-ghost use Rattle.vsi_lattice.specs.LatticeView.{order};
-ghost use Rattle.vsi_lattice.specs.Order.{IsClass};
+ghost use Rattle.vsi_lattice.specs.{LatticeView.{order}, Order.{IsClass}};
 
 use crate::roles::name_of;
 use std::alloc::{AllocError, Global};

@@ -2,11 +2,8 @@
 
 ghost use Rattle.std.specs.Prelude.{◌≡◌, ℕ, [], length, Some, None, IfOk, IfErr, OnOk, OnErr, MatchResult, option_map, unwrap_or};
 ghost use Rattle.vsi_image.specs.Fields.{global, globals};
-ghost use Rattle.vsi_lattice.specs.LatticeView.{class_named, order};
-ghost use Rattle.vsi_lattice.specs.NamePlaces.{texts};
-ghost use Rattle.vsi_lattice.specs.Order.{IsClass};
-ghost use Rattle.vsi_store.specs.View.{first_unknown, is_seen};
-ghost use Rattle.vsi_store.specs.declared.views.ViewError.TheVariants.{Memory};
+ghost use Rattle.vsi_lattice.specs.{LatticeView.{class_named, order}, NamePlaces.{texts}, Order.{IsClass}};
+ghost use Rattle.vsi_store.specs.{View.{first_unknown, is_seen}, declared.views.ViewError.TheVariants.{Memory}};
 
 use crate::boundary::{Boundary, BoundaryFault, Role, is_among, is_listed};
 use crate::settings::{LineFault, words_set};
@@ -41,12 +38,8 @@ pub struct Controller<'a> {
 }
 
 impl<'a> Controller<'a> {
-    ghost use Rattle.vsi_drive.specs.Boundary.{boundary_of, listed, no_boundary};
-    ghost use Rattle.vsi_drive.specs.BoundaryFaults.{boundary_fault, class_of, name_fault, names_fault};
-    ghost use Rattle.vsi_drive.specs.declared.boundary.Role.TheVariants.{Input, Output, Released};
-    ghost use Rattle.vsi_drive.specs.Control.{control, controlled, is_input, is_written};
+    ghost use Rattle.vsi_drive.specs.{Boundary.{boundary_of, listed, no_boundary}, BoundaryFaults.{boundary_fault, class_of, name_fault, names_fault}, declared.boundary.Role.TheVariants.{Input, Output, Released}, Control.{control, controlled, is_input, is_written}, Views.{view_of}};
     ghost use Rattle.vsi_drive.specs.Cycles as spec;
-    ghost use Rattle.vsi_drive.specs.Views.{view_of};
 
     /// A controller of this image.
     ///

@@ -1,16 +1,9 @@
 //! Whole texts from readers and to writers whose failed calls are counted, and images built so.
 
-ghost use Rattle.std.specs.Prelude.{◌≡◌, ◌+◌, ◌<◌, min, length, take, ◌≤◌, ◌↔◌, ℕ, List, IfOk, IfErr, OnOk, IsErrOf, vec_len, ◌≢◌};
-ghost use Rattle.std.specs.Io.{ReadsAtMost, WritesAtMost};
-ghost use Rattle.std.specs.Io.KnownBytes.{Keeps, ReadConsumes, WriteAppends, Appends, Consumes};
-ghost use Rattle.vsi_drive.specs.Counted.{device_of, faults_of, CountsReads, CountsWrites};
-ghost use Rattle.vsi_drive.specs.Engine.{IsOfReading, IsReadFrom, TakesFew, max_read};
-ghost use Rattle.vsi_drive.specs.declared.engine.EngineError.TheVariants.{Memory};
+ghost use Rattle.std.specs.{Prelude.{◌≡◌, ◌+◌, ◌<◌, min, length, take, ◌≤◌, ◌↔◌, ℕ, List, IfOk, IfErr, OnOk, IsErrOf, vec_len, ◌≢◌}, Io.{ReadsAtMost, WritesAtMost}, Io.KnownBytes.{Keeps, ReadConsumes, WriteAppends, Appends, Consumes}};
+ghost use Rattle.vsi_drive.specs.{Counted.{device_of, faults_of, CountsReads, CountsWrites}, Engine.{IsOfReading, IsReadFrom, TakesFew, max_read}, declared.engine.EngineError.TheVariants.{Memory}, Building.{Builds, IsBuilt, WrittenCut}, Refusing.{RefusesRead, RefusesText}, Running.{WrittenSome}};
 ghost use Rattle.vsi_lattice.specs.LatticeView.{class_named, order};
 ghost use Rattle.vsi_types.specs.declared.rules.Profile.TheVariants.{Base};
-ghost use Rattle.vsi_drive.specs.Building.{Builds, IsBuilt, WrittenCut};
-ghost use Rattle.vsi_drive.specs.Refusing.{RefusesRead, RefusesText};
-ghost use Rattle.vsi_drive.specs.Running.{WrittenSome};
 
 use std::alloc::{AllocError, AllocFailed, Global};
 use std::io;

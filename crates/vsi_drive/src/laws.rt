@@ -1,10 +1,7 @@
 //! The laws of drives, of views, and of pairs of runs and drives within a bound. Each
 //! function's contract is a law.
 
-ghost use Rattle.vsi_drive.specs.Laws.{SameCompiledDrives, SameCompiledViews, SameDrives, SameReleasedCompiledDrives, SameReleasedCompiledViews, SameReleasedDrives, SameReleasedSteadyDrives, SameReleasedViews, SameSteadyDrives, ViewsPlainly};
-ghost use Rattle.vsi_drive.specs.Drives.{BoundedDrivesHalt, SameBoundedDrives, SameReleasedBoundedDrives};
-ghost use Rattle.vsi_drive.specs.Settled.{SettledCount, SettledNoninterference};
-ghost use Rattle.vsi_drive.specs.ViewLaws.{SameView};
+ghost use Rattle.vsi_drive.specs.{Laws.{SameCompiledDrives, SameCompiledViews, SameDrives, SameReleasedCompiledDrives, SameReleasedCompiledViews, SameReleasedDrives, SameReleasedSteadyDrives, SameReleasedViews, SameSteadyDrives, ViewsPlainly}, Drives.{BoundedDrivesHalt, SameBoundedDrives, SameReleasedBoundedDrives}, Settled.{SettledCount, SettledNoninterference}, ViewLaws.{SameView}};
 
 use vsi_steady::laws::steady_runs_alike;
 

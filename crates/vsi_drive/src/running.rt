@@ -1,18 +1,9 @@
 //! Runs an image whose bytes a reader supplies, and writes the output of the run.
 
-ghost use Rattle.std.specs.Prelude.{◌≡◌, ◌≢◌, ◌≤◌, ◌<◌, ◌+◌, ◌↔◌, ◌⊎◌, ℕ, length, take, Ok, Some, IfOk, IfErr, OnOk, IsErrOf, ◌++◌, ◌∷◌, [], IsNone, IsTrue};
-ghost use Rattle.std.specs.Option.{option_map};
-ghost use Rattle.std.specs.Io.KnownBytes.{Appends, Keeps};
-ghost use Rattle.vsi_image.specs.Fields.{fields};
-ghost use Rattle.vsi_image.specs.Meaning.{after, start};
-ghost use Rattle.vsi_image.specs.Reading.{image_of};
-ghost use Rattle.vsi_image.specs.Valid.{IsValid};
-ghost use Rattle.vsi_machine.specs.Runs.{outcome_of};
-ghost use Rattle.vsi_drive.specs.Counted.{device_of, faults_of};
-ghost use Rattle.vsi_drive.specs.Engine.{IsOfWriting, TakesFew};
-ghost use Rattle.vsi_drive.specs.Refusing.{RefusesImage, RefusesRead, RefusesRun};
-ghost use Rattle.vsi_drive.specs.Running.{RunsAndWrites, RunsApart, Runs, Started, Traces, WrittenApart, WrittenPartly, WrittenSome, WrittenSteps, WrittenWhole, ending_of, trace_of, trace_text};
-ghost use Rattle.vsi_machine.specs.Trace.{trace_line};
+ghost use Rattle.std.specs.{Prelude.{◌≡◌, ◌≢◌, ◌≤◌, ◌<◌, ◌+◌, ◌↔◌, ◌⊎◌, ℕ, length, take, Ok, Some, IfOk, IfErr, OnOk, IsErrOf, ◌++◌, ◌∷◌, [], IsNone, IsTrue}, Option.{option_map}, Io.KnownBytes.{Appends, Keeps}};
+ghost use Rattle.vsi_image.specs.{Fields.{fields}, Meaning.{after, start}, Reading.{image_of}, Valid.{IsValid}};
+ghost use Rattle.vsi_machine.specs.{Runs.{outcome_of}, Trace.{trace_line}};
+ghost use Rattle.vsi_drive.specs.{Counted.{device_of, faults_of}, Engine.{IsOfWriting, TakesFew}, Refusing.{RefusesImage, RefusesRead, RefusesRun}, Running.{RunsAndWrites, RunsApart, Runs, Started, Traces, WrittenApart, WrittenPartly, WrittenSome, WrittenSteps, WrittenWhole, ending_of, trace_of, trace_text}};
 
 use crate::engine::{Counted, EngineError, read_all, write_out};
 use std::alloc::{AllocError, Global};

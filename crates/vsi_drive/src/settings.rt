@@ -3,8 +3,7 @@
 ghost use Rattle.std.specs.Prelude.{◌≡◌, ◌+◌, ◌*◌, ◌<◌, length, drop, slice_get, Some, Ok, Err, IfOk, MatchResult, ◌≤◌, ◌++◌, [], slice_range, nat_le, if◌then◌else◌, None, IfSome, true, pos, neg_ℤ, OnOk};
 ghost use Rattle.vsi_image.specs.Fields.{globals};
 ghost use Rattle.vsi_lattice.specs.NamePlaces.{texts};
-ghost use Rattle.vsi_drive.specs.Control.{control};
-ghost use Rattle.vsi_drive.specs.Reaches.{settable};
+ghost use Rattle.vsi_drive.specs.{Control.{control}, Reaches.{settable}};
 ghost use Rattle.vsi_syntax.specs.Words.{is_digit, every, value_of};
 ghost use Rattle.vsi_drive.specs.Settings as spec;
 ghost use Rattle.vsi_drive.specs.Fields as fields_spec;

@@ -1,7 +1,6 @@
 //! Laws of emitted functions.
 
-ghost use Rattle.vsi_emit.specs.Apart.{WrittenApart};
-ghost use Rattle.vsi_emit.specs.Laws.{AnswersLast, BoundedNoninterference, Noninterference, SteadyJumps};
+ghost use Rattle.vsi_emit.specs.{Apart.{WrittenApart}, Laws.{AnswersLast, BoundedNoninterference, Noninterference, SteadyJumps}};
 
 use vsi_steady::laws::steady_runs_alike;
 

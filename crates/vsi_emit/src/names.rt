@@ -3,106 +3,26 @@
 ghost use Rattle.std.specs.Prelude.{◌≡◌, bytes_eq};
 ghost use Rattle.vsi_emit.specs.Names as spec;
 
+/// Words, as a row.
+macro_rules! words {
+    ($($word:literal)*) => { [$($word),*] };
+}
+
 /// The keywords of C up to C23 and of C++ up to C++23, with those of C++ for operators.
-const KEYWORDS: [&[u8]; 97] = [
-    b"alignas",
-    b"alignof",
-    b"and",
-    b"and_eq",
-    b"asm",
-    b"auto",
-    b"bitand",
-    b"bitor",
-    b"bool",
-    b"break",
-    b"case",
-    b"catch",
-    b"char",
-    b"char16_t",
-    b"char32_t",
-    b"char8_t",
-    b"class",
-    b"co_await",
-    b"co_return",
-    b"co_yield",
-    b"compl",
-    b"concept",
-    b"const",
-    b"const_cast",
-    b"consteval",
-    b"constexpr",
-    b"constinit",
-    b"continue",
-    b"decltype",
-    b"default",
-    b"delete",
-    b"do",
-    b"double",
-    b"dynamic_cast",
-    b"else",
-    b"enum",
-    b"explicit",
-    b"export",
-    b"extern",
-    b"false",
-    b"float",
-    b"for",
-    b"friend",
-    b"goto",
-    b"if",
-    b"import",
-    b"inline",
-    b"int",
-    b"long",
-    b"module",
-    b"mutable",
-    b"namespace",
-    b"new",
-    b"noexcept",
-    b"not",
-    b"not_eq",
-    b"nullptr",
-    b"operator",
-    b"or",
-    b"or_eq",
-    b"private",
-    b"protected",
-    b"public",
-    b"register",
-    b"reinterpret_cast",
-    b"requires",
-    b"restrict",
-    b"return",
-    b"short",
-    b"signed",
-    b"sizeof",
-    b"static",
-    b"static_assert",
-    b"static_cast",
-    b"struct",
-    b"switch",
-    b"template",
-    b"this",
-    b"thread_local",
-    b"throw",
-    b"true",
-    b"try",
-    b"typedef",
-    b"typeid",
-    b"typename",
-    b"typeof",
-    b"typeof_unqual",
-    b"union",
-    b"unsigned",
-    b"using",
-    b"virtual",
-    b"void",
-    b"volatile",
-    b"wchar_t",
-    b"while",
-    b"xor",
-    b"xor_eq",
-];
+const KEYWORDS: [&[u8]; 97] = words! {
+    b"alignas" b"alignof" b"and" b"and_eq" b"asm" b"auto" b"bitand" b"bitor" b"bool" b"break"
+    b"case" b"catch" b"char" b"char16_t" b"char32_t" b"char8_t" b"class" b"co_await"
+    b"co_return" b"co_yield" b"compl" b"concept" b"const" b"const_cast" b"consteval"
+    b"constexpr" b"constinit" b"continue" b"decltype" b"default" b"delete" b"do" b"double"
+    b"dynamic_cast" b"else" b"enum" b"explicit" b"export" b"extern" b"false" b"float" b"for"
+    b"friend" b"goto" b"if" b"import" b"inline" b"int" b"long" b"module" b"mutable" b"namespace"
+    b"new" b"noexcept" b"not" b"not_eq" b"nullptr" b"operator" b"or" b"or_eq" b"private"
+    b"protected" b"public" b"register" b"reinterpret_cast" b"requires" b"restrict" b"return"
+    b"short" b"signed" b"sizeof" b"static" b"static_assert" b"static_cast" b"struct" b"switch"
+    b"template" b"this" b"thread_local" b"throw" b"true" b"try" b"typedef" b"typeid" b"typename"
+    b"typeof" b"typeof_unqual" b"union" b"unsigned" b"using" b"virtual" b"void" b"volatile"
+    b"wchar_t" b"while" b"xor" b"xor_eq"
+};
 
 /// Whether the byte is a letter.
 fn is_letter(byte: u8) -> bool

@@ -1,18 +1,11 @@
 //! The raises to the least policy under which a program is accepted, and their lines.
 
-ghost use Rattle.std.specs.Prelude.{◌≡◌, IfOk, ◌<◌, MatchOption, ◌++◌, map, IfErr, OnOk};
-ghost use Rattle.vsi_flows.specs.declared.least.RaisedError.TheVariants.{Memory};
-ghost use Rattle.std.specs.List.{All, flat_map};
-ghost use Rattle.vsi_lattice.specs.Order.{IsClass};
-ghost use Rattle.vsi_types.specs.Security.{program as program_of};
-ghost use Rattle.vsi_infer.specs.Inference.{AreClasses};
-ghost use Rattle.vsi_flows.specs.Reaching.{floor, AreFloors, IsQuiet, IsSettled};
-ghost use Rattle.vsi_lattice.specs.LatticeView.{order};
-ghost use Rattle.vsi_infer.specs.Flowing.{AreFlowsOf, size_of};
-ghost use Rattle.vsi_flows.specs.Raising.{Answers, AreLeastRaises, IsFinal};
+ghost use Rattle.std.specs.{Prelude.{◌≡◌, IfOk, ◌<◌, MatchOption, ◌++◌, map, IfErr, OnOk}, List.{All, flat_map}};
+ghost use Rattle.vsi_flows.specs.{declared.least.RaisedError.TheVariants.{Memory}, Reaching.{floor, AreFloors, IsQuiet, IsSettled}, Raising.{Answers, AreLeastRaises, IsFinal}, Answers.{HasClassesIn, IsRaiseText, RefusesRaise}};
+ghost use Rattle.vsi_lattice.specs.{Order.{IsClass}, LatticeView.{order}};
+ghost use Rattle.vsi_types.specs.{Security.{program as program_of}, declared.rules.Profile.{Profile}};
+ghost use Rattle.vsi_infer.specs.{Inference.{AreClasses}, Flowing.{AreFlowsOf, size_of}};
 ghost use Rattle.vsi_syntax.specs.CommandView.{declared};
-ghost use Rattle.vsi_types.specs.declared.rules.Profile.{Profile};
-ghost use Rattle.vsi_flows.specs.Answers.{HasClassesIn, IsRaiseText, RefusesRaise};
 ghost use Rattle.vsi_flows.specs.Lines as spec;
 
 use crate::rows::{declarations, joined, name_start, nearest_over};

@@ -1,7 +1,6 @@
 //! The further refused flows of a source text.
 
-ghost use Rattle.std.specs.Prelude.{◌≡◌, ◌≤◌, length, map, IfOk};
-ghost use Rattle.std.specs.List.{All};
+ghost use Rattle.std.specs.{Prelude.{◌≡◌, ◌≤◌, length, map, IfOk}, List.{All}};
 ghost use Rattle.vsi_lattice.specs.LatticeView.{order};
 ghost use Rattle.vsi_types.specs.Security.{program as program_of};
 ghost use Rattle.vsi_flows.specs.Table.{AreSorted};

@@ -2,13 +2,9 @@
 
 ghost use Rattle.std.specs.Prelude.{◌≡◌, ◌↔◌, ◌+◌, ◌<◌, ◌≤◌, true, false, length, slice_index, IfOk};
 ghost use Rattle.vsi_lattice.specs.LatticeView.{order};
-ghost use Rattle.vsi_types.specs.Security.{program as program_of};
-ghost use Rattle.vsi_types.specs.Steps.{sink};
-ghost use Rattle.vsi_types.specs.declared.rules.Profile.{Profile};
-ghost use Rattle.vsi_infer.specs.Flowing.{size_of, AreFlowsOf, variable_at as variable_at_of};
-ghost use Rattle.vsi_infer.specs.Shortest.{row_of as row_of_variable};
-ghost use Rattle.vsi_flows.specs.Rows.{IsRowTo};
-ghost use Rattle.vsi_flows.specs.Related.{IsOther, IsSource, IsTarget, AreExactly};
+ghost use Rattle.vsi_types.specs.{Security.{program as program_of}, Steps.{sink}, declared.rules.Profile.{Profile}};
+ghost use Rattle.vsi_infer.specs.{Flowing.{size_of, AreFlowsOf, variable_at as variable_at_of}, Shortest.{row_of as row_of_variable}};
+ghost use Rattle.vsi_flows.specs.{Rows.{IsRowTo}, Related.{IsOther, IsSource, IsTarget, AreExactly}};
 
 use crate::table::Related;
 use std::alloc::{AllocError, Global as Heap};

@@ -1,20 +1,10 @@
 //! For each declared variable, the fewest steps that lead to it.
 
-ghost use Rattle.std.specs.Prelude.{◌≡◌, ◌≤◌, ◌<◌, ◌+◌, ℕ, true, [], Some, map, slice_index, slice_index_or, IfOk, List, false, length, IfSome, IfNone};
-ghost use Rattle.vsi_types.specs.Security.{program as program_of, steps_of};
-ghost use Rattle.vsi_infer.specs.Distances.{AreLeast};
-ghost use Rattle.vsi_types.specs.Walks.{declared_class as declared_class_of};
-ghost use Rattle.vsi_infer.specs.Flowing.{size_of, variable_at as variable_at_of};
-ghost use Rattle.vsi_infer.specs.Inference.{AreClasses};
-ghost use Rattle.vsi_flows.specs.Rows.{AreLeastRows, AreRowsOf};
-ghost use Rattle.std.specs.List.{All, Contains};
-ghost use Rattle.std.specs.Option.{MatchOption};
-ghost use Rattle.vsi_types.specs.declared.rules.Step.{Step};
-ghost use Rattle.vsi_infer.specs.Shortest.{FindsWalks};
-ghost use Rattle.vsi_flows.specs.Text.{IsWalkOf};
-ghost use Rattle.vsi_flows.specs.Walks.{IsUnreached, FindWalks, IsFound};
+ghost use Rattle.std.specs.{Prelude.{◌≡◌, ◌≤◌, ◌<◌, ◌+◌, ℕ, true, [], Some, map, slice_index, slice_index_or, IfOk, List, false, length, IfSome, IfNone}, List.{All, Contains}, Option.{MatchOption}};
+ghost use Rattle.vsi_types.specs.{Security.{program as program_of, steps_of}, Walks.{declared_class as declared_class_of}, declared.rules.Step.{Step}};
+ghost use Rattle.vsi_infer.specs.{Distances.{AreLeast}, Flowing.{size_of, variable_at as variable_at_of}, Inference.{AreClasses}, Shortest.{FindsWalks}};
+ghost use Rattle.vsi_flows.specs.{Rows.{AreLeastRows, AreRowsOf}, Text.{IsWalkOf}, Walks.{IsUnreached, FindWalks, IsFound}, Reaching.{IsJoined, IsOver, AreUnder}};
 ghost use Rattle.vsi_lattice.specs.Order.{IsClass};
-ghost use Rattle.vsi_flows.specs.Reaching.{IsJoined, IsOver, AreUnder};
 ghost use Rattle.vsi_syntax.specs.CommandView.{declared};
 ghost use Rattle.vsi_flows.specs.Lines as spec;
 

@@ -1,17 +1,10 @@
 //! The table of flows, its pairs, and which of them are listed.
 
-ghost use Rattle.std.specs.Prelude.{◌≡◌, ◌++◌, [], ◌∷◌, cond, IfOk, OnOk, ◌↔◌, ◌⊎◌, ◌+◌, ◌≤◌, ◌<◌, map, IfSome, IfNone, if◌then◌else◌};
-ghost use Rattle.vsi_flows.specs.declared.table.FlowsError.TheVariants.{Memory};
-ghost use Rattle.std.specs.List.{All};
+ghost use Rattle.std.specs.{Prelude.{◌≡◌, ◌++◌, [], ◌∷◌, cond, IfOk, OnOk, ◌↔◌, ◌⊎◌, ◌+◌, ◌≤◌, ◌<◌, map, IfSome, IfNone, if◌then◌else◌}, List.{All}};
+ghost use Rattle.vsi_flows.specs.{declared.table.FlowsError.TheVariants.{Memory}, Rows.{AreRows, AreRowsOf}, Table.{IsJoined, IsTold, IsTable, AreAllowed, HasChoice, HasBadWalk}, Filling.{IsFilled}, Refused.{AreRefused, refused_of}};
 ghost use Rattle.vsi_lattice.specs.Order.{IsClass};
-ghost use Rattle.vsi_types.specs.Security.{program as program_of};
-ghost use Rattle.vsi_types.specs.declared.rules.Profile.{Profile};
-ghost use Rattle.vsi_infer.specs.Flowing.{size_of, variable_at as variable_at_of};
-ghost use Rattle.vsi_infer.specs.Inference.{AreClasses};
-ghost use Rattle.vsi_flows.specs.Rows.{AreRows, AreRowsOf};
-ghost use Rattle.vsi_flows.specs.Table.{IsJoined, IsTold, IsTable, AreAllowed, HasChoice, HasBadWalk};
-ghost use Rattle.vsi_flows.specs.Filling.{IsFilled};
-ghost use Rattle.vsi_flows.specs.Refused.{AreRefused, refused_of};
+ghost use Rattle.vsi_types.specs.{Security.{program as program_of}, declared.rules.Profile.{Profile}};
+ghost use Rattle.vsi_infer.specs.{Flowing.{size_of, variable_at as variable_at_of}, Inference.{AreClasses}};
 ghost use Rattle.vsi_flows.specs.Further as spec;
 
 use crate::rows::{declarations, far, program_rows, variable_at};

@@ -1,20 +1,13 @@
 //! The table of flows as text, also with a shortest walk for each pair.
 
-ghost use Rattle.std.specs.Prelude.{◌≡◌, IfErr, OnOk, ◌++◌, codes, decimal, IfOk, List, ◌<◌, length};
-ghost use Rattle.vsi_lattice.specs.LatticeView.{class_named, order};
-ghost use Rattle.vsi_compiler.specs.Acceptance.{IsAccepted};
-ghost use Rattle.vsi_compiler.specs.Refusal.{Refuses, RefusesProgram};
-ghost use Rattle.vsi_compiler.specs.declared.source.CompileError.TheVariants.{Memory};
-ghost use Rattle.std.specs.List.{All, flat_map};
-ghost use Rattle.vsi_lattice.specs.Order.{IsClass};
+ghost use Rattle.std.specs.{Prelude.{◌≡◌, IfErr, OnOk, ◌++◌, codes, decimal, IfOk, List, ◌<◌, length}, List.{All, flat_map}};
+ghost use Rattle.vsi_lattice.specs.{LatticeView.{class_named, order}, Order.{IsClass}};
+ghost use Rattle.vsi_compiler.specs.{Acceptance.{IsAccepted}, Refusal.{Refuses, RefusesProgram}, declared.source.CompileError.TheVariants.{Memory}, Source.{Reads}};
 ghost use Rattle.vsi_types.specs.Security.{program as program_of, program, steps_of};
 ghost use Rattle.vsi_infer.specs.Inference.{AreClasses};
 ghost use Rattle.vsi_syntax.specs.Tree.{Whole};
-ghost use Rattle.vsi_scope.specs.Language.{Command};
-ghost use Rattle.vsi_scope.specs.Resolving.{IsResolution};
-ghost use Rattle.vsi_compiler.specs.Source.{Reads};
-ghost use Rattle.vsi_flows.specs.Text.{AddsLines};
-ghost use Rattle.vsi_flows.specs.Walking.{AreWalks, IsWalkTable};
+ghost use Rattle.vsi_scope.specs.{Language.{Command}, Resolving.{IsResolution}};
+ghost use Rattle.vsi_flows.specs.{Text.{AddsLines}, Walking.{AreWalks, IsWalkTable}};
 ghost use Rattle.vsi_flows.specs.Messages as spec;
 ghost use Rattle.vsi_flows.specs.Text as text_spec;
 

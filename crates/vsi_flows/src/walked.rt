@@ -1,16 +1,10 @@
 //! A shortest walk for each pair of a list.
 
-ghost use Rattle.std.specs.Prelude.{◌≡◌, ℕ, ◌+◌, ◌<◌, ◌≤◌, map, take, IfOk};
-ghost use Rattle.std.specs.List.{All, Contains};
+ghost use Rattle.std.specs.{Prelude.{◌≡◌, ℕ, ◌+◌, ◌<◌, ◌≤◌, map, take, IfOk}, List.{All, Contains}};
 ghost use Rattle.vsi_lattice.specs.Order.{IsClass};
 ghost use Rattle.vsi_types.specs.Security.{program as program_of, steps_of};
-ghost use Rattle.vsi_infer.specs.Distances.{AreLeast};
-ghost use Rattle.vsi_infer.specs.Flowing.{size_of, AreFlowsOf};
-ghost use Rattle.vsi_infer.specs.Inference.{AreClasses};
-ghost use Rattle.vsi_infer.specs.Shortest.{row_of as row_of_variable};
-ghost use Rattle.vsi_flows.specs.Table.{IsTold};
-ghost use Rattle.vsi_flows.specs.Text.{IsWalkOf};
-ghost use Rattle.vsi_flows.specs.Refused.{AreWalked};
+ghost use Rattle.vsi_infer.specs.{Distances.{AreLeast}, Flowing.{size_of, AreFlowsOf}, Inference.{AreClasses}, Shortest.{row_of as row_of_variable}};
+ghost use Rattle.vsi_flows.specs.{Table.{IsTold}, Text.{IsWalkOf}, Refused.{AreWalked}};
 
 use crate::rows::declarations;
 use crate::table::Pair;

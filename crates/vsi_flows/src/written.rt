@@ -2,15 +2,10 @@
 
 ghost use Rattle.std.specs.Prelude.{◌≡◌, IfOk, IfErr, ◌-◌, take, drop, ◌++◌, map, option_map, OnOk};
 ghost use Rattle.vsi_lattice.specs.LatticeView.{class_named, order};
-ghost use Rattle.vsi_syntax.specs.Tree.{Whole, IsProgram, write_program};
+ghost use Rattle.vsi_syntax.specs.{Tree.{Whole, IsProgram, write_program}, CommandView.{body_of, command, declared}, ProgramView.{whole}, View.{lexemes, named}};
 ghost use Rattle.vsi_types.specs.Security.{program as program_of};
-ghost use Rattle.vsi_compiler.specs.Acceptance.{IsAccepted};
-ghost use Rattle.vsi_compiler.specs.Source.{Reads};
-ghost use Rattle.vsi_flows.specs.Raising.{AreLeastRaises};
-ghost use Rattle.vsi_flows.specs.Answers.{HasClassesIn, IsRaisedText, RefusesRaisedText, RefusesText};
-ghost use Rattle.vsi_syntax.specs.CommandView.{body_of, command, declared};
-ghost use Rattle.vsi_syntax.specs.ProgramView.{whole};
-ghost use Rattle.vsi_syntax.specs.View.{lexemes, named};
+ghost use Rattle.vsi_compiler.specs.{Acceptance.{IsAccepted}, Source.{Reads}};
+ghost use Rattle.vsi_flows.specs.{Raising.{AreLeastRaises}, Answers.{HasClassesIn, IsRaisedText, RefusesRaisedText, RefusesText}};
 ghost use Rattle.vsi_flows.specs.RaisedErrors as errors;
 ghost use Rattle.vsi_flows.specs.Places as spec;
 

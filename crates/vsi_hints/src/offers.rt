@@ -1,11 +1,8 @@
 //! The hint for a construct of another language: a text that may replace it, or what to do.
 
 ghost use Rattle.std.specs.Prelude.{◌≡◌, ◌++◌, ℕ, IfOk, IfSome, List, codes, true};
-ghost use Rattle.vsi_syntax.specs.ProgramView.{whole};
-ghost use Rattle.vsi_syntax.specs.CommandView.{body_of, command};
-ghost use Rattle.vsi_syntax.specs.Tree.{Assign, Done, Named, Then, Tree};
-ghost use Rattle.vsi_hints.specs.Hints.{IsRead, OffersRead};
-ghost use Rattle.vsi_hints.specs.Offered.{IsExpression, IsProgramText, IsTreeOf, assigning};
+ghost use Rattle.vsi_syntax.specs.{ProgramView.{whole}, CommandView.{body_of, command}, Tree.{Assign, Done, Named, Then, Tree}};
+ghost use Rattle.vsi_hints.specs.{Hints.{IsRead, OffersRead}, Offered.{IsExpression, IsProgramText, IsTreeOf, assigning}};
 
 use crate::drafts::{Found, Hint, LONGEST, Reason, Shape, say, text_of};
 use crate::expression::operator_text;

@@ -3,11 +3,8 @@
 //!
 //! `whole` is the number of all bytes, from which a reader computes the position of its field.
 
-ghost use Rattle.std.specs.Prelude.{◌≡◌, ℕ, length, true, false, [], IfOk, Ok, Some, slice_get, bytes_eq};
-ghost use Rattle.std.specs.Int.{w16, w32, w64};
-ghost use Rattle.vsi_image.specs.declared.decoder.DecodeError.TheVariants.{Memory};
-ghost use Rattle.vsi_image.specs.Fields.{Fields, IsOneSpelling, Spells, fields, global, globals, is_taken};
-ghost use Rattle.vsi_image.specs.Reading.{Gives};
+ghost use Rattle.std.specs.{Prelude.{◌≡◌, ℕ, length, true, false, [], IfOk, Ok, Some, slice_get, bytes_eq}, Int.{w16, w32, w64}};
+ghost use Rattle.vsi_image.specs.{declared.decoder.DecodeError.TheVariants.{Memory}, Fields.{Fields, IsOneSpelling, Spells, fields, global, globals, is_taken}, Reading.{Gives}};
 ghost use Rattle.vsi_image.specs.Reading as spec;
 
 use crate::encoder::{MAX_GLOBALS, MAX_INSTRUCTIONS, MAX_NAME_LENGTH, MAX_OPERANDS, MAX_SLOTS};

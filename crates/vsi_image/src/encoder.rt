@@ -1,12 +1,7 @@
 //! Encodes an image to its bytes, in version 2, if it is within the limits of an image.
 
-ghost use Rattle.std.specs.Prelude.{◌≡◌, [], ◌≢◌, ◌<◌, ◌++◌, ◌∷◌, length, OnOk, IfOk, IfErr, All, Some, Ok};
-ghost use Rattle.vsi_image.specs.Fields.{fields, globals, global, global_bytes, instr_bytes, head_bytes, string, IsAllowed, HasOpcode, HasBytes, Spells, newest_version};
-ghost use Rattle.std.specs.List.{flat_map};
-ghost use Rattle.std.specs.Option.{option_map};
-ghost use Rattle.vsi_image.specs.declared.encoder.EncodeError.TheVariants.{Memory, Unencodable};
-ghost use Rattle.vsi_image.specs.Limits.{first_limit};
-ghost use Rattle.vsi_image.specs.Reading.{image_of};
+ghost use Rattle.std.specs.{Prelude.{◌≡◌, [], ◌≢◌, ◌<◌, ◌++◌, ◌∷◌, length, OnOk, IfOk, IfErr, All, Some, Ok}, List.{flat_map}, Option.{option_map}};
+ghost use Rattle.vsi_image.specs.{Fields.{fields, globals, global, global_bytes, instr_bytes, head_bytes, string, IsAllowed, HasOpcode, HasBytes, Spells, newest_version}, declared.encoder.EncodeError.TheVariants.{Memory, Unencodable}, Limits.{first_limit}, Reading.{image_of}};
 ghost use Rattle.vsi_image.specs.Limits as spec;
 ghost use Rattle.vsi_image.specs.Fields as fields_spec;
 

@@ -1,8 +1,6 @@
 //! Instructions and images, their effects on operands, and their texts.
 
-ghost use Rattle.std.specs.Prelude.{◌≡◌, ◌≤◌, ◌++◌, OnOk, IfOk, codes, decimal, if◌then◌else◌, is_ok};
-ghost use Rattle.std.specs.Fmt.{signed_decimal};
-ghost use Rattle.std.specs.List.{flat_map};
+ghost use Rattle.std.specs.{Prelude.{◌≡◌, ◌≤◌, ◌++◌, OnOk, IfOk, codes, decimal, if◌then◌else◌, is_ok}, Fmt.{signed_decimal}, List.{flat_map}};
 ghost use Rattle.vsi_image.specs.Fields.{fields, global, globals};
 ghost use Rattle.vsi_image.specs.Effects as spec;
 ghost use Rattle.vsi_image.specs.Listing as listing_spec;

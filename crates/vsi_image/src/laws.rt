@@ -1,9 +1,7 @@
 //! Consequences of the definitions. Each function is only a law: it has no result and does nothing.
 
 ghost use Rattle.std.specs.Prelude.{◌≡◌, ◌↔◌, ℕ, List, None, Ok, slice_get};
-ghost use Rattle.vsi_image.specs.Fields.{Fields, IsAllowed, Spells};
-ghost use Rattle.vsi_image.specs.Limits.{first_limit};
-ghost use Rattle.vsi_image.specs.Reading.{EndsThere, image_of};
+ghost use Rattle.vsi_image.specs.{Fields.{Fields, IsAllowed, Spells}, Limits.{first_limit}, Reading.{EndsThere, image_of}};
 
 /// Limits of images.
 pub fn limit_law()

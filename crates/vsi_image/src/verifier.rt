@@ -1,11 +1,7 @@
 //! The verifier, which allocates no memory: it passes once over the code with a row of bits.
 
-ghost use Rattle.std.specs.Prelude.{◌≡◌, ◌≢◌, ℕ, ◌<◌, ◌*◌, length, true, false, ◌↔◌, ◌≤◌, ◌-◌, IfOk, IfErr, IsOk, Some, IsNone, slice_get};
-ghost use Rattle.vsi_image.specs.Marks.{marked, AreMarked, MarkDepths};
-ghost use Rattle.std.specs.Option.{option_map_or};
-ghost use Rattle.vsi_image.specs.Effects.{goes_off, target_of};
-ghost use Rattle.vsi_image.specs.Valid.{IsValid};
-ghost use Rattle.vsi_image.specs.Fields.{max_operands, max_instructions};
+ghost use Rattle.std.specs.{Prelude.{◌≡◌, ◌≢◌, ℕ, ◌<◌, ◌*◌, length, true, false, ◌↔◌, ◌≤◌, ◌-◌, IfOk, IfErr, IsOk, Some, IsNone, slice_get}, Option.{option_map_or}};
+ghost use Rattle.vsi_image.specs.{Marks.{marked, AreMarked, MarkDepths}, Effects.{goes_off, target_of}, Valid.{IsValid}, Fields.{max_operands, max_instructions}};
 ghost use Rattle.vsi_image.specs.Faults as spec;
 
 use crate::encoder::{Limit, limit_of};
@@ -61,8 +57,7 @@ pub struct Verified {
 }
 
 impl Model for Verified {
-    ghost use Rattle.vsi_image.specs.declared.instr.Image.{Image};
-    ghost use Rattle.vsi_image.specs.Valid.{IsValid};
+    ghost use Rattle.vsi_image.specs.{declared.instr.Image.{Image}, Valid.{IsValid}};
 
     ghost Value = { Image };
 

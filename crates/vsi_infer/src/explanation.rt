@@ -1,15 +1,10 @@
 //! The text of a walk: its lines and columns, its rules, variables and classes.
 
-ghost use Rattle.std.specs.Prelude.{◌≡◌, ◌+◌, ◌≤◌, take, length, IfOk, IfSome, ◌++◌, [], OnOk, codes, is_ok, if◌then◌else◌};
-ghost use Rattle.std.specs.List.{All, flat_map};
-ghost use Rattle.vsi_infer.specs.Lines.{IsMarkOf};
-ghost use Rattle.vsi_lattice.specs.LatticeView.{order};
-ghost use Rattle.vsi_lattice.specs.Order.{IsClass};
+ghost use Rattle.std.specs.{Prelude.{◌≡◌, ◌+◌, ◌≤◌, take, length, IfOk, IfSome, ◌++◌, [], OnOk, codes, is_ok, if◌then◌else◌}, List.{All, flat_map}};
+ghost use Rattle.vsi_infer.specs.{Lines.{IsMarkOf}, Inference.{AreClasses}};
+ghost use Rattle.vsi_lattice.specs.{LatticeView.{order}, Order.{IsClass}};
 ghost use Rattle.vsi_syntax.specs.Lines.{place_text};
-ghost use Rattle.vsi_types.specs.Security.{program as program_of};
-ghost use Rattle.vsi_types.specs.Walks.{IsBad};
-ghost use Rattle.vsi_types.specs.declared.rules.Profile.TheVariants.{Strict};
-ghost use Rattle.vsi_infer.specs.Inference.{AreClasses};
+ghost use Rattle.vsi_types.specs.{Security.{program as program_of}, Walks.{IsBad}, declared.rules.Profile.TheVariants.{Strict}};
 ghost use Rattle.vsi_syntax.specs.Lines as spec;
 ghost use Rattle.vsi_infer.specs.Explanation as explanation_spec;
 

@@ -1,14 +1,9 @@
 //! The flows of a program by the rules of a filter, found in one walk and kept as rows of bits.
 
-ghost use Rattle.std.specs.Prelude.{◌≡◌, ℕ, ◌+◌, ◌*◌, ◌^◌, ◌<◌, ◌≤◌, ◌&&◌, ◌||◌, ◌==◌, false, length, slice_index, vec_len, IfOk};
-ghost use Rattle.vsi_infer.specs.Leading.{takes as takes_of, reads_it, reads_by, row_reads, observes_ending as observes, IsReady, IsNoted, Noted, position_of, AreTaken};
-ghost use Rattle.vsi_infer.specs.StepsBetween.{same_rule as same_rule_of};
-ghost use Rattle.vsi_infer.specs.FlowRows.{flow_has};
-ghost use Rattle.std.specs.List.{All};
-ghost use Rattle.vsi_scope.specs.Language.{HasLocations, Assign, If, While, Letvar};
-ghost use Rattle.vsi_scope.specs.View.{expression, command, sequence};
+ghost use Rattle.std.specs.{Prelude.{◌≡◌, ℕ, ◌+◌, ◌*◌, ◌^◌, ◌<◌, ◌≤◌, ◌&&◌, ◌||◌, ◌==◌, false, length, slice_index, vec_len, IfOk}, List.{All}};
+ghost use Rattle.vsi_infer.specs.{Leading.{takes as takes_of, reads_it, reads_by, row_reads, observes_ending as observes, IsReady, IsNoted, Noted, position_of, AreTaken}, StepsBetween.{same_rule as same_rule_of}, FlowRows.{flow_has}, Flowing.{AreFlowsOf, AreFlowsBy}};
+ghost use Rattle.vsi_scope.specs.{Language.{HasLocations, Assign, If, While, Letvar}, View.{expression, command, sequence}};
 ghost use Rattle.vsi_types.specs.Security.{program as program_of};
-ghost use Rattle.vsi_infer.specs.Flowing.{AreFlowsOf, AreFlowsBy};
 ghost use Rattle.vsi_types.specs.declared.rules.Rule.TheVariants as typing;
 
 use crate::inference::Flow;

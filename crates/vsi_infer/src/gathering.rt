@@ -1,13 +1,8 @@
 //! The wanted steps of a program, gathered in one walk over it.
 
-ghost use Rattle.std.specs.Prelude.{◌≡◌, Bool, ℕ, length, IfOk, IsTrue, [], true, false};
-ghost use Rattle.vsi_types.specs.declared.rules.Step.{Step};
-ghost use Rattle.std.specs.List.{All, Contains};
-ghost use Rattle.vsi_scope.specs.Language.{HasPlaces, Assign, If, While, Letvar};
-ghost use Rattle.vsi_scope.specs.View.{expression, command, sequence};
-ghost use Rattle.vsi_types.specs.Security.{name_place, program as program_of, steps_of};
-ghost use Rattle.vsi_types.specs.Walker.{walker_place};
-ghost use Rattle.vsi_types.specs.declared.rules.Profile.{Profile};
+ghost use Rattle.std.specs.{Prelude.{◌≡◌, Bool, ℕ, length, IfOk, IsTrue, [], true, false}, List.{All, Contains}};
+ghost use Rattle.vsi_types.specs.{declared.rules.Step.{Step}, Security.{name_place, program as program_of, steps_of}, Walker.{walker_place}, declared.rules.Profile.{Profile}};
+ghost use Rattle.vsi_scope.specs.{Language.{HasPlaces, Assign, If, While, Letvar}, View.{expression, command, sequence}};
 ghost use Rattle.vsi_syntax.specs.declared.token.Span.{Span};
 ghost use Rattle.vsi_infer.specs.FirstSteps.{HasRoom, Gathers, IsFrom, kept_of};
 

@@ -1,14 +1,9 @@
 //! The least classes of a program, or the answer that there are none.
 
-ghost use Rattle.std.specs.Prelude.{◌≡◌, ℕ, ◌+◌, ◌*◌, ◌<◌, ◌≤◌, ◌⊎◌, Bool, List, true, length, false, Some, None, slice_get, slice_index, Contains, vec_len, OnOk, IfOk, IfErr, IfSome, IfNone, MatchOption, map, unwrap_or, ◌++◌, ◌∷◌, [], take, drop};
-ghost use Rattle.vsi_infer.specs.declared.inference.InferError.TheVariants.{Memory};
-ghost use Rattle.vsi_infer.specs.Choices.{KeepsDeclared, IsJustified, IsRaised, IsProgram, Waits, IsRaiseOf, IsOrderedChoice, IsLeastOrderedChoice, HasPlacedBadWalk, IsOutOfOrder, IsInOrder};
-ghost use Rattle.vsi_infer.specs.Ranks.{distance};
-ghost use Rattle.std.specs.List.{All};
+ghost use Rattle.std.specs.{Prelude.{◌≡◌, ℕ, ◌+◌, ◌*◌, ◌<◌, ◌≤◌, ◌⊎◌, Bool, List, true, length, false, Some, None, slice_get, slice_index, Contains, vec_len, OnOk, IfOk, IfErr, IfSome, IfNone, MatchOption, map, unwrap_or, ◌++◌, ◌∷◌, [], take, drop}, List.{All}};
+ghost use Rattle.vsi_infer.specs.{declared.inference.InferError.TheVariants.{Memory}, Choices.{KeepsDeclared, IsJustified, IsRaised, IsProgram, Waits, IsRaiseOf, IsOrderedChoice, IsLeastOrderedChoice, HasPlacedBadWalk, IsOutOfOrder, IsInOrder}, Ranks.{distance}, Inference.{table, AreClasses, IsLeast, Refuses}};
 ghost use Rattle.vsi_lattice.specs.Order.{IsClass};
-ghost use Rattle.vsi_types.specs.Security.{program as program_of};
-ghost use Rattle.vsi_types.specs.declared.rules.Profile.TheVariants.{Base};
-ghost use Rattle.vsi_infer.specs.Inference.{table, AreClasses, IsLeast, Refuses};
+ghost use Rattle.vsi_types.specs.{Security.{program as program_of}, declared.rules.Profile.TheVariants.{Base}};
 
 use crate::flows::flow_rows;
 use crate::shortest::shortest_walk;

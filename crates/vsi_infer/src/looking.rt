@@ -9,12 +9,9 @@
 //! test what they need, and if a test fails they walk over the program once more and look at every
 //! step.
 
-ghost use Rattle.std.specs.Prelude.{◌≡◌, ◌≤◌, ◌∷◌, [], true, false, length, OnOk, IfOk, IfSome};
-ghost use Rattle.std.specs.List.{Contains};
-ghost use Rattle.vsi_scope.specs.Language.{HasLocations};
-ghost use Rattle.vsi_scope.specs.View.{expression};
-ghost use Rattle.vsi_types.specs.Steps.{reads, guarded, flow, flows, endings};
-ghost use Rattle.vsi_types.specs.declared.rules.Profile.TheVariants.{Strict};
+ghost use Rattle.std.specs.{Prelude.{◌≡◌, ◌≤◌, ◌∷◌, [], true, false, length, OnOk, IfOk, IfSome}, List.{Contains}};
+ghost use Rattle.vsi_scope.specs.{Language.{HasLocations}, View.{expression}};
+ghost use Rattle.vsi_types.specs.{Steps.{reads, guarded, flow, flows, endings}, declared.rules.Profile.TheVariants.{Strict}};
 ghost use Rattle.vsi_infer.specs.FirstSteps.{kept_of, IsAmong, IsFrom, MayKeep};
 
 use crate::flows::{has_bit, note, observes_ending};

@@ -1,8 +1,7 @@
 //! Whether a step is one of a program's, found in one walk over its commands without allocation.
 
 ghost use Rattle.std.specs.Prelude.{◌≡◌, ◌+◌, ◌<◌, ◌||◌, ◌&&◌, length, slice_index};
-ghost use Rattle.vsi_scope.specs.Language.{HasLocations, Assign, If, While, Letvar};
-ghost use Rattle.vsi_scope.specs.View.{expression, command, sequence};
+ghost use Rattle.vsi_scope.specs.{Language.{HasLocations, Assign, If, While, Letvar}, View.{expression, command, sequence}};
 ghost use Rattle.vsi_types.specs.Security.{name_place};
 ghost use Rattle.vsi_infer.specs.Membership.{same_step as same_step_of, same_span as same_span_of, read_is as read_is_of, written_is as written_is_of, reads_pass as reads_pass_of, ends_pass as ends_pass_of, IsFor, IsPast, stand_of};
 ghost use Rattle.vsi_types.specs.declared.rules.Rule.TheVariants as typing;

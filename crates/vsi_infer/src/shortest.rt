@@ -1,15 +1,9 @@
 //! A shortest bad walk of a program that has one.
 
-ghost use Rattle.std.specs.Prelude.{◌≡◌, ◌+◌, ◌<◌, ℕ, Bool, true, List, map, slice_index, slice_index_or, None, [], IsTrue, IfOk, IfSome, ◌∷◌};
-ghost use Rattle.std.specs.List.{All, Contains};
+ghost use Rattle.std.specs.{Prelude.{◌≡◌, ◌+◌, ◌<◌, ℕ, Bool, true, List, map, slice_index, slice_index_or, None, [], IsTrue, IfOk, IfSome, ◌∷◌}, List.{All, Contains}};
 ghost use Rattle.vsi_lattice.specs.Order.{IsClass};
-ghost use Rattle.vsi_types.specs.Security.{program as program_of, steps_of};
-ghost use Rattle.vsi_types.specs.declared.rules.Step.{Step};
-ghost use Rattle.vsi_infer.specs.Choices.{HasPlacedBadWalk};
-ghost use Rattle.vsi_infer.specs.Flowing.{AreFlowsOf};
-ghost use Rattle.vsi_infer.specs.Inference.{table, AreClasses, IsShortest};
-ghost use Rattle.vsi_infer.specs.Paths.{IsPath};
-ghost use Rattle.vsi_infer.specs.Shortest.{begins as begins_of, goes_on as goes_on_of, nearer as nearer_of, row_of as row_of_variable, LeadsDown, IsArrived, FindsWalks};
+ghost use Rattle.vsi_types.specs.{Security.{program as program_of, steps_of}, declared.rules.Step.{Step}};
+ghost use Rattle.vsi_infer.specs.{Choices.{HasPlacedBadWalk}, Flowing.{AreFlowsOf}, Inference.{table, AreClasses, IsShortest}, Paths.{IsPath}, Shortest.{begins as begins_of, goes_on as goes_on_of, nearer as nearer_of, row_of as row_of_variable, LeadsDown, IsArrived, FindsWalks}};
 
 use crate::distances::{far_at, fewest, level, levels};
 use crate::gathering::{Wanted, first_steps, wanted_step};

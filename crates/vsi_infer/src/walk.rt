@@ -1,16 +1,9 @@
 //! Walks, the steps of a program that lead along one, and the test for bad ones.
 
-ghost use Rattle.std.specs.Prelude.{IfOk, ◌≡◌, ◌≤◌, ◌↔◌, ℕ, true, length, Some, IfSome, IfNone, IsTrue};
-ghost use Rattle.std.specs.List.{All, Contains, list_any};
-ghost use Rattle.vsi_types.specs.Security.{program as program_of, steps_of, count_from};
-ghost use Rattle.vsi_infer.specs.FirstSteps.{goes_along};
+ghost use Rattle.std.specs.{Prelude.{IfOk, ◌≡◌, ◌≤◌, ◌↔◌, ℕ, true, length, Some, IfSome, IfNone, IsTrue}, List.{All, Contains, list_any}};
+ghost use Rattle.vsi_types.specs.{Security.{program as program_of, steps_of, count_from}, Walks.{IsBad, declared_class as declared_class_of}, declared.rules.Profile.TheVariants.{Base}, declared.rules.Step.{Step}};
+ghost use Rattle.vsi_infer.specs.{FirstSteps.{goes_along}, Inference.{AreClasses}, Membership.{same_step as same_step_of}, Paths.{IsPath}};
 ghost use Rattle.vsi_lattice.specs.Order.{IsClass};
-ghost use Rattle.vsi_types.specs.Walks.{IsBad, declared_class as declared_class_of};
-ghost use Rattle.vsi_types.specs.declared.rules.Profile.TheVariants.{Base};
-ghost use Rattle.vsi_types.specs.declared.rules.Step.{Step};
-ghost use Rattle.vsi_infer.specs.Inference.{AreClasses};
-ghost use Rattle.vsi_infer.specs.Membership.{same_step as same_step_of};
-ghost use Rattle.vsi_infer.specs.Paths.{IsPath};
 
 use crate::gathering::{Wanted, first_steps};
 use crate::membership::{Cursor, SCOPE, pass_commands, same_step};

@@ -1,8 +1,7 @@
 //! Classes with names.
 
 ghost use Rattle.std.specs.Prelude.{length};
-ghost use Rattle.vsi_lattice.specs.NamePlaces.{owned};
-ghost use Rattle.vsi_lattice.specs.NameRules.{AreNames};
+ghost use Rattle.vsi_lattice.specs.{NamePlaces.{owned}, NameRules.{AreNames}};
 
 use crate::order::{Class, Classes, MaskLattice};
 use crate::reader::place_of;
@@ -55,8 +54,7 @@ impl Lattice {
 }
 
 impl Classes for Lattice {
-    ghost use Rattle.vsi_lattice.specs.LatticeView.{order};
-    ghost use Rattle.vsi_lattice.specs.Laws.{lawful_is_lattice};
+    ghost use Rattle.vsi_lattice.specs.{LatticeView.{order}, Laws.{lawful_is_lattice}};
 
     ghost lattice = { order };
 

@@ -1,11 +1,7 @@
 //! Classes, the operations of a lattice of classes, and a lattice as rows of bits.
 
 ghost use Rattle.std.specs.Prelude.{◌≡◌, ◌≤◌, ℕ, ◌<◌, IfOk, IfErr};
-ghost use Rattle.vsi_lattice.specs.Order.{Lattice, IsLattice, IsClass, Below, IsJoin, IsMeet};
-ghost use Rattle.vsi_lattice.specs.Pairs.{ArePairsBelow, MakesLattice, IsDeclared, Leq};
-ghost use Rattle.vsi_lattice.specs.OrderFaults.{NamesFault};
-ghost use Rattle.vsi_lattice.specs.Laws.{IsLawful};
-ghost use Rattle.vsi_lattice.specs.Rows.{IsMaskOrder, row_lattice};
+ghost use Rattle.vsi_lattice.specs.{Order.{Lattice, IsLattice, IsClass, Below, IsJoin, IsMeet}, Pairs.{ArePairsBelow, MakesLattice, IsDeclared, Leq}, OrderFaults.{NamesFault}, Laws.{IsLawful}, Rows.{IsMaskOrder, row_lattice}};
 ghost use Rattle.vsi_lattice.specs.declared.order.OrderError.TheVariants as errors;
 
 use crate::rows::{Rows, closed, common_class};

@@ -1,12 +1,8 @@
 //! Reads a lattice file: its names, its pairs and the reasons why it is refused.
 
 ghost use Rattle.std.specs.Prelude.{◌≡◌, ℕ, ◌<◌, ◌≤◌, List, [], ◌∷◌, ◌++◌, true, false, length, map, IfOk, IfErr, OnOk, IfSome, IfNone, Some, None, string_bytes, option_map, option_and_then, codes};
-ghost use Rattle.vsi_lattice.specs.NamePlaces.{texts, text_pairs, owned, place_in, IsLeast, Never, IsBadName, StandsIn, StandsEarlier, IsUnknown, IsUnknownAt, number_of};
-ghost use Rattle.vsi_lattice.specs.FileFaults.{TellsDuplicate, TellsUnknown, IsFault, IsAccepted, IsOf, IsRead, ExplainsLattice};
-ghost use Rattle.vsi_lattice.specs.Pairs.{ArePairsBelow};
-ghost use Rattle.toml.specs.Data.{Members, as_str, as_array, get_member};
-ghost use Rattle.toml.specs.View.{table_view, items_view, view};
-ghost use Rattle.vsi_lattice.specs.Shape.{IsToml, all_of, pair_of, array_at, file_of, shown, File, IsFile};
+ghost use Rattle.vsi_lattice.specs.{NamePlaces.{texts, text_pairs, owned, place_in, IsLeast, Never, IsBadName, StandsIn, StandsEarlier, IsUnknown, IsUnknownAt, number_of}, FileFaults.{TellsDuplicate, TellsUnknown, IsFault, IsAccepted, IsOf, IsRead, ExplainsLattice}, Pairs.{ArePairsBelow}, Shape.{IsToml, all_of, pair_of, array_at, file_of, shown, File, IsFile}};
+ghost use Rattle.toml.specs.{Data.{Members, as_str, as_array, get_member}, View.{table_view, items_view, view}};
 ghost use Rattle.vsi_lattice.specs.declared.reader.LatticeError.TheVariants as errors;
 ghost use Rattle.vsi_lattice.specs.LatticeView as spec;
 

@@ -1,8 +1,7 @@
 //! The order as rows of bits: row `a` has bit `b` if class `a` is below class `b`.
 
 ghost use Rattle.std.specs.Prelude.{◌≡◌, ℕ, ◌<◌, ◌≤◌, ◌&&◌, ◌||◌, ◌==◌, nat_lt, length, vec_len, IfOk, IfSome, IfNone, true};
-ghost use Rattle.vsi_lattice.specs.Pairs.{ArePairsBelow, IsFirstPair};
-ghost use Rattle.vsi_lattice.specs.Rows.{row_has, widened, IsClosureOf, IsTransposed, AddsPair, IsCommon, AllHaveCommon, LacksCommon, BothHaveOther, AreTied, IsPreorder};
+ghost use Rattle.vsi_lattice.specs.{Pairs.{ArePairsBelow, IsFirstPair}, Rows.{row_has, widened, IsClosureOf, IsTransposed, AddsPair, IsCommon, AllHaveCommon, LacksCommon, BothHaveOther, AreTied, IsPreorder}};
 
 use std::alloc::{AllocError, Global};
 

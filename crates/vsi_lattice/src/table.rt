@@ -1,12 +1,7 @@
 //! The order as a table: for every pair of classes, whether the first is at or below.
 
 ghost use Rattle.std.specs.Prelude.{◌≡◌, ℕ, ◌<◌, ◌≤◌, ◌&&◌, ◌||◌, ◌==◌, nat_lt, length, vec_len, IfOk, IfSome, IfNone, true, false, IfErr};
-ghost use Rattle.vsi_lattice.specs.Order.{IsJoin, HasJoin};
-ghost use Rattle.vsi_lattice.specs.Pairs.{Says, IsCycle, IsFirstPair, ArePairsBelow, MakesLattice, IsDeclared, Leq};
-ghost use Rattle.vsi_lattice.specs.Rows.{AddsPair, IsPreorder, IsClosureOf, IsTransposed};
-ghost use Rattle.vsi_lattice.specs.Tables.{table_has, AreTables, table_lattice};
-ghost use Rattle.vsi_lattice.specs.OrderFaults.{NamesFault};
-ghost use Rattle.vsi_lattice.specs.Laws.{IsLawful};
+ghost use Rattle.vsi_lattice.specs.{Order.{IsJoin, HasJoin}, Pairs.{Says, IsCycle, IsFirstPair, ArePairsBelow, MakesLattice, IsDeclared, Leq}, Rows.{AddsPair, IsPreorder, IsClosureOf, IsTransposed}, Tables.{table_has, AreTables, table_lattice}, OrderFaults.{NamesFault}, Laws.{IsLawful}};
 ghost use Rattle.vsi_lattice.specs.declared.order.OrderError.TheVariants as errors;
 
 use crate::order::{Class, Classes, OrderError};

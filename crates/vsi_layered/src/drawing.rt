@@ -1,9 +1,7 @@
 //! Graphs and their drawings, and the test that a drawing is sound.
 
-ghost use Rattle.std.specs.Prelude.{◌≡◌, ◌≤◌, ◌<◌, ◌+◌, ℕ, length, IsTrue, IfOk, IfSome};
-ghost use Rattle.std.specs.List.{slice_index_or};
-ghost use Rattle.vsi_layered.specs.Drawing.{HasSize, IsWithin, AreApart, AllApart, AllSized, AllWithin, AllInside, IsSound};
-ghost use Rattle.vsi_layered.specs.declared.drawing.Place.{Place as Box};
+ghost use Rattle.std.specs.{Prelude.{◌≡◌, ◌≤◌, ◌<◌, ◌+◌, ℕ, length, IsTrue, IfOk, IfSome}, List.{slice_index_or}};
+ghost use Rattle.vsi_layered.specs.{Drawing.{HasSize, IsWithin, AreApart, AllApart, AllSized, AllWithin, AllInside, IsSound}, declared.drawing.Place.{Place as Box}};
 
 use crate::groups::{frame_of, groups_of};
 use crate::rows::{Placed, placed_in};

@@ -1,14 +1,11 @@
 //! Whether two stores show a leak: both are run, and their endings are compared.
 
 ghost use Rattle.std.specs.Prelude.{◌≡◌, ◌↔◌, IfOk, IfNone, IfSome, IsTrue, ◌≢◌, true, false, pos, slice_index_or, ◌≤◌};
-ghost use Rattle.vsi_lattice.specs.LatticeView.{class_named, order};
-ghost use Rattle.vsi_lattice.specs.Order.{IsClass};
-ghost use Rattle.vsi_leak.specs.Leaks.{EndsSo, IsLeak, IsOf, ShowNone, TellsApart, GoesOn, HasHalted, TakesSome};
-ghost use Rattle.vsi_image.specs.Fields.{globals};
+ghost use Rattle.vsi_lattice.specs.{LatticeView.{class_named, order}, Order.{IsClass}};
+ghost use Rattle.vsi_leak.specs.{Leaks.{EndsSo, IsLeak, IsOf, ShowNone, TellsApart, GoesOn, HasHalted, TakesSome}, Agreement.{AgreeIn}};
+ghost use Rattle.vsi_image.specs.{Fields.{globals}, Meaning.{start}};
 ghost use Rattle.vsi_compiler.specs.Observation.{AgreeAt};
 ghost use Rattle.vsi_store.specs.View.{is_seen};
-ghost use Rattle.vsi_leak.specs.Agreement.{AgreeIn};
-ghost use Rattle.vsi_image.specs.Meaning.{start};
 
 use crate::propose::word_at;
 use std::alloc::{AllocError, Global};

@@ -1,7 +1,6 @@
 //! Stores that seem to show a leak. `check_leak` checks what is proposed here.
 
-ghost use Rattle.vsi_lattice.specs.LatticeView.{order};
-ghost use Rattle.vsi_lattice.specs.Order.{IsClass};
+ghost use Rattle.vsi_lattice.specs.{LatticeView.{order}, Order.{IsClass}};
 ghost use Rattle.std.specs.Prelude.{◌≡◌, pos, slice_index_or};
 
 use crate::check::{Sign, ending, started};

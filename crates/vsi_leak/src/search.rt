@@ -1,8 +1,7 @@
 //! The search for a leak of an image at a class.
 
 ghost use Rattle.std.specs.Prelude.{◌≡◌, ◌≤◌, length, IfOk, IfNone, IfSome};
-ghost use Rattle.vsi_lattice.specs.LatticeView.{class_named, order};
-ghost use Rattle.vsi_lattice.specs.Order.{IsClass};
+ghost use Rattle.vsi_lattice.specs.{LatticeView.{class_named, order}, Order.{IsClass}};
 ghost use Rattle.vsi_leak.specs.Leaks.{IsFinding, IsAsked, IsLeakBy, LeavesNoOne, NoOneShows, ShowNoneEither, TellsAtMost};
 ghost use Rattle.vsi_leak.specs.Leaks as spec;
 

@@ -1,8 +1,7 @@
 //! A document as requests about its names read it, and the words with which it can go on.
 
 ghost use Rattle.std.specs.List.{All};
-ghost use Rattle.vsi_lattice.specs.LatticeView.{order};
-ghost use Rattle.vsi_lattice.specs.Order.{IsClass};
+ghost use Rattle.vsi_lattice.specs.{LatticeView.{order}, Order.{IsClass}};
 
 use crate::document::{
     DocumentText, Fault, Made, PARAMETERS, RENAME, edit, folds, joined, text_at, text_value,

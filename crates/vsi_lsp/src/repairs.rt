@@ -1,9 +1,8 @@
 //! Repairs of a text that is refused: its least raises, and rewrites of the parts with errors.
 
 ghost use Rattle.std.specs.Prelude.{IfOk, IfSome, ◌≡◌, ◌++◌, OnOk};
-ghost use Rattle.vsi_lattice.specs.LatticeView.{class_named, order};
+ghost use Rattle.vsi_lattice.specs.{LatticeView.{class_named, order}, Order.{IsClass}};
 ghost use Rattle.vsi_compiler.specs.Acceptance.{IsAccepted};
-ghost use Rattle.vsi_lattice.specs.Order.{IsClass};
 ghost use Rattle.vsi_flows.specs.Answers.{HasClassesIn};
 ghost use Rattle.vsi_lsp.specs.Titles as spec;
 

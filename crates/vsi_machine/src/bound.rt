@@ -1,16 +1,7 @@
 //! The bound of an image: the cost of its loops, or why no bound was found.
 
 ghost use Rattle.std.specs.Prelude.{◌≡◌, ◌+◌, ◌*◌, IfOk, min, max, ◌-◌, ◌^◌, ◌<◌, ◌≤◌, IfErr, OnOk, length, Some, slice_get};
-ghost use Rattle.vsi_machine.specs.declared.bound.Fault.TheVariants.{Memory};
-ghost use Rattle.vsi_machine.specs.declared.bound.Stop.TheVariants.{Other};
-ghost use Rattle.vsi_machine.specs.Loops.{Keeps};
-ghost use Rattle.vsi_machine.specs.Looping.{Finished, IsCounter};
-ghost use Rattle.vsi_machine.specs.Stopping.{IsChanged, IsUncounted, OnEndless, Unfinished};
-ghost use Rattle.vsi_machine.specs.Stretch.{Evaluates, Ends};
-ghost use Rattle.vsi_machine.specs.Transfer.{IsValue};
-ghost use Rattle.vsi_machine.specs.Bound.{Answers};
-ghost use Rattle.vsi_machine.specs.Facts.{AreSame};
-ghost use Rattle.vsi_machine.specs.Search.{StopsAt};
+ghost use Rattle.vsi_machine.specs.{declared.bound.Fault.TheVariants.{Memory}, declared.bound.Stop.TheVariants.{Other}, Loops.{Keeps}, Looping.{Finished, IsCounter}, Stopping.{IsChanged, IsUncounted, OnEndless, Unfinished}, Stretch.{Evaluates, Ends}, Transfer.{IsValue}, Bound.{Answers}, Facts.{AreSame}, Search.{StopsAt}};
 ghost use Rattle.vsi_image.specs.declared.instr.Instr.TheVariants as instr;
 
 use crate::loops::{Counter, Known, counter_of, keeps, leave};

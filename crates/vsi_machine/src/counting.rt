@@ -2,9 +2,7 @@
 
 ghost use Rattle.std.specs.Prelude.{◌≡◌, ◌≢◌, ◌+◌, ◌<◌, ◌≤◌, ◌⊎◌, ℕ, length, IsNone, IfOk, IfErr, IfSome, IfNone, Some, IsSomeAnd, true, false, ◌++◌, OnOk};
 ghost use Rattle.vsi_image.specs.Meaning.{after};
-ghost use Rattle.vsi_machine.specs.Runs.{run_of, outcome_of};
-ghost use Rattle.vsi_machine.specs.declared.interpreter.Outcome.TheVariants.{Halted, OutOfBudget};
-ghost use Rattle.vsi_machine.specs.Counting.{HaltsIn, Halts, GoesOn};
+ghost use Rattle.vsi_machine.specs.{Runs.{run_of, outcome_of}, declared.interpreter.Outcome.TheVariants.{Halted, OutOfBudget}, Counting.{HaltsIn, Halts, GoesOn}};
 ghost use Rattle.vsi_machine.specs.CountTexts as spec;
 ghost use Rattle.vsi_machine.specs.Cells as cells_spec;
 

@@ -1,7 +1,6 @@
 //! Laws of runs, and of bounds on their instructions.
 
-ghost use Rattle.vsi_machine.specs.Laws.{BudgetsAdd, CountDecides, HaltingLasts, NeverStuck, OneCount, OneEnding};
-ghost use Rattle.vsi_machine.specs.BoundLaws.{EnoughBudget, ExactCount};
+ghost use Rattle.vsi_machine.specs.{Laws.{BudgetsAdd, CountDecides, HaltingLasts, NeverStuck, OneCount, OneEnding}, BoundLaws.{EnoughBudget, ExactCount}};
 
 /// A run and a further run are one run with the sum of both budgets.
 pub fn budgets_add()

@@ -1,17 +1,9 @@
 //! The facts about words at the turns of a loop, and how many turns it has.
 
 ghost use Rattle.std.specs.Prelude.{◌≡◌, ℤ, List, ◌≢◌, ◌≤◌, ◌⊎◌, [], ◌∷◌, ◌++◌, IfOk, Some, false, length, slice_get, true, ◌<ℤ◌, ◌+ℤ◌, ◌+◌, ◌*◌, ◌^◌, ◌<◌, IfErr, IfNone, IfSome, negsuc, pos, ℕ, Bool};
-ghost use Rattle.vsi_syntax.specs.Operators.{apply, less_of};
-ghost use Rattle.vsi_syntax.specs.declared.tree.Op.TheVariants.{Add, Sub, Lt};
-ghost use Rattle.vsi_machine.specs.Known.{Means};
-ghost use Rattle.vsi_machine.specs.Transfer.{difference_fact, fact_of, less_fact, sum_fact};
-ghost use Rattle.vsi_image.specs.declared.instr.Instr.{Instr};
-ghost use Rattle.vsi_image.specs.declared.instr.Instr.TheVariants.{Store};
-ghost use Rattle.vsi_machine.specs.Loops.{Enters, IsEntry, Keeps, Remain, Joined};
-ghost use Rattle.vsi_machine.specs.declared.loops.Known.TheVariants.{Any, Number};
-ghost use Rattle.vsi_machine.specs.Counters.{Counts};
-ghost use Rattle.vsi_machine.specs.Reasons.{Uncounted, HasNoCounter};
-ghost use Rattle.vsi_machine.specs.Looping.{IsCounter, guard_value};
+ghost use Rattle.vsi_syntax.specs.{Operators.{apply, less_of}, declared.tree.Op.TheVariants.{Add, Sub, Lt}};
+ghost use Rattle.vsi_machine.specs.{Known.{Means}, Transfer.{difference_fact, fact_of, less_fact, sum_fact}, Loops.{Enters, IsEntry, Keeps, Remain, Joined}, declared.loops.Known.TheVariants.{Any, Number}, Counters.{Counts}, Reasons.{Uncounted, HasNoCounter}, Looping.{IsCounter, guard_value}};
+ghost use Rattle.vsi_image.specs.declared.instr.{Instr.{Instr}, Instr.TheVariants.{Store}};
 ghost use Rattle.vsi_machine.specs.declared.loops.Known.TheVariants as spec;
 ghost use Rattle.vsi_machine.specs.Looping as looping;
 

@@ -1,12 +1,7 @@
 //! Stretches of code: their cost, and the facts about words after them.
 
 ghost use Rattle.std.specs.Prelude.{◌≡◌, ◌<◌, ◌≤◌, [], ◌∷◌, IfOk, IfSome, List, OnOk, Some, length, reverse, ◌+◌, IfErr, slice_get, true};
-ghost use Rattle.vsi_machine.specs.declared.loops.Known.{Known};
-ghost use Rattle.vsi_machine.specs.Stretch.{Evaluates, Leads, IsTest, Stores};
-ghost use Rattle.vsi_machine.specs.Transfer.{IsValue, Puts, on_two, put as put_fact};
-ghost use Rattle.vsi_machine.specs.Values.{Acts, IsOperator, Operates};
-ghost use Rattle.vsi_machine.specs.Search.{Fails, IsChoice, Passes, Reaches, Stuck};
-ghost use Rattle.vsi_machine.specs.Stopping.{OnEndless};
+ghost use Rattle.vsi_machine.specs.{declared.loops.Known.{Known}, Stretch.{Evaluates, Leads, IsTest, Stores}, Transfer.{IsValue, Puts, on_two, put as put_fact}, Values.{Acts, IsOperator, Operates}, Search.{Fails, IsChoice, Passes, Reaches, Stuck}, Stopping.{OnEndless}};
 ghost use Rattle.vsi_image.specs.declared.instr.Instr.TheVariants as spec;
 
 use crate::bound::{Cost, Fault, Stop, Test, either, exactly, finish, guard_at, sum};

@@ -1,14 +1,8 @@
 //! Live variables as sets of small numbers, and the removal of dead assignments.
 
 ghost use Rattle.std.specs.Prelude.{◌≡◌, ◌<◌, ◌≤◌, true, false, ◌+◌, IfOk, OnOk, reverse};
-ghost use Rattle.vsi_opt.specs.Liveness.{with_bit, joined, reads, before, kept_in_loop, kept_live, taken};
-ghost use Rattle.vsi_opt.specs.Ranges.{bits, Fits};
-ghost use Rattle.vsi_opt.specs.Optimised.{globals_alone};
-ghost use Rattle.vsi_scope.specs.Limits.{max_declarations};
-ghost use Rattle.vsi_scope.specs.Language.{HasLocations, Assign, letvars};
-ghost use Rattle.vsi_scope.specs.View.{expression, command, sequence};
-ghost use Rattle.vsi_opt.specs.Folding.{append};
-ghost use Rattle.vsi_opt.specs.Loops.{AddFits, AddsTo, KeptInLoopFits};
+ghost use Rattle.vsi_opt.specs.{Liveness.{with_bit, joined, reads, before, kept_in_loop, kept_live, taken}, Ranges.{bits, Fits}, Optimised.{globals_alone}, Folding.{append}, Loops.{AddFits, AddsTo, KeptInLoopFits}};
+ghost use Rattle.vsi_scope.specs.{Limits.{max_declarations}, Language.{HasLocations, Assign, letvars}, View.{expression, command, sequence}};
 
 use std::alloc::{AllocError, Global};
 use vsi_scope::{Cmd, Ex};

@@ -1,13 +1,8 @@
 //! The optimiser as a whole: folding from the leaves up, and the entries that remain.
 
 ghost use Rattle.std.specs.Prelude.{◌≡◌, IfOk, OnOk, ◌+◌, ◌≤◌, length};
-ghost use Rattle.vsi_scope.specs.Language.{Operator, While, letvars, HasPlaces, size};
-ghost use Rattle.vsi_scope.specs.View.{expression, command, sequence};
-ghost use Rattle.vsi_opt.specs.Folding.{literal_of, fold_operator, folded, truth_of, one, append, fold};
-ghost use Rattle.vsi_opt.specs.Remaining.{may_be_true, may_be_false, remaining, HasEntries, Picks, PicksIf, IsRemainder, KeepsEntries};
-ghost use Rattle.vsi_scope.specs.Limits.{max_declarations};
-ghost use Rattle.vsi_opt.specs.Folded.{IsFolded};
-ghost use Rattle.vsi_opt.specs.Optimised.{optimised, RunsAlike};
+ghost use Rattle.vsi_scope.specs.{Language.{Operator, While, letvars, HasPlaces, size}, View.{expression, command, sequence}, Limits.{max_declarations}};
+ghost use Rattle.vsi_opt.specs.{Folding.{literal_of, fold_operator, folded, truth_of, one, append, fold}, Remaining.{may_be_true, may_be_false, remaining, HasEntries, Picks, PicksIf, IsRemainder, KeepsEntries}, Folded.{IsFolded}, Optimised.{optimised, RunsAlike}};
 
 use crate::liveness::{SmallSet, kept_live_all};
 use std::alloc::{AllocError, Global};

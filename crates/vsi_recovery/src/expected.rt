@@ -3,11 +3,8 @@
 
 ghost use Rattle.std.specs.Prelude.{◌≡◌, ◌↔◌, ◌∷◌, [], IfOk, is_some, map, option_map, reverse, true};
 ghost use Rattle.vsi_syntax.specs.View.{lexemes};
-ghost use Rattle.vsi_recovery.specs.declared.sort.Sort.{Sort};
-ghost use Rattle.vsi_recovery.specs.Goes.{CanFollow, IsWritten};
+ghost use Rattle.vsi_recovery.specs.{declared.sort.Sort.{Sort}, Goes.{CanFollow, IsWritten}, Sorts.{lexeme_sort}, Told.{told}};
 ghost use Rattle.vsi_recovery.specs.Rules as spec;
-ghost use Rattle.vsi_recovery.specs.Sorts.{lexeme_sort};
-ghost use Rattle.vsi_recovery.specs.Told.{told};
 
 use crate::rules::{Wanted, put_rule};
 use crate::sort::Sort::*;

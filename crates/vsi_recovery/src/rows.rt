@@ -1,10 +1,8 @@
 //! An order as rows of bits, and whether it is a lattice once it has more classes and pairs.
 
 ghost use Rattle.std.specs.Prelude.{◌≡◌, ℕ, ◌<◌, ◌≤◌, ◌&&◌, ◌==◌, nat_lt, length, vec_len, IfOk, IsTrue, true, ◌+◌, ◌++◌, IfSome};
-ghost use Rattle.vsi_lattice.specs.Pairs.{Leq, ArePairsBelow, IsDeclared};
-ghost use Rattle.vsi_lattice.specs.Rows.{row_has, widened, AddsPair};
+ghost use Rattle.vsi_lattice.specs.{Pairs.{Leq, ArePairsBelow, IsDeclared}, Rows.{row_has, widened, AddsPair}, Order.{Below}};
 ghost use Rattle.vsi_recovery.specs.Completed.{IsLatticeWith};
-ghost use Rattle.vsi_lattice.specs.Order.{Below};
 
 use std::alloc::{AllocError, Global};
 use vsi_lattice::{Class, Classes, MaskLattice, OrderError};

@@ -1,15 +1,10 @@
 //! The lattice in the language of Graphviz, with its classes by number, and parts of graphs.
 
-ghost use Rattle.std.specs.Prelude.{◌≡◌, ◌⊎◌, ◌+◌, IsTrue, IsFalse, IfOk, OnOk, ◌++◌, length, ◌≤◌};
-ghost use Rattle.vsi_lattice.specs.LatticeView.{names, order, order as order_of_lattice};
-ghost use Rattle.vsi_lattice.specs.Order.{IsClass, Below};
-ghost use Rattle.vsi_report.specs.Covering.{Covers, StandsBetween, HasJust, IsCoveringPair, IsRowSoFar};
-ghost use Rattle.vsi_report.specs.Graph.{name_at, texts};
-ghost use Rattle.std.specs.List.{flat_map};
+ghost use Rattle.std.specs.{Prelude.{◌≡◌, ◌⊎◌, ◌+◌, IsTrue, IsFalse, IfOk, OnOk, ◌++◌, length, ◌≤◌}, List.{flat_map}};
+ghost use Rattle.vsi_lattice.specs.{LatticeView.{names, order, order as order_of_lattice}, Order.{IsClass, Below}};
+ghost use Rattle.vsi_report.specs.{Covering.{Covers, StandsBetween, HasJust, IsCoveringPair, IsRowSoFar}, Graph.{name_at, texts}, Drawn.{shown}};
 ghost use Rattle.vsi_types.specs.Security.{count_from, program as program_of};
-ghost use Rattle.vsi_infer.specs.Flowing.{variable_at as variable_at_of};
-ghost use Rattle.vsi_infer.specs.StepsBetween.{leads_by};
-ghost use Rattle.vsi_report.specs.Drawn.{shown};
+ghost use Rattle.vsi_infer.specs.{Flowing.{variable_at as variable_at_of}, StepsBetween.{leads_by}};
 ghost use Rattle.vsi_report.specs.Graph as classes_spec;
 ghost use Rattle.vsi_report.specs.FlowsGraph as spec;
 

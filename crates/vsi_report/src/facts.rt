@@ -4,18 +4,12 @@
 //! A refused program has no typable choice of classes. Its letvars are shown with the least class
 //! at or above all that reaches them. In an accepted program that is the class of the least choice.
 
-ghost use Rattle.std.specs.Prelude.{◌≡◌, IfOk, ◌≤◌, ◌<◌, length};
-ghost use Rattle.std.specs.List.{All};
+ghost use Rattle.std.specs.{Prelude.{◌≡◌, IfOk, ◌≤◌, ◌<◌, length}, List.{All}};
 ghost use Rattle.vsi_types.specs.Security.{program as program_of};
-ghost use Rattle.vsi_lattice.specs.Order.{IsClass};
-ghost use Rattle.vsi_lattice.specs.LatticeView.{order as order_of};
-ghost use Rattle.vsi_infer.specs.Inference.{AreClasses};
-ghost use Rattle.vsi_infer.specs.Flowing.{size_of, AreFlowsOf};
-ghost use Rattle.vsi_flows.specs.Reaching.{floor, AreFloors, IsJoined, IsReached};
-ghost use Rattle.vsi_flows.specs.Table.{IsTable};
-ghost use Rattle.vsi_report.specs.ByRule.{flows_in_rows, HasFlows};
-ghost use Rattle.vsi_report.specs.FlowsGraph.{AreShown};
-ghost use Rattle.vsi_report.specs.Reached.{AreReached};
+ghost use Rattle.vsi_lattice.specs.{Order.{IsClass}, LatticeView.{order as order_of}};
+ghost use Rattle.vsi_infer.specs.{Inference.{AreClasses}, Flowing.{size_of, AreFlowsOf}};
+ghost use Rattle.vsi_flows.specs.{Reaching.{floor, AreFloors, IsJoined, IsReached}, Table.{IsTable}};
+ghost use Rattle.vsi_report.specs.{ByRule.{flows_in_rows, HasFlows}, FlowsGraph.{AreShown}, Reached.{AreReached}};
 
 use crate::dot::{Order, name_of};
 use crate::page::Made;

@@ -1,20 +1,13 @@
 //! The flows of a text in the language of Graphviz.
 
-ghost use Rattle.std.specs.Prelude.{◌≡◌, ◌++◌, ◌≤◌, List, IfOk, IfErr, OnOk};
-ghost use Rattle.std.specs.List.{All, flat_map};
-ghost use Rattle.vsi_lattice.specs.Order.{IsClass};
-ghost use Rattle.vsi_lattice.specs.LatticeView.{class_named, order as order_of_lattice};
+ghost use Rattle.std.specs.{Prelude.{◌≡◌, ◌++◌, ◌≤◌, List, IfOk, IfErr, OnOk}, List.{All, flat_map}};
+ghost use Rattle.vsi_lattice.specs.{Order.{IsClass}, LatticeView.{class_named, order as order_of_lattice}};
 ghost use Rattle.vsi_syntax.specs.Tree.{Whole};
-ghost use Rattle.vsi_scope.specs.Language.{Command};
-ghost use Rattle.vsi_scope.specs.Resolving.{IsResolution};
+ghost use Rattle.vsi_scope.specs.{Language.{Command}, Resolving.{IsResolution}};
 ghost use Rattle.vsi_types.specs.Security.{program as program_of, count_from};
 ghost use Rattle.vsi_infer.specs.Inference.{AreClasses};
-ghost use Rattle.vsi_compiler.specs.Source.{Reads};
-ghost use Rattle.vsi_compiler.specs.declared.source.CompileError.TheVariants.{Memory};
-ghost use Rattle.vsi_compiler.specs.Refusal.{RefusesProgram};
-ghost use Rattle.vsi_report.specs.ByRule.{flows_in_rows};
-ghost use Rattle.vsi_report.specs.Drawn.{shown};
-ghost use Rattle.vsi_report.specs.Graph.{texts};
+ghost use Rattle.vsi_compiler.specs.{Source.{Reads}, declared.source.CompileError.TheVariants.{Memory}, Refusal.{RefusesProgram}};
+ghost use Rattle.vsi_report.specs.{ByRule.{flows_in_rows}, Drawn.{shown}, Graph.{texts}};
 ghost use Rattle.vsi_report.specs.FlowsGraph as spec;
 
 use crate::dot::{

@@ -2,8 +2,7 @@
 //! none was found.
 
 ghost use Rattle.std.specs.Prelude.{◌≡◌, IfOk, IfSome, All};
-ghost use Rattle.vsi_lattice.specs.LatticeView.{class_named, order};
-ghost use Rattle.vsi_lattice.specs.Order.{IsClass};
+ghost use Rattle.vsi_lattice.specs.{LatticeView.{class_named, order}, Order.{IsClass}};
 ghost use Rattle.vsi_leak.specs.Leaks.{IsFinding, IsLeak};
 
 use crate::dot::is_below;

@@ -1,14 +1,9 @@
 //! The parts of a page, the writer that fills markup with them, and the first words of a page.
 
 ghost use Rattle.std.specs.Prelude.{◌≡◌, ◌++◌, ◌∷◌, ◌-◌, OnOk, IfOk, List, ℕ, [], true};
-ghost use Rattle.vsi_report.specs.Banner.{untagged};
+ghost use Rattle.vsi_report.specs.{Banner.{untagged}, Escape.{escape, escaped}, Filled.{filled, prefix, text_at}, Page.{HasPanel}, Reading.{Shows}, Parts.{are_stated, is_stated, texts_of, words}};
 ghost use Rattle.vsi_report.specs.Banner as spec;
-ghost use Rattle.vsi_report.specs.Escape.{escape, escaped};
-ghost use Rattle.vsi_report.specs.Filled.{filled, prefix, text_at};
 ghost use Rattle.vsi_report.specs.Filled as filling;
-ghost use Rattle.vsi_report.specs.Page.{HasPanel};
-ghost use Rattle.vsi_report.specs.Reading.{Shows};
-ghost use Rattle.vsi_report.specs.Parts.{are_stated, is_stated, texts_of, words};
 
 use crate::facts::{Variable, colour};
 use itoa::Buffer;

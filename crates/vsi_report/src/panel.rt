@@ -2,8 +2,7 @@
 //! characters that aren't visible or change the direction of a line, are set apart.
 
 ghost use Rattle.std.specs.Prelude.{◌≡◌, ◌<◌, ◌++◌, ◌∷◌, ℕ, List, [], length, slice_index, OnOk, IfOk};
-ghost use Rattle.vsi_report.specs.Reading.{Shows};
-ghost use Rattle.vsi_report.specs.Panel.{attribute, line_tag, next_tag, open_tag};
+ghost use Rattle.vsi_report.specs.{Reading.{Shows}, Panel.{attribute, line_tag, next_tag, open_tag}};
 
 use crate::facts::colour;
 use crate::page::Part::{Markup, Number};

@@ -2,15 +2,8 @@
 
 ghost use Rattle.std.specs.Prelude.{◌≡◌, length, IfOk};
 ghost use Rattle.vsi_lattice.specs.LatticeView.{class_named, names, order as order_of_lattice};
-ghost use Rattle.vsi_compiler.specs.Acceptance.{IsAccepted};
-ghost use Rattle.vsi_compiler.specs.Refusal.{HasShortestBadWalk, RefusesProgram};
-ghost use Rattle.vsi_report.specs.Banner.{HasLead};
-ghost use Rattle.vsi_report.specs.Graph.{texts};
-ghost use Rattle.vsi_report.specs.Lead.{HasTrueLead, allowed_words, lead_words};
-ghost use Rattle.vsi_report.specs.Page.{HasPanel};
-ghost use Rattle.vsi_report.specs.Reading.{Shows};
-ghost use Rattle.vsi_report.specs.Verdict.{HasVerdict, verdict_of};
-ghost use Rattle.vsi_report.specs.declared.page.Verdict.{Verdict as Shown};
+ghost use Rattle.vsi_compiler.specs.{Acceptance.{IsAccepted}, Refusal.{HasShortestBadWalk, RefusesProgram}};
+ghost use Rattle.vsi_report.specs.{Banner.{HasLead}, Graph.{texts}, Lead.{HasTrueLead, allowed_words, lead_words}, Page.{HasPanel}, Reading.{Shows}, Verdict.{HasVerdict, verdict_of}, declared.page.Verdict.{Verdict as Shown}};
 ghost use Rattle.vsi_report.specs.declared.page.Verdict.TheVariants as verdicts;
 
 use crate::banner::{allowed_lead, lead_of, put_accepted, put_faulty, put_refused, refused_lead};

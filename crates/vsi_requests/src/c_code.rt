@@ -1,11 +1,8 @@
 //! The answer of `emit-c`: an image in C, or why there is none.
 
 ghost use Rattle.std.specs.Prelude.{◌≡◌, ◌<◌, ◌≤◌, true, Some, IfErr, IfOk, IfSome, length, option_map};
-ghost use Rattle.vsi_subject.specs.Performed.{AreLatticeBytes, EmitsFile, IsEmittedAs, IsOurs, IsRequestedC, IsWrittenInC, program_build};
-ghost use Rattle.vsi_subject.specs.Refusals.{IsUnbounded, NoOther, FailsBy};
-ghost use Rattle.vsi_subject.specs.Failures.{status_of};
+ghost use Rattle.vsi_subject.specs.{Performed.{AreLatticeBytes, EmitsFile, IsEmittedAs, IsOurs, IsRequestedC, IsWrittenInC, program_build}, Refusals.{IsUnbounded, NoOther, FailsBy}, Failures.{status_of}, Reasons.{LacksEmitBound, WhyEmit}};
 ghost use Rattle.vsi_answers.specs.Bounds.{IsBound};
-ghost use Rattle.vsi_subject.specs.Reasons.{LacksEmitBound, WhyEmit};
 ghost use Rattle.vsi_subject.specs.Naming as naming;
 ghost use Rattle.vsi_subject.specs.declared.failure.Failure.TheVariants as fails;
 

@@ -1,14 +1,7 @@
 //! A source text, or an image, beside an interface that is fixed from outside.
 
 ghost use Rattle.std.specs.Prelude.{◌≡◌, ◌<◌, Err, [], IfErr, IfOk};
-ghost use Rattle.vsi_subject.specs.Holding.{IsReadAt};
-ghost use Rattle.vsi_subject.specs.Noted.{MayWarn};
-ghost use Rattle.vsi_subject.specs.Performed.{ConformsFiles, IsWrittenAs, TellsBytes, TellsConforming};
-ghost use Rattle.vsi_subject.specs.Refusals.{NoOther, FailsBy};
-ghost use Rattle.vsi_subject.specs.Reasons.{RefusesBytes, RefusesConform};
-ghost use Rattle.vsi_subject.specs.Undriven.{IsUnusable};
-ghost use Rattle.vsi_subject.specs.Failures.{status_of};
-ghost use Rattle.vsi_subject.specs.Supplied.{IsSuppliedAs, TellsSupplied};
+ghost use Rattle.vsi_subject.specs.{Holding.{IsReadAt}, Noted.{MayWarn}, Performed.{ConformsFiles, IsWrittenAs, TellsBytes, TellsConforming}, Refusals.{NoOther, FailsBy}, Reasons.{RefusesBytes, RefusesConform}, Undriven.{IsUnusable}, Failures.{status_of}, Supplied.{IsSuppliedAs, TellsSupplied}};
 ghost use Rattle.vsi_answers.specs.Requests.{ReadsImage};
 ghost use Rattle.vsi_subject.specs.Supplied as supplied;
 

@@ -1,13 +1,9 @@
 //! The evidence of a judgement by an interface, and the reference beside which a file is run.
 
 ghost use Rattle.std.specs.Prelude.{◌≡◌, ◌++◌, IfErr, IfOk, map, true};
-ghost use Rattle.vsi_subject.specs.Filed.{Follows, HasBound, IsFiledBound, IsJudged};
-ghost use Rattle.vsi_subject.specs.Performed.{IsConformity, judged_files, program_version};
-ghost use Rattle.vsi_subject.specs.Refusals.{FailsBy};
-ghost use Rattle.vsi_subject.specs.Undriven.{IsUnusable};
+ghost use Rattle.vsi_subject.specs.{Filed.{Follows, HasBound, IsFiledBound, IsJudged}, Performed.{IsConformity, judged_files, program_version}, Refusals.{FailsBy}, Undriven.{IsUnusable}, Referred.{BeginsSo, IsReferred, IsTried}};
 ghost use Rattle.vsi_answers.specs.Judged.{AreImage};
 ghost use Rattle.vsi_store.specs.Evidence.{conformity_text};
-ghost use Rattle.vsi_subject.specs.Referred.{BeginsSo, IsReferred, IsTried};
 ghost use Rattle.vsi_conform.specs.Reaching.{released};
 ghost use Rattle.vsi_subject.specs.Filed as spec;
 ghost use Rattle.vsi_subject.specs.Reached as reached;

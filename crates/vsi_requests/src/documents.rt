@@ -1,21 +1,12 @@
 //! Answers as lines of JSON and documents of SARIF, pages, graphs, and searches for leaks.
 
 ghost use Rattle.std.specs.Prelude.{◌≡◌, ◌⊎◌, IfErr, IfOk, List, Some, IsSomeAnd, IfSome};
-ghost use Rattle.vsi_subject.specs.Documents.{AuditsDocument, ToldClassesJson, ToldFlowsJson, ToldSarif, judgement_of};
-ghost use Rattle.vsi_subject.specs.Files.{OfFiles};
-ghost use Rattle.vsi_subject.specs.Performed.{profile_of, AreSought, DrawsFiles, DrawsGraph, GraphOf, ToldPage, SearchesFiles, SearchesJson};
-ghost use Rattle.vsi_subject.specs.Reasons.{LacksSought, OtherLeak, RefusesSearch, WhyDraw};
-ghost use Rattle.vsi_subject.specs.Refusals.{NoOther, RefusesImage, RefusesLattice, FailsBy, RefusesProgramAt};
-ghost use Rattle.vsi_lattice.specs.LatticeView.{class_named, order};
+ghost use Rattle.vsi_subject.specs.{Documents.{AuditsDocument, ToldClassesJson, ToldFlowsJson, ToldSarif, judgement_of}, Files.{OfFiles}, Performed.{profile_of, AreSought, DrawsFiles, DrawsGraph, GraphOf, ToldPage, SearchesFiles, SearchesJson}, Reasons.{LacksSought, OtherLeak, RefusesSearch, WhyDraw}, Refusals.{NoOther, RefusesImage, RefusesLattice, FailsBy, RefusesProgramAt}};
+ghost use Rattle.vsi_lattice.specs.{LatticeView.{class_named, order}, Order.{IsClass}};
 ghost use Rattle.vsi_syntax.specs.Tree.{Whole};
-ghost use Rattle.vsi_scope.specs.Language.{Command};
-ghost use Rattle.vsi_scope.specs.Resolving.{IsResolution};
-ghost use Rattle.vsi_compiler.specs.Source.{Reads};
-ghost use Rattle.vsi_compiler.specs.declared.source.CompileError.TheVariants.{Memory};
-ghost use Rattle.vsi_compiler.specs.Refusal.{RefusesProgram};
-ghost use Rattle.vsi_report.specs.Page.{HasPanel};
-ghost use Rattle.vsi_report.specs.Verdict.{HasVerdict};
-ghost use Rattle.vsi_lattice.specs.Order.{IsClass};
+ghost use Rattle.vsi_scope.specs.{Language.{Command}, Resolving.{IsResolution}};
+ghost use Rattle.vsi_compiler.specs.{Source.{Reads}, declared.source.CompileError.TheVariants.{Memory}, Refusal.{RefusesProgram}};
+ghost use Rattle.vsi_report.specs.{Page.{HasPanel}, Verdict.{HasVerdict}};
 
 use crate::images::version;
 use crate::texts::{judgement, policy_and_text};

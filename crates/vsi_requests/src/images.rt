@@ -1,15 +1,11 @@
 //! Judgements of images and their bounds.
 
-ghost use Rattle.std.specs.Prelude.{◌≡◌, ◌⊎◌, ◌++◌, ◌∷◌, ℕ, [], IfErr, IfOk, OnOk, codes, false};
+ghost use Rattle.std.specs.{Prelude.{◌≡◌, ◌⊎◌, ◌++◌, ◌∷◌, ℕ, [], IfErr, IfOk, OnOk, codes, false}, Global.{Vec}};
 ghost use Rattle.vsi_audit.specs.Telling.{IsAuditText};
 ghost use Rattle.vsi_steady.specs.Telling.{IsUnsteadyText};
-ghost use Rattle.vsi_subject.specs.Holding.{IsReadAt, IsImageAt};
-ghost use Rattle.vsi_subject.specs.Performed.{AuditsTo, Bounds, Passes, SourceOfFile, TellsBounding, program_version, IsBuiltAt, compilation_of, IsBoundedC};
+ghost use Rattle.vsi_subject.specs.{Holding.{IsReadAt, IsImageAt}, Performed.{AuditsTo, Bounds, Passes, SourceOfFile, TellsBounding, program_version, IsBuiltAt, compilation_of, IsBoundedC}, Refusals.{NoOther, RefusesImage, RefusesLattice, FailsBy, AsksImage, RefusesFiles, IsUnbounded}, Reasons.{HasNoText, IsRefusedImage, RefusesAudit, WhyEmit}};
 ghost use Rattle.vsi_answers.specs.Judged.{AreImage};
 ghost use Rattle.vsi_store.specs.Evidence.{evidence_text};
-ghost use Rattle.vsi_subject.specs.Refusals.{NoOther, RefusesImage, RefusesLattice, FailsBy, AsksImage, RefusesFiles, IsUnbounded};
-ghost use Rattle.vsi_subject.specs.Reasons.{HasNoText, IsRefusedImage, RefusesAudit, WhyEmit};
-ghost use Rattle.std.specs.Global.{Vec};
 ghost use Rattle.vsi_subject.specs.Performed as spec;
 ghost use Rattle.vsi_subject.specs.declared.failure.Failure.TheVariants as fails;
 

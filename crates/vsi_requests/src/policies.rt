@@ -1,12 +1,7 @@
 //! The classes that each class sees under lattices and interfaces, and lattice files.
 
 ghost use Rattle.std.specs.Prelude.{Some, IfErr, IfOk, IsSomeAnd};
-ghost use Rattle.vsi_subject.specs.Refusals.{NoOther, RefusesLattice, FailsBy};
-ghost use Rattle.vsi_subject.specs.Reasons.{WhyPolicy, WhyVisible};
-ghost use Rattle.vsi_subject.specs.Seeing.{SeesFiles, ToldPolicy};
-ghost use Rattle.vsi_subject.specs.Shaping.{ShapedText};
-ghost use Rattle.vsi_subject.specs.Undriven.{IsUnusable, RefusesAsked};
-ghost use Rattle.vsi_subject.specs.Visible.{ShowsFiles, ToldVisible};
+ghost use Rattle.vsi_subject.specs.{Refusals.{NoOther, RefusesLattice, FailsBy}, Reasons.{WhyPolicy, WhyVisible}, Seeing.{SeesFiles, ToldPolicy}, Shaping.{ShapedText}, Undriven.{IsUnusable, RefusesAsked}, Visible.{ShowsFiles, ToldVisible}};
 
 use std::alloc::{AllocError, Global};
 use vsi_arguments::{Looking, Visibility};

@@ -1,23 +1,11 @@
 //! The answers of the subcommands that judge, rewrite or lay out a source text.
 
-ghost use Rattle.std.specs.Prelude.{◌≡◌, IfErr, IfOk, false, ◌<◌, ◌⊎◌, OnOk, Some, ◌≤◌, ◌+◌, ◌^◌, [], ℕ, List, length, true, Err};
-ghost use Rattle.vsi_subject.specs.Laying.{ToldCanonical, AnswersLayout, LaysOut, OtherLayout, PerformsLayout, PutsBack, TellsChanges, ToldChanges, written_by};
-ghost use Rattle.vsi_subject.specs.Files.{AreFiles, OfFile, OfFiles, Writes};
-ghost use Rattle.vsi_subject.specs.Documents.{judgement_of};
-ghost use Rattle.vsi_subject.specs.Performed.{TellsCheck, TellsMend, ToldClasses, ToldFlows, ToldImage, ToldListing};
-ghost use Rattle.vsi_subject.specs.Refusals.{AsksCanonical, AsksCheck, AsksClasses, AsksFlows, AsksImage, AsksMend, NoOther, RefusesFile, RefusesFiles, RefusesLattice, FailsBy};
-ghost use Rattle.vsi_subject.specs.Reasons.{RefusesCheck, RefusesMend};
-ghost use Rattle.vsi_subject.specs.declared.failure.Failure.TheVariants.{Memory};
+ghost use Rattle.std.specs.{Prelude.{◌≡◌, IfErr, IfOk, false, ◌<◌, ◌⊎◌, OnOk, Some, ◌≤◌, ◌+◌, ◌^◌, [], ℕ, List, length, true, Err}, Io.KnownBytes.{Keeps, Appends}};
+ghost use Rattle.vsi_subject.specs.{Laying.{ToldCanonical, AnswersLayout, LaysOut, OtherLayout, PerformsLayout, PutsBack, TellsChanges, ToldChanges, written_by}, Files.{AreFiles, OfFile, OfFiles, Writes}, Documents.{judgement_of}, Performed.{TellsCheck, TellsMend, ToldClasses, ToldFlows, ToldImage, ToldListing}, Refusals.{AsksCanonical, AsksCheck, AsksClasses, AsksFlows, AsksImage, AsksMend, NoOther, RefusesFile, RefusesFiles, RefusesLattice, FailsBy}, Reasons.{RefusesCheck, RefusesMend}, declared.failure.Failure.TheVariants.{Memory}, Partly.{Leaves, AnswersFlows, WritesPart}, State.{StaysAt, StaysBeside, Touches}, Failures.{TellsFault, status_of}, Walked.{IsTextOf}};
 ghost use Rattle.vsi_answers.specs.Requests.{ListsTo, WalksTo};
 ghost use Rattle.vsi_conform.specs.Checking.{TellsAnswer};
-ghost use Rattle.std.specs.Io.KnownBytes.{Keeps, Appends};
-ghost use Rattle.vsi_subject.specs.Partly.{Leaves, AnswersFlows, WritesPart};
-ghost use Rattle.vsi_subject.specs.State.{StaysAt, StaysBeside, Touches};
-ghost use Rattle.vsi_subject.specs.Failures.{TellsFault, status_of};
 ghost use Rattle.vsi_drive.specs.Counted.{device_of, faults_of};
-ghost use Rattle.vsi_subject.specs.Walked.{IsTextOf};
-ghost use Rattle.vsi_flows.specs.Text.{IsWalksText};
-ghost use Rattle.vsi_flows.specs.Walking.{AreWalks};
+ghost use Rattle.vsi_flows.specs.{Text.{IsWalksText}, Walking.{AreWalks}};
 
 use std::alloc::Global;
 use std::io::Write;

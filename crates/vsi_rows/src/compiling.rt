@@ -1,10 +1,8 @@
 //! Calls of the compiler, calls that check flows, and calls about walks.
 
-ghost use Rattle.std.specs.Prelude.{◌≡◌, length, true};
+ghost use Rattle.std.specs.{Prelude.{◌≡◌, length, true}, List.{All}};
 ghost use Rattle.vsi_drive.specs.Control.{control};
-ghost use Rattle.std.specs.List.{All};
-ghost use Rattle.vsi_lattice.specs.Order.{IsClass};
-ghost use Rattle.vsi_lattice.specs.LatticeView.{order};
+ghost use Rattle.vsi_lattice.specs.{Order.{IsClass}, LatticeView.{order}};
 
 use crate::row::{Row, Wrong, bytes_of};
 use std::alloc::Global;

@@ -2,20 +2,11 @@
 
 ghost use Rattle.std.specs.Prelude.{◌≡◌, [], None, Some, IfOk, IfErr, option_map, unwrap_or, length, OnOk};
 ghost use Rattle.vsi_conform.specs.Reading.{bytes_of};
-ghost use Rattle.vsi_drive.specs.Boundary.{boundary_of, listed};
-ghost use Rattle.vsi_drive.specs.BoundaryFaults.{boundary_fault};
-ghost use Rattle.vsi_drive.specs.Control.{control, controlled};
-ghost use Rattle.vsi_answers.specs.Answers.{Because};
-ghost use Rattle.vsi_answers.specs.Judged.{TellsStartFault};
-ghost use Rattle.vsi_lattice.specs.LatticeView.{order};
-ghost use Rattle.vsi_lattice.specs.NamePlaces.{texts};
-ghost use Rattle.vsi_lattice.specs.Order.{IsClass};
-ghost use Rattle.vsi_subject.specs.Boundaries.{boundary_for, bound_by, given_names, requested};
+ghost use Rattle.vsi_drive.specs.{Boundary.{boundary_of, listed}, BoundaryFaults.{boundary_fault}, Control.{control, controlled}, Settings.{settings_of}};
+ghost use Rattle.vsi_answers.specs.{Answers.{Because}, Judged.{TellsStartFault}};
+ghost use Rattle.vsi_lattice.specs.{LatticeView.{order}, NamePlaces.{texts}, Order.{IsClass}};
+ghost use Rattle.vsi_subject.specs.{Boundaries.{boundary_for, bound_by, given_names, requested}, Undriven.{RefusesControl}, Refusals.{NoOther, FailsBy}, Feeding.{AreFed, AreInputs, IsUnfed, at_number, fault_of, unfed}};
 ghost use Rattle.vsi_runs.specs.ReadNames.{boundary_in, read_names};
-ghost use Rattle.vsi_subject.specs.Undriven.{RefusesControl};
-ghost use Rattle.vsi_subject.specs.Refusals.{NoOther, FailsBy};
-ghost use Rattle.vsi_drive.specs.Settings.{settings_of};
-ghost use Rattle.vsi_subject.specs.Feeding.{AreFed, AreInputs, IsUnfed, at_number, fault_of, unfed};
 ghost use Rattle.vsi_conform.specs.Reading as spec;
 ghost use Rattle.vsi_drive.specs.declared.boundary.StartFault.TheVariants as start;
 

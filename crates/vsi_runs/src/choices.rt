@@ -1,10 +1,8 @@
 //! The classes of the declarations of a program, accepted or not.
 
-ghost use Rattle.std.specs.Prelude.{IfOk, IfSome};
-ghost use Rattle.std.specs.List.{All};
+ghost use Rattle.std.specs.{Prelude.{IfOk, IfSome}, List.{All}};
 ghost use Rattle.vsi_infer.specs.Inference.{AreClasses};
-ghost use Rattle.vsi_lattice.specs.LatticeView.{order};
-ghost use Rattle.vsi_lattice.specs.Order.{IsClass};
+ghost use Rattle.vsi_lattice.specs.{LatticeView.{order}, Order.{IsClass}};
 ghost use Rattle.vsi_types.specs.Security.{IsChoice, Keeps, program as program_of};
 ghost use Rattle.vsi_subject.specs.Stepping.{IsChosen, IsTable};
 

@@ -1,25 +1,9 @@
 //! Drives an image, a cycle for each line of the input.
 
-ghost use Rattle.std.specs.Prelude.{◌≡◌, ◌<◌, ◌≤◌, ◌∷◌, [], ℕ, List, length, IfOk, IfErr, OnOk, false, MatchResult};
-ghost use Rattle.std.specs.Io.KnownBytes.{Appends};
-ghost use Rattle.vsi_subject.specs.Driven.{Drives, DrivesInput, begun, last_line, whole_lines};
-ghost use Rattle.vsi_subject.specs.Files.{IsStoredAt, IsBudgetOf};
-ghost use Rattle.vsi_subject.specs.Performed.{PerformsDrive};
-ghost use Rattle.vsi_subject.specs.Noted.{NotesDrive, NotesStop, TellsBudget};
-ghost use Rattle.vsi_subject.specs.Partly.{AnswersDrive, Leaves};
-ghost use Rattle.vsi_subject.specs.Saved.{Advances, CutsInput, CutsLines, LeavesState};
-ghost use Rattle.vsi_subject.specs.State.{Touches};
-ghost use Rattle.vsi_subject.specs.Failures.{TellsFault, status_of};
-ghost use Rattle.vsi_drive.specs.Counted.{device_of, faults_of};
-ghost use Rattle.vsi_drive.specs.Control.{control};
-ghost use Rattle.vsi_drive.specs.Cycles.{cycle};
-ghost use Rattle.vsi_subject.specs.Holding.{IsStoreAt};
-ghost use Rattle.vsi_subject.specs.Refusals.{NoOther, FailsBy, LacksBound};
-ghost use Rattle.vsi_subject.specs.Undriven.{LacksDrive, WhyDrive, SaysShort};
-ghost use Rattle.vsi_answers.specs.Answers.{Because};
-ghost use Rattle.vsi_answers.specs.Judged.{IsStoreFault};
-ghost use Rattle.vsi_subject.specs.Admitted.{IsAdmitted, IsEnough, IsShort, short_line};
-ghost use Rattle.vsi_answers.specs.Bounds.{IsBound};
+ghost use Rattle.std.specs.{Prelude.{◌≡◌, ◌<◌, ◌≤◌, ◌∷◌, [], ℕ, List, length, IfOk, IfErr, OnOk, false, MatchResult}, Io.KnownBytes.{Appends}};
+ghost use Rattle.vsi_subject.specs.{Driven.{Drives, DrivesInput, begun, last_line, whole_lines}, Files.{IsStoredAt, IsBudgetOf}, Performed.{PerformsDrive}, Noted.{NotesDrive, NotesStop, TellsBudget}, Partly.{AnswersDrive, Leaves}, Saved.{Advances, CutsInput, CutsLines, LeavesState}, State.{Touches}, Failures.{TellsFault, status_of}, Holding.{IsStoreAt}, Refusals.{NoOther, FailsBy, LacksBound}, Undriven.{LacksDrive, WhyDrive, SaysShort}, Admitted.{IsAdmitted, IsEnough, IsShort, short_line}};
+ghost use Rattle.vsi_drive.specs.{Counted.{device_of, faults_of}, Control.{control}, Cycles.{cycle}};
+ghost use Rattle.vsi_answers.specs.{Answers.{Because}, Judged.{IsStoreFault}, Bounds.{IsBound}};
 ghost use Rattle.vsi_answers.specs.Judged as judged;
 
 use crate::boundaries::{controller_of, names_in};

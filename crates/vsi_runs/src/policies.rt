@@ -1,9 +1,7 @@
 //! The lattice, the class and the image of a request that runs an image.
 
 ghost use Rattle.std.specs.Prelude.{IfErr, IfOk, ◌⊎◌};
-ghost use Rattle.vsi_subject.specs.Refusals.{NoOther, RefusesLattice, FailsBy, LacksClassAt, RefusesImage};
-ghost use Rattle.vsi_subject.specs.Holding.{IsLatticeAt, IsImageAt};
-ghost use Rattle.vsi_subject.specs.Files.{LooksAt};
+ghost use Rattle.vsi_subject.specs.{Refusals.{NoOther, RefusesLattice, FailsBy, LacksClassAt, RefusesImage}, Holding.{IsLatticeAt, IsImageAt}, Files.{LooksAt}};
 
 use std::alloc::Global;
 use vsi_image::Verified;

@@ -1,24 +1,12 @@
 //! Runs of images.
 
 ghost use Rattle.std.specs.Prelude.{◌≡◌, ◌⊎◌, [], IfErr, IfOk, OnOk, ◌<◌, true, length, Ok, Err};
-ghost use Rattle.vsi_subject.specs.Documents.{RunsJson};
-ghost use Rattle.vsi_subject.specs.Refusals.{NoOther, RefusesImage, FailsBy, LacksBoundAt, RefusesStart, LacksEither};
-ghost use Rattle.vsi_lattice.specs.LatticeView.{order};
+ghost use Rattle.vsi_subject.specs.{Documents.{RunsJson}, Refusals.{NoOther, RefusesImage, FailsBy, LacksBoundAt, RefusesStart, LacksEither}, Files.{BeginsAt}, Noted.{Counts, CountsRun, NotesCompare}, Performed.{AreCompared, PerformsRun, TellsComparison, ToldComparison, ViewsFiles}, Partly.{AnswersRun, Leaves}, State.{StaysBeside}, Failures.{TellsFault, status_of}, declared.failure.Failure.TheVariants.{Memory}, Reasons.{WhyRun, WhyView, LacksCompare, WhyCompare}};
+ghost use Rattle.vsi_lattice.specs.{LatticeView.{order}, Order.{IsClass}, NamePlaces.{texts}};
 ghost use Rattle.vsi_compiler.specs.declared.source.CompileError.TheVariants.{Memory};
-ghost use Rattle.vsi_lattice.specs.Order.{IsClass};
-ghost use Rattle.vsi_subject.specs.Files.{BeginsAt};
-ghost use Rattle.vsi_subject.specs.Noted.{Counts, CountsRun, NotesCompare};
-ghost use Rattle.vsi_subject.specs.Performed.{AreCompared, PerformsRun, TellsComparison, ToldComparison, ViewsFiles};
-ghost use Rattle.vsi_subject.specs.Partly.{AnswersRun, Leaves};
-ghost use Rattle.vsi_subject.specs.State.{StaysBeside};
-ghost use Rattle.vsi_subject.specs.Failures.{TellsFault, status_of};
-ghost use Rattle.vsi_subject.specs.declared.failure.Failure.TheVariants.{Memory};
 ghost use Rattle.vsi_answers.specs.Requests.{BeginsWith, ComparesTo};
 ghost use Rattle.vsi_drive.specs.Counted.{device_of, faults_of};
-ghost use Rattle.vsi_lattice.specs.NamePlaces.{texts};
-ghost use Rattle.vsi_machine.specs.Counting.{Halts};
-ghost use Rattle.vsi_machine.specs.Runs.{run_of};
-ghost use Rattle.vsi_subject.specs.Reasons.{WhyRun, WhyView, LacksCompare, WhyCompare};
+ghost use Rattle.vsi_machine.specs.{Counting.{Halts}, Runs.{run_of}};
 
 use crate::drives::{admit, budget_of, stored_words};
 use crate::policies::policy_and_image;

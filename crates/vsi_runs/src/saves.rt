@@ -1,13 +1,7 @@
 //! The stores of drives: the first one, and those that are saved.
 
 ghost use Rattle.std.specs.Prelude.{◌≡◌, ℕ, List, ◌<◌, IfErr, OnOk, ◌≤◌, [], length, IfOk, Err};
-ghost use Rattle.vsi_subject.specs.Holding.{Delivers, IsStoreAt};
-ghost use Rattle.vsi_subject.specs.Files.{IsFullAt, IsStoredAt};
-ghost use Rattle.vsi_subject.specs.State.{StaysAt, Touches, state_text};
-ghost use Rattle.vsi_subject.specs.Failures.{status_of};
-ghost use Rattle.vsi_subject.specs.Beginning.{IsBegunFrom};
-ghost use Rattle.vsi_subject.specs.Refusals.{NoOther, FailsBy};
-ghost use Rattle.vsi_subject.specs.Saved.{SavesLine};
+ghost use Rattle.vsi_subject.specs.{Holding.{Delivers, IsStoreAt}, Files.{IsFullAt, IsStoredAt}, State.{StaysAt, Touches, state_text}, Failures.{status_of}, Beginning.{IsBegunFrom}, Refusals.{NoOther, FailsBy}, Saved.{SavesLine}};
 ghost use Rattle.vsi_answers.specs.Requests.{BeginsWith};
 
 use std::alloc::Global;

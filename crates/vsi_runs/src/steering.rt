@@ -1,22 +1,10 @@
 //! The class that drives or views an image, by a lattice file or by an interface with boundaries.
 
 ghost use Rattle.std.specs.Prelude.{◌≡◌, ◌⊎◌, Some, false, map, option_map, true, IfErr, IfOk, OnOk, [], None, length};
-ghost use Rattle.vsi_conform.specs.Bounded.{demands_bound};
-ghost use Rattle.vsi_conform.specs.ImageConforms.{Conforms};
-ghost use Rattle.vsi_lattice.specs.Order.{IsClass};
-ghost use Rattle.vsi_lattice.specs.LatticeView.{order};
-ghost use Rattle.vsi_subject.specs.Boundaries.{boundary_at, boundary_for, bound_by, table_of};
-ghost use Rattle.vsi_subject.specs.Files.{LooksAt};
-ghost use Rattle.vsi_subject.specs.Holding.{IsImageAt};
-ghost use Rattle.vsi_subject.specs.Reached.{AllowsReleases};
-ghost use Rattle.vsi_subject.specs.Undriven.{LacksCycle, LacksGoverned, LacksPolicy, RefusesAsked, RefusesSteering, SaysDiffering, SaysLine, LacksView};
-ghost use Rattle.vsi_subject.specs.Refusals.{LacksClassAt, RefusesImage, RefusesLattice, FailsBy, NoOther};
-ghost use Rattle.vsi_subject.specs.Steering.{IsGoverned, IsSteeredBy, insisting_line, no_cycle_line};
-ghost use Rattle.vsi_subject.specs.Noted.{NotesView};
-ghost use Rattle.vsi_subject.specs.Viewing.{ViewsWithin};
-ghost use Rattle.vsi_subject.specs.Reasons.{WhyViewWithin};
-ghost use Rattle.vsi_drive.specs.Control.{control};
-ghost use Rattle.vsi_drive.specs.Views.{view_of};
+ghost use Rattle.vsi_conform.specs.{Bounded.{demands_bound}, ImageConforms.{Conforms}};
+ghost use Rattle.vsi_lattice.specs.{Order.{IsClass}, LatticeView.{order}};
+ghost use Rattle.vsi_subject.specs.{Boundaries.{boundary_at, boundary_for, bound_by, table_of}, Files.{LooksAt}, Holding.{IsImageAt}, Reached.{AllowsReleases}, Undriven.{LacksCycle, LacksGoverned, LacksPolicy, RefusesAsked, RefusesSteering, SaysDiffering, SaysLine, LacksView}, Refusals.{LacksClassAt, RefusesImage, RefusesLattice, FailsBy, NoOther}, Steering.{IsGoverned, IsSteeredBy, insisting_line, no_cycle_line}, Noted.{NotesView}, Viewing.{ViewsWithin}, Reasons.{WhyViewWithin}};
+ghost use Rattle.vsi_drive.specs.{Control.{control}, Views.{view_of}};
 ghost use Rattle.vsi_answers.specs.declared.unanswered.Unanswered.TheVariants as unanswered;
 ghost use Rattle.vsi_conform.specs.Reading as reading;
 

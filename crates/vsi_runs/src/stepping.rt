@@ -1,17 +1,12 @@
 //! Runs of a source text in steps, accepted or not, under a monitor or without one.
 
 ghost use Rattle.std.specs.Prelude.{◌≡◌, true, false, length, Ok, Err, IfOk, IfErr};
-ghost use Rattle.vsi_answers.specs.Answers.{Because};
-ghost use Rattle.vsi_answers.specs.Judged.{IsProgramFault, TellsSource};
+ghost use Rattle.vsi_answers.specs.{Answers.{Because}, Judged.{IsProgramFault, TellsSource}};
 ghost use Rattle.vsi_compiler.specs.SourceView.{IsSource};
 ghost use Rattle.vsi_image.specs.Fields.{global, globals};
-ghost use Rattle.vsi_lattice.specs.LatticeView.{class_named, order};
-ghost use Rattle.vsi_lattice.specs.Order.{IsClass};
-ghost use Rattle.vsi_steps.specs.declared.watch.Stop.{Stop};
-ghost use Rattle.vsi_steps.specs.declared.watch.Watched.{Watched};
-ghost use Rattle.vsi_subject.specs.Refusals.{FailsBy, LacksClassAt, NoOther, RefusesLattice};
-ghost use Rattle.vsi_subject.specs.Stepping.{AreStepFiles, AreWritten, Compared, ComparesSteps, EndsMonitored, EndsTraced, IsMonitored, IsStarted, IsStepped, OfStepFiles};
-ghost use Rattle.vsi_subject.specs.Unstepped.{RefusesWords, Spends, WhyCompareSteps, WhyMonitor, WhySteps};
+ghost use Rattle.vsi_lattice.specs.{LatticeView.{class_named, order}, Order.{IsClass}};
+ghost use Rattle.vsi_steps.specs.declared.watch.{Stop.{Stop}, Watched.{Watched}};
+ghost use Rattle.vsi_subject.specs.{Refusals.{FailsBy, LacksClassAt, NoOther, RefusesLattice}, Stepping.{AreStepFiles, AreWritten, Compared, ComparesSteps, EndsMonitored, EndsTraced, IsMonitored, IsStarted, IsStepped, OfStepFiles}, Unstepped.{RefusesWords, Spends, WhyCompareSteps, WhyMonitor, WhySteps}};
 ghost use Rattle.vsi_answers.specs.declared.unanswered.Unanswered.TheVariants as unanswered;
 ghost use Rattle.vsi_steps.specs.declared.watch.Unfinished.TheVariants as ends;
 ghost use Rattle.vsi_store.specs.Compare as views;

@@ -1,16 +1,8 @@
 //! Texts tried and judged by their own lattices, and the language server.
 
 ghost use Rattle.std.specs.Prelude.{◌≡◌, IfErr, IfOk, IfSome, Ok, Err, length, ◌<◌, OnOk};
-ghost use Rattle.vsi_subject.specs.Refusals.{NoOther, RefusesLattice, FailsBy};
-ghost use Rattle.vsi_subject.specs.Reasons.{LacksTried, RefusesNamed, RefusesRun, RefusesUnder, WhyTry};
-ghost use Rattle.vsi_subject.specs.Tried.{BeginsSet, IsNamedLattice, IsTriedUnder, RunsMade, ShowsTo, TriesFile, policy_path};
-ghost use Rattle.vsi_subject.specs.Holding.{IsLatticeAt};
-ghost use Rattle.vsi_lattice.specs.LatticeView.{order};
-ghost use Rattle.vsi_lattice.specs.Order.{IsClass};
-ghost use Rattle.vsi_subject.specs.Partly.{Partly};
-ghost use Rattle.vsi_subject.specs.Undriven.{SaysLine};
-ghost use Rattle.vsi_subject.specs.Served.{Serves, unended_line};
-ghost use Rattle.vsi_subject.specs.Failures.{TellsFault, status_of};
+ghost use Rattle.vsi_subject.specs.{Refusals.{NoOther, RefusesLattice, FailsBy}, Reasons.{LacksTried, RefusesNamed, RefusesRun, RefusesUnder, WhyTry}, Tried.{BeginsSet, IsNamedLattice, IsTriedUnder, RunsMade, ShowsTo, TriesFile, policy_path}, Holding.{IsLatticeAt}, Partly.{Partly}, Undriven.{SaysLine}, Served.{Serves, unended_line}, Failures.{TellsFault, status_of}};
+ghost use Rattle.vsi_lattice.specs.{LatticeView.{order}, Order.{IsClass}};
 ghost use Rattle.vsi_drive.specs.Counted.{device_of, faults_of};
 ghost use Rattle.vsi_client.specs.Frames.{AreFrames};
 ghost use Rattle.vsi_documents.specs.Named as named;

@@ -1,9 +1,7 @@
 //! The laws of resolution and of evaluation. Each function's contract is a law, and its body does
 //! nothing.
 
-ghost use Rattle.vsi_scope.specs.Scopes.{OneResolution};
-ghost use Rattle.vsi_scope.specs.Laws.{MarksFollowText, ResolvesFaultless, FaultlessResolves};
-ghost use Rattle.vsi_scope.specs.Rules.{EvaluationRules, LargerKeeps, OneAnswer, LengthKept};
+ghost use Rattle.vsi_scope.specs.{Scopes.{OneResolution}, Laws.{MarksFollowText, ResolvesFaultless, FaultlessResolves}, Rules.{EvaluationRules, LargerKeeps, OneAnswer, LengthKept}};
 
 /// Every rule of evaluation holds, and so does its converse.
 pub fn evaluation_rules()

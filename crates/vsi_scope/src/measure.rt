@@ -1,8 +1,7 @@
 //! The size of the code that a body needs.
 
 ghost use Rattle.std.specs.Prelude.{◌≡◌, min};
-ghost use Rattle.vsi_scope.specs.Language.{size, expression_size};
-ghost use Rattle.vsi_scope.specs.View.{command, sequence, expression};
+ghost use Rattle.vsi_scope.specs.{Language.{size, expression_size}, View.{command, sequence, expression}};
 
 use crate::program::{Cmd, Ex};
 

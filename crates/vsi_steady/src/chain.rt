@@ -1,11 +1,9 @@
 //! The chain of flows that brings something to an instruction, and its steps.
 
 ghost use Rattle.std.specs.Prelude.{◌≡◌, IfOk, ◌<◌, ◌^◌, IfSome, IsSomeAnd, Some, slice_get, true};
-ghost use Rattle.vsi_lattice.specs.LatticeView.{class_named, order};
+ghost use Rattle.vsi_lattice.specs.{LatticeView.{class_named, order}, Order.{IsClass}};
 ghost use Rattle.vsi_steady.specs.Telling.{IsChain, IsChainSource, first_source as first_source_of};
-ghost use Rattle.vsi_image.specs.Fields.{globals};
-ghost use Rattle.vsi_image.specs.declared.instr.Instr.TheVariants.{Load};
-ghost use Rattle.vsi_lattice.specs.Order.{IsClass};
+ghost use Rattle.vsi_image.specs.{Fields.{globals}, declared.instr.Instr.TheVariants.{Load}};
 ghost use Rattle.vsi_steady.specs.Telling as spec;
 
 use std::alloc::{AllocError, Global};

@@ -1,17 +1,10 @@
 //! The judgement of an image: the least classes of slots, and the first instruction that fails.
 
-ghost use Rattle.std.specs.Prelude.{◌≡◌, ◌≤◌, ◌<◌, None, false, true, [], length, reverse, take, ℕ, slice_index, IfOk, IfErr, ◌+◌, ◌-◌, ◌∷◌, OnOk};
-ghost use Rattle.vsi_steady.specs.declared.check.SteadyError.TheVariants.{Memory};
-ghost use Rattle.std.specs.List.{All};
-ghost use Rattle.vsi_image.specs.Valid.{IsFine, IsValid};
+ghost use Rattle.std.specs.{Prelude.{◌≡◌, ◌≤◌, ◌<◌, None, false, true, [], length, reverse, take, ℕ, slice_index, IfOk, IfErr, ◌+◌, ◌-◌, ◌∷◌, OnOk}, List.{All}};
+ghost use Rattle.vsi_steady.specs.{declared.check.SteadyError.TheVariants.{Memory}, Least.{AreLeast, FindsRaised, RisesBy, Rises, Finds, Joins, Leads}, Steady.{GoesThrough, HaveClasses, IsSteady, Operates, Passes}, Refusal.{Refuses}, Laws.{RunsAlike, ViewsAlike}};
+ghost use Rattle.vsi_image.specs.{Valid.{IsFine, IsValid}, Effects.{left}};
 ghost use Rattle.vsi_infer.specs.Ranks.{distance};
-ghost use Rattle.vsi_lattice.specs.LatticeView.{class_named, order};
-ghost use Rattle.vsi_lattice.specs.Order.{IsClass, Below, IsJoin};
-ghost use Rattle.vsi_steady.specs.Least.{AreLeast, FindsRaised, RisesBy, Rises, Finds, Joins, Leads};
-ghost use Rattle.vsi_steady.specs.Steady.{GoesThrough, HaveClasses, IsSteady, Operates, Passes};
-ghost use Rattle.vsi_steady.specs.Refusal.{Refuses};
-ghost use Rattle.vsi_image.specs.Effects.{left};
-ghost use Rattle.vsi_steady.specs.Laws.{RunsAlike, ViewsAlike};
+ghost use Rattle.vsi_lattice.specs.{LatticeView.{class_named, order}, Order.{IsClass, Below, IsJoin}};
 
 use std::alloc::{AllocError, AllocFailed, Global};
 use thiserror::Error;

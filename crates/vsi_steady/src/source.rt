@@ -1,16 +1,12 @@
 //! Compiles a text to a steady image.
 
 ghost use Rattle.std.specs.Prelude.{◌≡◌, IfOk, IfErr, OnOk};
-ghost use Rattle.vsi_steady.specs.declared.source.UnsteadyError.TheVariants.{Memory};
+ghost use Rattle.vsi_steady.specs.{declared.source.UnsteadyError.TheVariants.{Memory}, Laws.{RunsAlike, ViewsAlike}, Source.{HasSteadyFlows, IsSteadilyAccepted, RefusesSteady, ExplainsLoopedWalk}, Steady.{IsSteady}, Looped.{looped, IsLooped}};
 ghost use Rattle.vsi_lattice.specs.LatticeView.{class_named, order};
 ghost use Rattle.vsi_types.specs.declared.rules.Profile.TheVariants.{Strict};
 ghost use Rattle.vsi_compiler.specs.Headline.{IsCompiled};
-ghost use Rattle.vsi_steady.specs.Laws.{RunsAlike, ViewsAlike};
-ghost use Rattle.vsi_steady.specs.Source.{HasSteadyFlows, IsSteadilyAccepted, RefusesSteady, ExplainsLoopedWalk};
-ghost use Rattle.vsi_steady.specs.Steady.{IsSteady};
 ghost use Rattle.vsi_scope.specs.View.{expression, command, sequence};
 ghost use Rattle.vsi_opt.specs.Folding.{append};
-ghost use Rattle.vsi_steady.specs.Looped.{looped, IsLooped};
 
 use crate::check::{SteadyError, steady_in};
 use std::alloc::{AllocError, Global};

@@ -1,7 +1,6 @@
 //! The report about an image that isn't steady.
 
-ghost use Rattle.std.specs.Prelude.{◌≡◌, ◌++◌, IfOk, OnOk};
-ghost use Rattle.std.specs.List.{flat_map};
+ghost use Rattle.std.specs.{Prelude.{◌≡◌, ◌++◌, IfOk, OnOk}, List.{flat_map}};
 ghost use Rattle.vsi_image.specs.Fields.{globals};
 ghost use Rattle.vsi_steady.specs.Telling as spec;
 

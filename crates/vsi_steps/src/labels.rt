@@ -2,11 +2,8 @@
 
 ghost use Rattle.std.specs.Prelude.{◌≡◌, Decides, ◌<◌, ℕ, length, min, slice_index};
 ghost use Rattle.vsi_lattice.specs.Order.{IsClass, Below, IsJoin};
-ghost use Rattle.vsi_steps.specs.Labels.{labelling, HasLabel};
-ghost use Rattle.vsi_steps.specs.Monitor.{MayReplace};
-ghost use Rattle.vsi_steps.specs.Watched.{Judged, Guarded, held, IsHeld, IsReady, Goes, Watched};
-ghost use Rattle.vsi_scope.specs.Language.{HasLocations, letvars, Assign, While, Letvar, HasPlaces};
-ghost use Rattle.vsi_scope.specs.View.{command, sequence, expression};
+ghost use Rattle.vsi_steps.specs.{Labels.{labelling, HasLabel}, Monitor.{MayReplace}, Watched.{Judged, Guarded, held, IsHeld, IsReady, Goes, Watched}};
+ghost use Rattle.vsi_scope.specs.{Language.{HasLocations, letvars, Assign, While, Letvar, HasPlaces}, View.{command, sequence, expression}};
 
 use crate::value;
 use crate::watch::{Stop, Unfinished};

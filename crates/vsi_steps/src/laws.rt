@@ -1,7 +1,6 @@
 //! The laws of steps. Each function's contract is a law, and its body does nothing.
 
-ghost use Rattle.vsi_steps.specs.Laws.{SpellsEvaluates, EvaluationSpelled, OneSpelling, BeginningIsPrefix};
-ghost use Rattle.vsi_steps.specs.MonitorLaws.{ComputesTheSame, MonitoredNoninterference, StopsFewer, TypablePasses};
+ghost use Rattle.vsi_steps.specs.{Laws.{SpellsEvaluates, EvaluationSpelled, OneSpelling, BeginningIsPrefix}, MonitorLaws.{ComputesTheSame, MonitoredNoninterference, StopsFewer, TypablePasses}};
 
 /// A command whose steps take one store to another evaluates it to that store.
 pub fn spells_evaluates()

@@ -1,13 +1,8 @@
 //! The steps of a program from a store, each at a site of the program.
 
 ghost use Rattle.std.specs.Prelude.{IfOk, ◌≡◌, ◌≤◌, length};
-ghost use Rattle.vsi_scope.specs.View.{command, sequence, expression};
-ghost use Rattle.vsi_steps.specs.Extents.{AreParts, IsFilled};
-ghost use Rattle.vsi_scope.specs.Language.{While, HasLocations};
-ghost use Rattle.vsi_scope.specs.Limits.{max_size};
-ghost use Rattle.vsi_scope.specs.Meaning.{value};
-ghost use Rattle.vsi_steps.specs.Ran.{past, IsWithin, IsReady, Met, Ran};
-ghost use Rattle.vsi_steps.specs.Traced.{IsTraced};
+ghost use Rattle.vsi_scope.specs.{View.{command, sequence, expression}, Language.{While, HasLocations}, Limits.{max_size}, Meaning.{value}};
+ghost use Rattle.vsi_steps.specs.{Extents.{AreParts, IsFilled}, Ran.{past, IsWithin, IsReady, Met, Ran}, Traced.{IsTraced}};
 
 use std::alloc::{AllocError, Global};
 use vsi_scope::{Cmd, Ex, Resolved};

@@ -1,15 +1,10 @@
 //! A monitored run of a program, and why it stops.
 
-ghost use Rattle.std.specs.Prelude.{◌≡◌, ◌≢◌, ◌++◌, ◌+◌, length, IfErr};
-ghost use Rattle.vsi_steps.specs.declared.watch.Unfinished.TheVariants.{Memory};
-ghost use Rattle.std.specs.List.{All};
+ghost use Rattle.std.specs.{Prelude.{◌≡◌, ◌≢◌, ◌++◌, ◌+◌, length, IfErr}, List.{All}};
+ghost use Rattle.vsi_steps.specs.{declared.watch.Unfinished.TheVariants.{Memory}, Watched.{RunEnds}};
 ghost use Rattle.vsi_lattice.specs.Order.{IsClass};
-ghost use Rattle.vsi_scope.specs.Language.{letvars};
-ghost use Rattle.vsi_scope.specs.View.{sequence};
-ghost use Rattle.vsi_types.specs.declared.rules.Profile.{Profile};
-ghost use Rattle.vsi_types.specs.Security.{IsTypable, program as program_of};
-ghost use Rattle.vsi_types.specs.Typing.{Locations};
-ghost use Rattle.vsi_steps.specs.Watched.{RunEnds};
+ghost use Rattle.vsi_scope.specs.{Language.{letvars}, View.{sequence}};
+ghost use Rattle.vsi_types.specs.{declared.rules.Profile.{Profile}, Security.{IsTypable, program as program_of}, Typing.{Locations}};
 ghost use Rattle.vsi_steps.specs.declared.watch.Unfinished.TheVariants as ends;
 
 use crate::labels::{Rule, State, run_all};

@@ -2,10 +2,8 @@
 
 ghost use Rattle.std.specs.Prelude.{◌≡◌, ◌++◌, ℕ, List, length, slice_get, Some, None, Err, IfOk, IfErr, OnOk, MatchResult};
 ghost use Rattle.vsi_image.specs.Fields.{global, globals};
-ghost use Rattle.vsi_lattice.specs.LatticeView.{class_named, names, order};
-ghost use Rattle.vsi_lattice.specs.Order.{IsClass};
-ghost use Rattle.vsi_store.specs.View.{first_unknown};
-ghost use Rattle.vsi_store.specs.declared.views.ViewError.TheVariants.{Memory};
+ghost use Rattle.vsi_lattice.specs.{LatticeView.{class_named, names, order}, Order.{IsClass}};
+ghost use Rattle.vsi_store.specs.{View.{first_unknown}, declared.views.ViewError.TheVariants.{Memory}};
 ghost use Rattle.vsi_store.specs.Compare as spec;
 
 use crate::endings::{ending_of, sees, unknown_in};

@@ -1,14 +1,10 @@
 //! What an observer at a class sees of stores and of runs.
 
 ghost use Rattle.std.specs.Prelude.{◌≡◌, ◌≤◌, ◌-◌, length, Some, true, false, IfOk, IfErr, ◌≢◌, ◌++◌, ℕ, None, Err, OnOk, MatchResult};
-ghost use Rattle.vsi_image.specs.Meaning.{start};
+ghost use Rattle.vsi_image.specs.{Meaning.{start}, Fields.{global, globals}};
 ghost use Rattle.vsi_machine.specs.Runs.{HaltsWith};
-ghost use Rattle.vsi_store.specs.declared.views.ViewError.TheVariants.{Memory};
-ghost use Rattle.vsi_image.specs.Fields.{global, globals};
-ghost use Rattle.vsi_lattice.specs.LatticeView.{class_named, order};
-ghost use Rattle.vsi_lattice.specs.Order.{IsClass};
-ghost use Rattle.vsi_store.specs.View.{Views, first_unknown, is_seen, line_seen, view_text_of};
-ghost use Rattle.vsi_store.specs.Text.{line_of, store_text_of};
+ghost use Rattle.vsi_store.specs.{declared.views.ViewError.TheVariants.{Memory}, View.{Views, first_unknown, is_seen, line_seen, view_text_of}, Text.{line_of, store_text_of}};
+ghost use Rattle.vsi_lattice.specs.{LatticeView.{class_named, order}, Order.{IsClass}};
 ghost use Rattle.vsi_store.specs.Compare as spec;
 
 use crate::comparing::RunEnding;

@@ -1,13 +1,11 @@
 //! Reads store files, and the first line of one that is saved.
 
-ghost use Rattle.std.specs.Prelude.{◌≡◌, IfOk, string_bytes, IfErr, MatchResult, None, ◌++◌, OnOk, decimal, map};
+ghost use Rattle.std.specs.{Prelude.{◌≡◌, IfOk, string_bytes, IfErr, MatchResult, None, ◌++◌, OnOk, decimal, map}, List.{flat_map, list_any}};
 ghost use Rattle.hex.specs.Hex.{encode_lower};
 ghost use Rattle.sha2.specs.Sha256.{sha256};
 ghost use Rattle.toml.specs.View.{table_view, view};
 ghost use Rattle.vsi_image.specs.Fields.{globals};
-ghost use Rattle.vsi_store.specs.File.{Tells, Names, IsDocument, IsNameless, IsRefusal, IsEntryRefusal, entry_fault, has_name, number_in};
-ghost use Rattle.vsi_store.specs.declared.reader.StoreError.TheVariants.{Memory};
-ghost use Rattle.std.specs.List.{flat_map, list_any};
+ghost use Rattle.vsi_store.specs.{File.{Tells, Names, IsDocument, IsNameless, IsRefusal, IsEntryRefusal, entry_fault, has_name, number_in}, declared.reader.StoreError.TheVariants.{Memory}};
 ghost use Rattle.vsi_store.specs.Seal as spec;
 ghost use Rattle.vsi_store.specs.File as file_spec;
 ghost use Rattle.vsi_store.specs.Evidence as evidence_spec;

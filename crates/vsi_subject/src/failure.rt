@@ -1,10 +1,7 @@
 //! Why a request fails, and the text that says so.
 
-ghost use Rattle.std.specs.Prelude.{◌≡◌, ◌<◌, ◌≤◌, ◌⊎◌, ◌==◌, true, false, IfErr, OnOk, OnErr};
-ghost use Rattle.std.specs.Io.KnownBytes.{Appends};
-ghost use Rattle.vsi_subject.specs.Failures.{line_of, status_of, text_of_failure, IsStreamFault, FailsFor, TellsFault};
-ghost use Rattle.vsi_subject.specs.Partly.{WritesPart};
-ghost use Rattle.vsi_subject.specs.declared.failure.Failure.TheVariants.{Differs, Memory};
+ghost use Rattle.std.specs.{Prelude.{◌≡◌, ◌<◌, ◌≤◌, ◌⊎◌, ◌==◌, true, false, IfErr, OnOk, OnErr}, Io.KnownBytes.{Appends}};
+ghost use Rattle.vsi_subject.specs.{Failures.{line_of, status_of, text_of_failure, IsStreamFault, FailsFor, TellsFault}, Partly.{WritesPart}, declared.failure.Failure.TheVariants.{Differs, Memory}};
 ghost use Rattle.vsi_drive.specs.Counted.{device_of, faults_of};
 
 use std::alloc::{AllocError, AllocFailed};

@@ -1,13 +1,7 @@
 //! Files, and texts written to them as a whole.
 
-ghost use Rattle.std.specs.Prelude.{◌≡◌, ◌≢◌, ℕ, List, true, Contains, Option, Some, None, IfSome, ◌<◌, ◌++◌, IfErr, OnOk, codes};
-ghost use Rattle.vsi_subject.specs.Holding.{HoldsAt, KeepsOthers, Delivers, Fills, Replaces};
-ghost use Rattle.vsi_subject.specs.Objections.{OBJECTIONS};
-ghost use Rattle.std.specs.Io.KnownBytes.{Appends};
-ghost use Rattle.vsi_subject.specs.Partly.{WritesPart};
-ghost use Rattle.vsi_subject.specs.Files.{shown};
-ghost use Rattle.vsi_subject.specs.State.{StaysAt, Touches};
-ghost use Rattle.vsi_subject.specs.Failures.{TellsFault, status_of};
+ghost use Rattle.std.specs.{Prelude.{◌≡◌, ◌≢◌, ℕ, List, true, Contains, Option, Some, None, IfSome, ◌<◌, ◌++◌, IfErr, OnOk, codes}, Io.KnownBytes.{Appends}};
+ghost use Rattle.vsi_subject.specs.{Holding.{HoldsAt, KeepsOthers, Delivers, Fills, Replaces}, Objections.{OBJECTIONS}, Partly.{WritesPart}, Files.{shown}, State.{StaysAt, Touches}, Failures.{TellsFault, status_of}};
 ghost use Rattle.vsi_drive.specs.Counted.{device_of, faults_of};
 
 use crate::failure::{Failure, Fallible, write};

@@ -1,15 +1,8 @@
 //! Interfaces, with the lattices that they name.
 
-ghost use Rattle.std.specs.Prelude.{◌<◌, ◌≤◌, IfErr, IfOk, IfSome, OnOk};
-ghost use Rattle.std.specs.Str.Lossy.{utf8_lossy};
-ghost use Rattle.vsi_subject.specs.Holding.{IsReadAt};
-ghost use Rattle.vsi_subject.specs.Interfaces.{ArePolicyBytes, IsAskedAt, IsPolicyAt};
-ghost use Rattle.vsi_conform.specs.Beside.{IsInside, beside};
-ghost use Rattle.vsi_conform.specs.Reading.{IsReadAs};
-ghost use Rattle.vsi_conform.specs.Totals.{total_of};
-ghost use Rattle.vsi_subject.specs.Refusals.{FailsBy};
-ghost use Rattle.vsi_subject.specs.Undriven.{IsUnusable, RefusesAsked};
-ghost use Rattle.vsi_subject.specs.Failures.{status_of};
+ghost use Rattle.std.specs.{Prelude.{◌<◌, ◌≤◌, IfErr, IfOk, IfSome, OnOk}, Str.Lossy.{utf8_lossy}};
+ghost use Rattle.vsi_subject.specs.{Holding.{IsReadAt}, Interfaces.{ArePolicyBytes, IsAskedAt, IsPolicyAt}, Refusals.{FailsBy}, Undriven.{IsUnusable, RefusesAsked}, Failures.{status_of}};
+ghost use Rattle.vsi_conform.specs.{Beside.{IsInside, beside}, Reading.{IsReadAs}, Totals.{total_of}};
 ghost use Rattle.vsi_answers.specs.Judged.{Declares};
 
 use crate::failure::{Failure, Fallible};

@@ -1,9 +1,6 @@
 //! Files that are read once, before a request is carried out.
 
-ghost use Rattle.std.specs.Prelude.{◌≡◌, false, IfOk, IfSome, Some, None};
-ghost use Rattle.std.specs.Io.{ReadsAtMost};
-ghost use Rattle.std.specs.Io.KnownBytes.{ReadConsumes};
-ghost use Rattle.std.specs.Rc.{rc_slice_items};
+ghost use Rattle.std.specs.{Prelude.{◌≡◌, false, IfOk, IfSome, Some, None}, Io.{ReadsAtMost}, Io.KnownBytes.{ReadConsumes}, Rc.{rc_slice_items}};
 ghost use Rattle.vsi_subject.specs.Loading.{AreRead, held, left_of};
 
 use crate::failure::Failure;

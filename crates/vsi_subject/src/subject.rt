@@ -1,23 +1,11 @@
 //! The files that a request reads, each once, and the answers and images that they give.
 
 ghost use Rattle.std.specs.Prelude.{◌≡◌, Ok, Err, MatchResult, IfErr, IfOk, ◌<◌, false, Some, IfSome};
-ghost use Rattle.vsi_subject.specs.Works.{good_reply};
-ghost use Rattle.vsi_subject.specs.Refusals.{NoOther, FailsBy, IsUnbounded, IsNoMemory, LacksClass, LacksGiven, RefusesImage, RefusesLattice};
-ghost use Rattle.vsi_answers.specs.Bounds.{IsBound};
-ghost use Rattle.vsi_subject.specs.Tried.{IsMade};
-ghost use Rattle.vsi_answers.specs.Requests.{BuildsTo, ReadsLattice};
+ghost use Rattle.vsi_subject.specs.{Works.{good_reply}, Refusals.{NoOther, FailsBy, IsUnbounded, IsNoMemory, LacksClass, LacksGiven, RefusesImage, RefusesLattice}, Tried.{IsMade}, Holding.{IsImageAt, IsLatticeAt, IsReadAt, IsStoreAt}, Input.{two_classes}, Files.{LooksFor}, Failures.{status_of, failure_of}, Performed.{profile_of}, declared.failure.Failure.TheVariants.{Memory}};
+ghost use Rattle.vsi_answers.specs.{Bounds.{IsBound}, Requests.{BuildsTo, ReadsLattice}, Answers.{Because}, Judged.{Declares, TellsFault, TellsSource}};
 ghost use Rattle.vsi_types.specs.declared.rules.Profile.TheVariants.{Base};
-ghost use Rattle.vsi_subject.specs.Holding.{IsImageAt, IsLatticeAt, IsReadAt, IsStoreAt};
-ghost use Rattle.vsi_subject.specs.Input.{two_classes};
-ghost use Rattle.vsi_subject.specs.Files.{LooksFor};
-ghost use Rattle.vsi_subject.specs.Failures.{status_of, failure_of};
-ghost use Rattle.vsi_answers.specs.Answers.{Because};
-ghost use Rattle.vsi_answers.specs.Judged.{Declares, TellsFault, TellsSource};
 ghost use Rattle.vsi_drive.specs.declared.engine.EngineError.TheVariants.{ReadFault, WriteFault, Memory};
-ghost use Rattle.vsi_lattice.specs.LatticeView.{class_named, order};
-ghost use Rattle.vsi_lattice.specs.Order.{IsClass};
-ghost use Rattle.vsi_subject.specs.Performed.{profile_of};
-ghost use Rattle.vsi_subject.specs.declared.failure.Failure.TheVariants.{Memory};
+ghost use Rattle.vsi_lattice.specs.{LatticeView.{class_named, order}, Order.{IsClass}};
 ghost use Rattle.vsi_subject.specs.declared.failure.Failure.TheVariants as fails;
 
 use crate::failure::{Failure, Fallible, STREAM};

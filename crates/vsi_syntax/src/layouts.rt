@@ -1,10 +1,7 @@
 //! Lays out a text, checks what was laid out, and tells where a text differs from it.
 
 ghost use Rattle.std.specs.Prelude.{◌≡◌, true, false, bytes_eq, IfOk, IfErr, ◌+◌, ◌++◌, OnOk, length, take};
-ghost use Rattle.vsi_syntax.specs.Cut.{piece, pieces};
-ghost use Rattle.vsi_syntax.specs.Layout.{IsGood, IsLayout, HasProgram, HasTokens};
-ghost use Rattle.vsi_syntax.specs.declared.layouts.LayoutError.TheVariants.{Memory};
-ghost use Rattle.vsi_syntax.specs.Lines.{breaks, last_line};
+ghost use Rattle.vsi_syntax.specs.{Cut.{piece, pieces}, Layout.{IsGood, IsLayout, HasProgram, HasTokens}, declared.layouts.LayoutError.TheVariants.{Memory}, Lines.{breaks, last_line}};
 ghost use Rattle.vsi_syntax.specs.Comments as gaps;
 ghost use Rattle.vsi_syntax.specs.Same as sames;
 ghost use Rattle.vsi_syntax.specs.Writing as spec;

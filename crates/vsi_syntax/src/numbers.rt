@@ -1,7 +1,6 @@
 //! Numbers and positions as every text writes them, and the lines and columns of a text.
 
-ghost use Rattle.std.specs.Prelude.{◌≡◌, ◌+◌, take, length, ◌++◌, codes, decimal, is_ok, if◌then◌else◌};
-ghost use Rattle.std.specs.Fmt.{signed_decimal};
+ghost use Rattle.std.specs.{Prelude.{◌≡◌, ◌+◌, take, length, ◌++◌, codes, decimal, is_ok, if◌then◌else◌}, Fmt.{signed_decimal}};
 ghost use Rattle.vsi_syntax.specs.Lines.{place_text};
 ghost use Rattle.vsi_syntax.specs.Lines as spec;
 

@@ -1,11 +1,7 @@
 //! Prints a program in its canonical form.
 
 ghost use Rattle.std.specs.Prelude.{◌≡◌, ◌≤◌, ◌+◌, ◌++◌, IfOk, OnOk, option_map, map};
-ghost use Rattle.vsi_syntax.specs.Tree.{command_depth, body_depth};
-ghost use Rattle.vsi_syntax.specs.View.{tree, named};
-ghost use Rattle.vsi_syntax.specs.CommandView.{command, body_of, declared};
-ghost use Rattle.vsi_syntax.specs.ProgramView.{whole};
-ghost use Rattle.vsi_syntax.specs.Limits.{max_depth};
+ghost use Rattle.vsi_syntax.specs.{Tree.{command_depth, body_depth}, View.{tree, named}, CommandView.{command, body_of, declared}, ProgramView.{whole}, Limits.{max_depth}};
 ghost use Rattle.vsi_syntax.specs.Canon as spec;
 
 use crate::numbers::put_word;

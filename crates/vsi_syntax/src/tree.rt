@@ -1,10 +1,7 @@
 //! The tree of a program, and its operators. Brackets and blocks are nodes of their own.
 
 ghost use Rattle.std.specs.Prelude.{◌≡◌};
-ghost use Rattle.vsi_syntax.specs.Operators.{apply};
-ghost use Rattle.vsi_syntax.specs.Tree.{IsProgram, program_prop};
-ghost use Rattle.vsi_syntax.specs.CommandView.{body_of, whole_of};
-ghost use Rattle.vsi_syntax.specs.Spelling.{IsProgramSpelled, program_spelled_prop};
+ghost use Rattle.vsi_syntax.specs.{Operators.{apply}, Tree.{IsProgram, program_prop}, CommandView.{body_of, whole_of}, Spelling.{IsProgramSpelled, program_spelled_prop}};
 
 use crate::token::Span;
 
@@ -101,9 +98,7 @@ pub struct Program<'a> {
 
 impl<'a> Program<'a> {
     ghost use Rattle.std.specs.Prelude.{◌≡◌, map};
-    ghost use Rattle.vsi_syntax.specs.CommandView.{declared};
-    ghost use Rattle.vsi_syntax.specs.Spelling.{IsGlobalsSpelled};
-    ghost use Rattle.vsi_syntax.specs.ProgramView.{whole};
+    ghost use Rattle.vsi_syntax.specs.{CommandView.{declared}, Spelling.{IsGlobalsSpelled}, ProgramView.{whole}};
 
     /// The program with these globals and this body.
     pub(crate) fn new(globals: Vec<Declaration<'a>>, body: Vec<Stmt<'a>>) -> Program<'a>

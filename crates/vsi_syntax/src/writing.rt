@@ -1,8 +1,7 @@
 //! Writes the layout of a text: its tokens, and the blanks and comments between them.
 
 ghost use Rattle.std.specs.Prelude.{◌≡◌, ◌≤◌, ◌++◌, drop, IfOk, OnOk};
-ghost use Rattle.vsi_syntax.specs.Canon.{spaces};
-ghost use Rattle.vsi_syntax.specs.Cut.{pieces};
+ghost use Rattle.vsi_syntax.specs.{Canon.{spaces}, Cut.{pieces}};
 ghost use Rattle.vsi_syntax.specs.Comments as comments;
 ghost use Rattle.vsi_syntax.specs.Gaps as blanks;
 ghost use Rattle.vsi_syntax.specs.Joints as joints;

@@ -2,8 +2,7 @@
 //! a shortest walk, what would make it go away, and what would make the whole text accepted.
 
 ghost use Rattle.std.specs.Prelude.{◌≡◌, IfOk, true};
-ghost use Rattle.vsi_telling.specs.declared.place.ColourMode.TheVariants.{Plain};
-ghost use Rattle.vsi_telling.specs.Safe.{all_plain};
+ghost use Rattle.vsi_telling.specs.{declared.place.ColourMode.TheVariants.{Plain}, Safe.{all_plain}};
 
 use crate::place::ColourMode;
 use crate::subject::Subject;

@@ -11,9 +11,7 @@
 #![tactic(auto)]
 
 ghost use Rattle.std.specs.Prelude.{◌≡◌, IfOk, IfSome, true};
-ghost use Rattle.vsi_telling.specs.declared.place.ColourMode.TheVariants.{Plain};
-ghost use Rattle.vsi_telling.specs.Safe.{all_plain};
-ghost use Rattle.vsi_telling.specs.Places.{BeginsAt, start_of};
+ghost use Rattle.vsi_telling.specs.{declared.place.ColourMode.TheVariants.{Plain}, Safe.{all_plain}, Places.{BeginsAt, start_of}};
 
 mod flows;
 mod images;

@@ -1,9 +1,7 @@
 //! A position of a text, its line as far as it is shown, and its carets.
 
 ghost use Rattle.std.specs.Prelude.{◌≡◌, ◌++◌, OnOk, true, decimal, ◌≢◌, ◌≤◌, ◌<◌, ℕ, length, slice_index, IfOk, replicate, max};
-ghost use Rattle.vsi_telling.specs.declared.place.ColourMode.TheVariants.{Plain};
-ghost use Rattle.vsi_telling.specs.Safe.{all_plain};
-ghost use Rattle.vsi_telling.specs.Window.{IsWindow};
+ghost use Rattle.vsi_telling.specs.{declared.place.ColourMode.TheVariants.{Plain}, Safe.{all_plain}, Window.{IsWindow}};
 ghost use Rattle.vsi_telling.specs.Colours as spec;
 ghost use Rattle.vsi_telling.specs.Safe as safe_spec;
 ghost use Rattle.vsi_telling.specs.Window as window_spec;

@@ -1,14 +1,11 @@
 //! The source text that is explained: its variables in sentences, and its explanation as it is
 //! gathered.
 
-ghost use Rattle.std.specs.Prelude.{◌≡◌, IfOk, IfSome, OnOk, true};
-ghost use Rattle.std.specs.List.{All};
-ghost use Rattle.vsi_lattice.specs.Order.{IsClass};
-ghost use Rattle.vsi_lattice.specs.LatticeView.{order};
+ghost use Rattle.std.specs.{Prelude.{◌≡◌, IfOk, IfSome, OnOk, true}, List.{All}};
+ghost use Rattle.vsi_lattice.specs.{Order.{IsClass}, LatticeView.{order}};
 ghost use Rattle.vsi_types.specs.Security.{program as program_of};
 ghost use Rattle.vsi_infer.specs.Inference.{AreClasses};
-ghost use Rattle.vsi_telling.specs.declared.place.ColourMode.TheVariants.{Plain};
-ghost use Rattle.vsi_telling.specs.Safe.{all_plain};
+ghost use Rattle.vsi_telling.specs.{declared.place.ColourMode.TheVariants.{Plain}, Safe.{all_plain}};
 
 use crate::place::{ColourMode, put_place_in, put_text};
 use crate::telling::{Part, say};

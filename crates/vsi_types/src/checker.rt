@@ -1,16 +1,9 @@
 //! The check of a program under a choice of classes: a walk over its flow steps in order.
 
-ghost use Rattle.std.specs.Prelude.{◌+◌, ◌≤◌, length, ◌≡◌, ◌++◌, Err, IfErr, OnOk};
-ghost use Rattle.std.specs.List.{All};
+ghost use Rattle.std.specs.{Prelude.{◌+◌, ◌≤◌, length, ◌≡◌, ◌++◌, Err, IfErr, OnOk}, List.{All}};
 ghost use Rattle.vsi_lattice.specs.Order.{IsClass};
-ghost use Rattle.vsi_scope.specs.Language.{letvars, HasPlaces, Assign, If, While, Letvar};
-ghost use Rattle.vsi_scope.specs.View.{expression, command, sequence};
-ghost use Rattle.vsi_types.specs.Security.{class_of, IsChoice, IsTypable, steps_of, program as program_of};
-ghost use Rattle.vsi_types.specs.Checking.{Judged, TellsFault, TellsWhy};
-ghost use Rattle.vsi_types.specs.Walker.{walker_place};
-ghost use Rattle.vsi_scope.specs.Limits.{max_declarations};
-ghost use Rattle.vsi_types.specs.declared.rules.CheckError.TheVariants.{Memory, WrongChoice};
-ghost use Rattle.vsi_types.specs.declared.rules.Profile.TheVariants.{Base};
+ghost use Rattle.vsi_scope.specs.{Language.{letvars, HasPlaces, Assign, If, While, Letvar}, View.{expression, command, sequence}, Limits.{max_declarations}};
+ghost use Rattle.vsi_types.specs.{Security.{class_of, IsChoice, IsTypable, steps_of, program as program_of}, Checking.{Judged, TellsFault, TellsWhy}, Walker.{walker_place}, declared.rules.CheckError.TheVariants.{Memory, WrongChoice}, declared.rules.Profile.TheVariants.{Base}};
 
 use crate::rules::{CheckError, Profile, Rule, class_table, is_choice};
 use crate::walker::{

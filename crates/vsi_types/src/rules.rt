@@ -1,9 +1,7 @@
 //! Rules, flow steps and profiles, choices of classes, and why a choice is refused.
 
-ghost use Rattle.std.specs.Prelude.{◌≡◌, ◌++◌, true, false, map, IfOk};
-ghost use Rattle.std.specs.List.{AllZip};
-ghost use Rattle.vsi_types.specs.Security.{Keeps};
-ghost use Rattle.vsi_types.specs.declared.rules.CheckError.TheVariants.{Memory, Flow};
+ghost use Rattle.std.specs.{Prelude.{◌≡◌, ◌++◌, true, false, map, IfOk}, List.{AllZip}};
+ghost use Rattle.vsi_types.specs.{Security.{Keeps}, declared.rules.CheckError.TheVariants.{Memory, Flow}};
 
 use std::alloc::{AllocError, AllocFailed, Global as Heap};
 use thiserror::Error;

@@ -1,13 +1,9 @@
 //! State shared by walks over a program, and the flows that expressions and guards have.
 
-ghost use Rattle.std.specs.Prelude.{◌≡◌, ◌++◌, length, IfOk, if◌then◌else◌, is_ok, ◌||◌, true};
-ghost use Rattle.vsi_scope.specs.Language.{has_loop, HasLocations};
-ghost use Rattle.vsi_scope.specs.View.{expression, command, sequence};
-ghost use Rattle.vsi_types.specs.Security.{count_from, class_of};
-ghost use Rattle.vsi_types.specs.Steps.{reads, guarded, endings};
-ghost use Rattle.std.specs.List.{All};
+ghost use Rattle.std.specs.{Prelude.{◌≡◌, ◌++◌, length, IfOk, if◌then◌else◌, is_ok, ◌||◌, true}, List.{All}};
+ghost use Rattle.vsi_scope.specs.{Language.{has_loop, HasLocations}, View.{expression, command, sequence}};
+ghost use Rattle.vsi_types.specs.{Security.{count_from, class_of}, Steps.{reads, guarded, endings}, Checking.{FlowsJudged, StepsJudged}};
 ghost use Rattle.vsi_lattice.specs.Order.{IsClass};
-ghost use Rattle.vsi_types.specs.Checking.{FlowsJudged, StepsJudged};
 
 use crate::rules::{FlowFault, Guard, LOOP, Profile, Read, Rule};
 use std::alloc::{AllocError, Global as Heap};

@@ -1,17 +1,9 @@
 //! Resolves commands and expressions in one walk through the text.
 
 ghost use Rattle.std.specs.Prelude.{◌≡◌, ◌+◌, ◌≤◌, length, IfOk, ◌<◌, map, [], option_map, IfErr};
-ghost use Rattle.vsi_syntax.specs.View.{tree, named};
-ghost use Rattle.vsi_scope.specs.View.{expression};
-ghost use Rattle.vsi_scope.specs.Places.{expression_of, commands_of};
-ghost use Rattle.vsi_lattice.specs.Known.{Known};
-ghost use Rattle.vsi_scope.specs.Faults.{uses, first_fault, Judged, class_marks};
-ghost use Rattle.vsi_scope.specs.Resolver.{names_of, Walked, WalkedOne, WalkedAll, IsWithin, scope_of, fault_in, fault_in_all};
-ghost use Rattle.vsi_scope.specs.Limits.{max_declarations};
-ghost use Rattle.vsi_scope.specs.declared.resolution.ScopeError.TheVariants.{Memory};
-ghost use Rattle.vsi_syntax.specs.Tree.{Assign, If, While, Letvar};
-ghost use Rattle.vsi_lattice.specs.LatticeView.{class_named};
-ghost use Rattle.vsi_scope.specs.Resolving.{class_of};
+ghost use Rattle.vsi_syntax.specs.{View.{tree, named}, Tree.{Assign, If, While, Letvar}};
+ghost use Rattle.vsi_scope.specs.{View.{expression}, Places.{expression_of, commands_of}, Faults.{uses, first_fault, Judged, class_marks}, Resolver.{names_of, Walked, WalkedOne, WalkedAll, IsWithin, scope_of, fault_in, fault_in_all}, Limits.{max_declarations}, declared.resolution.ScopeError.TheVariants.{Memory}, Resolving.{class_of}};
+ghost use Rattle.vsi_lattice.specs.{Known.{Known}, LatticeView.{class_named}};
 ghost use Rattle.vsi_syntax.specs.CommandView as syntax;
 
 use crate::program::{Cmd, Ex};
@@ -60,8 +52,7 @@ pub(crate) struct Resolver<'a> {
 
 impl<'a> Resolver<'a> {
     ghost use Rattle.std.specs.Prelude.{◌++◌, ◌∷◌, OnOk, take, ◌-◌};
-    ghost use Rattle.vsi_scope.specs.Resolver.{declared};
-    ghost use Rattle.vsi_scope.specs.Resolving.{variable, letvar};
+    ghost use Rattle.vsi_scope.specs.{Resolver.{declared}, Resolving.{variable, letvar}};
 
     /// The number of declarations so far.
     fn declared(&self) -> usize

@@ -1,17 +1,9 @@
 //! Resolves a whole program: its names in scope, its globals and its body.
 
 ghost use Rattle.std.specs.Prelude.{◌≡◌, ◌+◌, ◌<◌, ◌≤◌, length, map, IfSome, [], ◌∷◌, Some, None, IfOk, OnOk, ℕ, List, IfErr};
-ghost use Rattle.vsi_scope.specs.Places.{place_of};
-ghost use Rattle.vsi_scope.specs.Limits.{max_declarations, max_globals};
+ghost use Rattle.vsi_scope.specs.{Places.{place_of}, Limits.{max_declarations, max_globals}, Faults.{global_marks, first_fault, Judged}, Resolver.{names_of, HasNone, HasRead}, declared.resolution.ScopeError.TheVariants.{Memory}, Language.{Command, depth}, View.{sequence}, Resolving.{Resolves, AreBelow, HasClassesBelow, IsResolution, ExplainsScope}};
 ghost use Rattle.vsi_lattice.specs.LatticeView.{class_named};
-ghost use Rattle.vsi_scope.specs.Faults.{global_marks, first_fault, Judged};
-ghost use Rattle.vsi_scope.specs.Resolver.{names_of, HasNone, HasRead};
-ghost use Rattle.vsi_syntax.specs.Limits.{max_depth};
-ghost use Rattle.vsi_syntax.specs.ProgramView.{whole};
-ghost use Rattle.vsi_scope.specs.declared.resolution.ScopeError.TheVariants.{Memory};
-ghost use Rattle.vsi_scope.specs.Language.{Command, depth};
-ghost use Rattle.vsi_scope.specs.View.{sequence};
-ghost use Rattle.vsi_scope.specs.Resolving.{Resolves, AreBelow, HasClassesBelow, IsResolution, ExplainsScope};
+ghost use Rattle.vsi_syntax.specs.{Limits.{max_depth}, ProgramView.{whole}};
 ghost use Rattle.vsi_syntax.specs.CommandView as syntax;
 
 use crate::measure::size;
@@ -36,8 +28,7 @@ pub(crate) struct Names<'a> {
 
 impl<'a> Names<'a> {
     ghost use Rattle.std.specs.Prelude.{◌++◌, ◌∷◌, [], None, OnOk, IfErr};
-    ghost use Rattle.vsi_scope.specs.Resolver.{names_of};
-    ghost use Rattle.vsi_scope.specs.declared.resolution.ScopeError.TheVariants.{Memory};
+    ghost use Rattle.vsi_scope.specs.{Resolver.{names_of}, declared.resolution.ScopeError.TheVariants.{Memory}};
 
     /// No names.
     pub(crate) fn new(alloc: Global) -> Names<'a>
