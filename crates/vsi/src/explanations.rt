@@ -117,7 +117,10 @@ impl Explaining {
             Failure::FileFault(path) => of_fault(inputs, files, path),
             Failure::LostFile(path) => of_fault(inputs, files, path.as_str()),
             Failure::OutOfBudget => Vec::from_slice(inputs.alloc, SPENT),
-            Failure::NoClass(_) => of_class(inputs),
+            Failure::NoClass(_) => {
+                let lattice = policy(inputs).ok_or(AllocError)?;
+                class_list(inputs.alloc, &lattice)
+            }
             Failure::Differs => self.of_difference(inputs),
             Failure::Refused(_, None) | Failure::Usage(_) | Failure::Memory => {
                 Ok(Vec::new(inputs.alloc))
@@ -171,9 +174,25 @@ impl Explaining {
             }
             Cause::Steady(UnsteadyError::Compile(error)) => self.of_source(inputs, error),
             Cause::Steady(UnsteadyError::Image(error)) => self.of_text_image(inputs, error),
-            Cause::File(Fault::Store(error)) => self.of_store(inputs, error),
+            Cause::File(Fault::Store(error)) => {
+                let Some(kept) = inputs.last(InputKind::Store) else {
+                    return Ok(Vec::new(inputs.alloc));
+                };
+                let image = read_image(inputs).ok_or(AllocError)?;
+                self.refusal_of(inputs.alloc, kept, Reason::Store(&image, error))
+            }
             Cause::File(fault) => self.of_file(inputs, fault),
-            Cause::Start(fault) => self.of_start(inputs, *fault),
+            Cause::Start(fault) => {
+                let Some(kept) = faulty_start(inputs, *fault) else {
+                    return Ok(Vec::new(inputs.alloc));
+                };
+                let image = read_image(inputs).ok_or(AllocError)?;
+                self.advice_on(
+                    inputs.alloc,
+                    kept,
+                    vsi_advice::Reason::Start(&image, *fault),
+                )
+            }
             Cause::Raised(_) => Vec::from_slice(inputs.alloc, TOO_LONG),
             Cause::Steady(UnsteadyError::Memory) => Ok(Vec::new(inputs.alloc)),
         }
@@ -212,15 +231,6 @@ impl Explaining {
         reason: vsi_advice::Reason<'_>,
     ) -> Result<Vec<u8>, AllocError> {
         advice(alloc, self.mode, &kept.path, &kept.bytes, reason)
-    }
-
-    /// The explanation of a refused store file.
-    fn of_store(self, inputs: &Inputs, error: &StoreError) -> Result<Vec<u8>, AllocError> {
-        let Some(kept) = inputs.last(InputKind::Store) else {
-            return Ok(Vec::new(inputs.alloc));
-        };
-        let image = read_image(inputs).ok_or(AllocError)?;
-        self.refusal_of(inputs.alloc, kept, Reason::Store(&image, error))
     }
 
     /// The explanation of a source text whose image isn't steady.
@@ -280,15 +290,6 @@ impl Explaining {
         self.advice_on(alloc, kept, reason)
     }
 
-    /// The explanation of a run that doesn't begin.
-    fn of_start(self, inputs: &Inputs, fault: StartFault) -> Result<Vec<u8>, AllocError> {
-        let Some(kept) = faulty_start(inputs, fault) else {
-            return Ok(Vec::new(inputs.alloc));
-        };
-        let image = read_image(inputs).ok_or(AllocError)?;
-        self.advice_on(inputs.alloc, kept, vsi_advice::Reason::Start(&image, fault))
-    }
-
     /// The explanation of an image that an audit refuses.
     fn of_audit(self, inputs: &Inputs, failure: &Failure<'_>) -> Result<Vec<u8>, AllocError> {
         let kept = inputs.last(InputKind::Image).ok_or(AllocError)?;
@@ -310,14 +311,6 @@ fn put_page(lines: &mut Vec<u8>, diagnostic: &Diagnostic) -> Result<(), AllocErr
     lines.extend_from_slice(b"\n")
 }
 
-/// The lattice that an interface has itself, or `L` below `H` if it names a file.
-fn own_lattice(alloc: Global, asked: &InterfaceFile) -> Option<Lattice> {
-    match &asked.policy {
-        Policy::Tables(text) => read_lattice(alloc, text).ok(),
-        _ => read_lattice(alloc, TWO_CLASSES).ok(),
-    }
-}
-
 /// The lattice that was read or that an interface has, or `L` below `H` if there is none.
 fn policy(inputs: &Inputs) -> Option<Lattice> {
     if let Some(kept) = inputs.last(InputKind::Lattice) {
@@ -327,18 +320,15 @@ fn policy(inputs: &Inputs) -> Option<Lattice> {
         return read_lattice(inputs.alloc, TWO_CLASSES).ok();
     };
     match read_interface(inputs.alloc, &kept.bytes) {
-        Ok(asked) => own_lattice(inputs.alloc, &asked),
+        Ok(asked) => match &asked.policy {
+            Policy::Tables(text) => read_lattice(inputs.alloc, text).ok(),
+            _ => read_lattice(inputs.alloc, TWO_CLASSES).ok(),
+        },
         Err(error) => match &error {
             InterfaceError::Memory => None,
             _ => read_lattice(inputs.alloc, TWO_CLASSES).ok(),
         },
     }
-}
-
-/// The explanation of a class name that the lattice lacks.
-fn of_class(inputs: &Inputs) -> Result<Vec<u8>, AllocError> {
-    let lattice = policy(inputs).ok_or(AllocError)?;
-    class_list(inputs.alloc, &lattice)
 }
 
 /// The image that was read.

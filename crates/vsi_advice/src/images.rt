@@ -87,70 +87,40 @@ impl Judged<'_> {
         telling.tell(None, sentence, &parts)
     }
 
-    /// Explains code that doesn't consist of commands.
-    fn bad_code(self, telling: &mut Telling<'_>, number: usize) -> Told {
-        let sentence = "The image is valid, but its code isn't that of commands from here on:\n";
-        self.put_at(telling, sentence, &[], number)?;
-        let sentence = "%Hint: build the image again from its source text. Code without commands \
-            is judged by `vsi audit LATTICE IMAGE --steady`.\n";
-        let parts = [Text(rule_of(self.image.code.get(number)))];
-        telling.tell(None, sentence, &parts)
-    }
-
-    /// Explains a flow that breaks the policy.
-    fn bad_flow(self, telling: &mut Telling<'_>, walk: &Walk) -> Told {
-        let (Some(first), Some(last)) = (walk.steps.first(), walk.steps.last()) else {
-            return Ok(None);
-        };
-        let (from, to) = (first.read.start, last.written.start);
-        let sentence = "The numbers are those of instructions. The flow begins at\n";
-        self.put_at(telling, sentence, &[], from)?;
-        if to != from {
-            self.put_at(telling, "and ends at\n", &[], to)?;
-        }
-        let sentence = "Hint: `vsi source IMAGE` prints the image as a text, and `vsi check \
-            LATTICE TEXT --explain` shows each step of the flow in that text.\n";
-        telling.tell(None, sentence, &[])
-    }
-
-    /// Explains a jump or a global with a forbidden flow into it.
-    fn bad_chain(self, telling: &mut Telling<'_>, number: usize) -> Told {
-        let slot = chain_source(telling.alloc, self.lattice, self.image, number)?;
-        let mut source = Vec::new(telling.alloc);
-        let slot = slot.map_or(usize::MAX, |slot| slot as usize);
-        match self.image.globals.get(slot) {
-            Some((name, class)) => say(&mut source, "% : %", &[Text(name), Text(class)])?,
-            None => source.extend_from_slice(b"(something)")?,
-        }
-        let source = Quoted(&source);
-        if let Some(Instr::Store(_)) = self.image.code.get(number) {
-            let sentence = "This instruction writes a value that depends on %:\n";
-            self.put_at(telling, sentence, &[source], number)?;
-            let sentence = "Hint: give the global that it writes a class at or above that one, or \
-                write a value there that doesn't depend on it.\n";
-            return telling.tell(None, sentence, &[]);
-        }
-        self.put_at(telling, "This jump depends on %:\n", &[source], number)?;
-        let sentence = "With --steady a jump depends on nothing above the least class, which is \
-            %.\nHint: compute both results and select one by arithmetic, as in `out := g * a + (1 \
-            - g) * b` for a guard g that is 0 or 1, and build the image again.\n";
-        let parts = [Quoted(self.lattice.name(self.lattice.bottom()))];
-        telling.tell(None, sentence, &parts)
-    }
-
     /// Adds the explanation of an image whose commands are judged.
     pub(crate) fn of_audit(self, telling: &mut Telling<'_>, error: &AuditError) -> Told {
         match error {
             AuditError::Memory => Err(AllocError),
             AuditError::UnknownClass(number) => self.bad_class(telling, *number),
-            AuditError::Unstructured(number) => self.bad_code(telling, *number),
+            AuditError::Unstructured(number) => {
+                let sentence = "The image is valid, but its code isn't that of commands from here \
+                    on:\n";
+                self.put_at(telling, sentence, &[], *number)?;
+                let sentence = "%Hint: build the image again from its source text. Code without \
+                    commands is judged by `vsi audit LATTICE IMAGE --steady`.\n";
+                let parts = [Text(rule_of(self.image.code.get(*number)))];
+                telling.tell(None, sentence, &parts)
+            }
             AuditError::WrongFields => {
                 let slots = Number(self.image.slots as usize);
                 let stack = Number(self.image.stack as usize);
                 telling.tell(None, WRONG_FIELDS, &[slots, stack])
             }
             AuditError::NoText => telling.tell(None, NO_TEXT, &[]),
-            AuditError::Flow(walk) => self.bad_flow(telling, walk),
+            AuditError::Flow(walk) => {
+                let (Some(first), Some(last)) = (walk.steps.first(), walk.steps.last()) else {
+                    return Ok(None);
+                };
+                let (from, to) = (first.read.start, last.written.start);
+                let sentence = "The numbers are those of instructions. The flow begins at\n";
+                self.put_at(telling, sentence, &[], from)?;
+                if to != from {
+                    self.put_at(telling, "and ends at\n", &[], to)?;
+                }
+                let sentence = "Hint: `vsi source IMAGE` prints the image as a text, and `vsi \
+                    check LATTICE TEXT --explain` shows each step of the flow in that text.\n";
+                telling.tell(None, sentence, &[])
+            }
         }
     }
 
@@ -159,7 +129,30 @@ impl Judged<'_> {
         match error {
             SteadyError::Memory => Err(AllocError),
             SteadyError::UnknownClass(number) => self.bad_class(telling, *number),
-            SteadyError::Flow(number) => self.bad_chain(telling, *number),
+            SteadyError::Flow(number) => {
+                let slot = chain_source(telling.alloc, self.lattice, self.image, *number)?;
+                let mut source = Vec::new(telling.alloc);
+                let slot = slot.map_or(usize::MAX, |slot| slot as usize);
+                match self.image.globals.get(slot) {
+                    Some((name, class)) => say(&mut source, "% : %", &[Text(name), Text(class)])?,
+                    None => source.extend_from_slice(b"(something)")?,
+                }
+                let source = Quoted(&source);
+                if let Some(Instr::Store(_)) = self.image.code.get(*number) {
+                    let sentence = "This instruction writes a value that depends on %:\n";
+                    self.put_at(telling, sentence, &[source], *number)?;
+                    let sentence = "Hint: give the global that it writes a class at or above that \
+                        one, or write a value there that doesn't depend on it.\n";
+                    return telling.tell(None, sentence, &[]);
+                }
+                self.put_at(telling, "This jump depends on %:\n", &[source], *number)?;
+                let sentence = "With --steady a jump depends on nothing above the least class, \
+                    which is %.\nHint: compute both results and select one by arithmetic, as in \
+                    `out := g * a + (1 - g) * b` for a guard g that is 0 or 1, and build the image \
+                    again.\n";
+                let parts = [Quoted(self.lattice.name(self.lattice.bottom()))];
+                telling.tell(None, sentence, &parts)
+            }
         }
     }
 }

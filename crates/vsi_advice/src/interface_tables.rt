@@ -132,12 +132,6 @@ impl<'t> Numbered<'t> {
         self.place_of(key.as_bytes(), true)
     }
 
-    /// The first key of the table that it may not have.
-    fn other_key(self) -> Option<&'t [u8]> {
-        let mut keys = self.table()?.keys().map(|key| key.as_bytes());
-        keys.find(|key| !self.tables.keys.contains(key))
-    }
-
     /// Explains that the value isn't a table, or has another key. Otherwise adds and returns
     /// nothing.
     fn explain(self, telling: &mut Telling<'_>) -> Option<Told> {
@@ -148,7 +142,8 @@ impl<'t> Numbered<'t> {
             let parts = [name, counted, Text(tables.shape)];
             return Some(telling.tell(place, "% % isn't a table.\n%", &parts));
         }
-        let key = self.other_key()?;
+        let mut keys = self.table()?.keys().map(|key| key.as_bytes());
+        let key = keys.find(|key| !self.tables.keys.contains(key))?;
         let (noun, names) = (Text(tables.noun), Names(tables.keys));
         let nearest = Nearest(key, tables.keys, tables.otherwise);
         let sentence = "% % has a key %, which isn't a key of a %: the keys are %.\n%";

@@ -159,21 +159,6 @@ impl<'t> Interface<'t> {
         Some(behind(start, found))
     }
 
-    /// Explains a key that no interface has.
-    fn unknown_key(self, telling: &mut Telling<'_>, key: &[u8]) -> Told {
-        let place = key_place(self.bytes, key);
-        let quoted = Quoted(key);
-        if RUN_KEYS.contains(&key) {
-            let sentence = "An interface has no key % of its own. Hint: it is a key of a run, and \
-                goes after a line `[[runs]]`.\n";
-            return telling.tell(place, sentence, &[quoted]);
-        }
-        let (some, others) = (Names(&KEYS[..5]), Names(&KEYS[5..]));
-        let nearest = Nearest(key, &KEYS, "Hint: remove the line.\n");
-        let sentence = "An interface has no key %: its keys are %, %.\n%";
-        telling.tell(place, sentence, &[quoted, some, others, nearest])
-    }
-
     /// Explains the value of a key that isn't a text, or leads to a file outside the folder.
     fn bad_path(self, telling: &mut Telling<'_>, key: &str, file: &str, hint: &str) -> Told {
         let place = key_place(self.bytes, key.as_bytes());
@@ -286,7 +271,19 @@ impl<'t> Interface<'t> {
             InterfaceError::BadName(name) => self.bad_name(telling, name, 0),
             InterfaceError::RepeatedGlobal(name) => self.bad_name(telling, name, 1),
             InterfaceError::UnknownClass(name) => self.unknown_class(telling, name),
-            InterfaceError::UnknownKey(key) => self.unknown_key(telling, key),
+            InterfaceError::UnknownKey(key) => {
+                let place = key_place(self.bytes, key);
+                let quoted = Quoted(key);
+                if RUN_KEYS.contains(&key) {
+                    let sentence = "An interface has no key % of its own. Hint: it is a key of a \
+                        run, and goes after a line `[[runs]]`.\n";
+                    return telling.tell(place, sentence, &[quoted]);
+                }
+                let (some, others) = (Names(&KEYS[..5]), Names(&KEYS[5..]));
+                let nearest = Nearest(key, &KEYS, "Hint: remove the line.\n");
+                let sentence = "An interface has no key %: its keys are %, %.\n%";
+                telling.tell(place, sentence, &[quoted, some, others, nearest])
+            }
             InterfaceError::BadLattice => self.bad_lattice(telling),
             InterfaceError::BadProfile => self.bad_choice(telling, "profile", &PROFILES),
             InterfaceError::BadOrder => self.bad_choice(telling, "order", &ORDERS),

@@ -93,15 +93,6 @@ fn put_comparisons(e: &Ex, chained: &mut Vec<bool>) -> Result<(), AllocError> {
     }
 }
 
-/// Adds an answer for the next letvar, whose name is in scope from then on.
-fn enter(found: &mut Found<'_>) -> Result<(), AllocError> {
-    if let Some(name) = found.letvars.get(found.hiding.len()).copied() {
-        found.hiding.push(found.names.contains(&name))?;
-        found.names.push(name)?;
-    }
-    Ok(())
-}
-
 /// Walks over a list of commands.
 #[cycle(walk)]
 fn walk_all(body: &[Cmd], found: &mut Found<'_>) -> Result<(), AllocError> {
@@ -131,7 +122,10 @@ fn walk_one(c: &Cmd, found: &mut Found<'_>) -> Result<(), AllocError> {
         Cmd::Letvar { value, body } => {
             put_comparisons(value, &mut found.chained)?;
             let outside = found.names.len();
-            enter(found)?;
+            if let Some(name) = found.letvars.get(found.hiding.len()).copied() {
+                found.hiding.push(found.names.contains(&name))?;
+                found.names.push(name)?;
+            }
             walk_all(body, found)?;
             found.names.truncate(outside);
             Ok(())
@@ -191,20 +185,6 @@ fn put_removed(found: &mut Vec<Warning>, all: &[Span], kept: &[Span]) -> Result<
     Ok(())
 }
 
-/// Adds the warnings about the globals of a program.
-fn put_globals(source: &Source<'_>, found: &mut Vec<Warning>) -> Result<(), AllocError> {
-    for (number, declaration) in source.globals().iter().enumerate() {
-        let Ok(global) = u16::try_from(number) else {
-            continue;
-        };
-        if is_unused_global(source.resolved(), global) {
-            let (sentence, span) = (UNUSED_GLOBAL, declaration.name.span);
-            found.push(Warning { sentence, span })?;
-        }
-    }
-    Ok(())
-}
-
 /// Adds the warnings about the commands and the letvars of a program.
 fn put_program(
     alloc: Global,
@@ -246,7 +226,15 @@ pub fn warnings_of(alloc: Global, source: &Source<'_>) -> Result<Vec<Warning>, A
     match lex(alloc, source.text()) {
         Ok(tokens) => {
             put_indented(alloc, source.text(), &tokens, &mut found)?;
-            put_globals(source, &mut found)?;
+            for (number, declaration) in source.globals().iter().enumerate() {
+                let Ok(global) = u16::try_from(number) else {
+                    continue;
+                };
+                if is_unused_global(source.resolved(), global) {
+                    let (sentence, span) = (UNUSED_GLOBAL, declaration.name.span);
+                    found.push(Warning { sentence, span })?;
+                }
+            }
             put_program(alloc, source, &tokens, &mut found)?;
         }
         Err(LexError::Memory) => return Err(AllocError),

@@ -389,15 +389,6 @@ fn one_of(random: &mut SplitMix64, words: &[i64]) -> i64 {
     words.get(place).copied().unwrap_or(0)
 }
 
-/// A random number with few digits.
-fn few_digits(random: &mut SplitMix64) -> i64 {
-    let mut bound: usize = 10;
-    for _ in 0..below(random, MOST_DIGITS) {
-        bound = bound.saturating_mul(10);
-    }
-    (below(random, bound) as u64).cast_signed()
-}
-
 /// One of the words, or a neighbour of it.
 fn near(random: &mut SplitMix64, words: &[i64]) -> i64 {
     let word = one_of(random, words);
@@ -415,7 +406,13 @@ fn drawn(random: &mut SplitMix64, constants: &[i64], store: &[i64]) -> i64 {
         2 | 3 => 1,
         4 | 5 | 6 => (below(random, 11) as u64).cast_signed(),
         7 | 8 => one_of(random, constants),
-        9 | 10 => few_digits(random),
+        9 | 10 => {
+            let mut bound: usize = 10;
+            for _ in 0..below(random, MOST_DIGITS) {
+                bound = bound.saturating_mul(10);
+            }
+            (below(random, bound) as u64).cast_signed()
+        }
         11 | 12 => near(random, store),
         13 | 14 => near(random, store).wrapping_add(one_of(random, constants)),
         _ => random.next_u64().cast_signed(),

@@ -18,21 +18,6 @@ const MOST: usize = 12;
 /// The largest number of bytes of a name that are shown.
 const LONGEST: usize = 40;
 
-/// The construct of another language that a piece begins.
-fn shape_at(scan: &Scan, at: usize) -> Option<Found> {
-    match scan.text(at) {
-        [b'v', b'a', b'r'] => declaration(scan, at),
-        [b'l', b'e', b't', b'v', b'a', b'r'] => local(scan, at),
-        [b'd', b'o'] if scan.is_command_start(at) => {
-            let rest = ": write the body before the loop too, as in `{ C; while E do { C } }` for \
-                the body C and the guard E.";
-            say(at, at.saturating_add(1), "no loop begins with ", rest)
-        }
-        _ if scan.is_name(at) => named(scan, at).or(sign(scan, at)),
-        _ => sign(scan, at),
-    }
-}
-
 /// The constructs of other languages in order; none begins inside another one. A loop is one with
 /// its body, if its commands can be offered.
 fn all_shapes(scan: &Scan) -> Result<Vec<Found>, AllocError> {
@@ -42,7 +27,17 @@ fn all_shapes(scan: &Scan) -> Result<Vec<Found>, AllocError> {
         if at < next {
             continue;
         }
-        let mut shape = shape_at(scan, at);
+        let mut shape = match scan.text(at) {
+            [b'v', b'a', b'r'] => declaration(scan, at),
+            [b'l', b'e', b't', b'v', b'a', b'r'] => local(scan, at),
+            [b'd', b'o'] if scan.is_command_start(at) => {
+                let rest = ": write the body before the loop too, as in `{ C; while E do { C } }` \
+                    for the body C and the guard E.";
+                say(at, at.saturating_add(1), "no loop begins with ", rest)
+            }
+            _ if scan.is_name(at) => named(scan, at).or(sign(scan, at)),
+            _ => sign(scan, at),
+        };
         if let Some(found) = loop_at(scan, at) {
             if offer(scan, &found)?.is_some() {
                 shape = Some(found);

@@ -302,25 +302,6 @@ impl<'s, 't> Draft<'s, 't> {
         }
     }
 
-    /// Adds the declarations of names, each with the class at the end of the pieces.
-    fn put_declarations(&mut self) -> Result<bool, AllocError> {
-        let (scan, found) = (self.scan, self.found);
-        let class = scan.text(found.next.saturating_sub(1));
-        let mut joint: &[u8] = b"var ";
-        for at in found.first..found.next {
-            if scan.is(at, b":") {
-                return Ok(true);
-            }
-            if scan.is_name(at) {
-                for part in [joint, scan.text(at), b" : ", class] {
-                    self.words.extend_from_slice(part)?;
-                }
-                joint = b"; var ";
-            }
-        }
-        Ok(true)
-    }
-
     /// Adds a number, and so many more.
     fn put_number(&mut self, text: &[u8], more: u64) -> Result<bool, AllocError> {
         let Some(number) = number_of(text) else {
@@ -400,7 +381,23 @@ impl<'s, 't> Draft<'s, 't> {
             b'T' => self.put_fresh(b"q times count quotient"),
             b'E' | b'V' | b'W' | b'X' | b'Y' => self.put_value(letter),
             b'D' => self.put_number(scan.text(first), 0),
-            b'L' => self.put_declarations(),
+            b'L' => {
+                let (scan, found) = (self.scan, self.found);
+                let class = scan.text(found.next.saturating_sub(1));
+                let mut joint: &[u8] = b"var ";
+                for at in found.first..found.next {
+                    if scan.is(at, b":") {
+                        return Ok(true);
+                    }
+                    if scan.is_name(at) {
+                        for part in [joint, scan.text(at), b" : ", class] {
+                            self.words.extend_from_slice(part)?;
+                        }
+                        joint = b"; var ";
+                    }
+                }
+                Ok(true)
+            }
             b'B' => self.put_body(),
             b'F' | b'G' | b'I' => self.put_counting(letter),
             other => self.put(&[other]),

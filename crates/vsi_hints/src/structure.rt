@@ -91,17 +91,6 @@ fn has_late_else(scan: &Scan, stop: usize) -> bool {
     false
 }
 
-/// A `letvar` without its `in`.
-fn unbound(scan: &Scan, at: usize) -> Option<Found> {
-    let (sign, stop) = local_value(scan, at);
-    if !scan.is_any(sign, b":= =") || scan.is(stop, b"in") {
-        return None;
-    }
-    let rest =
-        ", and { } around the commands that use it, as in `letvar y := 1 in { x := y; z := y }`.";
-    say(at, stop, "put `in` after the value of this ", rest)
-}
-
 /// An `if` after a value that is assigned, as other languages choose between two values.
 fn conditional(scan: &Scan, at: usize) -> Option<Found> {
     let before = at.checked_sub(1)?;
@@ -146,7 +135,16 @@ pub(crate) fn structure_at(scan: &Scan, at: usize) -> Option<Found> {
     }
     let next = at.saturating_add(1);
     match scan.text(at) {
-        [b'l', b'e', b't', b'v', b'a', b'r'] => unbound(scan, at),
+        [b'l', b'e', b't', b'v', b'a', b'r'] => {
+            let (sign, stop) = local_value(scan, at);
+            if !scan.is_any(sign, b":= =") || scan.is(stop, b"in") {
+                return None;
+            }
+            let rest =
+                ", and { } around the commands that use it, as in `letvar y := 1 in { x := y; z := \
+                    y }`.";
+            say(at, stop, "put `in` after the value of this ", rest)
+        }
         [b';'] => superfluous(scan, at),
         [b'}'] if is_command(scan, next) => {
             let rest = " before the next command, as in `{ x := 1 }; y := 2`.";
@@ -394,30 +392,28 @@ fn number(scan: &Scan, at: usize) -> Option<Found> {
     shaped(at, next, Shape::Expression, DIGITS)
 }
 
-/// A character outside of ASCII. A wide `=` after an assigned name is half of a `:=`.
-fn strange(scan: &Scan, at: usize) -> Option<Found> {
-    let next = at.saturating_add(1);
-    let text = scan.text(at);
-    if narrow(text) == text {
-        tell(at, next, character_saying(text)?)
-    } else if scan.is_assignment(at) && matches!(narrow(text), [b'=']) {
-        tell(
-            at,
-            next,
-            "write `:=` for this character, which only looks like `=`.",
-        )
-    } else {
-        let rest =
-            " for this character, which only looks like it: outside comments a text is ASCII.";
-        say(at, next, "write ", rest)
-    }
-}
-
 /// The construct that a sign, a number, a text or a comment begins.
 pub(crate) fn sign(scan: &Scan, at: usize) -> Option<Found> {
     match scan.piece(at).sort {
         Sort::Comment => shaped(at, at.saturating_add(1), Shape::Comment, (b"", "", "")),
-        Sort::Strange => strange(scan, at),
+        Sort::Strange => {
+            let next = at.saturating_add(1);
+            let text = scan.text(at);
+            if narrow(text) == text {
+                tell(at, next, character_saying(text)?)
+            } else if scan.is_assignment(at) && matches!(narrow(text), [b'=']) {
+                tell(
+                    at,
+                    next,
+                    "write `:=` for this character, which only looks like `=`.",
+                )
+            } else {
+                let rest =
+                    " for this character, which only looks like it: outside comments a text is \
+                        ASCII.";
+                say(at, next, "write ", rest)
+            }
+        }
         Sort::Quoted => quoted(scan, at),
         Sort::Number => number(scan, at),
         _ => operator(scan, at),

@@ -85,32 +85,26 @@ impl Groups<'_> {
         }
     }
 
-    /// Puts a group on top of the column with the highest top that is below it, or into a new one.
-    fn put(&mut self, tops: &mut Vec<usize>, group: usize) -> Made<()> {
-        let mut found = tops.len();
-        let mut highest: usize = 0;
-        for (column, top) in tops.iter().enumerate() {
-            let level = at(&self.levels, *top).saturating_add(1);
-            if self.graph.is_below(*top, group) && level > highest {
-                highest = level;
-                found = column;
-            }
-        }
-        write_at(&mut self.columns, group, found);
-        if found == tops.len() {
-            tops.push(group)?;
-        }
-        write_at(tops, found, group);
-        Ok(())
-    }
-
     /// Puts the groups into columns, level by level.
     fn put_all(&mut self) -> Made<()> {
         let mut tops = Vec::new(self.alloc);
         for level in 0..self.level_count() {
             for group in 0..self.nodes.len() {
                 if at(&self.nodes, group) > 0 && at(&self.levels, group) == level {
-                    self.put(&mut tops, group)?;
+                    let mut found = tops.len();
+                    let mut highest: usize = 0;
+                    for (column, top) in tops.iter().enumerate() {
+                        let level = at(&self.levels, *top).saturating_add(1);
+                        if self.graph.is_below(*top, group) && level > highest {
+                            highest = level;
+                            found = column;
+                        }
+                    }
+                    write_at(&mut self.columns, group, found);
+                    if found == tops.len() {
+                        tops.push(group)?;
+                    }
+                    write_at(&mut tops, found, group);
                 }
             }
         }
@@ -246,25 +240,6 @@ impl Groups<'_> {
         (0..self.layers.len())
             .filter(|node| self.graph.group_of(*node) == group && is_left(*node))
             .min_by_key(|node| self.wait_of(*node).0)
-    }
-
-    /// Gives the nodes of a group their layers.
-    fn put_layers(&mut self, group: usize) -> Made<()> {
-        let full = self.full_width(group);
-        let count = at(&self.nodes, group);
-        let mut used = vec![in self.alloc; 0; count]?;
-        for _ in 0..count {
-            if let Some(node) = self.next_of(group) {
-                let least = self.wait_of(node).1;
-                let wide = self.graph.width_of(node).saturating_add(GAP);
-                let layer = layer_with_room(&used, least, wide, full);
-                add_at(&mut used, layer, wide);
-                write_at(&mut self.layers, node, layer);
-                raise_at(&mut self.widths, group, at(&used, layer));
-                raise_at(&mut self.heights, group, layer.saturating_add(1));
-            }
-        }
-        Ok(())
     }
 }
 
@@ -416,7 +391,20 @@ impl Groups<'_> {
 pub(crate) fn frame_of(groups: &mut Groups<'_>) -> Made<Frame> {
     let alloc = groups.alloc;
     for group in 0..groups.nodes.len() {
-        groups.put_layers(group)?;
+        let full = groups.full_width(group);
+        let count = at(&groups.nodes, group);
+        let mut used = vec![in groups.alloc; 0; count]?;
+        for _ in 0..count {
+            if let Some(node) = groups.next_of(group) {
+                let least = groups.wait_of(node).1;
+                let wide = groups.graph.width_of(node).saturating_add(GAP);
+                let layer = layer_with_room(&used, least, wide, full);
+                add_at(&mut used, layer, wide);
+                write_at(&mut groups.layers, node, layer);
+                raise_at(&mut groups.widths, group, at(&used, layer));
+                raise_at(&mut groups.heights, group, layer.saturating_add(1));
+            }
+        }
     }
     let rows = groups.level_rows()?;
     let widths = groups.column_widths()?;

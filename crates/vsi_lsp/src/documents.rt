@@ -129,7 +129,16 @@ impl Document {
                 Ok(_lattice) => Ok(Vec::new(alloc)),
                 Err(error) => refused_errors(document, line_span(&self.text, 0), error),
             },
-            DocumentKind::Source => source_errors(document, &self.policy),
+            DocumentKind::Source => {
+                let span = naming_span(document.text);
+                match self.policy.bytes() {
+                    Ok(bytes) => match read_lattice(document.alloc, bytes) {
+                        Ok(lattice) => objects_in(document, &lattice),
+                        Err(error) => refused_errors(document, span, error),
+                    },
+                    Err(path) => lost_errors(document, span, path),
+                }
+            }
         }
     }
 }
@@ -169,18 +178,6 @@ fn refused_errors(document: DocumentText<'_>, span: Span, error: LatticeError) -
     };
     let text = fault_text(document.alloc, &fault)?;
     error_list(document, span, diagnostic.code, text.trim_ascii_end())
-}
-
-/// The errors and warnings of a source text under its lattice file.
-fn source_errors(document: DocumentText<'_>, policy: &Policy) -> Made<Vec<Value>> {
-    let span = naming_span(document.text);
-    match policy.bytes() {
-        Ok(bytes) => match read_lattice(document.alloc, bytes) {
-            Ok(lattice) => objects_in(document, &lattice),
-            Err(error) => refused_errors(document, span, error),
-        },
-        Err(path) => lost_errors(document, span, path),
-    }
 }
 
 /// The path of the lattice file that an interface names, if it does.

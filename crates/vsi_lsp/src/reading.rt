@@ -53,30 +53,23 @@ impl Items {
         Ok(self.list.push(item)?)
     }
 
-    /// Adds the names that may come after these tokens: classes after a colon, none in a
-    /// declaration, and else the variables in scope.
-    fn put_names(&mut self, lattice: &Lattice, tokens: &[Token<'_>]) -> Made<()> {
-        match tokens.last().map(|token| token.kind) {
-            Some(Kind::Var | Kind::Letvar) => {}
-            Some(Kind::Colon) => {
-                for number in 0..lattice.count() {
-                    self.put(lattice.name(Class::at(number as u8)), CLASS)?;
-                }
-            }
-            _ => {
-                for name in &names_after(self.alloc, tokens)? {
-                    self.put(name, VARIABLE)?;
-                }
-            }
-        }
-        Ok(())
-    }
-
     /// Adds what may come after these tokens.
     fn put_expected(&mut self, lattice: &Lattice, tokens: &[Token<'_>]) -> Made<()> {
         let expected = expected_after(self.alloc, tokens)?;
         if expected.has(Sort::Name) {
-            self.put_names(lattice, tokens)?;
+            match tokens.last().map(|token| token.kind) {
+                Some(Kind::Var | Kind::Letvar) => {}
+                Some(Kind::Colon) => {
+                    for number in 0..lattice.count() {
+                        self.put(lattice.name(Class::at(number as u8)), CLASS)?;
+                    }
+                }
+                _ => {
+                    for name in &names_after(self.alloc, tokens)? {
+                        self.put(name, VARIABLE)?;
+                    }
+                }
+            }
         }
         for sort in &expected.sorts {
             let word = WRITTEN.get(*sort as usize).copied().unwrap_or(b"");
@@ -221,30 +214,19 @@ pub(crate) fn answer(
         ("foldingRange", _) => Ok(folds(document.alloc, document.text)?),
         (_, None) => Ok(Value::Null),
         (_, Some(bytes)) => match read_lattice(document.alloc, bytes) {
-            Ok(lattice) => lattice_answer(document, &lattice, topic, value),
+            Ok(lattice) => match topic {
+                "completion" => {
+                    let at = document.byte_at(value, "/params/position");
+                    Ok(completion(document, &lattice, at.ok_or(PARAMETERS)?)?)
+                }
+                "codeAction" => Ok(fixes(document, &lattice, value)?),
+                _ => match document.source(&lattice)? {
+                    Some(source) => Reading::of(document, source)?.answer(topic, value),
+                    None => Ok(Value::Null),
+                },
+            },
             Err(LatticeError::Memory) => Err(Fault::Memory),
             Err(_) => Ok(Value::Null),
-        },
-    }
-}
-
-/// The answer to a request about a text and its lattice; nothing if the request is about the names
-/// of a program and the text has none.
-fn lattice_answer<'a>(
-    document: DocumentText<'a>,
-    lattice: &'a Lattice,
-    topic: &str,
-    value: &Value,
-) -> Result<Value, Fault> {
-    match topic {
-        "completion" => {
-            let at = document.byte_at(value, "/params/position");
-            Ok(completion(document, lattice, at.ok_or(PARAMETERS)?)?)
-        }
-        "codeAction" => Ok(fixes(document, lattice, value)?),
-        _ => match document.source(lattice)? {
-            Some(source) => Reading::of(document, source)?.answer(topic, value),
-            None => Ok(Value::Null),
         },
     }
 }

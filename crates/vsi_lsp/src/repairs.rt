@@ -83,7 +83,20 @@ impl<'a> Repairs<'a> {
             return Ok(());
         };
         match number_at(error, "/code") {
-            Some(UNBOUND) => self.put_nearest(at),
+            Some(UNBOUND) => {
+                let alloc = self.document.alloc;
+                let Some(tokens) = tokens_of(alloc, self.document.text)? else {
+                    return Ok(());
+                };
+                let (ahead, rest) = parted(&tokens, at);
+                if let Some(token) = rest.first()
+                    && token.span.start == at
+                    && let Some(name) = nearest(alloc, token.text, &names_after(alloc, ahead)?)?
+                {
+                    self.put_rewrite(token.span, name, token.text)?;
+                }
+                Ok(())
+            }
             Some(UNEXPECTED) => {
                 self.put_hinted(at)?;
                 self.put_branch(at)
@@ -125,32 +138,6 @@ impl<'a> Repairs<'a> {
         }
     }
 
-    /// Adds the rewrite of a name that isn't declared to the nearest name in scope.
-    fn put_nearest(&mut self, at: usize) -> Made<()> {
-        let alloc = self.document.alloc;
-        let Some(tokens) = tokens_of(alloc, self.document.text)? else {
-            return Ok(());
-        };
-        let (ahead, rest) = parted(&tokens, at);
-        if let Some(token) = rest.first()
-            && token.span.start == at
-            && let Some(name) = nearest(alloc, token.text, &names_after(alloc, ahead)?)?
-        {
-            self.put_rewrite(token.span, name, token.text)?;
-        }
-        Ok(())
-    }
-
-    /// Adds the repair that puts in a branch at a byte.
-    fn put_added(&mut self, at: usize, new: &[u8]) -> Made<()> {
-        let branch = new.trim_ascii_start();
-        let span = Span {
-            start: at,
-            stop: at,
-        };
-        self.put(&[b"Add `", branch, b"`, which changes nothing"], span, new)
-    }
-
     /// Adds the repair of an `if` whose `else` is missing at a byte, if `else` may come there and
     /// the text is read on with the repair. The branch assigns to a variable of the other branch
     /// its own value, so nothing flows by it that doesn't flow without it.
@@ -167,7 +154,12 @@ impl<'a> Repairs<'a> {
             let stop = last.span.stop;
             let new = branch(alloc, name)?;
             if is_read(alloc, text, stop, &new, rest)? {
-                self.put_added(stop, &new)?;
+                let branch = new.trim_ascii_start();
+                let span = Span {
+                    start: stop,
+                    stop: stop,
+                };
+                self.put(&[b"Add `", branch, b"`, which changes nothing"], span, &new)?;
             }
         }
         Ok(())

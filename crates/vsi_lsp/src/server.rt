@@ -185,20 +185,17 @@ impl Server {
                 Ok(Value::Null)
             }
             (Phase::Running, _) => match method.strip_prefix("textDocument/") {
-                Some(topic) if is_topic(topic) => self.tell(topic, value),
+                Some(topic) if is_topic(topic) => {
+                    let place = self.place_of(value).ok_or(PARAMETERS)?;
+                    let document = self.documents.get(place).ok_or(PARAMETERS)?;
+                    let marked = Marked::of(self.alloc, self.encoding, &document.text)?;
+                    let judged = document.text_in(self.alloc, self.encoding, self.profile, &marked);
+                    answer(judged, document.policy_bytes(), topic, value)
+                }
                 _ => Err(METHOD),
             },
             _ => Err(REQUEST),
         }
-    }
-
-    /// The answer to a request about a document.
-    fn tell(&self, topic: &str, value: &Value) -> Result<Value, Fault> {
-        let place = self.place_of(value).ok_or(PARAMETERS)?;
-        let document = self.documents.get(place).ok_or(PARAMETERS)?;
-        let marked = Marked::of(self.alloc, self.encoding, &document.text)?;
-        let judged = document.text_in(self.alloc, self.encoding, self.profile, &marked);
-        answer(judged, document.policy_bytes(), topic, value)
     }
 
     /// Does what a notification asks.

@@ -6,13 +6,6 @@ use crate::walk::{Cause, Fault, Stretch, stop_of};
 use std::alloc::{AllocError, Global};
 use vsi_syntax::{LexError, Span, Token, lex};
 
-/// The number of bytes of a quotation: its line has its end, or it is the quote alone.
-fn quotation(text: &[u8], quote: u8) -> usize {
-    let mut line = text.iter().take_while(|byte| **byte != b'\n').skip(1);
-    let found = line.position(|byte| *byte == quote);
-    found.map_or(1, |length| length.saturating_add(2))
-}
-
 /// The number of bytes of a comment of C: up to its end, or of its beginning alone.
 fn block(text: &[u8]) -> usize {
     let is_end = |at: &usize| text.get(*at..).unwrap_or(b"").starts_with(b"*/");
@@ -29,7 +22,11 @@ fn skipped(rest: &[u8]) -> usize {
             end.unwrap_or(rest.len())
         }
         [b'/', b'*', ..] => block(rest),
-        [quote, ..] if matches!(*quote, b'"' | b'\'') => quotation(rest, *quote),
+        [quote, ..] if matches!(*quote, b'"' | b'\'') => {
+            let mut line = rest.iter().take_while(|byte| **byte != b'\n').skip(1);
+            let found = line.position(|byte| *byte == *quote);
+            found.map_or(1, |length| length.saturating_add(2))
+        }
         [first, ..] => {
             let ends = |byte: &u8| *byte != *first && (*byte < 128 || *first < 128);
             rest.iter().position(ends).unwrap_or(rest.len())

@@ -329,25 +329,6 @@ impl Search<'_, '_> {
         Ok(())
     }
 
-    /// Tries to go on at each landmark in turn.
-    fn try_landmarks(&mut self, here: Start) -> Tried {
-        let mut nest = OUTSIDE;
-        let rest = self.rest;
-        for (number, token) in rest.iter().enumerate().take(MAX_SKIPPED) {
-            if self.is_found {
-                return Ok(());
-            }
-            if nest.serves(token.kind) {
-                self.try_landmark(here, number, token.kind)?;
-            }
-            nest = nest.noted(token.kind);
-        }
-        if rest.len() <= MAX_SKIPPED {
-            self.try_landmark(here, rest.len(), Kind::Name)?;
-        }
-        Ok(())
-    }
-
     /// Leaves out a declaration that begins where only a command, or a `;` and a command, may come.
     fn leave_declaration(&mut self, here: Start) -> Tried {
         let Some(is_followed) = misplaced(self.rest) else {
@@ -390,7 +371,21 @@ impl Search<'_, '_> {
         }
         self.try_sure(here)?;
         self.try_small(here)?;
-        self.try_landmarks(here)
+        let mut nest = OUTSIDE;
+        let rest = self.rest;
+        for (number, token) in rest.iter().enumerate().take(MAX_SKIPPED) {
+            if self.is_found {
+                return Ok(());
+            }
+            if nest.serves(token.kind) {
+                self.try_landmark(here, number, token.kind)?;
+            }
+            nest = nest.noted(token.kind);
+        }
+        if rest.len() <= MAX_SKIPPED {
+            self.try_landmark(here, rest.len(), Kind::Name)?;
+        }
+        Ok(())
     }
 }
 

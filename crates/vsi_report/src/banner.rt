@@ -201,17 +201,6 @@ fn end_of<'a>(lattice: &Lattice, order: &'a Order, program: &Resolved<'a>, varia
     }
 }
 
-/// The first and the last byte of a text that a walk reads or writes.
-fn reach_of(walk: &[Step]) -> (usize, usize) {
-    let mut first = usize::MAX;
-    let mut last: usize = 0;
-    for step in walk {
-        first = first.min(step.read.start).min(step.written.start);
-        last = last.max(step.read.start).max(step.written.start);
-    }
-    (first.min(last), last)
-}
-
 /// The facts in the first sentences about a refused text.
 pub(crate) fn lead_of<'a>(
     lattice: &Lattice,
@@ -268,7 +257,13 @@ fn put_judged(page: &mut Page, view: &View<'_>) -> Added {
 /// Adds the first and the last line of the refused walk, and its variables in order, each with a
 /// link to its step.
 pub(crate) fn put_refused(page: &mut Page, view: &View<'_>) -> Added {
-    let (start, stop) = reach_of(view.walk);
+    let mut first = usize::MAX;
+    let mut last: usize = 0;
+    for step in view.walk {
+        first = first.min(step.read.start).min(step.written.start);
+        last = last.max(step.read.start).max(step.written.start);
+    }
+    let (start, stop) = (first.min(last), last);
     put_quote(page, view.source, start)?;
     if line_column(view.source, start).0 < line_column(view.source, stop).0 {
         put_quote(page, view.source, stop)?;

@@ -62,17 +62,6 @@ fn is_control(source: &[u8], at: usize) -> bool {
     (byte < 32 || byte == 127) && byte != b'\t' && !ends_at(source, at)
 }
 
-/// The invisible character of several bytes at a position, if any: its length and its label.
-fn unseen_at(source: &[u8], at: usize) -> Option<(usize, &'static [u8])> {
-    let rest = source.get(at..)?;
-    for (bytes, label) in UNSEEN {
-        if rest.starts_with(bytes) {
-            return Some((bytes.len(), label));
-        }
-    }
-    None
-}
-
 /// The character at a position, if it isn't visible: its length and its label.
 pub(crate) fn hidden_at(source: &[u8], at: usize) -> Option<(usize, &'static [u8])> {
     let byte = byte_at(source, at);
@@ -85,7 +74,13 @@ pub(crate) fn hidden_at(source: &[u8], at: usize) -> Option<(usize, &'static [u8
     if byte < 128 {
         return None;
     }
-    unseen_at(source, at)
+    let rest = source.get(at..)?;
+    for (bytes, label) in UNSEEN {
+        if rest.starts_with(bytes) {
+            return Some((bytes.len(), label));
+        }
+    }
+    None
 }
 
 /// The first position from `at` on, and before `stop`, at which a line ends, a comment begins

@@ -309,17 +309,6 @@ fn put_arrows(page: &mut Page, view: &View<'_>, scene: &Scene, breaks: bool) -> 
     Ok(())
 }
 
-/// Adds the boxes of the variables; a box is dashed if the class is inferred.
-fn put_boxes(page: &mut Page, view: &View<'_>, drawing: &Drawing) -> Added {
-    for (number, place) in drawing.places.iter().enumerate() {
-        let of = view.facts.variable(number);
-        page.put(either(of.is_declared, b"<g>", b"<g class=\"inferred\">"))?;
-        put_node(page, *place, of.class, of.name)?;
-        page.put(b"</g>")?;
-    }
-    Ok(())
-}
-
 /// Adds the picture of a program's flows.
 pub(crate) fn put_scene(page: &mut Page, view: &View<'_>, scene: &Scene) -> Added {
     let drawing = &scene.drawing;
@@ -340,7 +329,12 @@ pub(crate) fn put_scene(page: &mut Page, view: &View<'_>, scene: &Scene) -> Adde
         page.fill(STEP, &[Block(&line), Number(place.saturating_add(1))])?;
     }
     put_areas(page, view, drawing, NAME)?;
-    put_boxes(page, view, drawing)?;
+    for (number, place) in drawing.places.iter().enumerate() {
+        let of = view.facts.variable(number);
+        page.put(either(of.is_declared, b"<g>", b"<g class=\"inferred\">"))?;
+        put_node(page, *place, of.class, of.name)?;
+        page.put(b"</g>")?;
+    }
     let badges = badges_of(view.alloc, drawing, &scene.walk)?;
     for (place, point) in badges.iter().enumerate() {
         let (x, foot) = (Number(point.x), Number(point.y.saturating_add(5)));

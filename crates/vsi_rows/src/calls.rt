@@ -36,23 +36,18 @@ fn answer(call: &str, row: &mut Row<'_>) -> Result<(), Wrong> {
         "bound" => images::bound(row),
         _ => {
             let lattice = row.lattice()?;
-            answer_over_lattice(call, row, &lattice)
+            match call {
+                "size" => compiling::size_of(row, &lattice),
+                "judge" | "sizes" | "compile" => compiling::image(row, &lattice, call),
+                "classes" => compiling::classes(row, &lattice),
+                "refusal" => compiling::refusal(row, &lattice),
+                "run" => compiling::ran(row, &lattice),
+                "drive" => compiling::driven(row, &lattice),
+                "check" => compiling::typed(row, &lattice),
+                "infer" => compiling::least_classes(row, &lattice),
+                "walk" => compiling::walked(row, &lattice),
+                _ => Err(Wrong::Row),
+            }
         }
-    }
-}
-
-/// Adds the answer to a row about a program over a lattice.
-fn answer_over_lattice(call: &str, row: &mut Row<'_>, lattice: &Lattice) -> Result<(), Wrong> {
-    match call {
-        "size" => compiling::size_of(row, lattice),
-        "judge" | "sizes" | "compile" => compiling::image(row, lattice, call),
-        "classes" => compiling::classes(row, lattice),
-        "refusal" => compiling::refusal(row, lattice),
-        "run" => compiling::ran(row, lattice),
-        "drive" => compiling::driven(row, lattice),
-        "check" => compiling::typed(row, lattice),
-        "infer" => compiling::least_classes(row, lattice),
-        "walk" => compiling::walked(row, lattice),
-        _ => Err(Wrong::Row),
     }
 }

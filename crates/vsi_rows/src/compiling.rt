@@ -213,23 +213,20 @@ pub(crate) fn least_classes(row: &mut Row<'_>, lattice: &Lattice) -> Result<(), 
     let text = row.text()?;
     let source = read_source(row.alloc, lattice, &text)?;
     match inferred(row.alloc, row.profile, &source) {
-        Ok(classes) => put_classes(row, &classes),
+        Ok(classes) => {
+            row.put("classes")?;
+            for class in &classes {
+                let number = class.index();
+                write!(row.answer, " {number}")?;
+            }
+            row.put("\n")
+        }
         Err(InferError::Refused(walk)) => {
             let lines = explanation_text(row.alloc, lattice, &text, &walk)?;
             row.put_bytes(&lines)
         }
         Err(InferError::Memory) => Err(Wrong::Memory),
     }
-}
-
-/// Adds the numbers of classes.
-fn put_classes(row: &mut Row<'_>, classes: &[Class]) -> Result<(), Wrong> {
-    row.put("classes")?;
-    for class in classes {
-        let number = class.index();
-        write!(row.answer, " {number}")?;
-    }
-    row.put("\n")
 }
 
 /// The next field as the name of a rule.

@@ -47,25 +47,20 @@ fn put_order<C: Classes>(row: &mut Row<'_>, lattice: &C) -> Result<(), Wrong> {
     Ok(())
 }
 
-/// Adds the names of the classes, each after a space.
-fn put_names(row: &mut Row<'_>, lattice: &Lattice) -> Result<(), Wrong> {
-    row.put("classes")?;
-    for number in 0..64u8 {
-        let class = Class::at(number);
-        if class.index() < lattice.count() {
-            row.put(" ")?;
-            row.put_bytes(lattice.name(class))?;
-        }
-    }
-    row.put("\n")
-}
-
 /// `lattice TEXT`: the classes of a lattice file and their order, or the line of the refusal.
 pub(crate) fn read(row: &mut Row<'_>) -> Result<(), Wrong> {
     let text = row.text()?;
     match read_lattice(row.alloc, &text) {
         Ok(lattice) => {
-            put_names(row, &lattice)?;
+            row.put("classes")?;
+            for number in 0..64u8 {
+                let class = Class::at(number);
+                if class.index() < lattice.count() {
+                    row.put(" ")?;
+                    row.put_bytes(lattice.name(class))?;
+                }
+            }
+            row.put("\n")?;
             put_order(row, &lattice)
         }
         Err(error) => row.put_fault(&Fault::Lattice(error)),

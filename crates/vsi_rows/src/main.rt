@@ -24,23 +24,18 @@ use crate::calls::answered;
 use crate::row::Row;
 use std::io;
 
-/// Prints the lines of an answer.
-fn show_lines(rt: &impl Print, answer: &str) -> io::Result<()> {
-    for line in answer.lines() {
-        println!(rt; "  {line}")?;
-    }
-    if !answer.ends_with('\n') {
-        println!(rt; "  (without a line feed)")?;
-    }
-    Ok(())
-}
-
 /// Prints a row and its answer.
 fn show(rt: &impl Print, row: &Row<'_>) -> io::Result<()> {
     if row.answer.is_empty() {
         println!(rt; "  nothing")?;
     } else {
-        show_lines(rt, row.answer.as_str())?;
+        let answer = row.answer.as_str();
+        for line in answer.lines() {
+            println!(rt; "  {line}")?;
+        }
+        if !answer.ends_with('\n') {
+            println!(rt; "  (without a line feed)")?;
+        }
     }
     match &row.wrong {
         Some(wrong) => println!(rt; "  no answer: {wrong:?}"),

@@ -46,27 +46,22 @@ fn put_turn(out: &mut Vec<u8>, part: &str, number: u32) -> Result<(), Wrong> {
     Ok(())
 }
 
-/// Adds the meaning of `FROM TO PART`: the part once for each of some numbers.
-fn put_repetition(out: &mut Vec<u8>, text: &str) -> Result<(), Wrong> {
-    let (from, text) = text.split_once(' ').unwrap_or((text, ""));
-    let (to, part) = text.split_once(' ').unwrap_or((text, ""));
-    let (from, to) = (from.parse::<u32>()?, to.parse::<u32>()?);
-    if from <= to {
-        for number in from..=to {
-            put_turn(out, part, number)?;
-        }
-    } else {
-        for passed in 0..=from - to {
-            put_turn(out, part, from.wrapping_sub(passed))?;
-        }
-    }
-    Ok(())
-}
-
 /// Adds the meaning of the text after a backslash, up to the next one.
 fn put_piece(out: &mut Vec<u8>, piece: &str) -> Result<(), Wrong> {
     if let Some(repetition) = piece.strip_prefix('[') {
-        return put_repetition(out, repetition);
+        let (from, repetition) = repetition.split_once(' ').unwrap_or((repetition, ""));
+        let (to, part) = repetition.split_once(' ').unwrap_or((repetition, ""));
+        let (from, to) = (from.parse::<u32>()?, to.parse::<u32>()?);
+        if from <= to {
+            for number in from..=to {
+                put_turn(out, part, number)?;
+            }
+        } else {
+            for passed in 0..=from - to {
+                put_turn(out, part, from.wrapping_sub(passed))?;
+            }
+        }
+        return Ok(());
     }
     match piece.as_bytes() {
         [b'n', rest @ ..] => put(out, b'\n', rest),

@@ -106,22 +106,6 @@ fn file_hint(bytes: &[u8]) -> Option<&'static str> {
 }
 
 impl Telling<'_> {
-    /// Adds the explanation if the file is no TOML, and answers a place where it may be wrong.
-    fn put_not_toml(&mut self) -> Told {
-        self.add("The file isn't a TOML document.\n")?;
-        let hint = file_hint(self.bytes);
-        let place = match hint {
-            Some(_) => None,
-            None => bare_place(self.bytes),
-        };
-        let otherwise = match place {
-            Some(_) => "Hint: the names of classes go between quotes.\n",
-            None => "",
-        };
-        self.say(hint.unwrap_or(otherwise), &[Part::Text(self.path)])?;
-        self.tell(place, "%", &[SHAPE])
-    }
-
     /// Adds which keys or values of a table are wrong, and answers where.
     fn put_bad_keys(&mut self, table: &Table) -> Told {
         let Some(key) = other_key(table) else {
@@ -181,7 +165,20 @@ impl Telling<'_> {
         let classes = key_place(self.bytes, b"classes");
         match error {
             LatticeError::Memory => Err(AllocError),
-            LatticeError::NotToml => self.put_not_toml(),
+            LatticeError::NotToml => {
+                self.add("The file isn't a TOML document.\n")?;
+                let hint = file_hint(self.bytes);
+                let place = match hint {
+                    Some(_) => None,
+                    None => bare_place(self.bytes),
+                };
+                let otherwise = match place {
+                    Some(_) => "Hint: the names of classes go between quotes.\n",
+                    None => "",
+                };
+                self.say(hint.unwrap_or(otherwise), &[Part::Text(self.path)])?;
+                self.tell(place, "%", &[SHAPE])
+            }
             LatticeError::NoClass => {
                 let sentence = "The list of classes is empty. Hint: name at least one.\n%";
                 self.tell(classes, sentence, &[SHAPE])

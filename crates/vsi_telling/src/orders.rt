@@ -229,29 +229,6 @@ impl Telling<'_> {
         self.add("`")
     }
 
-    /// Adds the pairs that place a class among the others.
-    fn put_placements(
-        &mut self,
-        order: &Order,
-        class: u8,
-        found: &[Placement],
-    ) -> Result<(), AllocError> {
-        let sentence = match found {
-            [only] if only.rank == Rank::Levels => "`below` is empty.",
-            _ => "% isn't in any pair of `below`.",
-        };
-        self.say(sentence, &[Part::Quoted(order.name(class))])?;
-        let mut joint = " Hint: ";
-        for placement in found {
-            self.add(joint)?;
-            self.add(case_of(&placement.rank))?;
-            self.put_pairs(order, &placement.pairs)?;
-            self.add(" to `below`")?;
-            joint = "; ";
-        }
-        self.add(".\n")
-    }
-
     /// Adds the pairs that place one of the two classes that is in none, if there are any.
     fn put_unplaced(&mut self, order: &Order, lack: Lack) -> Result<bool, AllocError> {
         let class = if order.is_unplaced(lack.b) {
@@ -267,7 +244,20 @@ impl Telling<'_> {
         if found.is_empty() {
             return Ok(false);
         }
-        self.put_placements(order, class, &found)?;
+        let sentence = match &found {
+            [only] if only.rank == Rank::Levels => "`below` is empty.",
+            _ => "% isn't in any pair of `below`.",
+        };
+        self.say(sentence, &[Part::Quoted(order.name(class))])?;
+        let mut joint = " Hint: ";
+        for placement in &found {
+            self.add(joint)?;
+            self.add(case_of(&placement.rank))?;
+            self.put_pairs(order, &placement.pairs)?;
+            self.add(" to `below`")?;
+            joint = "; ";
+        }
+        self.add(".\n")?;
         if order.pairs.is_empty() {
             if let Some(addition) = completion(self.alloc, count, &order.pairs)? {
                 self.put_addition(order, "Or add ", &addition)?;

@@ -140,30 +140,6 @@ impl Telling<'_> {
         self.add(byte_hint(byte, next))
     }
 
-    /// Adds the explanation of a word that isn't valid.
-    fn put_word(&mut self, span: Span) -> Result<(), AllocError> {
-        let word = part_of(self.bytes, span);
-        self.say(
-            "% isn't a name, a keyword or a number.\n",
-            &[Part::Quoted(word)],
-        )?;
-        if self.hint_at(span.start)? {
-            return Ok(());
-        }
-        match word.first() {
-            Some(b'0'..=b'9') => self.add(
-                "Hint: a number has only digits, no `_` and no letters, and a name begins with a \
-                letter.\n",
-            ),
-            Some(b'_') => self.add("Hint: a name begins with a letter.\n"),
-            _ => self.say(
-                "Hint: this name has % letters, digits and `_`. A name has at most % of them: \
-                shorten it.\n",
-                &[Part::Number(word.len()), Part::Number(LONGEST_NAME)],
-            ),
-        }
-    }
-
     /// Adds the explanation of a text without tokens.
     fn put_lexical(&mut self, error: LexError) -> Result<(), AllocError> {
         match error {
@@ -173,22 +149,32 @@ impl Telling<'_> {
                 meant.\n",
             ),
             LexError::BadByte(at) => self.put_byte(at),
-            LexError::BadWord(span) => self.put_word(span),
+            LexError::BadWord(span) => {
+                let word = part_of(self.bytes, span);
+                self.say(
+                    "% isn't a name, a keyword or a number.\n",
+                    &[Part::Quoted(word)],
+                )?;
+                if self.hint_at(span.start)? {
+                    return Ok(());
+                }
+                match word.first() {
+                    Some(b'0'..=b'9') => self.add(
+                        "Hint: a number has only digits, no `_` and no letters, and a name begins \
+                        with a letter.\n",
+                    ),
+                    Some(b'_') => self.add("Hint: a name begins with a letter.\n"),
+                    _ => self.say(
+                        "Hint: this name has % letters, digits and `_`. A name has at most % of \
+                        them: shorten it.\n",
+                        &[Part::Number(word.len()), Part::Number(LONGEST_NAME)],
+                    ),
+                }
+            }
             LexError::BadNumber(_) => self.add(
                 "The largest number is 9223372036854775807. Hint: use a smaller one.\n",
             ),
         }
-    }
-
-    /// Adds the explanation of a name that a global above has.
-    fn put_duplicate(&mut self, name: &[u8]) -> Result<(), AllocError> {
-        let tokens = tokens_in(self.alloc, self.bytes)?;
-        self.say("% is declared a second time here", &[Part::Quoted(name)])?;
-        if let Some(first) = declaration(&tokens, Kind::Var, name) {
-            let at = Part::Place(self.bytes, first.span.start);
-            self.say("; it is already declared at %", &[at])?;
-        }
-        self.add(".\nHint: leave one out, or give it another name.\n")
     }
 
     /// Adds the explanation of a class that the lattice lacks.
@@ -213,25 +199,6 @@ impl Telling<'_> {
         )
     }
 
-    /// Adds the globals of a text, and which variable may have been meant, or how to declare it.
-    fn put_choices(&mut self, tokens: &[Token], name: &[u8]) -> Result<(), AllocError> {
-        let globals = declared(self.alloc, tokens, Kind::Var)?;
-        if !globals.is_empty() {
-            self.say("The globals of the text are %.\n", &[Part::Names(&globals)])?;
-        }
-        let locals = declared(self.alloc, tokens, Kind::Letvar)?;
-        if put_nearest(&mut self.words, name, &globals)?
-            || put_nearest(&mut self.words, name, &locals)?
-        {
-            return Ok(());
-        }
-        self.say(
-            "Hint: declare it at the beginning of the text, with `var % : L;`, where L is a class \
-            of the lattice file.\n",
-            &[Part::Text(name)],
-        )
-    }
-
     /// Adds the explanation of a name that isn't declared.
     fn put_unbound(&mut self, span: Span) -> Result<(), AllocError> {
         let tokens = tokens_in(self.alloc, self.bytes)?;
@@ -247,14 +214,37 @@ impl Telling<'_> {
         if self.hint_at(span.start)? {
             return Ok(());
         }
-        self.put_choices(&tokens, name)
+        let globals = declared(self.alloc, &tokens, Kind::Var)?;
+        if !globals.is_empty() {
+            self.say("The globals of the text are %.\n", &[Part::Names(&globals)])?;
+        }
+        let locals = declared(self.alloc, &tokens, Kind::Letvar)?;
+        if put_nearest(&mut self.words, name, &globals)?
+            || put_nearest(&mut self.words, name, &locals)?
+        {
+            return Ok(());
+        }
+        self.say(
+            "Hint: declare it at the beginning of the text, with `var % : L;`, where L is a class \
+            of the lattice file.\n",
+            &[Part::Text(name)],
+        )
     }
 
     /// Adds the explanation of a program whose names, number of declarations or size is refused.
     fn put_scopes(&mut self, lattice: &Lattice, error: ScopeError) -> Result<(), AllocError> {
         match error {
             ScopeError::Memory => Err(AllocError),
-            ScopeError::Duplicate(span) => self.put_duplicate(part_of(self.bytes, span)),
+            ScopeError::Duplicate(span) => {
+                let name = part_of(self.bytes, span);
+                let tokens = tokens_in(self.alloc, self.bytes)?;
+                self.say("% is declared a second time here", &[Part::Quoted(name)])?;
+                if let Some(first) = declaration(&tokens, Kind::Var, name) {
+                    let at = Part::Place(self.bytes, first.span.start);
+                    self.say("; it is already declared at %", &[at])?;
+                }
+                self.add(".\nHint: leave one out, or give it another name.\n")
+            }
             ScopeError::UnknownClass(span) => self.put_class(lattice, part_of(self.bytes, span)),
             ScopeError::Unbound(span) => self.put_unbound(span),
             ScopeError::TooManyGlobals(_) => self.add(

@@ -345,32 +345,28 @@ impl Telling<'_> {
         put_nearest(&mut self.words, name.text, &KEYWORDS)
     }
 
-    /// Adds the token at a place, those that could be there, and a hint.
-    fn put_at_place(&mut self, place: &TokenPlace) -> Result<(), AllocError> {
-        match place.token(0) {
-            Some(token) => self.say("% can't be here.\n", &[Part::Quoted(token.text)])?,
-            None => self.add("The text ends here, before the program is complete.\n")?,
-        }
-        if self.add_any(file_hint(self.bytes))? || self.hint_at(place.start())? {
-            return Ok(());
-        }
-        if place.is_behind_target() && self.put_keyword(place, -1)? {
-            return Ok(());
-        }
-        self.put_expected(place.tokens_before())?;
-        if self.put_keyword(place, 0)? {
-            return Ok(());
-        }
-        self.put_place_hint(place)
-    }
-
     /// Adds the explanation of tokens that are no program.
     pub(crate) fn put_tree(&mut self, error: &ParseError) -> Result<(), AllocError> {
         match error {
             ParseError::Memory => Err(AllocError),
             ParseError::Unexpected(span) => {
                 let tokens = tokens_in(self.alloc, self.bytes)?;
-                self.put_at_place(&TokenPlace::new(&tokens, *span))
+                let place = &TokenPlace::new(&tokens, *span);
+                match place.token(0) {
+                    Some(token) => self.say("% can't be here.\n", &[Part::Quoted(token.text)])?,
+                    None => self.add("The text ends here, before the program is complete.\n")?,
+                }
+                if self.add_any(file_hint(self.bytes))? || self.hint_at(place.start())? {
+                    return Ok(());
+                }
+                if place.is_behind_target() && self.put_keyword(place, -1)? {
+                    return Ok(());
+                }
+                self.put_expected(place.tokens_before())?;
+                if self.put_keyword(place, 0)? {
+                    return Ok(());
+                }
+                self.put_place_hint(place)
             }
             ParseError::TooDeep(span) => self.say(
                 "% is nested more than 200 levels deep here: in brackets, blocks, `if`, `while` \

@@ -37,20 +37,6 @@ fn put_quoted(words: &mut Vec<u8>, word: &[u8]) -> Result<(), AllocError> {
     words.extend_from_slice(if word.len() > LONGEST { b"..`" } else { b"`" })
 }
 
-/// Adds names between back quotes, the first of them where they are many.
-fn put_names(words: &mut Vec<u8>, names: &[&[u8]]) -> Result<(), AllocError> {
-    for (place, name) in names.iter().enumerate() {
-        if place >= MOST {
-            return words.extend_from_slice(b" and others");
-        }
-        if place > 0 {
-            words.extend_from_slice(b", ")?;
-        }
-        put_quoted(words, name)?;
-    }
-    Ok(())
-}
-
 /// How far a word is from a near one: 0 where only capital and small letters differ.
 fn distance(alloc: Global, written: &[u8], meant: &[u8]) -> Result<Option<usize>, AllocError> {
     let length = written.len().min(meant.len());
@@ -105,7 +91,18 @@ fn put_part(words: &mut Vec<u8>, part: Part<'_>) -> Result<(), AllocError> {
     match part {
         Part::Text(text) => words.extend_from_slice(text),
         Part::Quoted(word) => put_quoted(words, word),
-        Part::Names(names) => put_names(words, names),
+        Part::Names(names) => {
+            for (place, name) in names.iter().enumerate() {
+                if place >= MOST {
+                    return words.extend_from_slice(b" and others");
+                }
+                if place > 0 {
+                    words.extend_from_slice(b", ")?;
+                }
+                put_quoted(words, name)?;
+            }
+            Ok(())
+        }
         Part::Number(number) => put_number(words, number),
         Part::Place(source, at) => put_place(words, source, at),
         Part::Pair(low, high) => {

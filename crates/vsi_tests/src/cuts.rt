@@ -171,15 +171,6 @@ enum Job {
     Run,
 }
 
-/// The bytes that a job reads and those that it writes.
-fn texts_of(job: Job) -> (&'static [u8], &'static [u8]) {
-    match job {
-        Job::Copy => (TEXT, TEXT),
-        Job::Build | Job::BuildStrict => (SUM, IMAGE),
-        Job::Run => (IMAGE, TRACE),
-    }
-}
-
 /// Does a job.
 fn carry_out(
     alloc: Global,
@@ -216,7 +207,11 @@ fn ends(
     reads: (u64, u64),
     writes: (u64, u64),
 ) -> bool {
-    let (given, wanted) = texts_of(job);
+    let (given, wanted) = match job {
+        Job::Copy => (TEXT, TEXT),
+        Job::Build | Job::BuildStrict => (SUM, IMAGE),
+        Job::Run => (IMAGE, TRACE),
+    };
     let mut reader = Counted::new(Drip::new(given, faults.0));
     let mut writer = Counted::new(Scant::new(alloc, faults.1, faults.2));
     let is_so = match carry_out(alloc, lattice, job, &mut reader, &mut writer) {
