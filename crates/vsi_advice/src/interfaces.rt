@@ -274,7 +274,7 @@ impl<'t> Interface<'t> {
             InterfaceError::UnknownKey(key) => {
                 let place = key_place(self.bytes, key);
                 let quoted = Quoted(key);
-                if RUN_KEYS.contains(&key) {
+                if RUN_KEYS.contains(&key.as_slice()) {
                     let sentence = "An interface has no key % of its own. Hint: it is a key of a \
                         run, and goes after a line `[[runs]]`.\n";
                     return telling.tell(place, sentence, &[quoted]);

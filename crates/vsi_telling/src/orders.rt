@@ -244,7 +244,7 @@ impl Telling<'_> {
         if found.is_empty() {
             return Ok(false);
         }
-        let sentence = match &found {
+        let sentence = match found.as_slice() {
             [only] if only.rank == Rank::Levels => "`below` is empty.",
             _ => "% isn't in any pair of `below`.",
         };
