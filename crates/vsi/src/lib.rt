@@ -11,9 +11,9 @@
 //! `Loading`, `Driven`, `State`, `Tried`, `Shaping`, `Seeing`, `Laying`, `Raises`, `Documents`,
 //! `Admitted`, `Served`, `Files`, `Interfaces`, `Filed`, `Visible`, `Boundaries`, `Steering`,
 //! `Feeding`, `Viewing`, `Performed`, `Refusals`, `Undriven`, `Reasons`, `Partly`, `FaultyFiles`,
-//! `Diagnosing`, `Done`, `Screen`, `Objections`, `Works`, `Input`, `Failures` but `FailsFor`, `Noted`
-//! but `Notes` and `NotesAnswer`, and the second part of `Saved`. Its first part and `Walked` are
-//! lemmas of the proofs.
+//! `Diagnosing`, `Done`, `Screen`, `Objections`, `Works`, `Input`, `Failures` but `FailsFor`,
+//! `Noted` but `Notes` and `NotesAnswer`, and the second part of `Saved`. Its first part and
+//! `Walked` are lemmas of the proofs.
 #![tactic(auto)]
 
 mod answers;

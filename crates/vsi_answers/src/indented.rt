@@ -66,8 +66,8 @@ fn warning_at(text: &[u8], span: Span, open: &[Opened]) -> Option<Warning> {
     Some(Warning { sentence, span })
 }
 
-/// Begins what a token begins, and finishes what it finishes: an `else` all within the `if` to which
-/// it belongs, a brace the braces and all within, and a semicolon all within its braces.
+/// Begins what a token begins, and finishes what it finishes: an `else` all within the `if` to
+/// which it belongs, a brace the braces and all within, and a semicolon all within its braces.
 fn pass(token: &Token<'_>, open: &mut Vec<Opened>) -> Result<(), AllocError> {
     let start = token.span.start;
     let frame = match token.kind {

@@ -27,8 +27,8 @@ use vsi_types::Profile;
 /// The answer for an accepted text.
 const ACCEPTED: &[u8] = b"accepted\n";
 
-/// `accepted` and a line feed, if the text is accepted under a profile. The observer gets the text as
-/// it was read, and again if it is refused for a flow.
+/// `accepted` and a line feed, if the text is accepted under a profile. The observer gets the text
+/// as it was read, and again if it is refused for a flow.
 pub fn check<O: Observer>(
     alloc: Global,
     profile: Profile,
@@ -228,8 +228,8 @@ pub fn apply(
     }
 }
 
-/// The text of the refusal of a flow when a steady image is required: its walk has a loop in place of
-/// each choice.
+/// The text of the refusal of a flow when a steady image is required: its walk has a loop in place
+/// of each choice.
 pub fn looped_text(
     alloc: Global,
     lattice: &Lattice,

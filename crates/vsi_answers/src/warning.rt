@@ -36,8 +36,8 @@ const HIDING_LETVAR: &[u8] = b" hides a variable of the same name";
 /// The sentence about a comparison of a comparison with something else.
 const CHAINED_COMPARISON: &[u8] = b"this compares the answer of a comparison, which is 0 or 1";
 
-/// A warning: its sentence, which begins with a space if a name comes before it, and the part of the
-/// text to which it points, which is that name.
+/// A warning: its sentence, which begins with a space if a name comes before it, and the part of
+/// the text to which it points, which is that name.
 #[derive(Clone, Copy, Debug)]
 pub struct Warning {
     pub sentence: &'static [u8],
@@ -61,8 +61,8 @@ struct Found<'a> {
     letvars: Vec<&'a [u8]>,
     /// For each letvar, whether its name is in scope there.
     hiding: Vec<bool>,
-    /// For each comparison, whether exactly one of its operands is a comparison and the other one is
-    /// neither 0 nor 1.
+    /// For each comparison, whether exactly one of its operands is a comparison and the other one
+    /// is neither 0 nor 1.
     chained: Vec<bool>,
     /// The name that each assignment has in the text.
     assigned: Vec<Span>,
@@ -245,8 +245,8 @@ pub fn warnings_of(alloc: Global, source: &Source<'_>) -> Result<Vec<Warning>, A
     Ok(found)
 }
 
-/// The warnings about a text, a line `LINE:COLUMN warning: ` and its sentence for each, in the order of
-/// `warnings_of`.
+/// The warnings about a text, a line `LINE:COLUMN warning: ` and its sentence for each, in the
+/// order of `warnings_of`.
 ///
 /// # Errors
 ///

@@ -1,8 +1,8 @@
 -- The page of each refusal.
 use Rattle.std.specs.Prelude.{ℕ, ◌-◌, ◌==◌, List, Option, None, map, slice_get, if◌then◌else◌}
 use Rattle.vsi_arguments.specs.Refusals.{is_from}
-use Rattle.vsi_arguments.specs.declared.explained.image.TheConstants.{IMAGE}
-use Rattle.vsi_arguments.specs.declared.explained.image.TheConstants.{LATTICE}
+use Rattle.vsi_arguments.specs.declared.explained.files.TheConstants.{IMAGE}
+use Rattle.vsi_arguments.specs.declared.explained.files.TheConstants.{LATTICE}
 use Rattle.vsi_arguments.specs.declared.explained.store.TheConstants.{STORE}
 use Rattle.vsi_arguments.specs.declared.explained.text.TheConstants.{TEXT}
 

@@ -5,20 +5,20 @@ ghost use Rattle.vsi_arguments.specs.Asked as asked_spec;
 ghost use Rattle.vsi_arguments.specs.Pages as pages_spec;
 ghost use Rattle.vsi_arguments.specs.Refusals as spec;
 
-mod image;
+mod files;
 mod store;
 mod subjects;
 mod text;
 
 use crate::arguments::number_in;
-use image::{IMAGE, LATTICE};
+use files::{IMAGE, LATTICE};
 use store::STORE;
 pub use subjects::subject_page;
 use text::TEXT;
 
 /// Pages of refusals, as rows: a text; or a small program, `add` or `sum`, a text, and an example
-/// that comes after the lines that build the program's image. Each page ends with a line feed, which
-/// its row leaves out.
+/// that comes after the lines that build the program's image. Each page ends with a line feed,
+/// which its row leaves out.
 macro_rules! pages {
     (@ $text:literal) => { concat!($text, "\n") };
     (@ add $text:literal $example:literal) => {

@@ -1,10 +1,10 @@
 //! The arguments of a command line, and the request that they make.
 //!
 //! `manner_of` returns the help for them, or says what is wrong with them or how their request is
-//! carried out. `request_of` reads the request from them, down to the numbers of its options and the
-//! page that `explain` names, and answers none where an argument is a flag or an option that its
-//! subcommand lacks. The program prints help only if `asks_help` finds that the arguments ask for it.
-//! `page` and `subject_page` return the pages of `explain`, on refusals and on subjects.
+//! carried out. `request_of` reads the request from them, down to the numbers of its options and
+//! the page that `explain` names, and answers none where an argument is a flag or an option that
+//! its subcommand lacks. The program prints help only if `asks_help` finds that the arguments ask
+//! for it. `page` and `subject_page` return the pages of `explain`, on refusals and on subjects.
 //!
 //! To be believed: all files of `specs/`.
 #![tactic(auto)]

@@ -50,9 +50,9 @@ pub enum DrivePolicy<'a> {
 }
 
 /// The driving of a controller by a class, with a run for each cycle, and the store saved after
-/// `every` lines, to the path that it is read from if there is a `start`: the path of a store to begin
-/// with if there is no file at that path. If `is_unbounded`, a run may exceed the budget for a reason
-/// unseen by the class.
+/// `every` lines, to the path that it is read from if there is a `start`: the path of a store to
+/// begin with if there is no file at that path. If `is_unbounded`, a run may exceed the budget for
+/// a reason unseen by the class.
 #[derive(Clone, Copy)]
 pub struct Driving<'a> {
     pub policy: DrivePolicy<'a>,
@@ -100,8 +100,8 @@ pub struct Search<'a> {
     pub has_steps: bool,
 }
 
-/// A run of a source text in steps, from a store file, or from zeros without one, and settings, each
-/// `NAME=NUMBER`.
+/// A run of a source text in steps, from a store file, or from zeros without one, and settings,
+/// each `NAME=NUMBER`.
 #[derive(Drop)]
 pub struct Stepping<'a> {
     pub lattice: &'a str,
@@ -112,8 +112,8 @@ pub struct Stepping<'a> {
     pub budget: u64,
 }
 
-/// By which rule a monitor judges an assignment in a branch or a loop whose guard depends on a class
-/// that isn't at or below the label of the variable.
+/// By which rule a monitor judges an assignment in a branch or a loop whose guard depends on a
+/// class that isn't at or below the label of the variable.
 #[derive(Clone, Copy)]
 pub enum MonitorRule {
     /// The run is stopped before the assignment.

@@ -85,8 +85,8 @@ pub(crate) fn run<'a>(words: &'a [String], settings: Vec<&'a [u8]>) -> Option<Re
     }
 }
 
-/// The policy of a drive with these inputs, or of a view, and its image. With an interface, which has
-/// the lattice and the lists, the one operand is the image.
+/// The policy of a drive with these inputs, or of a view, and its image. With an interface, which
+/// has the lattice and the lists, the one operand is the image.
 fn policy<'a>(words: &'a [String], inputs: Option<&'a str>) -> Option<(DrivePolicy<'a>, &'a str)>
     ensures operands { IfSome result (λ made. operands_in false (texts words.now)
         ≡ spec.given (spec.lattice_of made.0) ++ made.1.now ∷ []) }

@@ -67,8 +67,8 @@ fn tip_of(rest: &str) -> Option<(&str, &str)> {
     first.starts_with(TIP).then_some((first, behind))
 }
 
-/// Adds the tips for arguments that are missing or should be numbers, in a paragraph, and a tip that
-/// shows `try` if the path of a source text is given in place of a subcommand.
+/// Adds the tips for arguments that are missing or should be numbers, in a paragraph, and a tip
+/// that shows `try` if the path of a source text is given in place of a subcommand.
 fn put_tips(told: &mut String, mistake: &str) -> Result<(), AllocError> {
     let mut is_first = true;
     for (part, tip) in &TIPS {
@@ -118,8 +118,9 @@ fn put_owners(alloc: Global, told: &mut String, mistake: &str) -> Result<bool, A
     Ok(true)
 }
 
-/// The message for a mistake, with tips, and with each control character in it, except for line feeds,
-/// as `\x` and two digits for each of its bytes: one that is no ASCII has two, and the first is `C2`.
+/// The message for a mistake, with tips, and with each control character in it, except for line
+/// feeds, as `\x` and two digits for each of its bytes: one that is no ASCII has two, and the first
+/// is `C2`.
 pub(crate) fn message(alloc: Global, text: &str) -> Result<String, AllocError> {
     let text = with_tips(alloc, text)?;
     let mut told = String::new(alloc);

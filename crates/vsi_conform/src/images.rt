@@ -217,8 +217,8 @@ pub fn image_reaches(
     judgement: Judgement,
     cycles: &[Cycle],
 ) -> Result<Vec<Reach>, AllocError>
-    ensures reaches { IfOk result (λ reaches. reaching_spec.AreImageReleased lattice.now judgement verified.now
-        (map cycle_of cycles.now) (map released reaches.items)) }
+    ensures reaches { IfOk result (λ reaches. reaching_spec.AreImageReleased lattice.now judgement
+        verified.now (map cycle_of cycles.now) (map released reaches.items)) }
 {
     if !have_released(cycles) {
         return Ok(Vec::new(alloc));
@@ -260,8 +260,8 @@ pub fn refused_image(
     lattice: &Lattice,
     verified: &Verified,
 ) -> Result<Option<(Diagnostic<'static>, Vec<u8>)>, AllocError>
-    ensures refused { IfOk result (λ told. lines_spec.TellsRefusal lattice.now judgement verified.now
-        (option_map (λ pair. (diagnostic_of pair.0, pair.1.items)) told)) }
+    ensures refused { IfOk result (λ told. lines_spec.TellsRefusal lattice.now judgement
+        verified.now (option_map (λ pair. (diagnostic_of pair.0, pair.1.items)) told)) }
 {
     let Some(refusal) = refusal_of(alloc, judgement, lattice, verified)? else {
         return Ok(None);

@@ -162,8 +162,8 @@ impl<T: Drop> From<AllocFailed<T>> for InterfaceError {
 }
 
 impl InterfaceError {
-    /// A fault: its name, the number of a run or of a boundary, or a budget, and a name or a key, or
-    /// what is said of the reference.
+    /// A fault: its name, the number of a run or of a boundary, or a budget, and a name or a key,
+    /// or what is said of the reference.
     fn parts(&self) -> (&'static [u8], Option<usize>, Option<&[u8]>)
         ensures name { result.0.now ≡ faulty_spec.name_of self.now }
         ensures run { result.1 ≡ faulty_spec.run_of self.now }

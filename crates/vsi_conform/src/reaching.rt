@@ -351,7 +351,8 @@ pub fn with_reached_lines(
     reaches: &[Reach],
 ) -> Result<Vec<u8>, AllocError>
     ensures lines { IfOk result
-        (λ text. text.items ≡ lines_spec.with_lines fits points.now (map spec.released reaches.now)) }
+        (λ text. text.items
+        ≡ lines_spec.with_lines fits points.now (map spec.released reaches.now)) }
 {
     let mut text = Vec::new(alloc);
     if !is_overturned(fits, reaches) {
@@ -372,7 +373,8 @@ pub fn with_reached_json(
     reaches: &[Reach],
 ) -> Result<Vec<u8>, AllocError>
     ensures line { IfOk result
-        (λ text. text.items ≡ lines_spec.with_member fits points.now (map spec.released reaches.now)) }
+        (λ text. text.items
+        ≡ lines_spec.with_member fits points.now (map spec.released reaches.now)) }
 {
     if reaches.is_empty() {
         return Vec::from_slice(alloc, points);

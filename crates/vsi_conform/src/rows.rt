@@ -84,8 +84,8 @@ pub(crate) enum Judged<'a> {
     Image(&'a Image),
 }
 
-/// A global: its name, its class name and, if it is one of a text, the line and the column of one of
-/// them.
+/// A global: its name, its class name and, if it is one of a text, the line and the column of one
+/// of them.
 #[derive(Clone, Copy)]
 pub(crate) struct Held<'a> {
     pub name: &'a [u8],

@@ -191,7 +191,8 @@ pub(crate) fn with_after(
 ) -> Result<Object, AllocError>
     requires { IsClass (order lattice.now) class }
     ensures { IfOk result (λ all. members_view all ≡ words_spec.with_after (class_named lattice.now)
-        (order lattice.now) class (globals variables.now) first.now second.now (members_view made)) }
+        (order lattice.now) class (globals variables.now) first.now second.now
+        (members_view made)) }
 {
     match (first, second) {
         (RunEnding::Halted { words, .. }, RunEnding::Halted { words: others, .. }) => {

@@ -185,8 +185,8 @@ fn comparison_line(
     requires { IsClass (order lattice.now) class }
     ensures { IfOk result (λ line. (name : List ℕ)
         × (slice_get (names lattice.now) class ≡ Some name)
-        × (line.items ≡ lines.object_line (comparisons_spec.comparison_members (class_named lattice.now)
-        (order lattice.now) name class (globals image.now.globals.items)
+        × (line.items ≡ lines.object_line (comparisons_spec.comparison_members
+        (class_named lattice.now) (order lattice.now) name class (globals image.now.globals.items)
         stores.entry.0.now stores.entry.1.now budget found.now))) }
 {
     let variables = image.globals.as_slice();
@@ -230,8 +230,8 @@ pub fn compare_json(
     requires class { IsClass (order lattice.now) class }
     requires first { length first.now ≡ length verified.now.globals.items }
     requires second { length second.now ≡ length verified.now.globals.items }
-    ensures answer { comparisons_spec.ComparesJsonTo lattice.now class verified.now first.now second.now
-        budget result }
+    ensures answer { comparisons_spec.ComparesJsonTo lattice.now class verified.now first.now
+        second.now budget result }
 {
     match vsi_answers::compare(alloc, lattice, verified, class, first, second, budget) {
         Ok(found) => {

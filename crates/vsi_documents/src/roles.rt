@@ -227,7 +227,8 @@ fn put_seen(text: &mut Vec<u8>, side: &Side) -> Result<(), AllocError>
 
 /// Adds the rows of all classes with tables.
 fn put_cycles(text: &mut Vec<u8>, side: &Side) -> Result<(), AllocError>
-    ensures { OnOk result (text.new.items ≡ text.old.items ++ rows_spec.cycle_rows (view side.now)) }
+    ensures { OnOk result
+        (text.new.items ≡ text.old.items ++ rows_spec.cycle_rows (view side.now)) }
 {
     for class in 0..side.lattice.count() {
         let name = name_of(side.lattice, class);

@@ -134,7 +134,8 @@ pub fn image_sarif(
 /// The object of a run of the tool, with its rules.
 fn run(alloc: Global, rules: Objects, results: Objects) -> Result<Object, AllocError>
     ensures { IfOk result
-        (λ made. members_view made ≡ document_spec.run_members (map view rules) (map view results)) }
+        (λ made. members_view made
+        ≡ document_spec.run_members (map view rules) (map view results)) }
 {
     let driver = Object::new(alloc)
         .text("name", b"vsi")?

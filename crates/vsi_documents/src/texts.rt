@@ -331,9 +331,10 @@ fn source_mended(alloc: Global, profile: Profile, source: &Source<'_>) -> Result
 }
 
 /// The answer of `vsi mend` to a text as a line of JSON: an object with `accepted`, whether the
-/// text is accepted as it is, and `raises`, an array with an object for each of the least raises, in
-/// the order of the lines of `raise_lines_in`. Where no raise serves, or the text has no program, it
-/// is the line of `check_json`. The text is read once. An error means that memory ran out.
+/// text is accepted as it is, and `raises`, an array with an object for each of the least raises,
+/// in the order of the lines of `raise_lines_in`. Where no raise serves, or the text has no
+/// program, it is the line of `check_json`. The text is read once. An error means that memory ran
+/// out.
 pub fn mend_json(
     alloc: Global,
     profile: Profile,

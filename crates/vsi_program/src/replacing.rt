@@ -45,8 +45,8 @@ impl Claim {
         Claim::Taken
     }
 
-    /// Gives a new file the name of the one at the path, unless that isn't the one that this drive has
-    /// locked.
+    /// Gives a new file the name of the one at the path, unless that isn't the one that this drive
+    /// has locked.
     pub(crate) fn put(&self, rt: &HostRuntime, name: &str, path: &str) -> Result<(), Trouble> {
         match self {
             Claim::Free => put_over(rt, name, path),
@@ -79,8 +79,8 @@ fn put_over(rt: &HostRuntime, name: &str, path: &str) -> Result<(), Trouble> {
     Ok(fs::rename(rt, name, path)?)
 }
 
-/// Gives a new file a name that nothing has: as its second name, which the system allows only to the
-/// quickest drive, and then the first one goes. Where files have no second names, it is moved.
+/// Gives a new file a name that nothing has: as its second name, which the system allows only to
+/// the quickest drive, and then the first one goes. Where files have no second names, it is moved.
 fn put_first(rt: &HostRuntime, name: &str, path: &str) -> Result<(), Trouble> {
     match fs::hard_link(rt, name, path) {
         Ok(()) => {
@@ -119,8 +119,8 @@ pub(crate) struct Making<'a> {
 /// A new file, and its name if that isn't the first one.
 pub(crate) type Made = (File, Option<String>);
 
-/// Makes a file with the first name, or with that and a number: never one that is there already, nor
-/// one that a link leads to. A leftover of this user at the name is removed before.
+/// Makes a file with the first name, or with that and a number: never one that is there already,
+/// nor one that a link leads to. A leftover of this user at the name is removed before.
 pub(crate) fn create_beside(rt: &HostRuntime, making: Making<'_>) -> io::Result<Made> {
     if let Some(file) = take(rt, making, making.fresh)? {
         return Ok((file, None));
@@ -145,8 +145,8 @@ pub(crate) fn sweep(rt: &HostRuntime, making: Making<'_>) {
     }
 }
 
-/// Makes and locks a file with the name, in place of a leftover if there is one; nothing if the name
-/// is taken.
+/// Makes and locks a file with the name, in place of a leftover if there is one; nothing if the
+/// name is taken.
 fn take(rt: &HostRuntime, making: Making<'_>, name: &str) -> io::Result<Option<File>> {
     let made = create_locked(rt, name, making.mode)?;
     if made.is_some() || !clear(rt, making, name) {
@@ -155,8 +155,8 @@ fn take(rt: &HostRuntime, making: Making<'_>, name: &str) -> io::Result<Option<F
     create_locked(rt, name, making.mode)
 }
 
-/// Makes and locks a file with the name; nothing if the name is taken, or if another instance held the
-/// new file to be a leftover before it was locked.
+/// Makes and locks a file with the name; nothing if the name is taken, or if another instance held
+/// the new file to be a leftover before it was locked.
 fn create_locked(rt: &HostRuntime, name: &str, mode: u32) -> io::Result<Option<File>> {
     let mut options = OpenOptions::new();
     options.write(true).create_new(true).mode(mode);
@@ -168,8 +168,8 @@ fn create_locked(rt: &HostRuntime, name: &str, mode: u32) -> io::Result<Option<F
     }
 }
 
-/// Whether a new file is locked and still has its name. Where the system locks no files, no instance
-/// removes leftovers.
+/// Whether a new file is locked and still has its name. Where the system locks no files, no
+/// instance removes leftovers.
 fn is_kept(rt: &HostRuntime, file: &File, name: &str) -> bool {
     match file.try_lock() {
         Ok(()) => is_at(rt, file, name),
@@ -211,8 +211,8 @@ fn open_own(rt: &HostRuntime, name: &str) -> Option<File> {
     open_found(rt, name, &found)
 }
 
-/// Opens a regular file that was found. Where it may be written, it is opened to be written as well: so
-/// is no pipe that takes its place meanwhile waited for.
+/// Opens a regular file that was found. Where it may be written, it is opened to be written as
+/// well: so is no pipe that takes its place meanwhile waited for.
 pub(crate) fn open_found(rt: &HostRuntime, name: &str, found: &Metadata) -> Option<File> {
     let is_writable = found.mode() & OWNER_WRITES != 0;
     let mut options = OpenOptions::new();
@@ -245,8 +245,8 @@ const RIGHTS: u32 = 0o777;
 /// The bits of a file's mode that let users besides its owner read or write it.
 const OPEN_TO_OTHERS: u32 = 0o066;
 
-/// The bytes of a file, whether other users may neither own, read nor write it, and the claim to the
-/// file that it replaces.
+/// The bytes of a file, whether other users may neither own, read nor write it, and the claim to
+/// the file that it replaces.
 #[derive(Clone, Copy)]
 pub(crate) struct Filling<'a> {
     pub(crate) bytes: &'a [u8],
@@ -276,8 +276,8 @@ pub(crate) fn sync_folder(rt: &HostRuntime, path: &str) -> Result<(), Trouble> {
     }
 }
 
-/// Makes a new file beside the one at the path, and puts it in its place once it is filled. It returns
-/// the new file, which is locked.
+/// Makes a new file beside the one at the path, and puts it in its place once it is filled. It
+/// returns the new file, which is locked.
 pub(crate) fn replace_by_new(
     rt: &HostRuntime,
     path: &str,
@@ -288,8 +288,8 @@ pub(crate) fn replace_by_new(
     replace(rt, path, making.fresh, made, filling)
 }
 
-/// Fills a new file, whose name is `fresh` unless it has another one, and puts it in the place of the
-/// one at the path.
+/// Fills a new file, whose name is `fresh` unless it has another one, and puts it in the place of
+/// the one at the path.
 pub(crate) fn replace(
     rt: &HostRuntime,
     path: &str,
@@ -325,8 +325,8 @@ fn put_in_place(
     sync_folder(rt, path)
 }
 
-/// Gives the file the bytes, and the owner and the rights of the one at the path, if there is one; all
-/// of that is on the disk afterwards.
+/// Gives the file the bytes, and the owner and the rights of the one at the path, if there is one;
+/// all of that is on the disk afterwards.
 fn fill(rt: &HostRuntime, file: &File, path: &str, filling: Filling<'_>) -> Result<(), Trouble> {
     let old = replaced_at(rt, path)?;
     if let Some(old) = &old
@@ -352,7 +352,8 @@ fn replaced_at(rt: &HostRuntime, path: &str) -> Result<Option<Metadata>, Trouble
     }
 }
 
-/// Objects to a file that isn't owned by the owner of the new one, or that others may read or write.
+/// Objects to a file that isn't owned by the owner of the new one, or that others may read or
+/// write.
 fn keep_private(file: &File, old: &Metadata) -> Result<(), Trouble> {
     match file.metadata() {
         Ok(made) if made.uid() != old.uid() => Err(Trouble::Objection(Objection::NotOwn)),
@@ -381,9 +382,9 @@ fn may_replace(rt: &HostRuntime, path: &str) -> bool {
     }
 }
 
-/// Fills the file at the path as a whole, by a new one beside it with this mode. A device, a pipe, the
-/// target of a link and a file in a folder that can't be written to are filled where they are, and so
-/// is any file if there is no memory for a name.
+/// Fills the file at the path as a whole, by a new one beside it with this mode. A device, a pipe,
+/// the target of a link and a file in a folder that can't be written to are filled where they are,
+/// and so is any file if there is no memory for a name.
 pub(crate) fn fill_whole(
     rt: &HostRuntime,
     path: &str,
@@ -411,8 +412,8 @@ pub(crate) fn fill_whole(
     }
 }
 
-/// Empties and fills the file at the path, which is on the disk afterwards unless it is a device or a
-/// pipe.
+/// Empties and fills the file at the path, which is on the disk afterwards unless it is a device or
+/// a pipe.
 fn fill_there(rt: &HostRuntime, path: &str, bytes: &[u8]) -> Result<(), Trouble> {
     if is_dangling(rt, path) {
         return Err(Trouble::of(LEADS_NOWHERE));

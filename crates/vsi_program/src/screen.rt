@@ -51,9 +51,9 @@ impl Piece {
     }
 }
 
-/// A stream. If it is a terminal, it gets printable ASCII, tabs, line feeds, characters beyond ASCII
-/// that are no control characters, and the sequences that turn a colour on or all off; of any other
-/// byte it gets `\x` and two digits. Otherwise it gets the bytes as they are.
+/// A stream. If it is a terminal, it gets printable ASCII, tabs, line feeds, characters beyond
+/// ASCII that are no control characters, and the sequences that turn a colour on or all off; of any
+/// other byte it gets `\x` and two digits. Otherwise it gets the bytes as they are.
 #[derive(Drop)]
 pub(crate) struct Screen<W> {
     inner: W,

@@ -74,8 +74,8 @@ fn bytes(row: &mut Row<'_>) -> Result<Vec<u8>, Wrong> {
     Ok(bytes)
 }
 
-/// `encode IMAGE`: the bytes in hexadecimal digits, 16 on a line, with a blank between every two, or
-/// the limit that the image exceeds.
+/// `encode IMAGE`: the bytes in hexadecimal digits, 16 on a line, with a blank between every two,
+/// or the limit that the image exceeds.
 pub(crate) fn encoded(row: &mut Row<'_>) -> Result<(), Wrong> {
     let image = image(row)?;
     let bytes = match encode(row.alloc, &image) {

@@ -147,8 +147,8 @@ pub(crate) struct Row<'a> {
     pub wrong: Option<Wrong>,
 }
 
-/// The file of the lattice with a name. In `four`, `L` is below `A` and `B`, and these are below `H`;
-/// in `house`, everyone is below the operators, and these are below the owner of secrets.
+/// The file of the lattice with a name. In `four`, `L` is below `A` and `B`, and these are below
+/// `H`; in `house`, everyone is below the operators, and these are below the owner of secrets.
 fn file_named(name: &str) -> &'static str {
     match name {
         "one" => "classes = [\"L\"]\nbelow = []\n",

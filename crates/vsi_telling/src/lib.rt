@@ -126,10 +126,10 @@ pub fn source_explanation(
     shown(alloc, mode, path, source, place_of(error), &telling.words)
 }
 
-/// The explanation that follows the refusal of the file with this path and these bytes: the place in
-/// the file, its line and carets where a place is known, then in whole sentences of at most 80
-/// columns what is there, what could be there, and what to do. For `CompileError::Flow` it says only
-/// that a flow breaks the policy.
+/// The explanation that follows the refusal of the file with this path and these bytes: the place
+/// in the file, its line and carets where a place is known, then in whole sentences of at most 80
+/// columns what is there, what could be there, and what to do. For `CompileError::Flow` it says
+/// only that a flow breaks the policy.
 pub fn explanation(
     alloc: Global,
     mode: ColourMode,
