@@ -146,6 +146,12 @@ pub(crate) fn style_of(view: &View<'_>) -> Made<Page> {
 const IMAGE: &[u8] = b"<section class=\"wide\" aria-labelledby=\"image\">\
 <h2 id=\"image\">Image</h2>\n<details><summary>The listing of the image</summary>\n\
 <pre class=\"listing\"><code>%0</code></pre></details>\n</section>\n";
+/// The most instructions of an image that is listed.
+const MOST_LISTED: usize = 5_000;
+/// The section of an image with more of them.
+const UNLISTED: &[u8] = b"<section class=\"wide\" aria-labelledby=\"image\">\
+<h2 id=\"image\">Image</h2>\n<p>The image has %0 instructions, too many to be listed here: \
+<code>vsi list</code> prints them.</p>\n</section>\n";
 /// The text about the classes in the panel of the source text.
 const HINT: &[u8] =
     b"\n<p class=\"hint\">A name is followed by its class where a line has it first, \
@@ -179,7 +185,7 @@ struct Task<'a> {
 }
 
 /// The parts of the page of an accepted text, before and after the panel of the source.
-fn accepted_sides(view: &View<'_>, verified: &Verified, lines: &[u8]) -> Made<(Page, Page)> {
+fn accepted_sides(view: &View<'_>, verified: &Verified) -> Made<(Page, Page)> {
     let (mut before, mut after) = (Page::new(view.alloc), Page::new(view.alloc));
     let (lattice, is_wide) = lattice_section(view)?;
     let scene = scene_of(view)?;
@@ -191,7 +197,14 @@ fn accepted_sides(view: &View<'_>, verified: &Verified, lines: &[u8]) -> Made<(P
     let markup = either(is_wide, b"</div>\n%0", b"%0</div>\n");
     after.fill(markup, &[Block(&lattice)])?;
     put_all_flows(&mut after, view, &scene, &[])?;
-    after.fill(IMAGE, &[Text(lines)])?;
+    let image = verified.image();
+    let count = image.code.len();
+    if count > MOST_LISTED {
+        after.fill(UNLISTED, &[Number(count)])?;
+    } else {
+        let lines = listing(view.alloc, image)?;
+        after.fill(IMAGE, &[Text(&lines)])?;
+    }
     Ok((before, after))
 }
 
@@ -261,13 +274,13 @@ fn joined(
     whole_page(alloc, verdict, name, &style, lead, &before, panel, &after)
 }
 
-/// The page of an accepted text, with its image and the listing of that.
-fn page_with_image(view: &View<'_>, verified: &Verified, lines: &[u8]) -> Made<Vec<u8>>
+/// The page of an accepted text, with its image.
+fn page_with_image(view: &View<'_>, verified: &Verified) -> Made<Vec<u8>>
     ensures panel { IfOk result (λ page. HasPanel page.items view.now.source.now) }
     ensures led { IfOk result (λ page. HasLead verdicts.Accepted
         (allowed_words (length view.now.facts.now.pairs.items)) page.items) }
 {
-    let sides = accepted_sides(view, verified, lines)?;
+    let sides = accepted_sides(view, verified)?;
     let lead = allowed_lead(view.alloc, view.facts.pairs.len())?;
     let panel = source_panel(view)?;
     joined(view, Verdict::Accepted, &lead, sides, &panel)
@@ -289,7 +302,6 @@ fn accepted_page(task: &Task<'_>, read: &Source<'_>, chosen: &[Class]) -> Made<V
     let mentions = mentions_of(alloc, read)?;
     let facts = facts_of(alloc, profile, lattice, &order, program, chosen, mentions)?;
     let verified = image_of(alloc, read)?;
-    let lines = listing(alloc, verified.image())?;
     let view = View {
         alloc,
         profile,
@@ -301,7 +313,7 @@ fn accepted_page(task: &Task<'_>, read: &Source<'_>, chosen: &[Class]) -> Made<V
         walk: &[],
         fault: None,
     };
-    page_with_image(&view, &verified, &lines)
+    page_with_image(&view, &verified)
 }
 
 /// The page of a text with a refused flow, with its program.
