@@ -1,3 +1,1 @@
 pub mod SafeLemmas
-pub mod PlaceLemmas
-pub mod PlaceFacts

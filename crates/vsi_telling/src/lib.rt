@@ -3,15 +3,14 @@
 //!
 //! A sentence is a text with holes and the parts for them (`say`). Given a path, a text and a part
 //! of it, `put_place_in` writes `PATH:LINE:COLUMN`, the line of the text, and carets below that
-//! part; `placed` of `specs/Place` is that layout. Every byte of a path or a text is written by
-//! `put_safe`, whose clause `printable` says that it can't control a terminal; the clauses `plain`
-//! say the same of whole answers.
+//! part. Every byte of a path or a text is written by `put_safe`, whose clause `printable` says
+//! that it can't control a terminal; the clauses `plain` say the same of whole answers.
 //!
 //! To be believed: all files of `specs/`.
 #![tactic(auto)]
 
-ghost use Rattle.std.specs.Prelude.{◌≡◌, IfOk, IfSome, true};
-ghost use Rattle.vsi_telling.specs.{declared.place.ColourMode.TheVariants.{Plain}, Safe.{all_plain}, Places.{BeginsAt, start_of}};
+ghost use Rattle.std.specs.Prelude.{◌≡◌, IfOk, true};
+ghost use Rattle.vsi_telling.specs.{declared.place.ColourMode.TheVariants.{Plain}, Safe.{all_plain}};
 
 mod flows;
 mod images;
@@ -29,7 +28,7 @@ pub use parts::{
     array_in, class_names, has_text, key_place, line_place, part_of, quoted_place, span_at,
     table_classes, table_in, texts_in,
 };
-pub use place::{ColourMode, Window, put_place_in, put_safe, put_text};
+pub use place::{ColourMode, put_place_in, put_safe, put_text};
 use source::place_of;
 use std::alloc::{AllocError, Global};
 use telling::wrapped;
@@ -52,35 +51,6 @@ pub enum Reason<'a> {
     File(&'a Fault),
 }
 
-/// The path of a file as text.
-fn begun(alloc: Global, path: &[u8]) -> Result<Vec<u8>, AllocError>
-    ensures { IfOk result (λ text. all_plain text.items ≡ true) }
-{
-    let mut text = Vec::new(alloc);
-    put_safe(&mut text, path)?;
-    put_text(&mut text, b":\n")?;
-    Ok(text)
-}
-
-/// A place of a file and lines as text.
-fn shown_at(
-    alloc: Global,
-    mode: ColourMode,
-    path: &[u8],
-    bytes: &[u8],
-    span: Span,
-    lines: &[u8],
-) -> Result<Vec<u8>, AllocError>
-    ensures plain { mode ≡ Plain → IfOk result (λ text. all_plain text.items ≡ true) }
-    ensures place { IfOk result
-        (λ text. BeginsAt mode path.now bytes.now span.start text.items) }
-{
-    let mut text = Vec::new(alloc);
-    put_place_in(&mut text, mode, path, bytes, span.start, span.stop)?;
-    put_text(&mut text, lines)?;
-    Ok(text)
-}
-
 /// A place of a file and words as text: a line is at most 80 columns long. Without a place only the
 /// path is shown.
 pub fn shown(
@@ -92,18 +62,18 @@ pub fn shown(
     words: &[u8],
 ) -> Result<Vec<u8>, AllocError>
     ensures plain { mode ≡ Plain → IfOk result (λ text. all_plain text.items ≡ true) }
-    ensures place { IfSome place (λ span.
-        IfOk result (λ text. BeginsAt mode path.now bytes.now span.start text.items)) }
 {
     let lines = wrapped(alloc, words)?;
+    let mut text = Vec::new(alloc);
     match place {
-        Some(span) => shown_at(alloc, mode, path, bytes, span, &lines),
+        Some(span) => put_place_in(&mut text, mode, path, bytes, span.start, span.stop)?,
         None => {
-            let mut text = begun(alloc, path)?;
-            put_text(&mut text, &lines)?;
-            Ok(text)
+            put_safe(&mut text, path)?;
+            put_text(&mut text, b":\n")?;
         }
     }
+    put_text(&mut text, &lines)?;
+    Ok(text)
 }
 
 /// The explanation of a refused source text, as `explanation` writes it.
@@ -115,11 +85,7 @@ pub fn source_explanation(
     source: &[u8],
     error: &CompileError,
 ) -> Result<Vec<u8>, AllocError>
-    // Without colours no byte drives a terminal.
     ensures plain { mode ≡ Plain → IfOk result (λ text. all_plain text.items ≡ true) }
-    // It begins with the place at which the text is refused.
-    ensures place { IfSome (start_of error.now) (λ start.
-        IfOk result (λ text. BeginsAt mode path.now source.now start text.items)) }
 {
     let mut telling = Telling::new(alloc, path, source);
     telling.put_source(lattice, error)?;

@@ -1,7 +1,7 @@
 //! The source text that is explained: its variables in sentences, and its explanation as it is
 //! gathered.
 
-ghost use Rattle.std.specs.{Prelude.{◌≡◌, IfOk, IfSome, OnOk, true}, List.{All}};
+ghost use Rattle.std.specs.{Prelude.{◌≡◌, IfOk, IfSome, true}, List.{All}};
 ghost use Rattle.vsi_lattice.specs.{Order.{IsClass}, LatticeView.{order}};
 ghost use Rattle.vsi_types.specs.Security.{program as program_of};
 ghost use Rattle.vsi_infer.specs.Inference.{AreClasses};
@@ -31,40 +31,6 @@ pub(crate) struct Subject<'p, 's> {
     pub(crate) path: &'p [u8],
     pub(crate) source: &'p Source<'s>,
     pieces: Vec<Piece>,
-}
-
-/// Appends a piece of an explanation of a file with this path and these bytes.
-fn put_piece(
-    text: &mut Vec<u8>,
-    mode: ColourMode,
-    path: &[u8],
-    bytes: &[u8],
-    piece: &Piece,
-) -> Result<(), AllocError>
-    ensures { mode ≡ Plain → all_plain text.old.items ≡ true
-        → OnOk result (all_plain text.new.items ≡ true) }
-{
-    match piece {
-        Piece::Words(words) => put_text(text, words),
-        Piece::Place(span) => put_place_in(text, mode, path, bytes, span.start, span.stop),
-    }
-}
-
-/// Appends pieces of an explanation.
-fn put_pieces(
-    text: &mut Vec<u8>,
-    mode: ColourMode,
-    path: &[u8],
-    bytes: &[u8],
-    pieces: &[Piece],
-) -> Result<(), AllocError>
-    ensures { mode ≡ Plain → all_plain text.old.items ≡ true
-        → OnOk result (all_plain text.new.items ≡ true) }
-{
-    for piece in pieces {
-        put_piece(text, mode, path, bytes, piece)?;
-    }
-    Ok(())
 }
 
 /// The name of the class with which a variable is declared; the ending of loops has the lowest one.
@@ -120,8 +86,16 @@ impl<'p, 's> Subject<'p, 's> {
     pub(crate) fn shown(&self, mode: ColourMode) -> Result<Vec<u8>, AllocError>
         ensures { mode ≡ Plain → IfOk result (λ text. all_plain text.items ≡ true) }
     {
+        let (path, bytes) = (self.path, self.source.text());
         let mut text = Vec::new(self.alloc);
-        put_pieces(&mut text, mode, self.path, self.source.text(), &self.pieces)?;
+        for piece in &self.pieces {
+            match piece {
+                Piece::Words(words) => put_text(&mut text, words)?,
+                Piece::Place(span) => {
+                    put_place_in(&mut text, mode, path, bytes, span.start, span.stop)?;
+                }
+            }
+        }
         Ok(text)
     }
 
