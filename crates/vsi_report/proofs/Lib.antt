@@ -3,5 +3,4 @@ pub mod CoveringLemmas
 pub mod NameLemmas
 pub mod FlowsGraphLemmas
 pub mod BannerLemmas
-pub mod ReachedLemmas
 pub mod FilledLemmas

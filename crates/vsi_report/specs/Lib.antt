@@ -12,4 +12,3 @@ pub mod Parts
 pub mod Verdict
 pub mod Drawn
 pub mod Lead
-pub mod Reached

@@ -4,12 +4,12 @@
 //! A refused program has no typable choice of classes. Its letvars are shown with the least class
 //! at or above all that reaches them. In an accepted program that is the class of the least choice.
 
-ghost use Rattle.std.specs.{Prelude.{◌≡◌, IfOk, ◌≤◌, ◌<◌, length}, List.{All}};
+ghost use Rattle.std.specs.{Prelude.{◌≡◌, IfOk}, List.{All}};
 ghost use Rattle.vsi_types.specs.Security.{program as program_of};
 ghost use Rattle.vsi_lattice.specs.{Order.{IsClass}, LatticeView.{order as order_of}};
-ghost use Rattle.vsi_infer.specs.{Inference.{AreClasses}, Flowing.{size_of, AreFlowsOf}};
-ghost use Rattle.vsi_flows.specs.{Reaching.{floor, AreFloors, IsJoined, IsReached}, Table.{IsTable}};
-ghost use Rattle.vsi_report.specs.{ByRule.{flows_in_rows, HasFlows}, FlowsGraph.{AreShown}, Reached.{AreReached}};
+ghost use Rattle.vsi_infer.specs.Inference.{AreClasses};
+ghost use Rattle.vsi_flows.specs.Table.{IsTable};
+ghost use Rattle.vsi_report.specs.{ByRule.{flows_in_rows, HasFlows}, FlowsGraph.{AreShown}};
 
 use crate::dot::{Order, name_of};
 use crate::page::Made;
@@ -88,84 +88,27 @@ pub(crate) fn judged_classes(
     }
 }
 
-/// The declared class of a variable, or the bottom if none is declared.
-fn floor_of(lattice: &Lattice, program: &Resolved<'_>, variable: Var) -> Class
-    ensures { result ≡ floor (order_of lattice.now) (program_of program.now) variable }
-{
-    match declared_class(lattice, program, variable) {
-        Some(class) => class,
-        None => lattice.bottom(),
-    }
-}
-
-/// The floors of all declarations, in order.
-fn floors_of(alloc: Global, lattice: &Lattice, program: &Resolved<'_>) -> Made<Vec<Class>>
+/// The least class at or above the declared classes of all variables with a distance in the row.
+fn joined(lattice: &Lattice, program: &Resolved<'_>, row: &[u16]) -> Class
     requires globals { All (IsClass (order_of lattice.now)) (program_of program.now).globals }
     requires declared { AreClasses (order_of lattice.now) (program_of program.now).declared }
-    ensures floors { IfOk result
-        (λ f. AreFloors (order_of lattice.now) (program_of program.now) f.items) }
-    ensures classes { IfOk result (λ f. All (IsClass (order_of lattice.now)) f.items) }
-{
-    let count = declarations(program);
-    let mut floors = Vec::new(alloc);
-    for v in 0..count {
-        floors.push(floor_of(lattice, program, Var(v)))?;
-    }
-    Ok(floors)
-}
-
-/// The least class at or above the floors of all positions with a distance in the row.
-fn joined<C: Classes>(lattice: &C, floors: &[Class], row: &[u16]) -> Class
-    requires classes { All (IsClass (C.lattice lattice.now)) floors.now }
-    requires room { length floors.now ≤ length row.now }
-    ensures { IsJoined (C.lattice lattice.now) floors.now row.now (length floors.now) result }
+    ensures { IsClass (order_of lattice.now) result }
 {
     let mut class = lattice.bottom();
-    for a in 0..floors.len() {
-        if row[a] < 65535 {
-            class = lattice.join(class, floors[a]);
+    for number in 0..declarations(program) {
+        let distance = row.get(number as usize).copied().unwrap_or(u16::MAX);
+        if distance == u16::MAX {
+            continue;
+        }
+        if let Some(found) = declared_class(lattice, program, Var(number)) {
+            class = lattice.join(class, found);
         }
     }
     class
 }
 
-/// The class that reaches a variable.
-fn reached_class(
-    alloc: Global,
-    profile: Profile,
-    lattice: &Lattice,
-    program: &Resolved<'_>,
-    flow: &FlowRows,
-    floors: &[Class],
-    variable: u16,
-) -> Made<Class>
-    requires globals { All (IsClass (order_of lattice.now)) (program_of program.now).globals }
-    requires declared { AreClasses (order_of lattice.now) (program_of program.now).declared }
-    requires flows { AreFlowsOf profile (program_of program.now)
-        (⟦<FlowRows as Flow>⟧.flows flow.now) }
-    requires floors { AreFloors (order_of lattice.now) (program_of program.now) floors.now }
-    requires classes { All (IsClass (order_of lattice.now)) floors.now }
-    requires variable { variable < size_of (program_of program.now) }
-    ensures { IfOk result
-        (IsReached (order_of lattice.now) profile (program_of program.now) variable) }
-{
-    // `body` ensures that the program is resolved, which the proofs need.
-    let _body = program.body();
-    let row = fewest_flows(alloc, flow, floors.len() + 1, variable as usize)?;
-    Ok(joined(lattice, floors, &row))
-}
-
-/// The number of the first letvar.
-fn first_letvar(program: &Resolved<'_>) -> u16
-    ensures first { result ≡ length (program_of program.now).globals }
-    ensures within { result ≤ size_of (program_of program.now) }
-{
-    // `body` ensures that the program is resolved, so its number of declarations is limited.
-    let _body = program.body();
-    program.globals().len() as u16
-}
-
-/// The classes that reach the letvars.
+/// The classes that reach the letvars: for each the least one at or above those of all variables
+/// that reach it.
 pub(crate) fn reached_classes(
     alloc: Global,
     profile: Profile,
@@ -174,17 +117,15 @@ pub(crate) fn reached_classes(
 ) -> Made<Vec<Class>>
     requires globals { All (IsClass (order_of lattice.now)) (program_of program.now).globals }
     requires declared { AreClasses (order_of lattice.now) (program_of program.now).declared }
-    ensures { IfOk result (λ classes.
-        AreReached (order_of lattice.now) profile (program_of program.now) classes.items) }
 {
     let flow = flow_rows(alloc, profile, program)?;
-    let floors = floors_of(alloc, lattice, program)?;
     let count = declarations(program);
-    let first = first_letvar(program);
     let mut classes = Vec::new(alloc);
-    for variable in first..count {
-        let class = reached_class(alloc, profile, lattice, program, &flow, &floors, variable)?;
-        classes.push(class)?;
+    for variable in 0..count {
+        if variable as usize >= program.globals().len() {
+            let row = fewest_flows(alloc, &flow, count as usize + 1, variable as usize)?;
+            classes.push(joined(lattice, program, &row))?;
+        }
     }
     Ok(classes)
 }

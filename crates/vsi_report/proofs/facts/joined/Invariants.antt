@@ -1,6 +1,7 @@
-use Rattle.vsi_flows.specs.Reaching.{IsJoined}
+use Rattle.vsi_lattice.specs.LatticeView.{order}
+use Rattle.vsi_lattice.specs.Order.{IsClass}
 use Rattle.vsi_report.proofs.facts.joined.Given as goal
 
--- The class is the least one above the floors so far.
-abbrev pub invariant-loop-a : goal.invariant-loop-a
-invariant-loop-a g l = IsJoined (g.C.Classes.lattice l.lattice) l.floors l.row l.a l.class
+-- The class so far is one of the lattice.
+abbrev pub invariant-loop-number : goal.invariant-loop-number
+invariant-loop-number l = IsClass (order l.lattice) l.class
