@@ -20,11 +20,16 @@ pub(crate) fn tokens(row: &mut Row<'_>) -> Result<(), Wrong> {
     }
 }
 
+/// The tree of a text.
+fn tree_of<'t>(alloc: Global, text: &'t [u8]) -> Result<Program<'t>, CompileError> {
+    let tokens = lex(alloc, text)?;
+    Ok(parse(alloc, &tokens)?)
+}
+
 /// `parse TEXT`: that the text is a program, or the fault.
 pub(crate) fn parsed(row: &mut Row<'_>) -> Result<(), Wrong> {
     let text = row.text()?;
-    let tokens = lex(row.alloc, &text)?;
-    let _tree = parse(row.alloc, &tokens)?;
+    let _tree = tree_of(row.alloc, &text)?;
     row.put("accepted\n")
 }
 
