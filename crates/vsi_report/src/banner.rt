@@ -176,24 +176,15 @@ fn last_of(walk: &[Step]) -> Var
     }
 }
 
-/// The declared class of a variable, or 0 if it has none.
-fn class_of(lattice: &Lattice, program: &Resolved<'_>, variable: Var) -> usize
-    ensures { (c : ℕ)
-        → declared_class_of (order_of_lattice lattice.now) (program_of program.now) variable
-        ≡ Some c → result ≡ c }
-{
-    match declared_class(lattice, program, variable) {
-        Some(class) => class.index(),
-        None => 0,
-    }
-}
-
 /// A variable at an end of a walk.
 fn end_of<'a>(lattice: &Lattice, order: &'a Order, program: &Resolved<'a>, variable: Var) -> End<'a>
     requires { texts order.now.names.items ≡ names lattice.now }
     ensures { spec.IsEnd lattice.now program.now variable result }
 {
-    let class = class_of(lattice, program, variable);
+    let class = match declared_class(lattice, program, variable) {
+        Some(class) => class.index(),
+        None => 0,
+    };
     End {
         name: variable_name(program, variable),
         class,
