@@ -1,9 +1,6 @@
 //! The explanation of a refused source text: bytes and words that are none of the language, names
 //! that are declared twice or not at all, and the faults after the first one.
 
-ghost use Rattle.std.specs.Prelude.{◌≡◌, option_map};
-ghost use Rattle.vsi_telling.specs.Places.{start_of};
-
 use crate::parts::{class_names, part_of};
 use crate::syntactic::{declaration, declared, file_hint, tokens_in};
 use crate::telling::{Part, Telling, put_nearest};
@@ -35,29 +32,22 @@ fn is_among(names: &[u8], name: &[u8]) -> bool {
 }
 
 /// Where a source text is refused.
-pub(crate) fn place_of(error: &CompileError) -> Option<Span>
-    ensures { option_map (λ span. span.start) result ≡ start_of error.now }
-{
+pub(crate) fn place_of(error: &CompileError) -> Option<Span> {
     match error {
         CompileError::Lex(LexError::BadByte(at)) => Some(Span {
             start: *at,
             stop: at.saturating_add(1),
         }),
-        CompileError::Lex(LexError::BadWord(span) | LexError::BadNumber(span)) => Some(*span),
-        CompileError::Lex(LexError::Memory | LexError::TooLong) => None,
-        CompileError::Parse(ParseError::Unexpected(span) | ParseError::TooDeep(span)) => {
-            Some(*span)
-        }
-        CompileError::Parse(ParseError::Memory) => None,
-        CompileError::Scope(
+        CompileError::Lex(LexError::BadWord(span) | LexError::BadNumber(span))
+        | CompileError::Parse(ParseError::Unexpected(span) | ParseError::TooDeep(span))
+        | CompileError::Scope(
             ScopeError::Duplicate(span)
             | ScopeError::UnknownClass(span)
             | ScopeError::Unbound(span)
             | ScopeError::TooManyGlobals(span)
             | ScopeError::TooManyDeclarations(span),
         ) => Some(*span),
-        CompileError::Scope(ScopeError::TooLarge | ScopeError::Memory) => None,
-        CompileError::Flow(_) | CompileError::Memory => None,
+        _ => None,
     }
 }
 
