@@ -10,14 +10,11 @@ use vsi_advice::advice;
 use vsi_answers::{Cause, Diagnostic, Fault};
 use vsi_arguments::{Colour, Document, Request};
 use vsi_compiler::{CompileError, read_source};
-use vsi_conform::{
-    InterfaceError, InterfaceFile, Judgement, Policy, flows_profile, judged, read_interface,
-};
+use vsi_conform::{InterfaceError, Judgement, Policy, flows_profile, judged, read_interface};
 use vsi_drive::{LineFault, StartFault};
 use vsi_image::{Image, decode};
 use vsi_lattice::{Lattice, read_lattice};
 use vsi_steady::{SteadyError, UnsteadyError};
-use vsi_store::StoreError;
 use vsi_subject::{
     Failure, Files, InputKind, Inputs, Kept, STREAM, TWO_CLASSES, profile, source_of,
 };

@@ -4,7 +4,6 @@ use std::alloc::{AllocError, Global};
 use vsi_audit::AuditError;
 use vsi_compiler::{CompileError, Source, image_of, read_source};
 use vsi_image::{Image, Instr};
-use vsi_infer::Walk;
 use vsi_lattice::{Classes, Lattice};
 use vsi_opt::optimise;
 use vsi_scope::{Cmd, Ex, Resolved};

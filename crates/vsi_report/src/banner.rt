@@ -1,8 +1,7 @@
 //! The banner of a page: its first sentences, and what follows them.
 
-ghost use Rattle.std.specs.Prelude.{◌≡◌, ◌++◌, ℕ, Some, IfOk, OnOk};
-ghost use Rattle.vsi_lattice.specs.LatticeView.{names, order as order_of_lattice};
-ghost use Rattle.vsi_types.specs.{Security.{program as program_of}, Walks.{declared_class as declared_class_of}};
+ghost use Rattle.std.specs.Prelude.{◌≡◌, ◌++◌, IfOk, OnOk};
+ghost use Rattle.vsi_lattice.specs.LatticeView.{names};
 ghost use Rattle.vsi_types.specs.Walks as walks;
 ghost use Rattle.vsi_report.specs.Graph.{texts};
 ghost use Rattle.vsi_report.specs.Lead as spec;

@@ -3,7 +3,6 @@
 use crate::row::{Row, Wrong};
 use crate::{compiling, images, lattices, requests, texts};
 use std::alloc::Global;
-use vsi_lattice::Lattice;
 
 /// A row with the answer to its line.
 pub(crate) fn answered(alloc: Global, line: &str) -> Row<'_> {
