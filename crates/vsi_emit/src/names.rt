@@ -4,12 +4,12 @@ ghost use Rattle.std.specs.Prelude.{◌≡◌, bytes_eq};
 ghost use Rattle.vsi_emit.specs.Names as spec;
 
 /// The array of these texts.
-macro_rules! texts {
-    ($($text:literal)*) => { [$($text),*] };
+macro_rules! words {
+    ($($word:literal)*) => { [$($word),*] };
 }
 
 /// The keywords of C up to C23 and of C++ up to C++23, with those of C++ for operators.
-const KEYWORDS: [&[u8]; 97] = texts! {
+const KEYWORDS: [&[u8]; 97] = words! {
     b"alignas" b"alignof" b"and" b"and_eq" b"asm" b"auto" b"bitand" b"bitor" b"bool" b"break"
     b"case" b"catch" b"char" b"char16_t" b"char32_t" b"char8_t" b"class" b"co_await"
     b"co_return" b"co_yield" b"compl" b"concept" b"const" b"const_cast" b"consteval"
