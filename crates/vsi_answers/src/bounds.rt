@@ -1,8 +1,8 @@
 //! The answers about an image: its runs and its bound.
 
-ghost use Rattle.std.specs.Prelude.{◌≡◌, length, IfOk, ◌++◌, MatchResult, OnOk};
+ghost use Rattle.std.specs.Prelude.{◌≡◌, length, IfOk, MatchResult};
 ghost use Rattle.vsi_lattice.specs.{LatticeView.{order}, NamePlaces.{texts}, Order.{IsClass}};
-ghost use Rattle.vsi_answers.specs.Requests.{BeginsWith, ComparesTo, RunsSourceTo, RunsTo, ViewsTo, zeros, ListsTo, ReadsImage, ReadsLattice};
+ghost use Rattle.vsi_answers.specs.Requests.{BeginsWith, ComparesTo, RunsSourceTo, RunsTo, ViewsTo, ListsTo, ReadsImage, ReadsLattice};
 ghost use Rattle.vsi_answers.specs.Bounds as spec;
 
 use crate::Fault;
@@ -12,10 +12,10 @@ use vsi_compiler::{CompileError, compile, resolved_program};
 use vsi_drive::{EngineError, first_words, verified_image};
 use vsi_image::{Instr, Verified, listing};
 use vsi_lattice::{Class, Lattice, LatticeError, read_lattice};
-use vsi_machine::{Bound, Machine, Outcome, Reason, StartError, bound_of};
+use vsi_machine::{Bound, Machine, Outcome, Reason, bound_of};
 use vsi_scope::{Cmd, Ex};
 use vsi_store::{Comparison, StoreError, View, ViewError, store_text};
-use vsi_syntax::{Kind, LexError, lex, line_column, put_line_column, put_number};
+use vsi_syntax::{Kind, lex, line_column, put_line_column, put_number};
 
 /// The words at the start of a run, from the bytes of a store file and the settings after it.
 pub fn start_words(
@@ -65,17 +65,12 @@ pub fn run_source(
     ensures runs { RunsSourceTo lattice.now source.now budget result }
 {
     match compile(alloc, lattice, source) {
-        Ok(verified) => run_from_zeros(alloc, &verified, budget),
+        Ok(verified) => {
+            let words = vec![in alloc; 0i64; verified.image().globals.len()]?;
+            run(alloc, &verified, words.as_slice(), budget)
+        }
         Err(error) => Err(refused_source(alloc, lattice, source, error)),
     }
-}
-
-/// The text of the store with which an image halts, starting from zeros.
-fn run_from_zeros(alloc: Global, verified: &Verified, budget: u64) -> Result<Vec<u8>, Unanswered>
-    ensures runs { RunsTo verified.now (zeros verified.now) budget result }
-{
-    let words = vec![in alloc; 0i64; verified.image().globals.len()]?;
-    run(alloc, verified, words.as_slice(), budget)
 }
 
 /// The lines of the final store that a class may see, if the image halts, starting from these
@@ -144,19 +139,6 @@ fn reason_text(reason: Reason) -> &'static [u8]
     }
 }
 
-/// Adds the place of a loop.
-fn put_loop(text: &mut Vec<u8>, place: Option<Place>, test: usize) -> Result<(), AllocError>
-    ensures { OnOk result (text.new.items ≡ text.old.items ++ spec.place_text place test) }
-{
-    match place {
-        Some(place) => put_line_column(text, place.line, place.column),
-        None => {
-            text.extend_from_slice(b"instruction ")?;
-            put_number(text, test)
-        }
-    }
-}
-
 /// The line of an answer, where a loop that it names is at a place of a source text, if one is
 /// given.
 fn bound_line(alloc: Global, place: Option<Place>, found: Bound) -> Result<Vec<u8>, AllocError>
@@ -172,7 +154,13 @@ fn bound_line(alloc: Global, place: Option<Place>, found: Bound) -> Result<Vec<u
         }
         Bound::Endless { test, reason } => {
             text.extend_from_slice(b"no bound: ")?;
-            put_loop(&mut text, place, test)?;
+            match place {
+                Some(place) => put_line_column(&mut text, place.line, place.column)?,
+                None => {
+                    text.extend_from_slice(b"instruction ")?;
+                    put_number(&mut text, test)?;
+                }
+            }
             text.extend_from_slice(b": ")?;
             text.extend_from_slice(reason_text(reason))?;
             text.extend_from_slice(b"\n")?;
@@ -191,13 +179,6 @@ fn bound_line(alloc: Global, place: Option<Place>, found: Bound) -> Result<Vec<u
     }
 }
 
-/// Whether an answer has a number of instructions.
-fn is_bounded(found: Bound) -> bool
-    ensures { result ≡ spec.is_bounded found }
-{
-    matches!(found, Bound::Halts { .. })
-}
-
 /// The answer with this bound and this place of a loop.
 fn answer_of(alloc: Global, place: Option<Place>, found: Bound) -> Result<BoundAnswer, AllocError>
     ensures { IfOk result (λ told. (told.text.items ≡ spec.bound_line place found)
@@ -206,7 +187,7 @@ fn answer_of(alloc: Global, place: Option<Place>, found: Bound) -> Result<BoundA
     let text = bound_line(alloc, place, found)?;
     Ok(BoundAnswer {
         text,
-        is_bounded: is_bounded(found),
+        is_bounded: matches!(found, Bound::Halts { .. }),
         found,
     })
 }
@@ -313,31 +294,24 @@ fn constant(e: &Ex) -> Option<i64> {
 }
 
 /// Adds for each loop of a body, in the order of the text, whether the optimiser keeps it.
-#[cycle(marking)]
 fn mark_all(body: &[Cmd], is_kept: bool, kept: &mut Vec<bool>) -> Result<(), AllocError> {
     for c in body {
-        mark_one(c, is_kept, kept)?;
+        match c {
+            Cmd::Assign { .. } => {}
+            Cmd::If { guard, yes, no } => {
+                let value = constant(guard);
+                mark_all(yes, is_kept && value != Some(0), kept)?;
+                mark_all(no, is_kept && (value.is_none() || value == Some(0)), kept)?;
+            }
+            Cmd::While { guard, body } => {
+                let is_kept = is_kept && constant(guard) != Some(0);
+                kept.push(is_kept)?;
+                mark_all(body, is_kept, kept)?;
+            }
+            Cmd::Letvar { body, .. } => mark_all(body, is_kept, kept)?,
+        }
     }
     Ok(())
-}
-
-/// Adds the same for each loop of a command.
-#[cycle(marking)]
-fn mark_one(c: &Cmd, is_kept: bool, kept: &mut Vec<bool>) -> Result<(), AllocError> {
-    match c {
-        Cmd::Assign { .. } => Ok(()),
-        Cmd::If { guard, yes, no } => {
-            let value = constant(guard);
-            mark_all(yes, is_kept && value != Some(0), kept)?;
-            mark_all(no, is_kept && (value.is_none() || value == Some(0)), kept)
-        }
-        Cmd::While { guard, body } => {
-            let is_kept = is_kept && constant(guard) != Some(0);
-            kept.push(is_kept)?;
-            mark_all(body, is_kept, kept)
-        }
-        Cmd::Letvar { body, .. } => mark_all(body, is_kept, kept),
-    }
 }
 
 /// The places in a text, in bytes, of the loops that the optimiser keeps, in their order.
@@ -363,25 +337,16 @@ fn loop_starts(
     Ok(starts)
 }
 
-/// Whether the instruction at a place tests the guard of a loop.
-fn tests_loop(code: &[Instr], place: usize) -> bool {
-    let Some(Instr::Jz(target)) = code.get(place) else {
-        return false;
-    };
-    let Some(jump) = (*target as usize).checked_sub(1) else {
-        return false;
-    };
-    match code.get(jump) {
-        Some(Instr::Jmp(start)) => *start as usize <= place,
-        _ => false,
-    }
-}
-
-/// The number of loops whose tests are before this place of a code.
+/// The number of loops whose tests are before this place of a code. An instruction tests the guard
+/// of a loop if it jumps past one that jumps back to a place at or before it.
 fn loops_before(code: &[Instr], end: usize) -> usize {
     let mut count = 0;
     for place in 0..end {
-        if tests_loop(code, place) {
+        if let Some(Instr::Jz(target)) = code.get(place)
+            && let Some(jump) = (*target as usize).checked_sub(1)
+            && let Some(Instr::Jmp(start)) = code.get(jump)
+            && *start as usize <= place
+        {
             count += 1;
         }
     }

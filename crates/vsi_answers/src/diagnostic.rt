@@ -1,6 +1,6 @@
 //! A refusal as a value, of whichever layer, and its line.
 
-ghost use Rattle.std.specs.Prelude.{◌≡◌, ◌++◌, IfOk, OnOk, option_map};
+ghost use Rattle.std.specs.Prelude.{◌≡◌, IfOk, option_map};
 ghost use Rattle.vsi_answers.specs.{View.{diagnostic_of, field_of}, Diagnostic.{pair}};
 ghost use Rattle.vsi_answers.specs.Diagnostic as spec;
 ghost use Rattle.vsi_answers.specs.Source as source_spec;
@@ -14,7 +14,7 @@ use vsi_image::{DecodeError, Limit, VerifyError};
 use vsi_lattice::{Class, LatticeError};
 use vsi_scope::ScopeError;
 use vsi_store::{StoreError, ViewError};
-use vsi_syntax::{LexError, ParseError, Span, line_column, put_number};
+use vsi_syntax::{LexError, ParseError, line_column, put_number};
 use vsi_types::Step;
 
 /// The field of a refusal.
@@ -63,42 +63,6 @@ impl<'a> Diagnostic<'a> {
     }
 }
 
-/// Adds a field, after a space.
-fn put_field(text: &mut Vec<u8>, field: Field) -> Result<(), AllocError>
-    ensures { OnOk result
-        (text.new.items ≡ text.old.items ++ spec.field_text (field_of field.entry)) }
-{
-    match field {
-        Field::Nothing => Ok(()),
-        Field::Number(n) => {
-            text.extend_from_slice(b" ")?;
-            put_number(text, n)
-        }
-        Field::Pair(a, b) => {
-            text.extend_from_slice(b" ")?;
-            put_number(text, a)?;
-            text.extend_from_slice(b" ")?;
-            put_number(text, b)
-        }
-        Field::Place(line, column) => {
-            text.extend_from_slice(b" ")?;
-            put_number(text, line)?;
-            text.extend_from_slice(b":")?;
-            put_number(text, column)
-        }
-        Field::Word(word) => {
-            text.extend_from_slice(b" ")?;
-            text.extend_from_slice(word)
-        }
-        Field::Numbered(word, n) => {
-            text.extend_from_slice(b" ")?;
-            text.extend_from_slice(word)?;
-            text.extend_from_slice(b" ")?;
-            put_number(text, n)
-        }
-    }
-}
-
 /// The line of a refusal: `refused: `, its number, its name and its field.
 pub fn line_text(alloc: Global, diagnostic: &Diagnostic) -> Result<Vec<u8>, AllocError>
     ensures line { IfOk result
@@ -108,7 +72,29 @@ pub fn line_text(alloc: Global, diagnostic: &Diagnostic) -> Result<Vec<u8>, Allo
     put_number(&mut text, diagnostic.code)?;
     text.extend_from_slice(b" ")?;
     text.extend_from_slice(diagnostic.name)?;
-    put_field(&mut text, diagnostic.field)?;
+    if !matches!(diagnostic.field, Field::Nothing) {
+        text.extend_from_slice(b" ")?;
+    }
+    match diagnostic.field {
+        Field::Nothing => {}
+        Field::Number(n) => put_number(&mut text, n)?,
+        Field::Pair(a, b) => {
+            put_number(&mut text, a)?;
+            text.extend_from_slice(b" ")?;
+            put_number(&mut text, b)?;
+        }
+        Field::Place(line, column) => {
+            put_number(&mut text, line)?;
+            text.extend_from_slice(b":")?;
+            put_number(&mut text, column)?;
+        }
+        Field::Word(word) => text.extend_from_slice(word)?,
+        Field::Numbered(word, n) => {
+            text.extend_from_slice(word)?;
+            text.extend_from_slice(b" ")?;
+            put_number(&mut text, n)?;
+        }
+    }
     text.extend_from_slice(b"\n")?;
     Ok(text)
 }
@@ -141,35 +127,13 @@ fn refused<'a>(code: usize, name: &'static [u8], field: Field<'a>) -> Option<Dia
     Some(Diagnostic::new(code, name, field))
 }
 
-/// The line and the column of a position in the text.
-fn place_in(text: &[u8], at: usize) -> Field<'static>
-    ensures { field_of result ≡ source_spec.place_in text.now at }
+/// The refusal at a position in the text.
+fn located(code: usize, name: &'static [u8], text: &[u8], at: usize) -> Option<Diagnostic<'static>>
+    ensures { option_map diagnostic_of result
+        ≡ source_spec.refused code name.now (source_spec.place_in text.now at) }
 {
     let (line, column) = line_column(text, at);
-    Field::Place(line, column)
-}
-
-/// The refusal at the beginning of a part of the text.
-fn located(code: usize, name: &'static [u8], text: &[u8], span: Span) -> Option<Diagnostic<'static>>
-    ensures { option_map diagnostic_of result
-        ≡ source_spec.refused code name.now (source_spec.place_in text.now span.start) }
-{
-    refused(code, name, place_in(text, span.start))
-}
-
-/// The refusal for a fault of the scopes, or none if memory ran out.
-fn scoping_diagnostic(text: &[u8], error: ScopeError) -> Option<Diagnostic<'static>>
-    ensures { option_map diagnostic_of result ≡ source_spec.scoping_diagnostic text.now error }
-{
-    match error {
-        ScopeError::Memory => None,
-        ScopeError::Duplicate(span) => located(17, b"Duplicate", text, span),
-        ScopeError::UnknownClass(span) => located(18, b"UnknownClass", text, span),
-        ScopeError::Unbound(span) => located(19, b"Unbound", text, span),
-        ScopeError::TooManyGlobals(span) => located(20, b"TooManyGlobals", text, span),
-        ScopeError::TooManyDeclarations(span) => located(21, b"TooManyDeclarations", text, span),
-        ScopeError::TooLarge => refused(22, b"TooLarge", Field::Nothing),
-    }
+    refused(code, name, Field::Place(line, column))
 }
 
 /// The refusal of a source text, or none if memory ran out. Positions are computed from the source
@@ -181,13 +145,25 @@ pub fn refusal_diagnostic<'a>(source: &[u8], error: &'a CompileError) -> Option<
     match error {
         CompileError::Lex(LexError::Memory) => None,
         CompileError::Lex(LexError::TooLong) => refused(11, b"TooLong", Field::Nothing),
-        CompileError::Lex(LexError::BadByte(at)) => refused(12, b"BadByte", place_in(source, *at)),
-        CompileError::Lex(LexError::BadWord(at)) => located(13, b"BadWord", source, *at),
-        CompileError::Lex(LexError::BadNumber(at)) => located(14, b"BadNumber", source, *at),
+        CompileError::Lex(LexError::BadByte(at)) => located(12, b"BadByte", source, *at),
+        CompileError::Lex(LexError::BadWord(at)) => located(13, b"BadWord", source, at.start),
+        CompileError::Lex(LexError::BadNumber(at)) => located(14, b"BadNumber", source, at.start),
         CompileError::Parse(ParseError::Memory) => None,
-        CompileError::Parse(ParseError::Unexpected(at)) => located(15, b"Unexpected", source, *at),
-        CompileError::Parse(ParseError::TooDeep(at)) => located(16, b"TooDeep", source, *at),
-        CompileError::Scope(inner) => scoping_diagnostic(source, *inner),
+        CompileError::Parse(ParseError::Unexpected(at)) => {
+            located(15, b"Unexpected", source, at.start)
+        }
+        CompileError::Parse(ParseError::TooDeep(at)) => located(16, b"TooDeep", source, at.start),
+        CompileError::Scope(inner) => match inner {
+            ScopeError::Memory => None,
+            ScopeError::Duplicate(at) => located(17, b"Duplicate", source, at.start),
+            ScopeError::UnknownClass(at) => located(18, b"UnknownClass", source, at.start),
+            ScopeError::Unbound(at) => located(19, b"Unbound", source, at.start),
+            ScopeError::TooManyGlobals(at) => located(20, b"TooManyGlobals", source, at.start),
+            ScopeError::TooManyDeclarations(at) => {
+                located(21, b"TooManyDeclarations", source, at.start)
+            }
+            ScopeError::TooLarge => refused(22, b"TooLarge", Field::Nothing),
+        },
         CompileError::Flow(walk) => Some(Diagnostic {
             code: 25,
             name: b"Refused",
@@ -224,26 +200,23 @@ fn lattice_diagnostic(error: LatticeError) -> Option<Diagnostic<'static>>
     }
 }
 
-/// The part of an image that has no bytes.
-fn limit_field(limit: Limit) -> Field<'static>
-    ensures { field_of result ≡ files_spec.limit_field limit }
-{
-    match limit {
-        Limit::Globals => Field::Word(b"Globals"),
-        Limit::Slots => Field::Word(b"Slots"),
-        Limit::Stack => Field::Word(b"Stack"),
-        Limit::Count => Field::Word(b"Count"),
-        Limit::Name(i) => Field::Numbered(b"Name", i),
-        Limit::Class(i) => Field::Numbered(b"Class", i),
-    }
-}
-
 /// The refusal of an image that isn't valid.
 fn verify_diagnostic(error: VerifyError) -> Option<Diagnostic<'static>>
     ensures { option_map diagnostic_of result ≡ files_spec.verify_diagnostic error }
 {
     match error {
-        VerifyError::Unencodable(limit) => refused(26, b"Unencodable", limit_field(limit)),
+        VerifyError::Unencodable(limit) => {
+            // The part of an image that has no bytes.
+            let part = match limit {
+                Limit::Globals => Field::Word(b"Globals"),
+                Limit::Slots => Field::Word(b"Slots"),
+                Limit::Stack => Field::Word(b"Stack"),
+                Limit::Count => Field::Word(b"Count"),
+                Limit::Name(i) => Field::Numbered(b"Name", i),
+                Limit::Class(i) => Field::Numbered(b"Class", i),
+            };
+            refused(26, b"Unencodable", part)
+        }
         VerifyError::BadSlot(pc) => refused(33, b"BadSlot", Field::Number(pc)),
         VerifyError::BadTarget(pc) => refused(34, b"BadTarget", Field::Number(pc)),
         VerifyError::Underflow(pc) => refused(35, b"Underflow", Field::Number(pc)),
@@ -253,28 +226,21 @@ fn verify_diagnostic(error: VerifyError) -> Option<Diagnostic<'static>>
     }
 }
 
-/// The refusal of bytes that aren't an image, or none if memory ran out.
-fn decode_diagnostic(error: DecodeError) -> Option<Diagnostic<'static>>
-    ensures { option_map diagnostic_of result ≡ files_spec.decode_diagnostic error }
-{
-    match error {
-        DecodeError::Memory => None,
-        DecodeError::BadMagic => refused(27, b"BadMagic", Field::Nothing),
-        DecodeError::BadVersion => refused(28, b"BadVersion", Field::Nothing),
-        DecodeError::BadField(at) => refused(29, b"BadField", Field::Number(at)),
-        DecodeError::BadOpcode(at) => refused(30, b"BadOpcode", Field::Number(at)),
-        DecodeError::Truncated(at) => refused(31, b"Truncated", Field::Number(at)),
-        DecodeError::Trailing(at) => refused(32, b"Trailing", Field::Number(at)),
-    }
-}
-
 /// The refusal of a lattice file, an image, a store file or a view, or none if memory ran out.
 pub fn fault_diagnostic(fault: &Fault) -> Option<Diagnostic>
     ensures refusal { option_map diagnostic_of result ≡ files_spec.fault_diagnostic fault.now }
 {
     match fault {
         Fault::Lattice(error) => lattice_diagnostic(*error),
-        Fault::Decode(error) => decode_diagnostic(*error),
+        Fault::Decode(error) => match error {
+            DecodeError::Memory => None,
+            DecodeError::BadMagic => refused(27, b"BadMagic", Field::Nothing),
+            DecodeError::BadVersion => refused(28, b"BadVersion", Field::Nothing),
+            DecodeError::BadField(at) => refused(29, b"BadField", Field::Number(*at)),
+            DecodeError::BadOpcode(at) => refused(30, b"BadOpcode", Field::Number(*at)),
+            DecodeError::Truncated(at) => refused(31, b"Truncated", Field::Number(*at)),
+            DecodeError::Trailing(at) => refused(32, b"Trailing", Field::Number(*at)),
+        },
         Fault::Verify(error) => verify_diagnostic(*error),
         Fault::Store(StoreError::Memory) => None,
         Fault::Store(StoreError::NotToml) => refused(40, b"NotToml", Field::Nothing),

@@ -22,20 +22,16 @@ struct Opened {
     start: usize,
 }
 
-/// The bytes of the line of a byte that are before it.
-fn line_before(text: &[u8], at: usize) -> &[u8] {
+/// The bytes of the line of a byte that are before it, and the blanks with which these begin.
+fn line_before(text: &[u8], at: usize) -> (&[u8], &[u8]) {
     let before = text.get(..at).unwrap_or(b"");
     let line = before.iter().rev().take_while(|byte| **byte != b'\n');
     let start = at.saturating_sub(line.count());
-    text.get(start..at).unwrap_or(b"")
-}
-
-/// The blanks at the beginning of a line.
-fn indent(line: &[u8]) -> &[u8] {
+    let line = text.get(start..at).unwrap_or(b"");
     let blanks = line
         .iter()
         .take_while(|byte| matches!(**byte, b' ' | b'\t'));
-    line.get(..blanks.count()).unwrap_or(b"")
+    (line, line.get(..blanks.count()).unwrap_or(b""))
 }
 
 /// The number of things up to and including the last one of a frame.
@@ -47,13 +43,13 @@ fn count_to(open: &[Opened], frame: Frame) -> usize {
 /// The warning about a command that begins its line at a token right of a loop or an `if` that ends
 /// there: the line is indented as if the innermost of these had the command.
 fn warning_at(text: &[u8], span: Span, open: &[Opened]) -> Option<Warning> {
-    let own = line_before(text, span.start);
-    if indent(own).len() < own.len() {
+    let (own, blanks) = line_before(text, span.start);
+    if blanks.len() < own.len() {
         return None;
     }
     let mut found = None;
     for opened in open {
-        let outer = indent(line_before(text, opened.start));
+        let (_, outer) = line_before(text, opened.start);
         let is_right = outer.len() < own.len() && own.starts_with(outer);
         match opened.frame {
             Frame::Brace => found = None,

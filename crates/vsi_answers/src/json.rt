@@ -1,8 +1,8 @@
 //! A refusal as a line of JSON.
 
-ghost use Rattle.std.specs.Prelude.{◌≡◌, ◌++◌, ℕ, List, map, option_map, IfOk, OnOk, false};
+ghost use Rattle.std.specs.Prelude.{◌≡◌, map, option_map, IfOk};
 ghost use Rattle.serde_json.specs.View.{members_view, view};
-ghost use Rattle.vsi_answers.specs.View.{diagnostic_of, field_of};
+ghost use Rattle.vsi_answers.specs.View.{diagnostic_of};
 ghost use Rattle.vsi_answers.specs.Json as spec;
 ghost use Rattle.vsi_answers.specs.Members as members_spec;
 
@@ -12,54 +12,29 @@ use std::alloc::{AllocError, Global};
 use vsi_compiler::{CompileError, Source, read_source};
 use vsi_infer::{rule_text, variable_name};
 use vsi_lattice::Lattice;
-use vsi_scope::Resolved;
 use vsi_syntax::line_column;
 use vsi_types::Step;
 
-/// The object of a step: the position where its source is read, its rule, and the names of both
-/// ends.
-fn step_object(
-    alloc: Global,
-    source: &[u8],
-    program: &Resolved<'_>,
-    step: &Step,
-) -> Result<Object, AllocError>
-    ensures { IfOk result (λ made. members_view made
-        ≡ spec.step_members source.now program.now step.now) }
-{
-    let (line, column) = line_column(source, step.read.start);
-    Object::new(alloc)
-        .natural("line", line)?
-        .natural("column", column)?
-        .text("kind", rule_text(step.rule))?
-        .text("from", variable_name(program, step.source))?
-        .text("to", variable_name(program, step.target))
-}
-
-/// The objects of steps, in their order.
-fn step_objects(
-    alloc: Global,
-    source: &[u8],
-    program: &Resolved<'_>,
-    steps: &[Step],
-) -> Result<Objects, AllocError>
-    ensures { IfOk result (λ found. map view found
-        ≡ spec.step_objects source.now program.now steps.now) }
-{
-    let mut found = Objects::new(alloc);
-    for step in steps {
-        found.push(step_object(alloc, source, program, step)?)?;
-    }
-    Ok(found)
-}
-
-/// The objects of the steps of a walk, by the names of the program of a source text.
+/// The objects of the steps of a walk, in their order, by the names of the program of a source
+/// text: the position where the source of a step is read, its rule, and the names of both ends.
 fn source_objects(alloc: Global, source: &Source<'_>, steps: &[Step]) -> Result<Objects, AllocError>
     ensures { IfOk result (λ found.
         spec.NamesWalk source.now.lattice source.now.text steps.now (map view found)) }
 {
+    let program = source.resolved();
     let text = source.text();
-    step_objects(alloc, text, source.resolved(), steps)
+    let mut found = Objects::new(alloc);
+    for step in steps {
+        let (line, column) = line_column(text, step.read.start);
+        let made = Object::new(alloc)
+            .natural("line", line)?
+            .natural("column", column)?
+            .text("kind", rule_text(step.rule))?
+            .text("from", variable_name(program, step.source))?
+            .text("to", variable_name(program, step.target))?;
+        found.push(made)?;
+    }
+    Ok(found)
 }
 
 /// The same for a text, which may have no program; then there is no object.
@@ -79,24 +54,6 @@ fn walk_objects(
     }
 }
 
-impl Object {
-    ghost use Rattle.std.specs.Prelude.{◌≡◌, IfOk};
-    ghost use Rattle.serde_json.specs.View.{members_view};
-    ghost use Rattle.vsi_answers.specs.{Json.{with_place}, View.{field_of}};
-
-    /// The object with the line and the column of a refusal that has a position.
-    fn place(self, field: Field) -> Result<Object, AllocError>
-        ensures { IfOk result (λ made.
-            members_view made ≡ with_place (field_of field.entry) (members_view self)) }
-    {
-        match field {
-            Field::Place(line, column) => self.natural("line", line)?.natural("column", column),
-            Field::Nothing | Field::Number(_) | Field::Pair(_, _) => Ok(self),
-            Field::Word(_) | Field::Numbered(_, _) => Ok(self),
-        }
-    }
-}
-
 /// The object of a refusal with these lines, and with the objects of the steps of a flow.
 pub fn refusal_object(
     alloc: Global,
@@ -111,8 +68,11 @@ pub fn refusal_object(
     let made = Object::new(alloc)
         .flag("accepted", false)?
         .natural("number", diagnostic.code)?
-        .text("name", diagnostic.name)?
-        .place(diagnostic.field)?;
+        .text("name", diagnostic.name)?;
+    let made = match diagnostic.field {
+        Field::Place(line, column) => made.natural("line", line)?.natural("column", column)?,
+        _ => made,
+    };
     let made = match steps {
         Some(steps) => made.array("steps", steps)?,
         None => made,

@@ -6,20 +6,10 @@
 
 ghost use Rattle.std.specs.Prelude.{◌≡◌, IfOk, OnOk};
 ghost use Rattle.vsi_scope.specs.View.{command, expression, sequence};
-ghost use Rattle.vsi_answers.specs.{Stamps.{IsWalked, reads_above, stamp, stamped}, Warned.{unchanged}};
+ghost use Rattle.vsi_answers.specs.{Stamps.{IsWalked, reads_above, stamped}, Warned.{unchanged}};
 
 use std::alloc::{AllocError, Global};
 use vsi_scope::{Cmd, Ex, Resolved};
-
-/// The stamp of a location, or 0 if it has none.
-fn stamp(stamps: &[usize], location: u16) -> usize
-    ensures { result ≡ stamp stamps.now location }
-{
-    match stamps.get(location as usize) {
-        Some(stamp) => *stamp,
-        None => 0,
-    }
-}
 
 /// Stamps a location.
 fn put_stamp(stamps: &mut Vec<usize>, location: u16, stamp: usize) -> Result<(), AllocError>
@@ -34,13 +24,17 @@ fn put_stamp(stamps: &mut Vec<usize>, location: u16, stamp: usize) -> Result<(),
     Ok(stamps.push(stamp)?)
 }
 
-/// Whether an expression reads a location with a stamp above this one.
+/// Whether an expression reads a location with a stamp above this one, where a location without a
+/// stamp has 0.
 fn reads_above(e: &Ex, stamps: &[usize], begun: usize) -> bool
     ensures { result ≡ reads_above stamps.now begun (expression e.now) }
 {
     match e {
         Ex::Num(_) => false,
-        Ex::Loc(read, _) => begun < stamp(stamps, *read),
+        Ex::Loc(read, _) => match stamps.get(*read as usize) {
+            Some(stamp) => begun < *stamp,
+            None => false,
+        },
         Ex::Op(_, a, b) => reads_above(a, stamps, begun) || reads_above(b, stamps, begun),
     }
 }

@@ -94,43 +94,35 @@ fn put_comparisons(e: &Ex, chained: &mut Vec<bool>) -> Result<(), AllocError> {
 }
 
 /// Walks over a list of commands.
-#[cycle(walk)]
 fn walk_all(body: &[Cmd], found: &mut Found<'_>) -> Result<(), AllocError> {
     for c in body {
-        walk_one(c, found)?;
+        match c {
+            Cmd::Assign { span, value, .. } => {
+                found.assigned.push(*span)?;
+                put_comparisons(value, &mut found.chained)?;
+            }
+            Cmd::If { guard, yes, no } => {
+                put_comparisons(guard, &mut found.chained)?;
+                walk_all(yes, found)?;
+                walk_all(no, found)?;
+            }
+            Cmd::While { guard, body } => {
+                put_comparisons(guard, &mut found.chained)?;
+                walk_all(body, found)?;
+            }
+            Cmd::Letvar { value, body } => {
+                put_comparisons(value, &mut found.chained)?;
+                let outside = found.names.len();
+                if let Some(name) = found.letvars.get(found.hiding.len()).copied() {
+                    found.hiding.push(found.names.contains(&name))?;
+                    found.names.push(name)?;
+                }
+                walk_all(body, found)?;
+                found.names.truncate(outside);
+            }
+        }
     }
     Ok(())
-}
-
-/// Walks over a command.
-#[cycle(walk)]
-fn walk_one(c: &Cmd, found: &mut Found<'_>) -> Result<(), AllocError> {
-    match c {
-        Cmd::Assign { span, value, .. } => {
-            found.assigned.push(*span)?;
-            put_comparisons(value, &mut found.chained)
-        }
-        Cmd::If { guard, yes, no } => {
-            put_comparisons(guard, &mut found.chained)?;
-            walk_all(yes, found)?;
-            walk_all(no, found)
-        }
-        Cmd::While { guard, body } => {
-            put_comparisons(guard, &mut found.chained)?;
-            walk_all(body, found)
-        }
-        Cmd::Letvar { value, body } => {
-            put_comparisons(value, &mut found.chained)?;
-            let outside = found.names.len();
-            if let Some(name) = found.letvars.get(found.hiding.len()).copied() {
-                found.hiding.push(found.names.contains(&name))?;
-                found.names.push(name)?;
-            }
-            walk_all(body, found)?;
-            found.names.truncate(outside);
-            Ok(())
-        }
-    }
 }
 
 /// The findings of a walk over a program, in the order of its text.
@@ -170,21 +162,6 @@ fn parts_of(alloc: Global, tokens: &[Token<'_>], kinds: &[Kind]) -> Result<Vec<S
     tokens.map(|token| token.span).collect(alloc)
 }
 
-/// Adds the warnings about the assignments that aren't among those that are kept, in their order.
-fn put_removed(found: &mut Vec<Warning>, all: &[Span], kept: &[Span]) -> Result<(), AllocError> {
-    let mut rest = kept;
-    for span in all {
-        match rest {
-            [first, more @ ..] if *first == *span => rest = more,
-            _ => found.push(Warning {
-                sentence: REMOVED_ASSIGNMENT,
-                span: *span,
-            })?,
-        }
-    }
-    Ok(())
-}
-
 /// Adds the warnings about the commands and the letvars of a program.
 fn put_program(
     alloc: Global,
@@ -195,25 +172,28 @@ fn put_program(
     let program = source.resolved();
     let walked = walk(alloc, program)?;
     let parts = parts_of(alloc, tokens, &[Kind::While])?;
-    put(
-        found,
-        UNCHANGED_GUARD,
-        &parts,
-        &unchanged_guards(alloc, program)?,
-    )?;
+    let unchanged = unchanged_guards(alloc, program)?;
+    put(found, UNCHANGED_GUARD, &parts, &unchanged)?;
     let parts = parts_of(alloc, tokens, &[Kind::Equal, Kind::Less])?;
     put(found, CHAINED_COMPARISON, &parts, &walked.chained)?;
     let letvars = program.letvars().iter().map(|entry| entry.span);
     let parts: Vec<Span> = letvars.collect(alloc)?;
-    put(
-        found,
-        UNREAD_LETVAR,
-        &parts,
-        &unread_letvars(alloc, program)?,
-    )?;
+    let unread = unread_letvars(alloc, program)?;
+    put(found, UNREAD_LETVAR, &parts, &unread)?;
     put(found, HIDING_LETVAR, &parts, &walked.hiding)?;
+    // The optimiser keeps the order of the assignments that it doesn't remove.
     let kept = walk(alloc, &optimise(alloc, program)?)?;
-    put_removed(found, &walked.assigned, &kept.assigned)
+    let mut rest = kept.assigned.as_slice();
+    for span in &walked.assigned {
+        match rest {
+            [first, more @ ..] if *first == *span => rest = more,
+            _ => found.push(Warning {
+                sentence: REMOVED_ASSIGNMENT,
+                span: *span,
+            })?,
+        }
+    }
+    Ok(())
 }
 
 /// The warnings about a text, in the order of the parts to which they point.

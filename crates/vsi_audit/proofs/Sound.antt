@@ -133,9 +133,3 @@ in_room code from to n limit scope blocks l s b p q r v =
     subst (λ k. Readable code k from to s b n) (sym p)
     (subst (λ k. Readable code limit from to k b n) (sym q)
     (subst (λ k. Readable code limit from to scope k n) (sym r) v))
-
--- A command that was read in a room was read in an equal one.
-pub of_room : (code : List Instr) (from to limit scope l s : ℕ) (c : Command) → l ≡ limit → s ≡ scope →
-    IsRead code l s from to c → IsRead code limit scope from to c
-of_room code from to limit scope l s c p q v =
-    subst (λ k. IsRead code k scope from to c) p (subst (λ k. IsRead code l k from to c) q v)

@@ -6,22 +6,6 @@ use Rattle.vsi_audit.specs.Reading.{Goes}
 use Rattle.vsi_audit.specs.declared.lasting.Step.{Step}
 use Rattle.vsi_audit.specs.declared.lasting.Step.TheVariants as step
 
--- A store to this slot is this step.
-abbrev pub IsStore : ℕ → ℕ → ℕ → Step → Type 0
-IsStore slot limit scope (step.Assign l) = (slot ≡ l) × (l < scope)
-IsStore slot limit scope step.Letvar = (slot ≡ scope) × (scope < limit)
-IsStore slot limit scope (step.Part jump join) = ⊥
-IsStore slot limit scope step.Stuck = (slot < scope → ⊥) × (slot ≡ scope → scope < limit → ⊥)
-
--- A jump on 0 to this target is this step.
-abbrev pub IsPart : List Instr → ℕ → ℕ → Step → Type 0
-IsPart code target blocks (step.Assign l) = ⊥
-IsPart code target blocks step.Letvar = ⊥
-IsPart code target blocks (step.Part jump join) =
-    (target ≡ jump + 1) × (slice_get code jump ≡ Some (i.Jmp join)) × (0 < blocks)
-IsPart code target blocks step.Stuck =
-    (jump join : ℕ) → target ≡ jump + 1 → slice_get code jump ≡ Some (i.Jmp join) → 0 < blocks → ⊥
-
 -- The code has this step at a place.
 abbrev pub IsStep : List Instr → ℕ → ℕ → ℕ → ℕ → Step → Type 0
 IsStep code limit stop scope blocks (step.Assign l) = (slice_get code stop ≡ Some (i.Store l)) × (l < scope)

@@ -172,19 +172,6 @@ fn with_commands<'a>(
     }
 }
 
-/// The difference between two images: at an instruction, or in other fields.
-fn difference(made: &Image, image: &Image) -> Unread {
-    for place in 0..made.code.len() {
-        if made.code.get(place) != image.code.get(place) {
-            return Unread::At(place);
-        }
-    }
-    if made.code.len() < image.code.len() {
-        return Unread::At(made.code.len());
-    }
-    Unread::Fields
-}
-
 /// The bytes of an image.
 fn bytes_of(alloc: Global, image: &Image) -> Result<Vec<u8>, Unread>
     ensures { IfOk result (λ bytes. Spells bytes.items (fields image.now)) }
@@ -196,28 +183,30 @@ fn bytes_of(alloc: Global, image: &Image) -> Result<Vec<u8>, Unread>
     }
 }
 
-/// Whether two images have the same fields, by their bytes.
-fn are_alike(alloc: Global, made: &Image, image: &Image) -> Result<bool, Unread>
-    ensures { IfOk result (λ alike. alike ≡ true → fields made.now ≡ fields image.now) }
-{
-    let first = bytes_of(alloc, made)?;
-    let second = bytes_of(alloc, image)?;
-    Ok(first.as_slice() == second.as_slice())
-}
-
-/// Compares the image of a program with an image.
+/// Compares the image of a program with an image, by the bytes of their fields. An error names an
+/// instruction that differs, or says that other fields do.
 fn compare(alloc: Global, program: &Resolved<'_>, image: &Image) -> Result<(), Unread>
     ensures stands { OnOk result (StandsFor program.now image.now) }
     ensures behaves { OnOk result
         (Behaves (length program.now.globals) (sequence program.now.body) image.now) }
 {
-    let made = generate(alloc, program)?;
-    let is_alike = are_alike(alloc, made.image(), image)?;
+    let verified = generate(alloc, program)?;
+    let made = verified.image();
+    let first = bytes_of(alloc, made)?;
+    let second = bytes_of(alloc, image)?;
+    let is_alike = first.as_slice() == second.as_slice();
     if is_alike {
-        Ok(())
-    } else {
-        Err(difference(made.image(), image))
+        return Ok(());
     }
+    for place in 0..made.code.len() {
+        if made.code.get(place) != image.code.get(place) {
+            return Err(Unread::At(place));
+        }
+    }
+    if made.code.len() < image.code.len() {
+        return Err(Unread::At(made.code.len()));
+    }
+    Err(Unread::Fields)
 }
 
 /// The program with the commands that the search reads back from an image's code.

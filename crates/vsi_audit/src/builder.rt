@@ -72,20 +72,8 @@ pub(crate) fn commands_of(alloc: Global, image: &Image) -> Result<Commands, Unre
 fn build(alloc: Global, image: &Image, ends_early: bool) -> Result<Commands, Unread> {
     let globals = image.globals.len().min(256) as u16;
     let events = events_of(alloc, &image.code)?;
-    let needs = needs_of(alloc, globals, &events)?;
-    let mut builder = builder_of(alloc, globals, ends_early);
-    put_events(&mut builder, alloc, events, needs)?;
-    end_letvars(&mut builder, globals)?;
-    let Builder { letvars, done, .. } = builder;
-    Ok(Commands {
-        letvars,
-        body: done,
-    })
-}
-
-/// A builder without commands, over this many globals.
-fn builder_of(alloc: Global, globals: u16, ends_early: bool) -> Builder {
-    Builder {
+    let mut needs = needs_of(alloc, globals, &events)?;
+    let mut builder = Builder {
         locals: Vec::new(alloc),
         frames: Vec::new(alloc),
         done: Vec::new(alloc),
@@ -93,24 +81,21 @@ fn builder_of(alloc: Global, globals: u16, ends_early: bool) -> Builder {
         scope: globals,
         floor: globals,
         ends_early,
-    }
-}
-
-/// Adds events, with the needs at each of them in reverse order.
-fn put_events(
-    builder: &mut Builder,
-    alloc: Global,
-    events: Vec<Event>,
-    mut needs: Vec<Need>,
-) -> Result<(), Unread> {
+    };
     for event in events {
+        // The needs are in reverse order.
         let need = needs.pop().unwrap_or(Need {
             scope: 0,
             begins: false,
         });
-        put_event(builder, alloc, need, event)?;
+        put_event(&mut builder, alloc, need, event)?;
     }
-    Ok(())
+    end_letvars(&mut builder, globals)?;
+    let Builder { letvars, done, .. } = builder;
+    Ok(Commands {
+        letvars,
+        body: done,
+    })
 }
 
 /// Adds an event.
@@ -132,9 +117,26 @@ fn put_event(builder: &mut Builder, alloc: Global, need: Need, event: Event) -> 
             ..
         } => {
             begin(builder, need, place, reads)?;
-            begin_part(builder, alloc, place, guard)
+            have_room(builder, place)?;
+            let before = mem::replace(&mut builder.done, Vec::new(alloc));
+            let yes = Vec::new(alloc);
+            let floor = mem::replace(&mut builder.floor, builder.scope);
+            Ok(
+                builder.frames.push(Frame {
+                    guard,
+                    yes,
+                    before,
+                    floor,
+                })?,
+            )
         }
-        Event::Else => begin_second(builder, alloc),
+        Event::Else => {
+            end_letvars(builder, 0)?;
+            if let Some(frame) = builder.frames.last_mut() {
+                frame.yes = mem::replace(&mut builder.done, Vec::new(alloc));
+            }
+            Ok(())
+        }
         Event::End(part) => end_part(builder, part),
     }
 }
@@ -158,20 +160,6 @@ fn have_room(builder: &Builder, place: usize) -> Result<(), Unread> {
     Ok(())
 }
 
-/// Begins a conditional or a loop.
-fn begin_part(builder: &mut Builder, alloc: Global, place: usize, guard: Ex) -> Result<(), Unread> {
-    have_room(builder, place)?;
-    let frame = Frame {
-        guard,
-        yes: Vec::new(alloc),
-        before: mem::replace(&mut builder.done, Vec::new(alloc)),
-        floor: builder.floor,
-    };
-    builder.floor = builder.scope;
-    builder.frames.push(frame)?;
-    Ok(())
-}
-
 /// Adds a store: a `letvar` if it may begin one and its slot is the next one, otherwise an
 /// assignment.
 fn put_store(
@@ -183,7 +171,12 @@ fn put_store(
     value: Ex,
 ) -> Result<(), Unread> {
     if begins && slot == builder.scope {
-        return begin_letvar(builder, alloc, place, value);
+        have_room(builder, place)?;
+        let before = mem::replace(&mut builder.done, Vec::new(alloc));
+        builder.locals.push(Local { value, before })?;
+        builder.letvars.push(place)?;
+        builder.scope = builder.scope.saturating_add(1);
+        return Ok(());
     }
     if slot >= builder.scope {
         return Err(Unread::At(place));
@@ -196,46 +189,16 @@ fn put_store(
     Ok(())
 }
 
-/// Begins a `letvar`.
-fn begin_letvar(
-    builder: &mut Builder,
-    alloc: Global,
-    place: usize,
-    value: Ex,
-) -> Result<(), Unread> {
-    have_room(builder, place)?;
-    let before = mem::replace(&mut builder.done, Vec::new(alloc));
-    builder.locals.push(Local { value, before })?;
-    builder.letvars.push(place)?;
-    builder.scope = builder.scope.saturating_add(1);
-    Ok(())
-}
-
 /// Ends the `letvar`s of the innermost branch or body whose slots are this one or above.
 fn end_letvars(builder: &mut Builder, scope: u16) -> Result<(), Unread> {
     let keep = scope.max(builder.floor);
     for _ in keep..builder.scope {
-        end_letvar(builder)?;
-    }
-    Ok(())
-}
-
-/// Ends the innermost `letvar`.
-fn end_letvar(builder: &mut Builder) -> Result<(), Unread> {
-    let Some(Local { value, before }) = builder.locals.pop() else {
-        return Ok(());
-    };
-    let body = mem::replace(&mut builder.done, before);
-    builder.scope = builder.scope.saturating_sub(1);
-    builder.done.push(Cmd::Letvar { value, body })?;
-    Ok(())
-}
-
-/// Ends the first branch of a conditional, and begins the second.
-fn begin_second(builder: &mut Builder, alloc: Global) -> Result<(), Unread> {
-    end_letvars(builder, 0)?;
-    if let Some(frame) = builder.frames.last_mut() {
-        frame.yes = mem::replace(&mut builder.done, Vec::new(alloc));
+        let Some(Local { value, before }) = builder.locals.pop() else {
+            return Ok(());
+        };
+        let body = mem::replace(&mut builder.done, before);
+        builder.scope = builder.scope.saturating_sub(1);
+        builder.done.push(Cmd::Letvar { value, body })?;
     }
     Ok(())
 }
@@ -254,18 +217,13 @@ fn end_part(builder: &mut Builder, part: Part) -> Result<(), Unread> {
     } = frame;
     builder.floor = floor;
     let last = mem::replace(&mut builder.done, before);
-    builder.done.push(ended(part, guard, yes, last))?;
-    Ok(())
-}
-
-/// The command of a part of the code, made of its branches or its body.
-fn ended(part: Part, guard: Ex, yes: Vec<Cmd>, last: Vec<Cmd>) -> Cmd {
-    match part {
+    builder.done.push(match part {
         Part::If => Cmd::If {
             guard,
             yes,
             no: last,
         },
         Part::While => Cmd::While { guard, body: last },
-    }
+    })?;
+    Ok(())
 }

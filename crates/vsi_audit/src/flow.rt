@@ -103,22 +103,6 @@ fn put_name(out: &mut Vec<u8>, names: &Names<'_>, variable: Var) -> Result<(), A
     names.put_variable(out, variable.0)
 }
 
-/// Adds the name of a variable's class.
-fn put_class(
-    out: &mut Vec<u8>,
-    lattice: &Lattice,
-    names: &Names<'_>,
-    variable: Var,
-) -> Result<(), AllocError>
-    ensures { OnOk result (out.new.items ≡ out.old.items ++
-        spec.class_of lattice.now (fields.globals names.now.globals.now) variable) }
-{
-    if variable == LOOP {
-        return out.extend_from_slice(lattice.name(lattice.bottom()));
-    }
-    names.put_class(out, variable.0)
-}
-
 /// Adds the name of a variable and the name of its class.
 fn put_variable(
     out: &mut Vec<u8>,
@@ -132,7 +116,10 @@ fn put_variable(
 {
     put_name(out, names, variable)?;
     out.extend_from_slice(b" : ")?;
-    put_class(out, lattice, names, variable)
+    if variable == LOOP {
+        return out.extend_from_slice(lattice.name(lattice.bottom()));
+    }
+    names.put_class(out, variable.0)
 }
 
 /// Adds the line of a step.

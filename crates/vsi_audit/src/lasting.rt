@@ -1,13 +1,12 @@
 //! Reads commands back from their code. Each letvar lasts to the end of its branch or body, so the
 //! code alone decides how it is read.
 
-ghost use Rattle.std.specs.Prelude.{◌≡◌, ℕ, [], ◌∷◌, ◌+◌, ◌-◌, ◌<◌, ◌≤◌, None, Some, true, IfSome, IfOk, IfErr, length, slice_get};
+ghost use Rattle.std.specs.Prelude.{◌≡◌, ℕ, ◌+◌, ◌-◌, ◌<◌, ◌≤◌, None, Some, true, IfSome, IfOk, IfErr, length, slice_get};
 ghost use Rattle.vsi_scope.specs.{Language.{expression_size, letvars}, View.{expression, command, sequence}};
 ghost use Rattle.vsi_syntax.specs.declared.tree.Op.{Op as Operator};
 ghost use Rattle.vsi_code.specs.Layout.{expression_code};
-ghost use Rattle.vsi_audit.specs.{Coding.{StandsAt}, Fitting.{FitsExpression}, Reading.{IsStop, IsValue, Readable, Begins, IsRead, Leaves}, Unread.{AreRead, IsUnread}, Steps.{IsStep, IsStore, IsPart}, declared.flow.Unread.TheVariants.{Memory}};
+ghost use Rattle.vsi_audit.specs.{Coding.{StandsAt}, Fitting.{FitsExpression}, Reading.{IsStop, IsValue, Readable, Begins, IsRead, Leaves}, Unread.{AreRead, IsUnread}, Steps.{IsStep}, declared.flow.Unread.TheVariants.{Memory}};
 ghost use Rattle.vsi_image.specs.Valid.{IsValid};
-ghost use Rattle.vsi_image.specs.declared.instr.Instr.TheVariants as kinds;
 ghost use Rattle.vsi_code.specs.Layout as layout;
 ghost use Rattle.vsi_audit.specs.Reading as reading;
 
@@ -29,34 +28,6 @@ pub(crate) struct Room {
     pub scope: u16,
     pub limit: u16,
     pub blocks: u16,
-}
-
-/// The room of a letvar's body.
-fn above(room: Room) -> Room
-    requires { room.scope < room.limit }
-    ensures scope { result.scope ≡ room.scope + 1 }
-    ensures limit { result.limit ≡ room.limit }
-    ensures blocks { result.blocks ≡ room.blocks }
-{
-    Room {
-        scope: room.scope + 1,
-        limit: room.limit,
-        blocks: room.blocks,
-    }
-}
-
-/// The room of a branch or of a loop's body.
-fn inside(room: Room) -> Room
-    requires { 0 < room.blocks }
-    ensures scope { result.scope ≡ room.scope }
-    ensures limit { result.limit ≡ room.limit }
-    ensures blocks { result.blocks ≡ room.blocks - 1 }
-{
-    Room {
-        scope: room.scope,
-        limit: room.limit,
-        blocks: room.blocks - 1,
-    }
 }
 
 /// The instruction at a place.
@@ -207,47 +178,32 @@ fn step_of(code: &[Instr], stop: usize, room: Room) -> Step
         return Step::Stuck;
     };
     match instr {
-        Instr::Store(slot) => store_of(slot, room),
-        Instr::Jz(target) => part_of(code, target as usize, room),
-        _ => Step::Stuck,
-    }
-}
-
-/// The step of a store to a slot.
-fn store_of(slot: u16, room: Room) -> Step
-    ensures { IsStore slot room.limit room.scope result }
-{
-    if slot < room.scope {
-        return Step::Assign(slot);
-    }
-    if slot > room.scope {
-        return Step::Stuck;
-    }
-    if room.scope < room.limit {
-        Step::Letvar
-    } else {
-        Step::Stuck
-    }
-}
-
-/// The step of a jump on 0 to a target.
-fn part_of(code: &[Instr], target: usize, room: Room) -> Step
-    ensures { IsPart code.now target room.blocks result }
-{
-    if room.blocks == 0 {
-        return Step::Stuck;
-    }
-    let Some(jump) = target.checked_sub(1) else {
-        return Step::Stuck;
-    };
-    let Some(instr) = instr_at(code, jump) else {
-        return Step::Stuck;
-    };
-    match instr {
-        Instr::Jmp(join) => Step::Part {
-            jump,
-            join: join as usize,
-        },
+        Instr::Store(slot) => {
+            if slot < room.scope {
+                return Step::Assign(slot);
+            }
+            if slot > room.scope {
+                return Step::Stuck;
+            }
+            if room.scope < room.limit {
+                Step::Letvar
+            } else {
+                Step::Stuck
+            }
+        }
+        Instr::Jz(target) => {
+            if room.blocks == 0 {
+                return Step::Stuck;
+            }
+            let Some(jump) = (target as usize).checked_sub(1) else {
+                return Step::Stuck;
+            };
+            let Some(Instr::Jmp(join)) = instr_at(code, jump) else {
+                return Step::Stuck;
+            };
+            let join = join as usize;
+            Step::Part { jump, join }
+        }
         _ => Step::Stuck,
     }
 }
@@ -313,38 +269,31 @@ fn read_one(
     let stop = stop_of(code, from);
     let value = value_at(alloc, code, from, stop, room.scope)?;
     match step_of(code, stop, room) {
-        Step::Assign(slot) => {
+        Step::Assign(loc) => {
             let span = span_at(stop);
-            Ok((
-                Cmd::Assign {
-                    loc: slot,
-                    span,
-                    value,
-                },
-                stop + 1,
-            ))
+            Ok((Cmd::Assign { loc, span, value }, stop + 1))
         }
         Step::Letvar => {
             starts.push(stop)?;
-            let inner = above(room);
+            let inner = Room {
+                scope: room.scope + 1,
+                ..room
+            };
             let body = read_all(alloc, code, stop + 1, to, inner, starts)?;
             Ok((Cmd::Letvar { value, body }, to))
         }
         Step::Part { jump, join } => {
-            let inner = inside(room);
+            let inner = Room {
+                blocks: room.blocks - 1,
+                ..room
+            };
             let body = read_all(alloc, code, stop + 1, jump, inner, starts)?;
             if join == from {
                 return Ok((Cmd::While { guard: value, body }, jump + 1));
             }
-            let second = read_all(alloc, code, jump + 1, join, inner, starts)?;
-            Ok((
-                Cmd::If {
-                    guard: value,
-                    yes: body,
-                    no: second,
-                },
-                join,
-            ))
+            let (guard, yes) = (value, body);
+            let no = read_all(alloc, code, jump + 1, join, inner, starts)?;
+            Ok((Cmd::If { guard, yes, no }, join))
         }
         Step::Stuck => Err(Unread::At(stop)),
     }
@@ -360,10 +309,15 @@ pub(crate) fn lasting_commands(alloc: Global, image: &Image) -> Result<Commands,
     let Some(halt) = image.code.len().checked_sub(1) else {
         return Err(Unread::At(0));
     };
-    if !is_halt(instr_at(&image.code, halt)) {
+    let Some(Instr::Halt) = instr_at(&image.code, halt) else {
         return Err(Unread::At(halt));
-    }
-    let room = whole_room(globals as u16);
+    };
+    let scope = globals as u16;
+    let room = Room {
+        scope,
+        limit: scope + 200,
+        blocks: 200,
+    };
     let mut starts = Vec::new(alloc);
     let body = read_all(alloc, &image.code, 0, halt, room, &mut starts)?;
     if starts.len() > MAX_DECLARATIONS - globals {
@@ -375,83 +329,6 @@ pub(crate) fn lasting_commands(alloc: Global, image: &Image) -> Result<Commands,
     })
 }
 
-/// The room of a program over this many globals.
-fn whole_room(globals: u16) -> Room
-    requires { globals ≤ 256 }
-    ensures scope { result.scope ≡ globals }
-    ensures limit { result.limit ≡ globals + 200 }
-    ensures blocks { result.blocks ≡ 200 }
-{
-    Room {
-        scope: globals,
-        limit: globals + 200,
-        blocks: 200,
-    }
-}
-
-/// Whether an instruction is a HALT.
-fn is_halt(instr: Option<Instr>) -> bool
-    ensures { instr ≡ Some kinds.Halt → result ≡ true }
-{
-    let Some(instr) = instr else {
-        return false;
-    };
-    match instr {
-        Instr::Halt => true,
-        _ => false,
-    }
-}
-
-/// The need before a store, and whether the store begins a `letvar`: it does if its value reads no
-/// slot at or above its own, and nothing after it needs an older value of a slot above.
-fn before_store(globals: u16, after: u16, slot: u16, reads: u16) -> Need {
-    let above = slot.saturating_add(1);
-    if slot >= globals && reads <= slot && after <= above {
-        return Need {
-            scope: slot,
-            begins: true,
-        };
-    }
-    Need {
-        scope: after.max(reads).max(above),
-        begins: false,
-    }
-}
-
-/// The need at an event, given the number of slots needed after it. `saved` has the needs after the
-/// parts of the code that enclose the event.
-fn need_at(
-    saved: &mut Vec<u16>,
-    globals: u16,
-    after: u16,
-    event: &Event,
-) -> Result<Need, AllocError> {
-    let scope = match event {
-        Event::Store { slot, reads, .. } => {
-            return Ok(before_store(globals, after, *slot, *reads));
-        }
-        Event::Begin { part, reads, .. } => before_part(saved, *part, after).max(*reads),
-        Event::Else | Event::End(_) => {
-            saved.push(after)?;
-            0
-        }
-    };
-    Ok(Need {
-        scope,
-        begins: false,
-    })
-}
-
-/// The number of slots that a part of the code and everything after it need, given the need at its
-/// beginning.
-fn before_part(saved: &mut Vec<u16>, part: Part, first: u16) -> u16 {
-    let behind = saved.pop().unwrap_or(0);
-    match part {
-        Part::If => saved.pop().unwrap_or(0).max(behind).max(first),
-        Part::While => behind.max(first),
-    }
-}
-
 /// The needs at the events, in reverse order.
 pub(crate) fn needs_of(
     alloc: Global,
@@ -459,12 +336,41 @@ pub(crate) fn needs_of(
     events: &[Event],
 ) -> Result<Vec<Need>, AllocError> {
     let mut needs = Vec::new(alloc);
+    // The needs after the parts of the code that enclose the event.
     let mut saved: Vec<u16> = Vec::new(alloc);
-    let mut scope: u16 = 0;
+    // The number of slots needed after the event.
+    let mut after: u16 = 0;
     for place in (0..events.len()).rev() {
-        let need = need_at(&mut saved, globals, scope, &events[place])?;
-        scope = need.scope;
-        needs.push(need)?;
+        let mut begins = false;
+        after = match &events[place] {
+            Event::Store { slot, reads, .. } => {
+                let above = slot.saturating_add(1);
+                // The store begins a `letvar` if its value reads no slot at or above its own, and
+                // nothing after it needs an older value of a slot above.
+                begins = *slot >= globals && *reads <= *slot && after <= above;
+                if begins {
+                    *slot
+                } else {
+                    after.max(*reads).max(above)
+                }
+            }
+            Event::Begin { part, reads, .. } => {
+                let behind = saved.pop().unwrap_or(0);
+                let other = match part {
+                    Part::If => saved.pop().unwrap_or(0),
+                    Part::While => 0,
+                };
+                other.max(behind).max(after).max(*reads)
+            }
+            Event::Else | Event::End(_) => {
+                saved.push(after)?;
+                0
+            }
+        };
+        needs.push(Need {
+            scope: after,
+            begins,
+        })?;
     }
     Ok(needs)
 }

@@ -1,7 +1,7 @@
 //! The globals of an image as declarations, and their names.
 
-ghost use Rattle.std.specs.Prelude.{◌≡◌, ◌⊎◌, ◌++◌, false, true, OnOk, MatchOption, ℕ, map, IfOk, IfErr, IfSome};
-ghost use Rattle.vsi_audit.specs.{MadeNames.{AreTaken, IsFreeAt, IsFirstFree, IsLast, IsForm}, Telling.{local_name, class_name}, Text.{words}, Refusal.{IsUnknownAt}, Standing.{HaveClasses}, Unread.{IsUnread}};
+ghost use Rattle.std.specs.Prelude.{◌≡◌, ◌++◌, true, OnOk, ℕ, map, IfOk, IfErr, IfSome};
+ghost use Rattle.vsi_audit.specs.{MadeNames.{IsForm}, Telling.{local_name, class_name}, Text.{words}, Refusal.{IsUnknownAt}, Standing.{HaveClasses}, Unread.{IsUnread}};
 ghost use Rattle.vsi_lattice.specs.LatticeView.{class_named};
 ghost use Rattle.vsi_scope.specs.{Program.{IsResolved}, Resolving.{AreBelow, HasClassesBelow}};
 ghost use Rattle.vsi_image.specs.declared.instr.Image.{Image as ImageValue};
@@ -9,12 +9,13 @@ ghost use Rattle.vsi_image.specs.Fields as fields;
 ghost use Rattle.vsi_audit.specs.MadeNames as spec;
 ghost use Rattle.vsi_syntax.specs.CommandView as syntax;
 
-use crate::flow::Unread;
+use crate::flow::{AuditError, Unread};
+use crate::source::read;
 use std::alloc::{AllocError, Global};
 use vsi_image::Image;
 use vsi_lattice::Lattice;
 use vsi_scope::{Resolved, ScopeError, resolve};
-use vsi_syntax::{Declaration, LexError, ParseError, lex, parse, put_number};
+use vsi_syntax::{Declaration, put_number};
 
 /// The beginning of made-up names: a letter and a number of `_`.
 #[derive(Clone, Copy)]
@@ -29,8 +30,8 @@ pub(crate) struct Names<'a> {
     globals: &'a [(Vec<u8>, Vec<u8>)],
     form: Form,
     /// The numbers of the locals in scope, from 1; `count` is the number of locals so far.
-    scope: Vec<usize>,
-    count: usize,
+    pub scope: Vec<usize>,
+    pub count: usize,
 }
 
 /// Whether a text is `bars` times `_`, followed by digits.
@@ -52,56 +53,41 @@ fn is_numbered(text: &[u8], bars: usize) -> bool
     false
 }
 
-/// Whether a name has this form: its letter, its `_`, and digits.
-fn is_made(name: &[u8], form: Form) -> bool
-    ensures { result ≡ spec.is_made form name.now }
-{
-    let [first, rest @ ..] = name else {
-        return false;
-    };
-    if *first == form.letter {
-        return is_numbered(rest, form.bars);
-    }
-    false
-}
-
 /// Whether one of the globals has a name of this form.
 fn is_taken(globals: &[(Vec<u8>, Vec<u8>)], form: Form) -> bool
     ensures { result ≡ spec.is_taken form (fields.globals globals.now) }
 {
     for global in globals {
-        if is_made(&global.0, form) {
+        let [first, rest @ ..] = global.0.as_slice() else {
+            continue;
+        };
+        if *first == form.letter && is_numbered(rest, form.bars) {
             return true;
         }
     }
     false
 }
 
-/// The smallest number of `_`, at most nine, for which no global has a form with this letter.
-fn free_bars(globals: &[(Vec<u8>, Vec<u8>)], letter: u8) -> Option<usize>
-    ensures { MatchOption result
-        (AreTaken (fields.globals globals.now) letter 10)
-        (IsFreeAt (fields.globals globals.now) letter) }
+/// The form of the made-up names for these globals: the first that no global has, of `t1`, then
+/// `a1`, `a_1` and so on, then `b1`. Each global takes at most one form, so of 260 forms at least
+/// one is free with 256 globals.
+fn form_beside(globals: &[(Vec<u8>, Vec<u8>)]) -> Form
+    ensures { IsForm (fields.globals globals.now) result }
 {
-    for bars in 0..10 {
-        let is_taken = is_taken(globals, Form { letter, bars });
-        if !is_taken {
-            return Some(bars);
-        }
+    let plain = Form {
+        letter: b't',
+        bars: 0,
+    };
+    if !is_taken(globals, plain) {
+        return plain;
     }
-    None
-}
-
-/// The first form that no global has: `t1`, then `t_1` and so on, then `u1`. Each global takes at
-/// most one form, so of 260 forms at least one is free with 256 globals.
-fn free_form(globals: &[(Vec<u8>, Vec<u8>)]) -> Form
-    ensures { IsFirstFree (fields.globals globals.now) result ⊎
-        IsLast (fields.globals globals.now) result }
-{
     // 123 is the byte after `z`.
     for letter in b'a'..123 {
-        if let Some(bars) = free_bars(globals, letter) {
-            return Form { letter, bars };
+        for bars in 0..10 {
+            let form = Form { letter, bars };
+            if !is_taken(globals, form) {
+                return form;
+            }
         }
     }
     Form {
@@ -110,24 +96,7 @@ fn free_form(globals: &[(Vec<u8>, Vec<u8>)]) -> Form
     }
 }
 
-/// The form of the made-up names for these globals.
-fn form_beside(globals: &[(Vec<u8>, Vec<u8>)]) -> Form
-    ensures { IsForm (fields.globals globals.now) result }
-{
-    let plain = Form {
-        letter: b't',
-        bars: 0,
-    };
-    if is_taken(globals, plain) {
-        free_form(globals)
-    } else {
-        plain
-    }
-}
-
 impl<'a> Names<'a> {
-    ghost use Rattle.std.specs.Prelude.{◌<◌, length};
-
     /// The names with no local in scope.
     pub(crate) fn of(alloc: Global, globals: &'a [(Vec<u8>, Vec<u8>)]) -> Names<'a>
         ensures globals { result.globals.now ≡ globals.entry.now }
@@ -158,11 +127,8 @@ impl<'a> Names<'a> {
         if location < self.globals.len() {
             return out.extend_from_slice(&self.globals[location].0);
         }
-        let number = match self.scope.get(location - self.globals.len()) {
-            Some(number) => *number,
-            None => 0,
-        };
-        self.put_made(out, number)
+        let number = self.scope.get(location - self.globals.len()).copied();
+        self.put_made(out, number.unwrap_or(0))
     }
 
     /// Adds the name of a variable: the globals come first, then the locals in the order of the
@@ -188,23 +154,6 @@ impl<'a> Names<'a> {
             return out.extend_from_slice(&self.globals[place].1);
         }
         Ok(())
-    }
-
-    /// Adds the name of the next local.
-    pub(crate) fn put_next(&self, out: &mut Vec<u8>) -> Result<(), AllocError> {
-        self.put_made(out, self.count.saturating_add(1))
-    }
-
-    /// Brings the next local into scope.
-    pub(crate) fn begin(&mut self) -> Result<(), AllocError> {
-        self.count = self.count.saturating_add(1);
-        self.scope.push(self.count)?;
-        Ok(())
-    }
-
-    /// Removes the innermost local from scope.
-    pub(crate) fn end(&mut self) {
-        let _local = self.scope.pop();
     }
 }
 
@@ -283,14 +232,9 @@ pub(crate) fn declared_program<'a>(
     ensures named { IfOk result (λ r. HaveClasses (class_named lattice.now) r.globals) }
     ensures unread { (im : ImageValue) → IfErr result (IsUnread im) }
 {
-    let tokens = match lex(alloc, text) {
-        Ok(tokens) => tokens,
-        Err(LexError::Memory) => return Err(Unread::Memory),
-        Err(_) => return Err(Unread::Fields),
-    };
-    let program = match parse(alloc, &tokens) {
+    let program = match read(alloc, text) {
         Ok(program) => program,
-        Err(ParseError::Memory) => return Err(Unread::Memory),
+        Err(AuditError::Memory) => return Err(Unread::Memory),
         Err(_) => return Err(Unread::Fields),
     };
     let resolved = match resolve(alloc, &program, lattice) {

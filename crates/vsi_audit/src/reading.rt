@@ -90,25 +90,26 @@ pub(crate) fn events_of(alloc: Global, code: &[Instr]) -> Result<Vec<Event>, Unr
         start: 0,
         reads: 0,
     };
-    let halt = first_halt(code);
+    // The place of the first HALT, or the number of instructions.
+    let first = code.iter().position(|instr| matches!(instr, Instr::Halt));
+    let halt = first.unwrap_or(code.len());
     for place in 0..halt {
         end_branches(&mut reader, place)?;
         put_instruction(&mut reader, alloc, code, place)?;
     }
     end_branches(&mut reader, halt)?;
-    look_at_end(&reader, halt, code.len())?;
-    let Reader { events, .. } = reader;
-    Ok(events)
-}
-
-/// The place of the first HALT, or the number of instructions.
-fn first_halt(code: &[Instr]) -> usize {
-    for place in 0..code.len() {
-        if matches!(code[place], Instr::Halt) {
-            return place;
-        }
+    let Reader {
+        events,
+        operands,
+        regions,
+        ..
+    } = reader;
+    // The code ends where it halts, with nothing open.
+    if operands.is_empty() && regions.is_empty() && halt.saturating_add(1) == code.len() {
+        Ok(events)
+    } else {
+        Err(Unread::At(halt))
     }
-    code.len()
 }
 
 /// Reads one more instruction.
@@ -123,23 +124,30 @@ fn put_instruction(
     };
     match instr {
         Instr::Push(n) => put_operand(reader, place, Ex::Num(*n), 0),
-        Instr::Load(slot) => put_load(reader, place, *slot),
+        Instr::Load(slot) => {
+            reader.reads = reader.reads.max(slot.saturating_add(1));
+            put_operand(reader, place, Ex::Loc(*slot, span_at(place)), 0)
+        }
         Instr::Add => put_operator(reader, alloc, place, Op::Add),
         Instr::Sub => put_operator(reader, alloc, place, Op::Sub),
         Instr::Mul => put_operator(reader, alloc, place, Op::Mul),
         Instr::Eq => put_operator(reader, alloc, place, Op::Eq),
         Instr::Lt => put_operator(reader, alloc, place, Op::Lt),
-        Instr::Store(slot) => put_store(reader, place, *slot),
+        Instr::Store(slot) => {
+            let slot = *slot;
+            let (value, reads) = only_operand(reader, place)?;
+            reader.events.push(Event::Store {
+                slot,
+                place,
+                reads,
+                value,
+            })?;
+            Ok(())
+        }
         Instr::Jz(target) => begin_region(reader, code, place, *target as usize),
         Instr::Jmp(_) => end_region(reader, place),
         Instr::Halt => Err(Unread::At(place)),
     }
-}
-
-/// Reads a LOAD of a slot.
-fn put_load(reader: &mut Reader, place: usize, slot: u16) -> Result<(), Unread> {
-    reader.reads = reader.reads.max(slot.saturating_add(1));
-    put_operand(reader, place, Ex::Loc(slot, span_at(place)), 0)
 }
 
 /// The place of an instruction, as a span.
@@ -154,11 +162,7 @@ pub(crate) fn span_at(place: usize) -> Span {
 fn end_branches(reader: &mut Reader, place: usize) -> Result<(), Unread> {
     for _ in 0..reader.regions.len() {
         match reader.regions.last() {
-            Some(Region::No { end }) => {
-                if *end != place {
-                    return Ok(());
-                }
-            }
+            Some(Region::No { end }) if *end == place => {}
             _ => return Ok(()),
         }
         let _ended = reader.regions.pop();
@@ -179,31 +183,17 @@ fn put_operand(reader: &mut Reader, place: usize, value: Ex, depth: u16) -> Resu
     Ok(())
 }
 
-/// The operand on top.
-fn top_operand(reader: &mut Reader, place: usize) -> Result<Operand, Unread> {
-    match reader.operands.pop() {
-        Some(operand) => Ok(operand),
-        None => Err(Unread::At(place)),
-    }
-}
-
 /// Applies an operator to the two operands on top.
 fn put_operator(reader: &mut Reader, alloc: Global, place: usize, op: Op) -> Result<(), Unread> {
     let start = reader.start;
-    let right = top_operand(reader, place)?;
-    let left = top_operand(reader, place)?;
+    let right = reader.operands.pop().ok_or(Unread::At(place))?;
+    let left = reader.operands.pop().ok_or(Unread::At(place))?;
     let depth = left.depth.max(right.depth).saturating_add(1);
-    let value = applied(alloc, op, left, right)?;
-    put_operand(reader, place, value, depth)?;
-    reader.start = start;
-    Ok(())
-}
-
-/// The expression of an operator and two operands.
-fn applied(alloc: Global, op: Op, left: Operand, right: Operand) -> Result<Ex, Unread> {
     let left = Box::new(alloc, left.value)?;
     let right = Box::new(alloc, right.value)?;
-    Ok(Ex::Op(op, left, right))
+    put_operand(reader, place, Ex::Op(op, left, right), depth)?;
+    reader.start = start;
+    Ok(())
 }
 
 /// The only operand, and the number of slots that it reads.
@@ -211,52 +201,14 @@ fn only_operand(reader: &mut Reader, place: usize) -> Result<(Ex, u16), Unread> 
     if reader.operands.len() > 1 {
         return Err(Unread::At(place));
     }
-    let operand = top_operand(reader, place)?;
+    let operand = reader.operands.pop().ok_or(Unread::At(place))?;
     let reads = reader.reads;
     reader.reads = 0;
     Ok((operand.value, reads))
 }
 
-/// Reads a store of the only operand.
-fn put_store(reader: &mut Reader, place: usize, slot: u16) -> Result<(), Unread> {
-    let (value, reads) = only_operand(reader, place)?;
-    reader.events.push(Event::Store {
-        slot,
-        place,
-        reads,
-        value,
-    })?;
-    Ok(())
-}
-
-/// The target of the jump before this place, and the place of that jump.
-fn jump_before(code: &[Instr], place: usize) -> Option<(usize, usize)> {
-    let before = place.checked_sub(1)?;
-    match code.get(before) {
-        Some(Instr::Jmp(target)) => Some((before, *target as usize)),
-        _ => None,
-    }
-}
-
-/// The region that a jump on 0 begins. The jump before its target leads back to `start`, the guard
-/// of a loop, or ahead to the end of a conditional.
-fn region_at(code: &[Instr], start: usize, place: usize, target: usize) -> Result<Region, Unread> {
-    let Some((jump, end)) = jump_before(code, target) else {
-        return Err(Unread::At(place));
-    };
-    if jump <= place {
-        return Err(Unread::At(place));
-    }
-    if end == start {
-        return Ok(Region::Body { jump });
-    }
-    if end < target {
-        return Err(Unread::At(jump));
-    }
-    Ok(Region::Yes { jump, end })
-}
-
-/// Reads a jump on 0, which begins a part of the code.
+/// Reads a jump on 0, which begins a part of the code. The jump before its target leads back to the
+/// start of the guard of a loop, or ahead to the end of a conditional.
 fn begin_region(
     reader: &mut Reader,
     code: &[Instr],
@@ -264,12 +216,20 @@ fn begin_region(
     target: usize,
 ) -> Result<(), Unread> {
     let (guard, reads) = only_operand(reader, place)?;
-    let region = region_at(code, reader.start, place, target)?;
-    reader.regions.push(region)?;
-    let part = match region {
-        Region::Body { .. } => Part::While,
-        _ => Part::If,
+    let jump = target.saturating_sub(1);
+    let end = match code.get(jump) {
+        Some(Instr::Jmp(end)) if jump > place => *end as usize,
+        _ => return Err(Unread::At(place)),
     };
+    if end != reader.start && end < target {
+        return Err(Unread::At(jump));
+    }
+    let (part, region) = if end == reader.start {
+        (Part::While, Region::Body { jump })
+    } else {
+        (Part::If, Region::Yes { jump, end })
+    };
+    reader.regions.push(region)?;
     reader.events.push(Event::Begin {
         part,
         place,
@@ -294,19 +254,5 @@ fn end_region(reader: &mut Reader, place: usize) -> Result<(), Unread> {
         return Err(Unread::At(place));
     }
     reader.events.push(event)?;
-    Ok(())
-}
-
-/// Checks that the code ends where it halts, with nothing open.
-fn look_at_end(reader: &Reader, place: usize, length: usize) -> Result<(), Unread> {
-    if !reader.operands.is_empty() {
-        return Err(Unread::At(place));
-    }
-    if !reader.regions.is_empty() {
-        return Err(Unread::At(place));
-    }
-    if place.saturating_add(1) != length {
-        return Err(Unread::At(place));
-    }
     Ok(())
 }

@@ -14,104 +14,46 @@ use vsi_image::{Image, Verified};
 use vsi_scope::{Cmd, Ex};
 use vsi_syntax::{LexError, Op, ParseError, Program, lex, parse, print, put_number};
 
-/// Adds a command for an empty sequence: it does nothing, and nothing flows out of it.
-fn put_nothing(out: &mut Vec<u8>, names: &Names<'_>) -> Result<(), AllocError> {
-    out.extend_from_slice(b"letvar ")?;
-    names.put_made(out, 0)?;
-    out.extend_from_slice(b":=0 in ")?;
-    names.put_made(out, 0)?;
-    out.extend_from_slice(b":=0")
-}
-
-/// The symbol of an operator.
-fn symbol(op: Op) -> &'static [u8] {
-    match op {
-        Op::Add => b"+",
-        Op::Sub => b"-",
-        Op::Mul => b"*",
-        Op::Eq => b"=",
-        Op::Lt => b"<",
-    }
-}
-
-/// How tightly an operator binds: comparisons 0, sums 1, products 2.
-fn level(op: Op) -> u8 {
-    match op {
-        Op::Mul => 2,
-        Op::Add => 1,
-        Op::Sub => 1,
-        Op::Eq => 0,
-        Op::Lt => 0,
-    }
-}
-
-/// Adds a number. A number below 0 has no token, so it is written as a difference or, for the least
-/// number, as a sum.
-fn put_word(out: &mut Vec<u8>, n: i64) -> Result<(), AllocError> {
-    if n >= 0 {
-        return put_number(out, n.unsigned_abs() as usize);
-    }
-    if n == i64::MIN {
-        return out.extend_from_slice(b"9223372036854775807+1");
-    }
-    out.extend_from_slice(b"0-")?;
-    put_number(out, n.unsigned_abs() as usize)
-}
-
-/// Adds an expression, with brackets if it binds less tightly than this level; 3 is the level of an
-/// atom.
+/// Adds an expression, with brackets if it binds less tightly than this level: comparisons bind 0,
+/// sums 1, products 2, and atoms 3.
 fn put_expression(
     e: &Ex,
     out: &mut Vec<u8>,
     names: &Names<'_>,
     least: u8,
 ) -> Result<(), AllocError> {
+    let (own, symbol): (u8, &[u8]) = match e {
+        Ex::Op(Op::Mul, ..) => (2, b"*"),
+        Ex::Op(Op::Add, ..) => (1, b"+"),
+        Ex::Op(Op::Sub, ..) => (1, b"-"),
+        Ex::Op(Op::Eq, ..) => (0, b"="),
+        Ex::Op(Op::Lt, ..) => (0, b"<"),
+        // A number below 0 has no token, so it is written as a difference or, for the least number,
+        // as a sum.
+        Ex::Num(i64::MIN) => (1, b"9223372036854775807+1"),
+        Ex::Num(n) if *n < 0 => (1, b"0-"),
+        Ex::Num(_) | Ex::Loc(..) => (3, b""),
+    };
+    if own < least {
+        out.push(b'(')?;
+    }
     match e {
+        Ex::Num(i64::MIN) => out.extend_from_slice(symbol)?,
         Ex::Num(n) => {
-            let is_bracketed = *n < 0 && least > 1;
-            open(out, is_bracketed)?;
-            put_word(out, *n)?;
-            close(out, is_bracketed)
+            out.extend_from_slice(symbol)?;
+            put_number(out, n.unsigned_abs() as usize)?;
         }
-        Ex::Loc(location, _) => names.put(out, *location),
-        Ex::Op(op, left, right) => {
-            let own = level(*op);
-            let is_bracketed = own < least;
-            open(out, is_bracketed)?;
+        Ex::Loc(location, _) => names.put(out, *location)?,
+        Ex::Op(_, left, right) => {
             put_expression(left, out, names, own.max(1))?;
-            out.extend_from_slice(symbol(*op))?;
+            out.extend_from_slice(symbol)?;
             put_expression(right, out, names, own.saturating_add(1))?;
-            close(out, is_bracketed)
         }
     }
-}
-
-/// Adds an opening bracket, if there is one.
-fn open(out: &mut Vec<u8>, is_bracketed: bool) -> Result<(), AllocError> {
-    if is_bracketed {
-        out.extend_from_slice(b"(")?;
+    if own < least {
+        out.push(b')')?;
     }
     Ok(())
-}
-
-/// Adds a closing bracket, if there is one.
-fn close(out: &mut Vec<u8>, is_bracketed: bool) -> Result<(), AllocError> {
-    if is_bracketed {
-        out.extend_from_slice(b")")?;
-    }
-    Ok(())
-}
-
-/// Adds an assignment.
-fn put_assignment(
-    location: u16,
-    value: &Ex,
-    out: &mut Vec<u8>,
-    names: &Names<'_>,
-) -> Result<(), AllocError> {
-    names.put(out, location)?;
-    out.extend_from_slice(b":=")?;
-    put_expression(value, out, names, 0)
 }
 
 /// Adds a guard with the keywords before and after it.
@@ -126,19 +68,16 @@ fn put_guard(
     out.extend_from_slice(words.1)
 }
 
-/// Adds the beginning of a `letvar` and brings its name into scope.
-fn put_letvar(value: &Ex, out: &mut Vec<u8>, names: &mut Names<'_>) -> Result<(), AllocError> {
-    out.extend_from_slice(b"letvar ")?;
-    names.put_next(out)?;
-    put_guard((b":=", b" in "), value, out, names)?;
-    names.begin()
-}
-
 /// Adds the commands of a sequence, with `;` between them.
 #[cycle(writing)]
 fn put_all(body: &[Cmd], out: &mut Vec<u8>, names: &mut Names<'_>) -> Result<(), AllocError> {
     let [first, rest @ ..] = body else {
-        return put_nothing(out, names);
+        // A command that does nothing, and nothing flows out of it.
+        out.extend_from_slice(b"letvar ")?;
+        names.put_made(out, 0)?;
+        out.extend_from_slice(b":=0 in ")?;
+        names.put_made(out, 0)?;
+        return out.extend_from_slice(b":=0");
     };
     put_one(first, out, names)?;
     for c in rest {
@@ -163,7 +102,11 @@ fn put_part(body: &[Cmd], out: &mut Vec<u8>, names: &mut Names<'_>) -> Result<()
 #[cycle(writing)]
 fn put_one(c: &Cmd, out: &mut Vec<u8>, names: &mut Names<'_>) -> Result<(), AllocError> {
     match c {
-        Cmd::Assign { loc, value, .. } => put_assignment(*loc, value, out, names),
+        Cmd::Assign { loc, value, .. } => {
+            names.put(out, *loc)?;
+            out.extend_from_slice(b":=")?;
+            put_expression(value, out, names, 0)
+        }
         Cmd::If { guard, yes, no } => {
             put_guard((b"if ", b" then "), guard, out, names)?;
             put_part(yes, out, names)?;
@@ -175,9 +118,14 @@ fn put_one(c: &Cmd, out: &mut Vec<u8>, names: &mut Names<'_>) -> Result<(), Allo
             put_part(body, out, names)
         }
         Cmd::Letvar { value, body } => {
-            put_letvar(value, out, names)?;
+            let number = names.count.saturating_add(1);
+            out.extend_from_slice(b"letvar ")?;
+            names.put_made(out, number)?;
+            put_guard((b":=", b" in "), value, out, names)?;
+            names.count = number;
+            names.scope.push(number)?;
             put_part(body, out, names)?;
-            names.end();
+            let _local = names.scope.pop();
             Ok(())
         }
     }
@@ -193,7 +141,7 @@ fn written(alloc: Global, image: &Image, body: &[Cmd]) -> Result<Vec<u8>, AllocE
 }
 
 /// The program that a text writes.
-fn read<'a>(alloc: Global, text: &'a [u8]) -> Result<Program<'a>, AuditError> {
+pub(crate) fn read<'a>(alloc: Global, text: &'a [u8]) -> Result<Program<'a>, AuditError> {
     let tokens = match lex(alloc, text) {
         Ok(tokens) => tokens,
         Err(LexError::Memory) => return Err(AuditError::Memory),

@@ -154,7 +154,7 @@ pub(crate) struct InScope<'a> {
 }
 
 impl<'a> InScope<'a> {
-    ghost use Rattle.std.specs.Prelude.{ℕ, ◌-◌, ◌<◌, ◌++◌, ◌∷◌, [], length, take};
+    ghost use Rattle.std.specs.Prelude.{◌-◌, ◌<◌, ◌++◌, ◌∷◌, [], length, take};
 
     /// The names of the globals.
     pub(crate) fn of(
@@ -169,13 +169,6 @@ impl<'a> InScope<'a> {
             names.push(&global.0)?;
         }
         Ok(InScope { names })
-    }
-
-    /// The location that a name denotes: the last place that has the name.
-    fn place(&self, name: &[u8]) -> Option<usize>
-        ensures { IfSome result (StandsFor (names_of self.now) name.now) }
-    {
-        last_place(&self.names, name)
     }
 
     /// Brings a letvar's name into scope.
@@ -273,7 +266,7 @@ fn writes_location(written: &Expr<'_>, location: u16, names: &InScope<'_>) -> bo
 fn stands_for(name: Name<'_>, location: u16, names: &InScope<'_>) -> bool
     ensures { result ≡ true → StandsFor (names_of names.now) name.entry.text.now location }
 {
-    match names.place(name.text) {
+    match last_place(&names.names, name.text) {
         Some(place) => place == location as usize,
         None => false,
     }

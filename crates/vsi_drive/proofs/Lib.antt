@@ -2,6 +2,9 @@ pub mod FieldsOf
 pub mod NamesOf
 pub mod Written
 pub mod Each
+pub mod Numbers
+pub mod Placed
+pub mod Shown
 pub mod Alike
 pub mod Viewed
 pub mod Steady

@@ -1,8 +1,9 @@
 -- The combined output of a run's parts.
-use Rattle.std.proofs.Common.{◌≡◌, ℕ, List, ◌++◌, Bool, true, false, length, take, drop, min, refl, sym, ap, subst, ◌∙◌, append_assoc, Option, Some, None, arith, take-append-drop, Result, Ok, Err, ◌⊎◌, inr}
+use Rattle.std.proofs.Common.{◌≡◌, ℕ, List, ◌++◌, Bool, true, false, length, take, drop, min, refl, sym, ap, subst, ◌∙◌, append_assoc, append-nil, [], Option, Some, None, arith, take-append-drop, Result, Ok, Err, ◌⊎◌, inr}
 use Rattle.std.specs.Prelude.{ℤ, IfOk, if◌then◌else◌}
 use Rattle.std.specs.Io.KnownBytes.{Appends, Keeps}
 use Rattle.std.proofs.KnownBytes.{Appends-trans}
+use Rattle.std.proofs.lemmas.Option.{same_Some}
 use Rattle.std.proofs.Math.Seq.{take-append_seam}
 use Rattle.std.proofs.lemmas.List.{take_min, take-append-le}
 use Rattle.vsi_image.specs.declared.instr.Image.{Image}
@@ -16,6 +17,28 @@ use Rattle.vsi_store.specs.Text.{store_text_of}
 use Rattle.vsi_machine.proofs.Progress.{never_stuck}
 use Rattle.vsi_drive.specs.declared.engine.EngineError.{EngineError}
 use Rattle.vsi_drive.specs.Running.{RunsAndWrites, RunsApart, Runs, Started, Traces, WrittenApart, WrittenPartly, WrittenSome, WrittenSteps, WrittenWhole, ending_of, text_at, trace_of}
+
+-- A run that leaves a text has halted, and the text is that of its store.
+text_halted : (image : Image) (t : State) (text : List ℕ) → Some text ≡ text_at image t →
+    (Halted ≡ outcome_of t) × (text ≡ ending_of image t)
+text_halted image t text h =
+    let told = store_text_of (globals image.globals.items) (globals_of image t) in
+    elim t.halted as (λ v. ◌≡◌ {A = Option (List ℕ)} (Some text) (if v then Some told else None) →
+    (◌≡◌ {A = Outcome} Halted (if v then Halted else OutOfBudget)) × (text ≡ (if v then told else []))) [
+      | true ↦ λ e. (refl, same_Some text told e)
+      | false ↦ λ e. absurd (cc)
+    ] h
+
+-- A run that leaves no text is out of budget, and no text is written after its trace.
+text_spent : (image : Image) (t : State) → None ≡ text_at image t →
+    (OutOfBudget ≡ outcome_of t) × ([] ≡ ending_of image t)
+text_spent image t h =
+    let told = store_text_of (globals image.globals.items) (globals_of image t) in
+    elim t.halted as (λ v. ◌≡◌ {A = Option (List ℕ)} None (if v then Some told else None) →
+    (◌≡◌ {A = Outcome} OutOfBudget (if v then Halted else OutOfBudget)) × ([] ≡ (if v then told else []))) [
+      | true ↦ λ e. absurd (cc)
+      | false ↦ λ e. (refl, refl)
+    ] h
 
 -- If the outcome says that a run has halted, its text is the text of its store.
 pub halted_text : (image : Image) (t : State) → outcome_of t ≡ Halted →
@@ -74,23 +97,6 @@ module _ (traced : Bool) (image : Image) (words : List ℤ) (budget : ℕ) where
       subst (λ u. after image.code.items budget u ≡ Some t) from
       (subst (λ i. after i.code.items budget s ≡ Some t) same reached)
 
-  -- A run with whole output.
-  pub all_written : (a b c : Option (List ℕ)) (held shown : Image) (s t : State) (outcome : Outcome) → held ≡ image →
-      shown ≡ image → s ≡ start image words → after held.code.items budget s ≡ Some t → outcome ≡ outcome_of t →
-      Appends a b (begun held s) → Appends b c (ending_of shown t) →
-      WrittenWhole (RunsAndWrites traced image words budget) a c outcome
-  all_written a b c held shown s t outcome same same' from reached ends trace ending = (
-    begun image (start image words) ++ ending_of image t,
-    record {
-      last = t;
-      reached = run_is held s t same from reached;
-      ends = ends;
-      written = refl;
-    },
-    Appends-trans a b c _ _ (subst (Appends a b) (begun_is held s same from) trace)
-        (subst (λ i. Appends b c (ending_of i t)) same' ending),
-  )
-
   -- A run with a whole trace, and with its text returned separately.
   pub all_apart : (a b : Option (List ℕ)) (held : Image) (s t : State) (text : Option (List ℕ)) → held ≡ image →
       s ≡ start image words → after held.code.items budget s ≡ Some t → text ≡ text_at image t →
@@ -106,29 +112,52 @@ module _ (traced : Bool) (image : Image) (words : List ℤ) (budget : ℕ) where
     subst (Appends a b) (begun_is held s same from) trace,
   )
 
+  -- The run whose text is written after its trace.
+  ends_halted : (text output : List ℕ) (p : RunsApart traced image words budget (Some text) output) →
+      RunsAndWrites traced image words budget Halted (output ++ text)
+  ends_halted text output p =
+      let h = text_halted image p.last text p.told in
+      record {
+        last = p.last;
+        reached = p.reached;
+        ends = h.0;
+        written = ap (λ o. o ++ text) p.written ∙ ap (λ e. begun image (start image words) ++ e) h.1;
+      }
+
+  -- A run whose text is written after its trace has written its whole output.
+  pub text_whole : (a b c : Option (List ℕ)) (text : List ℕ) →
+      WrittenApart (RunsApart traced image words budget) a b (Some text) → Appends b c text →
+      WrittenWhole (RunsAndWrites traced image words budget) a c Halted
+  text_whole a b c text p ending = (p.0 ++ text, ends_halted text p.0 p.1, Appends-trans a b c _ _ p.2 ending)
+
+  -- A run that is out of budget has written its whole output with its trace.
+  pub spent_whole : (a b : Option (List ℕ)) → WrittenApart (RunsApart traced image words budget) a b None →
+      WrittenWhole (RunsAndWrites traced image words budget) a b OutOfBudget
+  spent_whole a b p =
+      let h = text_spent image p.1.last p.1.told in
+      let trace = begun image (start image words) in (
+        p.0,
+        record {
+          last = p.1.last;
+          reached = p.1.reached;
+          ends = h.0;
+          written = p.1.written ∙ sym (append-nil trace) ∙ ap (λ e. trace ++ e) h.1;
+        },
+        p.2,
+      )
+
   -- A run whose last lines are cut off.
-  pub ending_cut : (a b c : Option (List ℕ)) (held shown : Image) (s t : State) → held ≡ image →
-      shown ≡ image → s ≡ start image words → after held.code.items budget s ≡ Some t →
-      Appends a b (begun held s) → ((n : ℕ) × Appends b c (take n (ending_of shown t))) →
+  pub text_cut : (a b c : Option (List ℕ)) (text : List ℕ) →
+      WrittenApart (RunsApart traced image words budget) a b (Some text) → ((n : ℕ) × Appends b c (take n text)) →
       WrittenPartly (RunsAndWrites traced image words budget) a c
-  ending_cut a b c held shown s t same same' from reached trace ending = (
-    outcome_of t,
-    begun image (start image words) ++ ending_of image t,
-    record {
-      last = t;
-      reached = run_is held s t same from reached;
-      ends = refl;
-      written = refl;
-    },
-    text_then a b c _ _ (subst (Appends a b) (begun_is held s same from) trace)
-        (subst (λ i. (n : ℕ) × Appends b c (take n (ending_of i t))) same' ending),
-  )
+  text_cut a b c text p cut =
+      (Halted, p.0 ++ text, ends_halted text p.0 p.1, text_then a b c p.0 text p.2 cut)
 
   -- A run whose trace is cut off.
-  pub trace_cut : (a b : Option (List ℕ)) (held : Image) (s : State) → held ≡ image → s ≡ start image words →
-      IsValid image → length words ≡ length image.globals.items →
-      ((n : ℕ) × Appends a b (take n (begun held s))) → WrittenPartly (RunsAndWrites traced image words budget) a b
-  trace_cut a b held s same from valid full cut =
+  pub trace_cut : (a b : Option (List ℕ)) → IsValid image → length words ≡ length image.globals.items →
+      ((n : ℕ) × Appends a b (take n (begun image (start image words)))) →
+      WrittenPartly (RunsAndWrites traced image words budget) a b
+  trace_cut a b valid full cut =
       let last = never_stuck image words budget valid full in (
         outcome_of last.0,
         begun image (start image words) ++ ending_of image last.0,
@@ -138,7 +167,7 @@ module _ (traced : Bool) (image : Image) (words : List ℤ) (budget : ℕ) where
           ends = refl;
           written = refl;
         },
-        longer_text a b _ _ (subst (λ text. (n : ℕ) × Appends a b (take n text)) (begun_is held s same from) cut),
+        longer_text a b _ _ cut,
       )
 
 module _ (traced : Bool) (remaining : Option (List ℕ)) (store : List ℕ) (budget : ℕ) (image : Image)

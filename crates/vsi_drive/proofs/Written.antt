@@ -1,8 +1,10 @@
 -- The settings of fields, three by three.
-use Rattle.std.proofs.Common.{◌≡◌, ℕ, ◌+◌, ◌<◌, List, [], ◌∷◌, length, drop, Some, Ok, Err, refl, sym, ap, ◌∙◌, arith}
+use Rattle.std.proofs.Common.{◌≡◌, ℕ, ◌+◌, ◌-◌, ◌<◌, ◌≤◌, List, [], ◌∷◌, length, take, drop, get_or, Some, Ok, Err, refl, sym, ap, ◌∙◌, arith}
 use Rattle.std.specs.Prelude.{ℤ, Result, slice_get, slice_set}
-use Rattle.std.proofs.lemmas.List.{drop_more}
+use Rattle.std.specs.Borrow.{Bor}
+use Rattle.std.proofs.lemmas.List.{drop_more, take_all}
 use Rattle.std.proofs.lemmas.Option.{get_or_from_slice_get}
+use Rattle.vsi_lattice.specs.NamePlaces.{texts}
 use Rattle.vsi_drive.specs.declared.settings.LineFault.{LineFault}
 use Rattle.vsi_drive.specs.declared.settings.LineFault.TheVariants.{BadSetting}
 use Rattle.vsi_drive.specs.Control.{Control}
@@ -15,24 +17,27 @@ pub drop_field : (fs : List (List ℕ)) (at : ℕ) (x : List ℕ) → at < lengt
 drop_field fs at x within is =
     drop_more fs at [] within ∙ ap (λ f. f ∷ drop (at + 1) fs) (get_or_from_slice_get fs at x [] is)
 
--- The next three fields are a setting before the others.
-pub next_setting : (c : spec.Settable) (n at : ℕ) (fs : List (List ℕ)) (x y z : List ℕ) → at + 2 < length fs →
-    slice_get fs at ≡ Some x → slice_get fs (at + 1) ≡ Some y → slice_get fs (at + 2) ≡ Some z →
-    spec.settings_from c n (drop at fs)
-    ≡ spec.in_front (spec.setting c n x y z) (spec.settings_from c (n + 1) (drop (at + 3) fs))
-next_setting c n at fs x y z within isx isy isz =
-    let first = drop_field fs at x (omega (arith, within)) isx in
-    let second = drop_field fs (at + 1) y (omega (arith, within)) isy in
-    let third = drop_field fs (at + 1 + 1) z (omega (arith, within)) (ap (slice_get fs) (omega arith) ∙ isz) in
-    let end : drop (at + 1 + 1 + 1) fs ≡ drop (at + 3) fs = ap (λ k. drop k fs) (omega arith) in
-    ap (spec.settings_from c n)
-    (first ∙ ap (λ l. x ∷ l) (second ∙ ap (λ l. y ∷ l) (third ∙ ap (λ l. z ∷ l) end)))
-
 -- A setting that is made goes before the later ones.
 pub made : (i : ℕ) (w : ℤ) (r : Result (List spec.Setting) LineFault) (m : List ℤ) →
     spec.written (spec.in_front (Ok (i, w)) r) m ≡ spec.written r (slice_set m i w)
 made i w (Err fault) m = refl
 made i w (Ok ss) m = refl
+
+-- Making the setting of the next three fields and then those of the others makes all.
+pub set_more : (s : spec.Settable) (n : ℕ) (r : List (Bor (List ℕ))) (x y z : Bor (List ℕ)) (i : ℕ) (w : ℤ)
+    (m : List ℤ) (k : ℕ) →
+    Ok (i, w) ≡ spec.setting s n (get_or r 0 x).now (get_or r 1 y).now (get_or r 2 z).now → 3 ≤ length r →
+    length r - 3 ≡ k →
+    spec.written (spec.settings_from s (n + 1) (texts (take k (drop 3 r)))) (slice_set m i w)
+    ≡ spec.written (spec.settings_from s n (texts r)) m
+set_more s n [] x y z i w m k set some left = absurd (omega (arith, some))
+set_more s n (a ∷ []) x y z i w m k set some left = absurd (omega (arith, some))
+set_more s n (a ∷ b ∷ []) x y z i w m k set some left = absurd (omega (arith, some))
+set_more s n (a ∷ b ∷ c ∷ r) x y z i w m k set some left =
+    let rest = spec.settings_from s (n + 1) (texts r) in
+    let all : take k r ≡ r = take_all k r (omega (arith, left)) in
+    ap (λ l. spec.written (spec.settings_from s (n + 1) (texts l)) (slice_set m i w)) all
+    ∙ sym (ap (λ o. spec.written (spec.in_front o rest) m) (sym set) ∙ made i w rest m)
 
 -- If nothing is written, there is a fault.
 pub fault_of : (r : Result (List spec.Setting) LineFault) (m : List ℤ) (fault : LineFault) →

@@ -1,5 +1,6 @@
 -- The view of one run under a boundary: a line for each global that is written, if the run halts.
-use Rattle.std.specs.Prelude.{ℕ, ℤ, List, [], ◌∷◌, ◌++◌, Option, Some, None, option_map, if◌then◌else◌}
+use Rattle.std.specs.Prelude.{ℕ, ℤ, List, [], ◌∷◌, ◌++◌, Option, Some, None, option_map, if◌then◌else◌, codes}
+use Rattle.std.specs.Fmt.{signed_decimal}
 use Rattle.vsi_image.specs.declared.instr.Image.{Image}
 use Rattle.vsi_image.specs.Fields.{Global, globals}
 use Rattle.vsi_image.specs.Meaning.{State}
@@ -16,6 +17,16 @@ abbrev pub written_lines : Control → List Global → List ℤ → List ℕ
 written_lines c [] words = []
 written_lines c (g ∷ gs) [] = []
 written_lines c (g ∷ gs) (w ∷ ws) = written_line c g w ++ written_lines c gs ws
+
+-- `NAME = NUMBER` and this byte for a global that is written, and nothing for any other.
+abbrev pub global_written : Control → ℕ → Global → ℤ → List ℕ
+global_written c end g w = if is_written c g then g.0 ++ codes " = " ++ signed_decimal w ++ end ∷ [] else []
+
+-- The same for each of these globals, in order.
+abbrev pub globals_written : Control → ℕ → List Global → List ℤ → List ℕ
+globals_written c end [] words = []
+globals_written c end (g ∷ gs) [] = []
+globals_written c end (g ∷ gs) (w ∷ ws) = global_written c end g w ++ globals_written c end gs ws
 
 -- The lines of the globals of a store that are written.
 abbrev pub written_text : Control → List ℤ → List ℕ

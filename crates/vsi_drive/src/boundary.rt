@@ -92,30 +92,6 @@ pub(crate) fn is_listed(list: Option<&[&[u8]]>, name: &[u8]) -> bool
     }
 }
 
-/// Processes the byte at a position, within a name that began at `start`: adds the name if a comma
-/// ends it, and returns the start of the name to which the next byte belongs.
-fn put_name<'a>(
-    names: &mut Vec<&'a [u8]>,
-    text: &'a [u8],
-    start: usize,
-    at: usize,
-) -> Result<usize, AllocError>
-    requires start { start ≤ at }
-    requires at { at < length text.now }
-    ensures start { IfOk result (λ next. next ≤ at + 1) }
-    ensures names { IfOk result (λ next.
-        texts names.new.items
-        ++ spec.names_behind (slice_range text.now next (at + 1)) (drop (at + 1) text.now)
-        ≡ texts names.old.items
-        ++ spec.names_behind (slice_range text.now start at) (drop at text.now)) }
-{
-    if text[at] == b',' {
-        names.push(&text[start..at])?;
-        return Ok(at + 1);
-    }
-    Ok(start)
-}
-
 /// The names in a text with commas between them. An empty text has none.
 pub fn names_of<'a>(alloc: Global, text: &'a [u8]) -> Result<Vec<&'a [u8]>, AllocError>
     ensures { IfOk result (λ names. texts names.items ≡ spec.names_of text.now) }
@@ -126,7 +102,10 @@ pub fn names_of<'a>(alloc: Global, text: &'a [u8]) -> Result<Vec<&'a [u8]>, Allo
     }
     let mut start = 0;
     for i in 0..text.len() {
-        start = put_name(&mut names, text, start, i)?;
+        if text[i] == b',' {
+            names.push(&text[start..i])?;
+            start = i + 1;
+        }
     }
     names.push(&text[start..])?;
     Ok(names)
@@ -174,10 +153,15 @@ pub fn first_words(
     if let Err(fault) = set_each(alloc, &reach, settings, &mut words, &mut named)? {
         return Ok(Err(StartFault::Setting(fault)));
     }
-    match unnamed_in(is_full, &named) {
-        Some(place) => Ok(Err(StartFault::Unnamed(place))),
-        None => Ok(Ok(words)),
+    if !is_full {
+        return Ok(Ok(words));
     }
+    for (i, is_named) in named.iter().enumerate() {
+        if !*is_named {
+            return Ok(Err(StartFault::Unnamed(i)));
+        }
+    }
+    Ok(Ok(words))
 }
 
 /// The setting that a single text forms.
@@ -230,19 +214,4 @@ fn set_each(
         }
     }
     Ok(Ok(()))
-}
-
-/// The first global that isn't named, if each must be.
-fn unnamed_in(is_full: bool, named: &[bool]) -> Option<usize>
-    ensures { result ≡ starts_spec.unnamed_in is_full named.now }
-{
-    if !is_full {
-        return None;
-    }
-    for (i, is_named) in named.iter().enumerate() {
-        if !*is_named {
-            return Some(i);
-        }
-    }
-    None
 }

@@ -1,18 +1,19 @@
 //! A controller and its cycles.
 
-ghost use Rattle.std.specs.Prelude.{◌≡◌, ℕ, [], length, Some, None, IfOk, IfErr, OnOk, OnErr, MatchResult, option_map, unwrap_or};
+ghost use Rattle.std.specs.Prelude.{◌≡◌, ◌++◌, ℕ, [], length, Some, None, IfOk, IfErr, OnOk, OnErr, MatchResult, option_map, unwrap_or};
 ghost use Rattle.vsi_image.specs.Fields.{global, globals};
 ghost use Rattle.vsi_lattice.specs.{LatticeView.{class_named, order}, NamePlaces.{texts}, Order.{IsClass}};
 ghost use Rattle.vsi_store.specs.{View.{first_unknown, is_seen}, declared.views.ViewError.TheVariants.{Memory}};
 
-use crate::boundary::{Boundary, BoundaryFault, Role, is_among, is_listed};
+use crate::boundary::{Boundary, BoundaryFault, Role, StartFault, is_among, is_listed};
 use crate::settings::{LineFault, words_set};
-use crate::texts::{fault_line, line_seen, spent_line, written_text};
-use std::alloc::Global;
+use crate::texts::start_fault_line;
+use std::alloc::{AllocError, Global};
 use vsi_image::Verified;
 use vsi_lattice::{Class, Classes, Lattice};
 use vsi_machine::{Machine, Outcome};
-use vsi_store::ViewError;
+use vsi_store::{ViewError, sees};
+use vsi_syntax::put_word;
 
 /// How a cycle ends.
 #[derive(Clone, Copy, PartialEq, Eq, Debug)]
@@ -38,7 +39,7 @@ pub struct Controller<'a> {
 }
 
 impl<'a> Controller<'a> {
-    ghost use Rattle.vsi_drive.specs.{Boundary.{boundary_of, listed, no_boundary}, BoundaryFaults.{boundary_fault, class_of, name_fault, names_fault}, declared.boundary.Role.TheVariants.{Input, Output, Released}, Control.{control, controlled, is_input, is_written}, Views.{view_of}};
+    ghost use Rattle.vsi_drive.specs.{Boundary.{boundary_of, listed, no_boundary}, BoundaryFaults.{boundary_fault, class_of, name_fault, names_fault}, declared.boundary.Role.TheVariants.{Input, Output, Released}, Control.{control, controlled, is_input, is_written}, Views.{global_written, globals_written, view_of}};
     ghost use Rattle.vsi_drive.specs.Cycles as spec;
 
     /// A controller of this image.
@@ -129,23 +130,13 @@ impl<'a> Controller<'a> {
     fn boundary_fault(&self) -> Option<BoundaryFault>
         ensures { result ≡ boundary_fault (control self.now) }
     {
-        if let Some(fault) = self.list_fault(Role::Input, self.boundary.inputs) {
+        if let Some(fault) = self.names_fault(Role::Input, self.boundary.inputs.unwrap_or(&[])) {
             return Some(fault);
         }
-        if let Some(fault) = self.list_fault(Role::Output, self.boundary.outputs) {
+        if let Some(fault) = self.names_fault(Role::Output, self.boundary.outputs.unwrap_or(&[])) {
             return Some(fault);
         }
         self.names_fault(Role::Released, self.boundary.released)
-    }
-
-    /// The first fault of the list of a role, if there is one.
-    fn list_fault(&self, role: Role, list: Option<&[&[u8]]>) -> Option<BoundaryFault>
-        ensures { result ≡ names_fault (control self.now) role 0 (unwrap_or (listed list.entry) []) }
-    {
-        match list {
-            Some(names) => self.names_fault(role, names),
-            None => None,
-        }
     }
 
     /// The first fault of the names of a role.
@@ -165,41 +156,20 @@ impl<'a> Controller<'a> {
         ensures { result ≡ name_fault (control self.now) role number name.now }
     {
         match role {
-            Role::Input => self.input_fault(number, name),
-            Role::Output => self.output_fault(number, name),
-            Role::Released => self.released_fault(number, name),
-        }
-    }
-
-    /// The fault of an input.
-    fn input_fault(&self, number: usize, name: &[u8]) -> Option<BoundaryFault>
-        ensures { result ≡ name_fault (control self.now) Input number name.now }
-    {
-        match self.class_of(name) {
-            None => Some(BoundaryFault::UnknownInput(number)),
-            Some(class) if self.sees(class) => None,
-            Some(_) => Some(BoundaryFault::InputAboveClass(number)),
-        }
-    }
-
-    /// The fault of an output.
-    fn output_fault(&self, number: usize, name: &[u8]) -> Option<BoundaryFault>
-        ensures { result ≡ name_fault (control self.now) Output number name.now }
-    {
-        match self.class_of(name) {
-            None => Some(BoundaryFault::UnknownOutput(number)),
-            Some(class) if self.sees(class) || is_among(self.boundary.released, name) => None,
-            Some(_) => Some(BoundaryFault::OutputAboveClass(number)),
-        }
-    }
-
-    /// The fault of a released name.
-    fn released_fault(&self, number: usize, name: &[u8]) -> Option<BoundaryFault>
-        ensures { result ≡ name_fault (control self.now) Released number name.now }
-    {
-        match self.class_of(name) {
-            Some(_) if is_listed(self.boundary.outputs, name) => None,
-            _ => Some(BoundaryFault::NotAnOutput(number)),
+            Role::Input => match self.class_of(name) {
+                None => Some(BoundaryFault::UnknownInput(number)),
+                Some(class) if self.sees(class) => None,
+                Some(_) => Some(BoundaryFault::InputAboveClass(number)),
+            },
+            Role::Output => match self.class_of(name) {
+                None => Some(BoundaryFault::UnknownOutput(number)),
+                Some(class) if self.sees(class) || is_among(self.boundary.released, name) => None,
+                Some(_) => Some(BoundaryFault::OutputAboveClass(number)),
+            },
+            Role::Released => match self.class_of(name) {
+                Some(_) if is_listed(self.boundary.outputs, name) => None,
+                _ => Some(BoundaryFault::NotAnOutput(number)),
+            },
         }
     }
 
@@ -224,15 +194,6 @@ impl<'a> Controller<'a> {
         is_listed(self.boundary.inputs, name)
     }
 
-    /// Whether a cycle writes a global.
-    pub(crate) fn writes(&self, variable: &(Vec<u8>, Vec<u8>)) -> bool
-        ensures { result ≡ is_written (control self.now) (global variable.now) }
-    {
-        let name = variable.0.as_slice();
-        is_listed(self.boundary.outputs, name)
-            && (self.sees(variable.1.as_slice()) || is_among(self.boundary.released, name))
-    }
-
     /// The names of the globals and of their classes.
     pub(crate) fn globals(&self) -> &[(Vec<u8>, Vec<u8>)]
         ensures { result.now ≡ (control self.now).image.globals.items }
@@ -246,10 +207,50 @@ impl<'a> Controller<'a> {
             ≡ is_seen (control self.now).known (control self.now).order (control self.now).class
             name.now }
     {
-        match self.lattice.class_named(name) {
-            Some(found) => self.lattice.leq(found, self.class),
-            None => false,
+        sees(self.lattice, self.class, name)
+    }
+
+    /// Whether a cycle writes a global.
+    fn writes(&self, variable: &(Vec<u8>, Vec<u8>)) -> bool
+        ensures { result ≡ is_written (control self.now) (global variable.now) }
+    {
+        let name = variable.0.as_slice();
+        is_listed(self.boundary.outputs, name)
+            && (self.sees(variable.1.as_slice()) || is_among(self.boundary.released, name))
+    }
+
+    /// Adds `NAME = NUMBER` and this byte, if the global is written.
+    fn put_written(
+        &self,
+        text: &mut Vec<u8>,
+        variable: &(Vec<u8>, Vec<u8>),
+        word: i64,
+        end: u8,
+    ) -> Result<(), AllocError>
+        ensures { OnOk result (text.new.items ≡ text.old.items
+            ++ global_written (control self.now) end (global variable.now) word) }
+    {
+        if self.writes(variable) {
+            text.extend_from_slice(variable.0.as_slice())?;
+            text.extend_from_slice(b" = ")?;
+            put_word(text, word)?;
+            text.push(end)?;
         }
+        Ok(())
+    }
+
+    /// The globals of a store that are written, with this byte after each.
+    fn written(&self, alloc: Global, words: &[i64], end: u8) -> Result<Vec<u8>, AllocError>
+        requires { length words.now ≡ length (control self.now).image.globals.items }
+        ensures { IfOk result (λ text. text.items ≡ globals_written (control self.now) end
+            (globals (control self.now).image.globals.items) words.now) }
+    {
+        let variables = self.globals();
+        let mut text = Vec::new(alloc);
+        for (i, variable) in variables.iter().enumerate() {
+            self.put_written(&mut text, variable, words[i], end)?;
+        }
+        Ok(text)
     }
 
     /// Does a cycle: sets the globals that the line names, runs the image, and returns the line of
@@ -271,61 +272,45 @@ impl<'a> Controller<'a> {
         ensures kept { OnErr result (store.new ≡ store.old) }
         ensures only { IfErr result (λ e. e ≡ Memory) }
     {
-        match words_set(alloc, self, line, store)? {
-            Ok(words) => self.run_from(alloc, words.as_slice(), store),
+        let words = match words_set(alloc, self, line, store)? {
+            Ok(words) => words,
             Err(fault) => {
-                let text = fault_line(alloc, fault)?;
-                Ok((CycleEnding::Refused(fault), text))
+                let text = start_fault_line(alloc, StartFault::Setting(fault))?;
+                return Ok((CycleEnding::Refused(fault), text));
             }
-        }
-    }
-
-    /// Runs the image from these words. A run that is out of budget leaves this store.
-    fn run_from(
-        &self,
-        alloc: Global,
-        words: &[i64],
-        store: &mut [i64],
-    ) -> Result<(CycleEnding, Vec<u8>), ViewError>
-        requires words { length words.now ≡ length (control self.now).image.globals.items }
-        requires store { length store.old ≡ length (control self.now).image.globals.items }
-        ensures ending { IfOk result (λ r.
-            r.0 ≡ (spec.cycle_from (control self.now) store.old words.now).ending) }
-        ensures line { IfOk result (λ r.
-            r.1.items ≡ (spec.cycle_from (control self.now) store.old words.now).line) }
-        ensures store { OnOk result
-            (store.new ≡ (spec.cycle_from (control self.now) store.old words.now).store) }
-        ensures kept { OnErr result (store.new ≡ store.old) }
-        ensures only { IfErr result (λ e. e ≡ Memory) }
-    {
-        let mut machine = match Machine::new(alloc, self.verified, words) {
-            Ok(machine) => machine,
-            Err(_) => return Err(ViewError::Memory),
+        };
+        let Ok(mut machine) = Machine::new(alloc, self.verified, words.as_slice()) else {
+            return Err(ViewError::Memory);
         };
         match machine.run(self.budget) {
             Outcome::Halted => {
-                let text = line_seen(alloc, self, machine.store())?;
+                let mut text = self.written(alloc, machine.store(), b' ')?;
+                text.pop();
+                text.push(b'\n')?;
                 store.copy_from_slice(machine.store());
                 Ok((CycleEnding::Halted, text))
             }
-            Outcome::OutOfBudget => Ok((CycleEnding::OutOfBudget, spent_line(alloc)?)),
+            Outcome::OutOfBudget => {
+                let text = Vec::from_slice(alloc, b"out of budget\n")?;
+                Ok((CycleEnding::OutOfBudget, text))
+            }
         }
     }
 
     /// Runs the image from these words, and returns the lines of the globals that the class sees of
     /// its last words, or that are released; nothing if the run is out of budget.
+    #[tactic(auto, using(crate::proofs::Shown::shown_lines))]
     pub fn view(&self, alloc: Global, words: &[i64]) -> Result<Option<Vec<u8>>, ViewError>
         requires { length words.now ≡ length (control self.now).image.globals.items }
         ensures view { IfOk result (λ view. option_map (λ text. text.items) view
             ≡ view_of (control self.now) (control self.now).budget words.now) }
         ensures only { IfErr result (λ e. e ≡ Memory) }
     {
-        let mut machine = match Machine::new(alloc, self.verified, words) {
-            Ok(machine) => machine,
-            Err(_) => return Err(ViewError::Memory),
+        let Ok(mut machine) = Machine::new(alloc, self.verified, words) else {
+            return Err(ViewError::Memory);
         };
         match machine.run(self.budget) {
-            Outcome::Halted => Ok(Some(written_text(alloc, self, machine.store())?)),
+            Outcome::Halted => Ok(Some(self.written(alloc, machine.store(), b'\n')?)),
             Outcome::OutOfBudget => Ok(None),
         }
     }

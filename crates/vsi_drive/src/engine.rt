@@ -291,7 +291,8 @@ pub fn build_in<R: Read, W: Write>(
         (RefusesRead (RefusesText (class_named lattice.now) (order lattice.now) profile)
         (R.remaining (device_of reader.old))) }
 {
-    let image = read_compiled(alloc, profile, lattice, reader)?;
+    let text = read_all(alloc, reader)?;
+    let image = image_bytes(alloc, profile, lattice, &text)?;
     write_out(&image, writer)
 }
 
@@ -330,32 +331,6 @@ pub fn build<R: Read, W: Write>(
         (R.remaining (device_of reader.old))) }
 {
     build_in(alloc, Profile::Base, lattice, reader, writer)
-}
-
-/// The bytes of the image of the text that a reader supplies.
-fn read_compiled<R: Read>(
-    alloc: Global,
-    profile: Profile,
-    lattice: &Lattice,
-    reader: &mut Counted<R>,
-) -> Result<Vec<u8>, EngineError>
-    requires { faults_of reader.old < u64.MAX }
-    ensures fault { IsErrOf result EngineError.ReadFault
-        ↔ faults_of reader.old < faults_of reader.new }
-    ensures count { faults_of reader.old ≤ faults_of reader.new }
-    ensures once { faults_of reader.new ≤ faults_of reader.old + 1 }
-    ensures bound { TakesFew (R.remaining (device_of reader.old))
-        (R.remaining (device_of reader.new)) }
-    ensures only { IfErr result (λ e. e ≢ EngineError.WriteFault) }
-    ensures built { IfOk result
-        (λ bytes. Builds (class_named lattice.now) (order lattice.now) profile
-        (R.remaining (device_of reader.old)) bytes.items) }
-    ensures refused { IfErr result
-        (RefusesRead (RefusesText (class_named lattice.now) (order lattice.now) profile)
-        (R.remaining (device_of reader.old))) }
-{
-    let text = read_all(alloc, reader)?;
-    image_bytes(alloc, profile, lattice, &text)
 }
 
 /// The bytes of the image of a source text that is accepted under a profile.

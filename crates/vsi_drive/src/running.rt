@@ -56,34 +56,14 @@ pub fn run_image<R: Read, W: Write>(
     ensures refused { IfErr result
         (RefusesRead (λ bytes. RefusesRun bytes store.now) (R.remaining (device_of reader.old))) }
 {
-    let (verified, words) = started(alloc, reader, store)?;
-    run_verified(alloc, &verified, &words, budget, trace, writer)
-}
-
-/// The image that a reader supplies, and the store of a store file for it.
-fn started<R: Read>(
-    alloc: Global,
-    reader: &mut Counted<R>,
-    store: &[u8],
-) -> Result<(Verified, Vec<i64>), EngineError>
-    requires { faults_of reader.old < u64.MAX }
-    ensures fault { IsErrOf result EngineError.ReadFault
-        ↔ faults_of reader.old < faults_of reader.new }
-    ensures count { faults_of reader.old ≤ faults_of reader.new }
-    ensures once { faults_of reader.new ≤ faults_of reader.old + 1 }
-    ensures bound { TakesFew (R.remaining (device_of reader.old))
-        (R.remaining (device_of reader.new)) }
-    ensures only { IfErr result (λ e. e ≢ EngineError.WriteFault) }
-    ensures started { IfOk result
-        (λ r. Started (R.remaining (device_of reader.old)) store.now r.0 r.1.items) }
-    ensures room { IfOk result (λ r. length r.1.items ≡ length r.0.globals.items) }
-    ensures refused { IfErr result
-        (RefusesRead (λ bytes. RefusesRun bytes store.now) (R.remaining (device_of reader.old))) }
-{
     let bytes = read_all(alloc, reader)?;
     let verified = verified_image(alloc, &bytes)?;
     let words = read_store(alloc, verified.image(), store)?;
-    Ok((verified, words))
+    let Some(text) = run_words(alloc, &verified, &words, budget, trace, writer)? else {
+        return Ok(Outcome::OutOfBudget);
+    };
+    write_out(&text, writer)?;
+    Ok(Outcome::Halted)
 }
 
 /// The valid image with these bytes, by `decode` and `verify`.
@@ -138,50 +118,13 @@ pub fn run_words<W: Write>(
         (W.contents (device_of writer.old)) (W.contents (device_of writer.new)) }
 {
     let image = verified.image();
-    let mut machine = match Machine::new(alloc, verified, words) {
-        Ok(machine) => machine,
-        Err(_) => return Err(EngineError::Memory),
+    let Ok(mut machine) = Machine::new(alloc, verified, words) else {
+        return Err(EngineError::Memory);
     };
     match run_shown(alloc, &mut machine, budget, trace, writer)? {
         Outcome::Halted => Ok(Some(store_text(alloc, image, machine.store())?)),
         Outcome::OutOfBudget => Ok(None),
     }
-}
-
-/// Runs an image from a store of one word per global.
-fn run_verified<W: Write>(
-    alloc: Global,
-    verified: &Verified,
-    words: &[i64],
-    budget: u64,
-    trace: bool,
-    writer: &mut Counted<W>,
-) -> Result<Outcome, EngineError>
-    requires words { length words.now ≡ length verified.now.globals.items }
-    requires writes { faults_of writer.old < u64.MAX }
-    ensures fault { IsErrOf result EngineError.WriteFault
-        ↔ faults_of writer.old < faults_of writer.new }
-    ensures count { faults_of writer.old ≤ faults_of writer.new }
-    ensures once { faults_of writer.new ≤ faults_of writer.old + 1 }
-    ensures only { IfErr result IsOfWriting }
-    ensures ran { IfOk result (WrittenWhole (RunsAndWrites trace verified.now words.now budget)
-        (W.contents (device_of writer.old)) (W.contents (device_of writer.new))) }
-    ensures prefix { IsErrOf result EngineError.WriteFault →
-        WrittenPartly (RunsAndWrites trace verified.now words.now budget)
-        (W.contents (device_of writer.old)) (W.contents (device_of writer.new)) }
-    ensures memory { IsErrOf result EngineError.Memory →
-        WrittenSteps (λ k. trace_of trace verified.now.code.items k (start verified.now words.now))
-        budget
-        (W.contents (device_of writer.old)) (W.contents (device_of writer.new)) }
-{
-    let image = verified.image();
-    let mut machine = match Machine::new(alloc, verified, words) {
-        Ok(machine) => machine,
-        Err(_) => return Err(EngineError::Memory),
-    };
-    let outcome = run_shown(alloc, &mut machine, budget, trace, writer)?;
-    write_store(alloc, image, &machine, outcome, writer)?;
-    Ok(outcome)
 }
 
 /// Does at most `budget` steps and, if a trace is requested, writes the line of each before it.
@@ -219,57 +162,6 @@ fn run_shown<W: Write>(
     }
 }
 
-/// Writes the store's lines if the machine has halted.
-fn write_store<W: Write>(
-    alloc: Global,
-    image: &Image,
-    machine: &Machine,
-    outcome: Outcome,
-    writer: &mut Counted<W>,
-) -> Result<(), EngineError>
-    requires image { machine.now.image ≡ image.now }
-    requires outcome { outcome ≡ outcome_of machine.now.state }
-    requires slots { length image.now.globals.items ≤ length machine.now.state.slots }
-    requires writes { faults_of writer.old < u64.MAX }
-    ensures fault { IsErrOf result EngineError.WriteFault
-        ↔ faults_of writer.old < faults_of writer.new }
-    ensures count { faults_of writer.old ≤ faults_of writer.new }
-    ensures once { faults_of writer.new ≤ faults_of writer.old + 1 }
-    ensures only { IfErr result IsOfWriting }
-    ensures whole { OnOk result
-        (Appends (W.contents (device_of writer.old)) (W.contents (device_of writer.new))
-        (ending_of image.now machine.now.state)) }
-    ensures prefix { IsErrOf result EngineError.WriteFault →
-        (n : ℕ) × Appends (W.contents (device_of writer.old)) (W.contents (device_of writer.new))
-        (take n (ending_of image.now machine.now.state)) }
-    ensures memory { IsErrOf result EngineError.Memory
-        → Keeps (W.contents (device_of writer.old)) (W.contents (device_of writer.new)) }
-{
-    match outcome {
-        Outcome::Halted => {
-            let text = store_text(alloc, image, machine.store())?;
-            write_out(&text, writer)
-        }
-        Outcome::OutOfBudget => Ok(()),
-    }
-}
-
-/// The line of the next step with its line feed, if the machine has not halted.
-fn next_line(alloc: Global, machine: &Machine) -> Result<Option<Vec<u8>>, AllocError>
-    ensures halted { IfOk result (λ line. IsNone line ↔ IsTrue machine.now.state.halted) }
-    ensures line { IfOk result (λ line. option_map (λ text. text.items) line
-        ≡ option_map (λ text. text ++ 10 ∷ [])
-        (trace_line machine.now.image.code.items machine.now.state)) }
-{
-    match machine.trace_line(alloc)? {
-        Some(mut line) => {
-            line.push(b'\n')?;
-            Ok(Some(line))
-        }
-        None => Ok(None),
-    }
-}
-
 /// Does at most `budget` steps, and writes the line of each before it.
 pub(crate) fn run_traced<W: Write>(
     alloc: Global,
@@ -298,13 +190,12 @@ pub(crate) fn run_traced<W: Write>(
         (W.contents (device_of writer.old)) (W.contents (device_of writer.new)) }
 {
     for _step in 0..budget {
-        match next_line(alloc, machine)? {
-            Some(line) => {
-                write_out(&line, writer)?;
-                machine.step();
-            }
-            None => return Ok(Outcome::Halted),
-        }
+        let Some(mut line) = machine.trace_line(alloc)? else {
+            return Ok(Outcome::Halted);
+        };
+        line.push(b'\n')?;
+        write_out(&line, writer)?;
+        machine.step();
     }
     Ok(machine.run(0))
 }

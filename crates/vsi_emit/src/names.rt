@@ -31,20 +31,13 @@ fn is_letter(byte: u8) -> bool
     (b'A' <= byte && byte <= b'Z') || (b'a' <= byte && byte <= b'z')
 }
 
-/// Whether the byte may be in a name.
-fn is_name_byte(byte: u8) -> bool
-    ensures { result ≡ spec.is_name_byte byte }
-{
-    is_letter(byte) || (b'0' <= byte && byte <= b'9') || byte == b'_'
-}
-
 /// Whether each byte may be in a name.
 fn all_name_bytes(name: &[u8]) -> bool
     ensures { result ≡ spec.are_name_bytes name.now }
 {
     let mut rest = name;
     while let [byte, after @ ..] = rest {
-        if !is_name_byte(*byte) {
+        if !is_letter(*byte) && !(b'0' <= *byte && *byte <= b'9') && *byte != b'_' {
             return false;
         }
         rest = after;

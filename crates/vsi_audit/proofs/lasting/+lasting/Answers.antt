@@ -1,4 +1,4 @@
-use Rattle.std.proofs.Common.{rules, ◌≡◌, ◌+◌, ◌-◌, [], ◌∷◌, ◌++◌, length, Some, slice_get, sym, ap, subst, ◌∙◌, arith, refl, length-append}
+use Rattle.std.proofs.Common.{◌≡◌, ◌+◌, ◌-◌, [], ◌∷◌, ◌++◌, length, Some, slice_get, sym, ap, subst, ◌∙◌, arith, refl, length-append}
 use Rattle.std.proofs.lemmas.Option.{slice_get_within}
 use Rattle.vsi_image.specs.declared.instr.Instr.TheVariants.{Jmp}
 use Rattle.vsi_scope.specs.Language.{letvars}
@@ -7,7 +7,7 @@ use Rattle.vsi_scope.proofs.Views.{command_If, command_While, command_Letvar, le
 use Rattle.vsi_audit.specs.Reading.{nothing, IsRead}
 use Rattle.vsi_audit.proofs.Found.{passed_on, begun, readable_begins, readable_ordered}
 use Rattle.vsi_audit.proofs.Going.{goes_assign, goes_letvar, goes_part}
-use Rattle.vsi_audit.proofs.Sound.{assign_read, letvar_read, loop_read, choice_read, push_read, in_room, of_room}
+use Rattle.vsi_audit.proofs.Sound.{assign_read, letvar_read, loop_read, choice_read, push_read}
 use Rattle.vsi_audit.proofs.lasting.+lasting.Goals as goal
 
 pub read_all-returns-in_err-c-clause-found : goal.read_all-returns-in_err-c-clause-found
@@ -80,7 +80,7 @@ pub read_one-returns-in-Assign-clause-read : goal.read_one-returns-in-Assign-cla
 read_one-returns-in-Assign-clause-read t c =
     let r = c.args.room in
     let v = c.in_ok-value.ensures in
-    assign_read c.args.code.now r.limit r.scope c.args.from c.stop_of-stop.result c.in-Assign.slot _
+    assign_read c.args.code.now r.limit r.scope c.args.from c.stop_of-stop.result c.in-Assign.loc _
     (expression c.in_ok-value.value) v.stands v.fits c.in-Assign.ensures.0 c.in-Assign.ensures.1 (omega arith)
 
 pub read_one-returns-in-Assign-clause-rest : goal.read_one-returns-in-Assign-clause-rest
@@ -88,7 +88,7 @@ read_one-returns-in-Assign-clause-rest t c = λ n d.
     let r = c.args.room in
     let stop = c.stop_of-stop.result in
     let g = begun c.args.code.now r.limit c.args.from c.args.to r.scope r.blocks n stop d c.stop_of-stop.ensures in
-    goes_assign c.args.code.now r.limit c.args.from stop c.args.to r.scope r.blocks n c.in-Assign.slot g.1
+    goes_assign c.args.code.now r.limit c.args.from stop c.args.to r.scope r.blocks n c.in-Assign.loc g.1
     c.in-Assign.ensures.0 c.in-Assign.ensures.1
 
 pub read_one-returns-in_err-body-in-Letvar-clause-found : goal.read_one-returns-in_err-body-in-Letvar-clause-found
@@ -98,12 +98,9 @@ read_one-returns-in_err-body-in-Letvar-clause-found t c = λ n d.
     let stop = c.stop_of-stop.result in
     let g = begun code r.limit c.args.from c.args.to r.scope r.blocks n stop d c.stop_of-stop.ensures in
     let v = goes_letvar code r.limit c.args.from stop c.args.to r.scope r.blocks n g.1 c.in-Letvar.ensures.0 in
-    let i = c.above-inner in
     passed_on c.from_residual-in_err-body-in-Letvar.result c.in_err-body-in-Letvar.field-0.0
     c.from_residual-in_err-body-in-Letvar.ensures.1
-    (c.in_err-body-in-Letvar.ensures.found v.0
-    (in_room code (stop + 1) c.args.to v.0 r.limit (r.scope + 1) r.blocks i.result.limit i.result.scope i.result.blocks
-    i.ensures.limit i.ensures.scope i.ensures.blocks v.1))
+    (c.in_err-body-in-Letvar.ensures.found v.0 v.1)
 
 pub read_one-returns-in_ok-body-in-Letvar-clause-read : goal.read_one-returns-in_ok-body-in-Letvar-clause-read
 read_one-returns-in_ok-body-in-Letvar-clause-read t c =
@@ -111,13 +108,11 @@ read_one-returns-in_ok-body-in-Letvar-clause-read t c =
     let r = c.args.room in
     let stop = c.stop_of-stop.result in
     let v = c.in_ok-value.ensures in
-    let i = c.above-inner in
     let b = c.in_ok-body-in-Letvar.body in
     subst (λ x. IsRead code r.limit r.scope c.args.from c.args.to x) (sym (command_Letvar c.in_ok-value.value b))
     (letvar_read code r.limit r.scope c.args.from stop c.args.to (expression c.in_ok-value.value) (sequence b.items)
     v.stands v.fits c.in-Letvar.ensures.0
-    (of_room code (stop + 1) c.args.to r.limit (r.scope + 1) i.result.limit i.result.scope (sequence b.items)
-    i.ensures.limit i.ensures.scope c.in_ok-body-in-Letvar.ensures.read))
+    c.in_ok-body-in-Letvar.ensures.read)
 
 pub read_one-returns-in_ok-body-in-Letvar-clause-count : goal.read_one-returns-in_ok-body-in-Letvar-clause-count
 read_one-returns-in_ok-body-in-Letvar-clause-count t c =
@@ -137,10 +132,7 @@ read_one-returns-in_ok-body-in-Letvar-clause-rest t c = λ n d.
     let stop = c.stop_of-stop.result in
     let g = begun code r.limit c.args.from c.args.to r.scope r.blocks n stop d c.stop_of-stop.ensures in
     let v = goes_letvar code r.limit c.args.from stop c.args.to r.scope r.blocks n g.1 c.in-Letvar.ensures.0 in
-    let i = c.above-inner in
-    let few = c.in_ok-body-in-Letvar.ensures.few v.0
-    (in_room code (stop + 1) c.args.to v.0 r.limit (r.scope + 1) r.blocks i.result.limit i.result.scope i.result.blocks
-    i.ensures.limit i.ensures.scope i.ensures.blocks v.1) in
+    let few = c.in_ok-body-in-Letvar.ensures.few v.0 v.1 in
     let all = ap letvars (command_Letvar c.in_ok-value.value c.in_ok-body-in-Letvar.body) in
     record { m = 0; rest = nothing refl; few = omega (arith, few, v.2, all) }
 
@@ -153,12 +145,9 @@ read_one-returns-in_err-body-in-Part-clause-found t c = λ n d.
     let g = begun code r.limit c.args.from c.args.to r.scope r.blocks n stop d c.stop_of-stop.ensures in
     let p = goes_part code r.limit c.args.from stop c.args.to r.scope r.blocks n c.in-Part.jump c.in-Part.join g.1 at.0
     at.1 in
-    let i = c.inside-inner in
     passed_on c.from_residual-in_err-body-in-Part.result c.in_err-body-in-Part.field-0.0
     c.from_residual-in_err-body-in-Part.ensures.1
-    (c.in_err-body-in-Part.ensures.found p.a
-    (in_room code (stop + 1) c.in-Part.jump p.a r.limit r.scope (r.blocks - 1) i.result.limit i.result.scope
-    i.result.blocks i.ensures.limit i.ensures.scope i.ensures.blocks p.first))
+    (c.in_err-body-in-Part.ensures.found p.a p.first)
 
 pub read_one-returns-then-join-from-clause-read : goal.read_one-returns-then-join-from-clause-read
 read_one-returns-then-join-from-clause-read t c =
@@ -168,15 +157,13 @@ read_one-returns-then-join-from-clause-read t c =
     let at = c.in-Part.ensures in
     let jump = c.in-Part.jump in
     let v = c.in_ok-value.ensures in
-    let i = c.inside-inner in
     let b = c.in_ok-body-in-Part.body in
     let back : slice_get code jump ≡ Some (Jmp c.args.from) =
     at.1 ∙ ap (λ k. Some (Jmp k)) c.if-join-from.true in
     subst (λ x. IsRead code r.limit r.scope c.args.from (jump + 1) x) (sym (command_While c.in_ok-value.value b))
     (loop_read code r.limit r.scope c.args.from stop jump (expression c.in_ok-value.value) (sequence b.items)
     v.stands v.fits at.0 back
-    (of_room code (stop + 1) jump r.limit r.scope i.result.limit i.result.scope (sequence b.items) i.ensures.limit
-    i.ensures.scope c.in_ok-body-in-Part.ensures.read))
+    c.in_ok-body-in-Part.ensures.read)
 
 pub read_one-returns-then-join-from-clause-count : goal.read_one-returns-then-join-from-clause-count
 read_one-returns-then-join-from-clause-count t c =
@@ -195,16 +182,13 @@ read_one-returns-then-join-from-clause-rest t c = λ n d.
     let g = begun code r.limit c.args.from c.args.to r.scope r.blocks n stop d c.stop_of-stop.ensures in
     let p = goes_part code r.limit c.args.from stop c.args.to r.scope r.blocks n c.in-Part.jump c.in-Part.join g.1 at.0
     at.1 in
-    let i = c.inside-inner in
-    let few = c.in_ok-body-in-Part.ensures.few p.a
-    (in_room code (stop + 1) c.in-Part.jump p.a r.limit r.scope (r.blocks - 1) i.result.limit i.result.scope
-    i.result.blocks i.ensures.limit i.ensures.scope i.ensures.blocks p.first) in
+    let few = c.in_ok-body-in-Part.ensures.few p.a p.first in
     let all = ap letvars (command_While c.in_ok-value.value c.in_ok-body-in-Part.body) in
     let l = p.again c.if-join-from.true in
     record { m = l.m; rest = l.rest; few = omega (arith, l.few, few, all) }
 
-pub read_one-returns-in_err-second-in-Part-clause-found : goal.read_one-returns-in_err-second-in-Part-clause-found
-read_one-returns-in_err-second-in-Part-clause-found t c = λ n d.
+pub read_one-returns-in_err-no-in-Part-clause-found : goal.read_one-returns-in_err-no-in-Part-clause-found
+read_one-returns-in_err-no-in-Part-clause-found t c = λ n d.
     let code = c.args.code.now in
     let r = c.args.room in
     let stop = c.stop_of-stop.result in
@@ -213,15 +197,12 @@ read_one-returns-in_err-second-in-Part-clause-found t c = λ n d.
     let p = goes_part code r.limit c.args.from stop c.args.to r.scope r.blocks n c.in-Part.jump c.in-Part.join g.1 at.0
     at.1 in
     let s = p.second c.if-join-from.false in
-    let i = c.inside-inner in
-    passed_on c.from_residual-in_err-second-in-Part.result c.in_err-second-in-Part.field-0.0
-    c.from_residual-in_err-second-in-Part.ensures.1
-    (c.in_err-second-in-Part.ensures.found s.b
-    (in_room code (c.in-Part.jump + 1) c.in-Part.join s.b r.limit r.scope (r.blocks - 1) i.result.limit i.result.scope
-    i.result.blocks i.ensures.limit i.ensures.scope i.ensures.blocks s.branch))
+    passed_on c.from_residual-in_err-no-in-Part.result c.in_err-no-in-Part.field-0.0
+    c.from_residual-in_err-no-in-Part.ensures.1
+    (c.in_err-no-in-Part.ensures.found s.b s.branch)
 
-pub read_one-returns-in_ok-second-in-Part-clause-read : goal.read_one-returns-in_ok-second-in-Part-clause-read
-read_one-returns-in_ok-second-in-Part-clause-read t c =
+pub read_one-returns-in_ok-no-in-Part-clause-read : goal.read_one-returns-in_ok-no-in-Part-clause-read
+read_one-returns-in_ok-no-in-Part-clause-read t c =
     let code = c.args.code.now in
     let r = c.args.room in
     let stop = c.stop_of-stop.result in
@@ -229,28 +210,24 @@ read_one-returns-in_ok-second-in-Part-clause-read t c =
     let jump = c.in-Part.jump in
     let join = c.in-Part.join in
     let v = c.in_ok-value.ensures in
-    let i = c.inside-inner in
     let a = c.in_ok-body-in-Part.body in
-    let b = c.in_ok-second-in-Part.second in
+    let b = c.in_ok-no-in-Part.no in
     subst (λ x. IsRead code r.limit r.scope c.args.from join x) (sym (command_If c.in_ok-value.value a b))
     (choice_read code r.limit r.scope c.args.from stop jump join (expression c.in_ok-value.value) (sequence a.items)
     (sequence b.items) v.stands v.fits at.0 at.1
-    (of_room code (stop + 1) jump r.limit r.scope i.result.limit i.result.scope (sequence a.items) i.ensures.limit
-    i.ensures.scope c.in_ok-body-in-Part.ensures.read)
-    (of_room code (jump + 1) join r.limit r.scope i.result.limit i.result.scope (sequence b.items) i.ensures.limit
-    i.ensures.scope c.in_ok-second-in-Part.ensures.read))
+    c.in_ok-body-in-Part.ensures.read c.in_ok-no-in-Part.ensures.read)
 
-pub read_one-returns-in_ok-second-in-Part-clause-count : goal.read_one-returns-in_ok-second-in-Part-clause-count
-read_one-returns-in_ok-second-in-Part-clause-count t c =
+pub read_one-returns-in_ok-no-in-Part-clause-count : goal.read_one-returns-in_ok-no-in-Part-clause-count
+read_one-returns-in_ok-no-in-Part-clause-count t c =
     omega (
       arith,
-      ap letvars (command_If c.in_ok-value.value c.in_ok-body-in-Part.body c.in_ok-second-in-Part.second),
+      ap letvars (command_If c.in_ok-value.value c.in_ok-body-in-Part.body c.in_ok-no-in-Part.no),
       c.in_ok-body-in-Part.ensures.count,
-      c.in_ok-second-in-Part.ensures.count,
+      c.in_ok-no-in-Part.ensures.count,
     )
 
-pub read_one-returns-in_ok-second-in-Part-clause-rest : goal.read_one-returns-in_ok-second-in-Part-clause-rest
-read_one-returns-in_ok-second-in-Part-clause-rest t c = λ n d.
+pub read_one-returns-in_ok-no-in-Part-clause-rest : goal.read_one-returns-in_ok-no-in-Part-clause-rest
+read_one-returns-in_ok-no-in-Part-clause-rest t c = λ n d.
     let code = c.args.code.now in
     let r = c.args.room in
     let stop = c.stop_of-stop.result in
@@ -259,14 +236,9 @@ read_one-returns-in_ok-second-in-Part-clause-rest t c = λ n d.
     let p = goes_part code r.limit c.args.from stop c.args.to r.scope r.blocks n c.in-Part.jump c.in-Part.join g.1 at.0
     at.1 in
     let s = p.second c.if-join-from.false in
-    let i = c.inside-inner in
-    let few = c.in_ok-body-in-Part.ensures.few p.a
-    (in_room code (stop + 1) c.in-Part.jump p.a r.limit r.scope (r.blocks - 1) i.result.limit i.result.scope
-    i.result.blocks i.ensures.limit i.ensures.scope i.ensures.blocks p.first) in
-    let fewer = c.in_ok-second-in-Part.ensures.few s.b
-    (in_room code (c.in-Part.jump + 1) c.in-Part.join s.b r.limit r.scope (r.blocks - 1) i.result.limit i.result.scope
-    i.result.blocks i.ensures.limit i.ensures.scope i.ensures.blocks s.branch) in
-    let all = ap letvars (command_If c.in_ok-value.value c.in_ok-body-in-Part.body c.in_ok-second-in-Part.second) in
+    let few = c.in_ok-body-in-Part.ensures.few p.a p.first in
+    let fewer = c.in_ok-no-in-Part.ensures.few s.b s.branch in
+    let all = ap letvars (command_If c.in_ok-value.value c.in_ok-body-in-Part.body c.in_ok-no-in-Part.no) in
     record { m = s.m; rest = s.rest; few = omega (arith, s.few, few, fewer, all) }
 
 pub read_one-returns-in-Stuck-clause-found : goal.read_one-returns-in-Stuck-clause-found

@@ -5,5 +5,5 @@ use Rattle.vsi_audit.proofs.names.declared_program.Goals as goal
 
 pub returns-clause-named : goal.returns-clause-named
 returns-clause-named c =
-    have_classes (class_named c.args.lattice.now) (whole c.in-Ok-parse.program) c.in-Ok-resolve.resolved
+    have_classes (class_named c.args.lattice.now) (whole c.in-Ok.program) c.in-Ok-resolve.resolved
     c.in-Ok-resolve.ensures.resolved

@@ -2,7 +2,7 @@ use Rattle.std.proofs.Common.{◌≡◌, drop}
 use Rattle.vsi_image.specs.Fields.{globals}
 use Rattle.vsi_drive.specs.Reaches.{settable}
 use Rattle.vsi_drive.specs.Settings as spec
-use Rattle.vsi_drive.proofs.settings.target.Given as goal
+use Rattle.vsi_drive.proofs.settings.setting.Given as goal
 
 -- The target among the remaining globals is the target among all.
 abbrev pub invariant-loop-i : goal.invariant-loop-i
