@@ -1,6 +1,5 @@
 //! Stores that seem to show a leak. `check_leak` checks what is proposed here.
 
-ghost use Rattle.vsi_lattice.specs.{LatticeView.{order}, Order.{IsClass}};
 ghost use Rattle.std.specs.Prelude.{◌≡◌, pos, slice_index_or};
 
 use crate::check::{Sign, ending, started};
@@ -8,9 +7,8 @@ use rand_core::Rng;
 use rand_xoshiro::SplitMix64;
 use std::alloc::{AllocError, Global};
 use vsi_image::{Image, Instr, Verified};
-use vsi_lattice::{Class, Lattice};
 use vsi_machine::Outcome;
-use vsi_store::{RunEnding, sees};
+use vsi_store::RunEnding;
 
 /// The conditions of a search for a pair of runs: an image, the globals that the class sees, a sign
 /// and a budget.
@@ -21,53 +19,6 @@ pub(crate) struct Probe<'a> {
     pub(crate) seen: Vec<bool>,
     pub(crate) sign: Sign,
     pub(crate) budget: u64,
-}
-
-/// Which globals the class sees.
-pub(crate) fn seen_globals(
-    alloc: Global,
-    lattice: &Lattice,
-    class: Class,
-    image: &Image,
-) -> Result<Vec<bool>, AllocError>
-    requires { IsClass (order lattice.now) class }
-{
-    let mut seen = Vec::new(alloc);
-    for variable in image.globals.iter() {
-        seen.push(sees(lattice, class, variable.1.as_slice()))?;
-    }
-    Ok(seen)
-}
-
-/// The globals that the code reads and the class doesn't see, the preferred ones first.
-pub(crate) fn hidden_sources(
-    alloc: Global,
-    seen: &[bool],
-    image: &Image,
-    preferred: &[usize],
-) -> Result<Vec<usize>, AllocError> {
-    let mut sources = Vec::new(alloc);
-    for place in preferred {
-        add_source(&mut sources, seen, image, *place)?;
-    }
-    for place in 0..seen.len() {
-        add_source(&mut sources, seen, image, place)?;
-    }
-    Ok(sources)
-}
-
-/// Adds a global that the code reads and the class doesn't see, unless it is in the list.
-fn add_source(
-    sources: &mut Vec<usize>,
-    seen: &[bool],
-    image: &Image,
-    place: usize,
-) -> Result<(), AllocError> {
-    let is_hidden = place < seen.len() && !seen[place];
-    if is_hidden && reads(image, place) && !sources.contains(&place) {
-        sources.push(place)?;
-    }
-    Ok(())
 }
 
 /// Whether the code reads a slot.
@@ -82,16 +33,6 @@ pub(crate) fn reads(image: &Image, place: usize) -> bool {
     false
 }
 
-/// Whether the stores differ in a word that is seen.
-fn differ(seen: &[bool], first: &[i64], second: &[i64]) -> bool {
-    for ((is_seen, word), other) in seen.iter().zip(first.iter()).zip(second.iter()) {
-        if *is_seen && *word != *other {
-            return true;
-        }
-    }
-    false
-}
-
 impl<'a> Probe<'a> {
     /// Whether the runs from two stores seem to be distinguishable. With `Endings` either may halt.
     pub(crate) fn distinguishes(&self, first: &[i64], second: &[i64]) -> Result<bool, AllocError> {
@@ -100,7 +41,13 @@ impl<'a> Probe<'a> {
         let outcomes = (one.run(self.budget), other.run(self.budget));
         match (self.sign, outcomes) {
             (Sign::Words, (Outcome::Halted, Outcome::Halted)) => {
-                Ok(differ(&self.seen, one.store(), other.store()))
+                let words = self.seen.iter().zip(one.store().iter());
+                for ((is_seen, word), other_word) in words.zip(other.store().iter()) {
+                    if *is_seen && *word != *other_word {
+                        return Ok(true);
+                    }
+                }
+                Ok(false)
             }
             (Sign::Endings, (first_outcome, second_outcome)) => {
                 Ok(first_outcome != second_outcome)
@@ -155,30 +102,29 @@ impl Pair {
         Ok(false)
     }
 
-    /// Tries equal words at a position where they differ.
-    fn equalise(&mut self, probe: &Probe<'_>, place: usize) -> Result<bool, AllocError> {
+    /// Tries smaller words at a position: 0 first, then the word less a part of it. With
+    /// `is_first`, these are words of the first store, and of the second too if the two are equal.
+    /// Otherwise they are words of the second store, if its word differs from the first store's.
+    fn lessen(
+        &mut self,
+        probe: &Probe<'_>,
+        place: usize,
+        is_first: bool,
+    ) -> Result<bool, AllocError> {
         let (one, other) = (word_at(&self.first, place), word_at(&self.second, place));
-        if one == other {
-            return Ok(false);
-        }
-        if self.attempt(probe, place, (one, one))? {
-            return Ok(true);
-        }
-        self.attempt(probe, place, (other, other))
-    }
-
-    /// Tries smaller words in the first store at a position: 0 first, then the word less a part of
-    /// it. The second store's word changes too if the two are equal.
-    fn lessen_first(&mut self, probe: &Probe<'_>, place: usize) -> Result<bool, AllocError> {
-        let (one, other) = (word_at(&self.first, place), word_at(&self.second, place));
-        let mut part = one;
+        let mut part = if is_first { one } else { other };
         for _ in 0..64 {
-            if part == 0 {
+            if part == 0 || (one == other && !is_first) {
                 break;
             }
-            let word = one.wrapping_sub(part);
-            let with = if one == other { word } else { other };
-            if self.attempt(probe, place, (word, with))? {
+            let words = if !is_first {
+                (one, other.wrapping_sub(part))
+            } else if one == other {
+                (one.wrapping_sub(part), one.wrapping_sub(part))
+            } else {
+                (one.wrapping_sub(part), other)
+            };
+            if self.attempt(probe, place, words)? {
                 return Ok(true);
             }
             part = part / 2;
@@ -186,54 +132,29 @@ impl Pair {
         Ok(false)
     }
 
-    /// Tries smaller words in the second store at a position, if its word differs from the first
-    /// store's.
-    fn lessen_second(&mut self, probe: &Probe<'_>, place: usize) -> Result<bool, AllocError> {
-        let (one, other) = (word_at(&self.first, place), word_at(&self.second, place));
-        let mut part = other;
-        for _ in 0..64 {
-            if part == 0 || one == other {
-                break;
-            }
-            if self.attempt(probe, place, (one, other.wrapping_sub(part)))? {
-                return Ok(true);
-            }
-            part = part / 2;
-        }
-        Ok(false)
-    }
-
-    /// Tries the absolute values of words below 0.
-    fn take_absolute(&mut self, probe: &Probe<'_>, place: usize) -> Result<bool, AllocError> {
-        let (one, other) = (word_at(&self.first, place), word_at(&self.second, place));
-        if one >= 0 && other >= 0 {
-            return Ok(false);
-        }
-        let words = (one.saturating_abs(), other.saturating_abs());
-        self.attempt(probe, place, words)
-    }
-
-    /// One round over all globals. Returns whether something became smaller.
-    fn round(&mut self, probe: &Probe<'_>) -> Result<bool, AllocError> {
-        let mut changed = false;
-        for place in 0..self.first.len() {
-            if self.equalise(probe, place)? {
-                changed = true;
-            }
-            if self.lessen_first(probe, place)? || self.lessen_second(probe, place)? {
-                changed = true;
-            }
-            if self.take_absolute(probe, place)? {
-                changed = true;
-            }
-        }
-        Ok(changed)
-    }
-
-    /// Repeats rounds until nothing changes.
+    /// Repeats rounds over all globals until nothing becomes smaller.
     pub(crate) fn shrink(&mut self, probe: &Probe<'_>) -> Result<(), AllocError> {
         for _ in 0..ROUNDS {
-            if !self.round(probe)? {
+            let mut changed = false;
+            for place in 0..self.first.len() {
+                // Equal words where they differ.
+                let (one, other) = (word_at(&self.first, place), word_at(&self.second, place));
+                if self.attempt(probe, place, (one, one))?
+                    || self.attempt(probe, place, (other, other))?
+                {
+                    changed = true;
+                }
+                if self.lessen(probe, place, true)? || self.lessen(probe, place, false)? {
+                    changed = true;
+                }
+                // The absolute values of words below 0.
+                let (one, other) = (word_at(&self.first, place), word_at(&self.second, place));
+                let words = (one.saturating_abs(), other.saturating_abs());
+                if self.attempt(probe, place, words)? {
+                    changed = true;
+                }
+            }
+            if !changed {
                 break;
             }
         }

@@ -6,14 +6,13 @@ ghost use Rattle.vsi_leak.specs.Leaks.{IsFinding, IsAsked, IsLeakBy, LeavesNoOne
 ghost use Rattle.vsi_leak.specs.Leaks as spec;
 
 use crate::check::{Effort, Finding, Leak, Sign, check_leak};
-use crate::propose::{
-    Pair, Probe, hidden_sources, put, random_below, random_word, reads, seen_globals, values_of,
-};
+use crate::propose::{Pair, Probe, put, random_below, random_word, reads, values_of};
 use rand_core::SeedableRng;
 use rand_xoshiro::SplitMix64;
 use std::alloc::{AllocError, Global};
 use vsi_image::{Image, Verified};
 use vsi_lattice::{Class, Lattice};
+use vsi_store::sees;
 
 /// The globals to change, and the words to try.
 #[derive(Drop)]
@@ -21,17 +20,6 @@ struct Plan {
     sources: Vec<usize>,
     read: Vec<usize>,
     values: Vec<i64>,
-}
-
-/// The globals that the code reads.
-fn read_globals(alloc: Global, image: &Image) -> Result<Vec<usize>, AllocError> {
-    let mut places = Vec::new(alloc);
-    for place in 0..image.globals.len() {
-        if reads(image, place) {
-            places.push(place)?;
-        }
-    }
-    Ok(places)
 }
 
 /// A store of zeros.
@@ -70,26 +58,6 @@ fn sweep(
     Ok((false, pairs))
 }
 
-/// Draws random words for the globals that are read, and changes one or several hidden globals.
-fn randomise(plan: &Plan, random: &mut SplitMix64, pair: &mut Pair) {
-    for place in plan.read.iter() {
-        let word = if random_below(random, 2) == 0 {
-            0
-        } else {
-            random_word(random, &plan.values)
-        };
-        put(&mut pair.first, *place, word);
-        put(&mut pair.second, *place, word);
-    }
-    let chosen = random_below(random, plan.sources.len());
-    let several = random_below(random, 4) == 0;
-    for (number, place) in plan.sources.iter().enumerate() {
-        if number == chosen || (several && random_below(random, 2) == 0) {
-            put(&mut pair.second, *place, random_word(random, &plan.values));
-        }
-    }
-}
-
 /// Tries pairs until one seems to show a leak. Returns whether one does, and how many were tried.
 fn propose(
     probe: &Probe<'_>,
@@ -108,7 +76,28 @@ fn propose(
     }
     let mut random = SplitMix64::seed_from_u64(effort.seed);
     for pairs in swept..effort.tries {
-        randomise(plan, &mut random, pair);
+        // Random words for the globals that are read, and other words for one or several hidden
+        // globals.
+        for place in plan.read.iter() {
+            let word = if random_below(&mut random, 2) == 0 {
+                0
+            } else {
+                random_word(&mut random, &plan.values)
+            };
+            put(&mut pair.first, *place, word);
+            put(&mut pair.second, *place, word);
+        }
+        let chosen = random_below(&mut random, plan.sources.len());
+        let several = random_below(&mut random, 4) == 0;
+        for (number, place) in plan.sources.iter().enumerate() {
+            if number == chosen || (several && random_below(&mut random, 2) == 0) {
+                put(
+                    &mut pair.second,
+                    *place,
+                    random_word(&mut random, &plan.values),
+                );
+            }
+        }
         if probe.distinguishes(&pair.first, &pair.second)? {
             return Ok((true, pairs + 1));
         }
@@ -171,10 +160,23 @@ fn leak_of_ones(
     Ok(None)
 }
 
-/// The plan of a probe: the globals to change, the preferred ones first, and the words to try.
+/// The plan of a probe: the globals to change, which the code reads and the class doesn't see, the
+/// preferred ones first; all globals that the code reads; and the words to try.
 fn plan_of(probe: &Probe<'_>, image: &Image, preferred: &[usize]) -> Result<Plan, AllocError> {
-    let sources = hidden_sources(probe.alloc, &probe.seen, image, preferred)?;
-    let read = read_globals(probe.alloc, image)?;
+    let seen = &probe.seen;
+    let mut sources = Vec::new(probe.alloc);
+    for place in preferred.iter().copied().chain(0..seen.len()) {
+        let is_hidden = place < seen.len() && !seen[place];
+        if is_hidden && reads(image, place) && !sources.contains(&place) {
+            sources.push(place)?;
+        }
+    }
+    let mut read = Vec::new(probe.alloc);
+    for place in 0..image.globals.len() {
+        if reads(image, place) {
+            read.push(place)?;
+        }
+    }
     let values = values_of(probe.alloc, image)?;
     Ok(Plan {
         sources,
@@ -183,33 +185,9 @@ fn plan_of(probe: &Probe<'_>, image: &Image, preferred: &[usize]) -> Result<Plan
     })
 }
 
-/// Two stores of zeros.
-fn zero_pair(alloc: Global, image: &Image) -> Result<Pair, AllocError> {
-    let first = zeros(alloc, image)?;
-    let second = zeros(alloc, image)?;
-    Ok(Pair { first, second })
-}
-
-/// Two stores that seem to show a leak, made small, and the number of pairs tried; `None` if no
-/// pair was found.
-fn small_pair(
-    probe: &Probe<'_>,
-    plan: &Plan,
-    mut pair: Pair,
-    effort: Effort,
-) -> Result<(Option<Pair>, u64), AllocError>
-    ensures { IfOk result (λ r. r.1 ≤ effort.tries) }
-{
-    let (found, pairs) = propose(probe, plan, &mut pair, effort)?;
-    if !found {
-        return Ok((None, pairs));
-    }
-    pair.shrink(probe)?;
-    Ok((Some(pair), pairs))
-}
-
-/// The pair of `small_pair` for an image at a class, by a sign. For words, no pair is tried if the
-/// class sees nothing.
+/// Two stores of an image that seem to show a leak at a class by a sign, made small, and the number
+/// of pairs tried; `None` if no pair was found. For words, no pair is tried if the class sees
+/// nothing.
 fn proposed(
     alloc: Global,
     lattice: &Lattice,
@@ -223,7 +201,10 @@ fn proposed(
     ensures { IfOk result (λ r. r.1 ≤ effort.tries) }
 {
     let image = verified.image();
-    let seen = seen_globals(alloc, lattice, class, image)?;
+    let mut seen = Vec::new(alloc);
+    for variable in image.globals.iter() {
+        seen.push(sees(lattice, class, variable.1.as_slice()))?;
+    }
     if matches!(sign, Sign::Words) && !seen.contains(&true) {
         return Ok((None, 0));
     }
@@ -235,8 +216,15 @@ fn proposed(
         budget: effort.budget,
     };
     let plan = plan_of(&probe, image, preferred)?;
-    let pair = zero_pair(alloc, image)?;
-    small_pair(&probe, &plan, pair, effort)
+    let first = zeros(alloc, image)?;
+    let second = zeros(alloc, image)?;
+    let mut pair = Pair { first, second };
+    let (found, pairs) = propose(&probe, &plan, &mut pair, effort)?;
+    if !found {
+        return Ok((None, pairs));
+    }
+    pair.shrink(&probe)?;
+    Ok((Some(pair), pairs))
 }
 
 /// Like `find_leak`, but changes the hidden globals at these positions first.

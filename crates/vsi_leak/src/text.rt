@@ -1,7 +1,7 @@
 //! The text of a leak: both runs side by side, a row for each word.
 
-ghost use Rattle.std.specs.Prelude.{◌≡◌, ◌++◌, ◌∷◌, [], codes, max, IfOk, IfSome, OnOk};
-ghost use Rattle.vsi_image.specs.Fields.{global, globals};
+ghost use Rattle.std.specs.Prelude.{◌≡◌, ◌++◌, max, IfOk, IfSome, OnOk};
+ghost use Rattle.vsi_image.specs.Fields.{globals};
 ghost use Rattle.vsi_lattice.specs.{LatticeView.{class_named, order}, Order.{IsClass}};
 ghost use Rattle.vsi_leak.specs.Texts as spec;
 
@@ -219,27 +219,6 @@ fn left_width(
     }
 }
 
-/// The row of both endings.
-fn put_ends(alloc: Global, text: &mut Vec<u8>, width: usize, leak: &Leak) -> Result<(), AllocError>
-    ensures { OnOk result (text.new.items ≡ text.old.items
-        ++ spec.row width (spec.end_cell leak.now.first.ending)
-        (spec.end_cell leak.now.second.ending)) }
-{
-    let left = end_cell(alloc, &leak.first.ending)?;
-    let right = end_cell(alloc, &leak.second.ending)?;
-    put_row(alloc, text, width, &left, &right)
-}
-
-/// The first line of a leak at a class of this name.
-fn heading(alloc: Global, name: &[u8]) -> Result<Vec<u8>, AllocError>
-    ensures { IfOk result (λ text. text.items ≡ codes "leak at " ++ name.now ++ 10 ∷ []) }
-{
-    let mut text = Vec::from_slice(alloc, b"leak at ")?;
-    text.extend_from_slice(name)?;
-    text.push(b'\n')?;
-    Ok(text)
-}
-
 /// The text of a leak: both stores side by side, then the words that the class sees after both
 /// runs, and the number of instructions of each. A star marks each row whose sides differ.
 pub fn leak_text(
@@ -255,12 +234,16 @@ pub fn leak_text(
     let name = lattice.name(leak.class);
     let variables = image.globals.as_slice();
     let width = left_width(alloc, lattice, variables, leak)?;
-    let mut text = heading(alloc, name)?;
+    let mut text = Vec::from_slice(alloc, b"leak at ")?;
+    text.extend_from_slice(name)?;
+    text.push(b'\n')?;
     let stores = (leak.first.store.as_slice(), leak.second.store.as_slice());
     put_rows(alloc, &mut text, lattice, &None, width, variables, stores)?;
     text.extend_from_slice(name)?;
     text.extend_from_slice(b" sees\n")?;
     put_seen(alloc, &mut text, lattice, width, variables, leak)?;
-    put_ends(alloc, &mut text, width, leak)?;
+    let left = end_cell(alloc, &leak.first.ending)?;
+    let right = end_cell(alloc, &leak.second.ending)?;
+    put_row(alloc, &mut text, width, &left, &right)?;
     Ok(text)
 }

@@ -114,20 +114,6 @@ pub(crate) fn either(first: Cost, second: Cost) -> Cost
     }
 }
 
-/// The cost of this many turns.
-pub(crate) fn times(turns: u64, turn: Cost) -> Result<Cost, Fault>
-    ensures least { IfOk result (λ cost. cost.least ≡ turns * turn.least) }
-    ensures most { IfOk result (λ cost. cost.most ≡ turns * turn.most) }
-{
-    let Some(least) = turns.checked_mul(turn.least) else {
-        return Err(Fault::TooLarge);
-    };
-    let Some(most) = turns.checked_mul(turn.most) else {
-        return Err(Fault::TooLarge);
-    };
-    Ok(Cost { least, most })
-}
-
 /// A test that begins a conditional or a loop: the start of its guard, its own position, its
 /// target, the position of the jump before the target, and that jump's target.
 #[derive(Clone, Copy)]
@@ -157,32 +143,6 @@ pub(crate) fn guard_at(
     }
 }
 
-/// The variable of the loop with this test.
-fn counter(facts: &[Known], test: Test, guard: Known, turned: &[Known]) -> Result<Counter, Stop>
-    ensures counter { IfOk result
-        (λ c. IsCounter facts.now guard turned.now c.slot c.turns c.last) }
-    ensures none { IfErr result
-        (OnEndless (IsUncounted facts.now guard turned.now test.place)) }
-{
-    match counter_of(facts, guard, turned) {
-        Ok(counter) => Ok(counter),
-        Err(reason) => Err(Stop::Endless(test.place, reason)),
-    }
-}
-
-/// Checks that a turn keeps each number.
-fn check_kept(entry: &[Known], turned: &[Known], place: usize) -> Result<(), Stop>
-    requires { length turned.now ≡ length entry.now }
-    ensures kept { OnOk result (Keeps entry.now turned.now) }
-    ensures changed { IfErr result (OnEndless (IsChanged entry.now turned.now place)) }
-{
-    if keeps(entry, turned) {
-        Ok(())
-    } else {
-        Err(Stop::Endless(place, Reason::Step))
-    }
-}
-
 /// The cost of this many turns, each of which tests the guard, runs its body and jumps back, and of
 /// the last test.
 fn whole(turns: u64, tested: u64, body: Cost) -> Result<Cost, Fault>
@@ -193,8 +153,13 @@ fn whole(turns: u64, tested: u64, body: Cost) -> Result<Cost, Fault>
         (λ cost. cost.most ≡ turns * (body.most + (tested + 1)) + tested) }
 {
     let turn = sum(body, exactly(tested + 1))?;
-    let all = times(turns, turn)?;
-    sum(all, exactly(tested))
+    let Some(least) = turns.checked_mul(turn.least) else {
+        return Err(Fault::TooLarge);
+    };
+    let Some(most) = turns.checked_mul(turn.most) else {
+        return Err(Fault::TooLarge);
+    };
+    sum(Cost { least, most }, exactly(tested))
 }
 
 /// The cost of a loop. Updates the facts to those after it.
@@ -215,8 +180,13 @@ pub(crate) fn finish(
     ensures fails { IfErr result
         (OnEndless (Unfinished facts.old entry.now guard turned.now test.place)) }
 {
-    let counter = counter(facts, test, guard, turned)?;
-    check_kept(entry, turned, test.place)?;
+    let counter = match counter_of(facts, guard, turned) {
+        Ok(counter) => counter,
+        Err(reason) => return Err(Stop::Endless(test.place, reason)),
+    };
+    if !keeps(entry, turned) {
+        return Err(Stop::Endless(test.place, Reason::Step));
+    }
     let tested = (test.place - test.start + 1) as u64;
     let cost = whole(counter.turns, tested, body)?;
     leave(facts, entry, turned, counter.slot, counter.last);
@@ -248,17 +218,6 @@ fn fresh(alloc: Global, slots: u16) -> Result<Vec<Known>, AllocError>
     Ok(facts)
 }
 
-/// Checks that there is a HALT at this position.
-fn check_halt(code: &[Instr], place: usize) -> Result<(), Fault>
-    ensures { OnOk result (slice_get code.now place ≡ Some instr.Halt) }
-{
-    if is_at(code, place, Instr::Halt) {
-        Ok(())
-    } else {
-        Err(Fault::Unread(place))
-    }
-}
-
 /// The cost of an image's runs.
 fn cost_of(alloc: Global, image: &Image) -> Result<Cost, Stop>
     ensures ends { IfOk result (Ends image.now.code.items image.now.slots) }
@@ -268,7 +227,9 @@ fn cost_of(alloc: Global, image: &Image) -> Result<Cost, Stop>
     let Some(halt) = code.len().checked_sub(1) else {
         return Err(Stop::Other(Fault::Unread(0)));
     };
-    check_halt(code, halt)?;
+    if !is_at(code, halt, Instr::Halt) {
+        return Err(Stop::Other(Fault::Unread(halt)));
+    }
     let mut facts = fresh(alloc, image.slots)?;
     let cost = stretch(alloc, code, &mut facts, 0, halt, MAX_DEPTH as u16)?;
     let whole = sum(cost, exactly(1))?;

@@ -10,22 +10,6 @@ use std::alloc::Global;
 use vsi_image::Instr;
 use vsi_syntax::Op;
 
-/// The operator of an instruction.
-fn operator_of(instr: Instr) -> Option<Op>
-    ensures acts { IfSome result (IsOperator instr) }
-    ensures takes { IfSome result
-        (λ o. (facts s : List Known) → put_fact facts s instr ≡ on_two o s) }
-{
-    match instr {
-        Instr::Add => Some(Op::Add),
-        Instr::Sub => Some(Op::Sub),
-        Instr::Mul => Some(Op::Mul),
-        Instr::Eq => Some(Op::Eq),
-        Instr::Lt => Some(Op::Lt),
-        _ => None,
-    }
-}
-
 /// Applies an operator to the two facts on top; the top one is about the right operand.
 fn operate(operands: &mut Vec<Known>, op: Op, place: usize) -> Result<(), Fault>
     ensures acts { OnOk result (Operates op operands.old.items operands.new.items) }
@@ -72,19 +56,6 @@ fn put_word(
     Ok(())
 }
 
-/// Puts an operator's word on top.
-fn put_operator(operands: &mut Vec<Known>, instr: Instr, place: usize) -> Result<(), Fault>
-    ensures acts { OnOk result
-        ((facts : List Known) → Acts instr facts operands.old.items operands.new.items) }
-    ensures puts { OnOk result
-        ((facts : List Known) → Puts facts operands.old.items instr operands.new.items) }
-{
-    match operator_of(instr) {
-        Some(op) => operate(operands, op, place),
-        None => Err(Fault::Unread(place)),
-    }
-}
-
 /// Handles one instruction of an expression.
 fn put(operands: &mut Vec<Known>, facts: &[Known], instr: Instr, place: usize) -> Result<(), Fault>
     ensures acts { OnOk result (Acts instr facts.now operands.old.items operands.new.items) }
@@ -93,7 +64,12 @@ fn put(operands: &mut Vec<Known>, facts: &[Known], instr: Instr, place: usize) -
     match instr {
         Instr::Push(n) => put_number(operands, n),
         Instr::Load(slot) => put_word(operands, facts, slot, place),
-        _ => put_operator(operands, instr, place),
+        Instr::Add => operate(operands, Op::Add, place),
+        Instr::Sub => operate(operands, Op::Sub, place),
+        Instr::Mul => operate(operands, Op::Mul, place),
+        Instr::Eq => operate(operands, Op::Eq, place),
+        Instr::Lt => operate(operands, Op::Lt, place),
+        _ => Err(Fault::Unread(place)),
     }
 }
 
@@ -150,19 +126,6 @@ pub(crate) fn is_at(code: &[Instr], place: usize, instr: Instr) -> bool
     code[place] == instr
 }
 
-/// The target of the jump at a position.
-fn jump_at(code: &[Instr], place: usize) -> Option<usize>
-    ensures { IfSome result (λ end. slice_get code.now place ≡ Some (spec.Jmp end)) }
-{
-    if place >= code.len() {
-        return None;
-    }
-    match code[place] {
-        Instr::Jmp(end) => Some(end as usize),
-        _ => None,
-    }
-}
-
 /// The test at a position, whose guard begins at the start and which leads to the target.
 fn test_at(code: &[Instr], start: usize, place: usize, target: u32) -> Result<Test, Fault>
     requires { start ≤ place }
@@ -174,7 +137,7 @@ fn test_at(code: &[Instr], start: usize, place: usize, target: u32) -> Result<Te
         return Err(Fault::Unread(place));
     }
     let jump = target as usize - 1;
-    let Some(end) = jump_at(code, jump) else {
+    let Some(Instr::Jmp(end)) = code.get(jump) else {
         return Err(Fault::Unread(place));
     };
     Ok(Test {
@@ -182,7 +145,7 @@ fn test_at(code: &[Instr], start: usize, place: usize, target: u32) -> Result<Te
         place,
         target: target as usize,
         jump,
-        end,
+        end: *end as usize,
     })
 }
 
