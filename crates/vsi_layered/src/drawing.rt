@@ -259,22 +259,6 @@ impl Placed<'_> {
     }
 }
 
-/// The drawing that the search finds.
-fn proposed(alloc: Global, graph: Graph<'_>) -> Made<Drawing> {
-    let mut groups = groups_of(alloc, graph)?;
-    let frame = frame_of(&mut groups)?;
-    let placed = placed_in(alloc, graph, &frame)?;
-    let (places, ways) = (placed.places()?, placed.ways()?);
-    drop(placed);
-    Ok(Drawing {
-        places,
-        groups: frame.boxes,
-        ways,
-        wide: frame.wide,
-        high: frame.high,
-    })
-}
-
 /// The drawing of a graph, if the search finds one that is sound; it finds none if a node's group
 /// has no number below 64, if a node has no size, or if numbers are too large.
 ///
@@ -284,7 +268,22 @@ fn proposed(alloc: Global, graph: Graph<'_>) -> Made<Drawing> {
 pub fn drawing_of(alloc: Global, graph: Graph<'_>) -> Result<Option<Drawing>, AllocError>
     ensures sound { IfOk result (λ found. IfSome found (IsSound graph.entry.nodes.now)) }
 {
-    let drawing = proposed(alloc, graph)?;
+    let mut groups = groups_of(alloc, graph)?;
+    let frame = frame_of(&mut groups)?;
+    let placed = placed_in(alloc, graph, &frame)?;
+    let places = placed.places()?;
+    let mut ways = Vec::new(alloc);
+    for (index, arrow) in graph.arrows.iter().enumerate() {
+        ways.push(placed.way_of(*arrow, index)?)?;
+    }
+    drop(placed);
+    let drawing = Drawing {
+        places,
+        groups: frame.boxes,
+        ways,
+        wide: frame.wide,
+        high: frame.high,
+    };
     if is_sound(graph.nodes, &drawing) {
         Ok(Some(drawing))
     } else {

@@ -54,21 +54,6 @@ fn swap(columns: &mut Vec<usize>, one: usize, other: usize) {
 }
 
 impl Groups<'_> {
-    /// Gives each group the length of the longest chain of groups with nodes that leads up to it.
-    fn put_levels(&mut self) {
-        for _ in 0..self.nodes.len() {
-            for high in 0..self.nodes.len() {
-                for low in 0..self.nodes.len() {
-                    let have_nodes = at(&self.nodes, low) > 0 && at(&self.nodes, high) > 0;
-                    if low != high && have_nodes && self.graph.is_below(low, high) {
-                        let least = at(&self.levels, low).saturating_add(1);
-                        raise_at(&mut self.levels, high, least);
-                    }
-                }
-            }
-        }
-    }
-
     /// Orders the columns so that arrows go over few of them: swaps two if that shortens the
     /// arrows.
     fn order_columns(&mut self) {
@@ -165,9 +150,20 @@ pub(crate) fn groups_of(alloc: Global, graph: Graph<'_>) -> Made<Groups<'_>> {
     for node in graph.nodes {
         add_at(&mut groups.nodes, node.group, 1);
     }
-    groups.put_levels();
+    // The level of a group is the length of the longest chain of groups with nodes up to it.
+    for _ in 0..count {
+        for high in 0..count {
+            for low in 0..count {
+                let have_nodes = at(&groups.nodes, low) > 0 && at(&groups.nodes, high) > 0;
+                if low != high && have_nodes && graph.is_below(low, high) {
+                    let least = at(&groups.levels, low).saturating_add(1);
+                    raise_at(&mut groups.levels, high, least);
+                }
+            }
+        }
+    }
     groups.put_all()?;
-    for group in 0..groups.nodes.len() {
+    for group in 0..count {
         if at(&groups.nodes, group) > 0 {
             groups.widen(group);
         }
@@ -322,29 +318,26 @@ impl Groups<'_> {
         Ok(rows)
     }
 
-    /// Widens the columns of a group until its box is wide enough.
-    fn put_width(&self, widths: &mut Vec<usize>, group: usize) {
-        let (first, last) = (at(&self.firsts, group), at(&self.lasts, group));
-        let inner = at(&self.widths, group)
-            .saturating_sub(GAP)
-            .max(at(self.graph.titles, group));
-        let needed = inner.saturating_add(2 * SIDE);
-        let lacks = needed.saturating_sub(columns_width(widths, first, last));
-        if lacks > 0 {
-            let share = lacks.checked_div(self.columns_of(group)).unwrap_or(0);
-            for column in first..last.saturating_add(1) {
-                add_at(widths, column, share.saturating_add(1));
-            }
-        }
-    }
-
-    /// The widths of the columns: those of the groups with one column first.
+    /// The widths of the columns, widened for each group until its box is wide enough: those of the
+    /// groups with one column first.
     fn column_widths(&self) -> Made<Vec<usize>> {
         let mut widths = vec![in self.alloc; 0; self.count]?;
         for columns in 1..self.count.saturating_add(1) {
             for group in 0..self.nodes.len() {
-                if self.columns_of(group) == columns && at(&self.nodes, group) > 0 {
-                    self.put_width(&mut widths, group);
+                if self.columns_of(group) != columns || at(&self.nodes, group) == 0 {
+                    continue;
+                }
+                let (first, last) = (at(&self.firsts, group), at(&self.lasts, group));
+                let inner = at(&self.widths, group).saturating_sub(GAP);
+                let needed = inner
+                    .max(at(self.graph.titles, group))
+                    .saturating_add(2 * SIDE);
+                let lacks = needed.saturating_sub(columns_width(&widths, first, last));
+                if lacks > 0 {
+                    let share = lacks.checked_div(columns).unwrap_or(0);
+                    for column in first..last.saturating_add(1) {
+                        add_at(&mut widths, column, share.saturating_add(1));
+                    }
                 }
             }
         }

@@ -61,9 +61,18 @@ impl Placed<'_> {
         true
     }
 
-    /// The free position of a row nearest to another position: that one, or one beside a box.
-    fn free_near(&self, row: usize, x: usize) -> usize {
-        let mut found = x;
+    /// Adds the points at which a line passes a row, unless it is straight there.
+    fn pass(&self, line: &mut Vec<Point>, last: Point, to: Point, row: usize) -> Made<Point> {
+        let middle = at(&self.frame.heights, row);
+        let is_upwards = last.y > to.y;
+        let near = moved(middle, HALF + 4, is_upwards);
+        let far = moved(middle, HALF + 4, !is_upwards);
+        if self.is_free(row, position(last, to, near), position(last, to, far)) {
+            return Ok(last);
+        }
+        // The free position of the row nearest to the line's: that one, or one beside a box.
+        let wanted = position(last, to, middle);
+        let mut x = wanted;
         let mut nearest = if self.is_free(row, x, x) {
             0
         } else {
@@ -74,27 +83,15 @@ impl Placed<'_> {
                 continue;
             }
             let half = (self.graph.width_of(node) / 2).saturating_add(CLEAR + 3);
-            let middle = at(&self.middles, node);
-            for beside in [middle.saturating_sub(half), middle.saturating_add(half)] {
-                if apart(beside, x) < nearest && beside > 0 && self.is_free(row, beside, beside) {
-                    nearest = apart(beside, x);
-                    found = beside;
+            let own = at(&self.middles, node);
+            for beside in [own.saturating_sub(half), own.saturating_add(half)] {
+                let way = apart(beside, wanted);
+                if way < nearest && beside > 0 && self.is_free(row, beside, beside) {
+                    nearest = way;
+                    x = beside;
                 }
             }
         }
-        found
-    }
-
-    /// Adds the points at which a line passes a row, unless it is straight there.
-    fn pass(&self, line: &mut Vec<Point>, last: Point, to: Point, row: usize) -> Made<Point> {
-        let middle = at(&self.frame.heights, row);
-        let is_upwards = last.y > to.y;
-        let near = moved(middle, HALF + 4, is_upwards);
-        let far = moved(middle, HALF + 4, !is_upwards);
-        if self.is_free(row, position(last, to, near), position(last, to, far)) {
-            return Ok(last);
-        }
-        let x = self.free_near(row, position(last, to, middle));
         let end = Point { x, y: far };
         line.push(Point { x, y: near })?;
         line.push(end)?;
@@ -102,7 +99,7 @@ impl Placed<'_> {
     }
 
     /// The line of an arrow with an index: one between two nodes of a row is above the row.
-    fn way_of(&self, arrow: (usize, usize), index: usize) -> Made<Vec<Point>> {
+    pub(crate) fn way_of(&self, arrow: (usize, usize), index: usize) -> Made<Vec<Point>> {
         let mut line = Vec::new(self.alloc);
         if arrow.0 == arrow.1 {
             return Ok(line);
@@ -132,49 +129,12 @@ impl Placed<'_> {
         line.push(to)?;
         Ok(line)
     }
-
-    /// The lines of the arrows.
-    pub(crate) fn ways(&self) -> Made<Vec<Vec<Point>>> {
-        let mut ways = Vec::new(self.alloc);
-        for (index, arrow) in self.graph.arrows.iter().enumerate() {
-            ways.push(self.way_of(*arrow, index)?)?;
-        }
-        Ok(ways)
-    }
 }
 
 /// The distance between two points of a line that are tried for the number of its arrow.
 const STRIDE: usize = 8;
 /// The distance beyond which a point is free.
 const ENOUGH: usize = 24;
-
-/// Points of a line from its beginning to its end, a stride apart.
-fn points_of(alloc: Global, line: &[Point]) -> Made<Vec<Point>> {
-    let mut points = Vec::new(alloc);
-    for (index, from) in line.iter().enumerate() {
-        let to = line.get(index.saturating_add(1)).copied().unwrap_or(*from);
-        let length = from.distance(to);
-        for step in 0..(length / STRIDE).saturating_add(1) {
-            points.push(from.towards(to, step.saturating_mul(STRIDE), length))?;
-        }
-    }
-    Ok(points)
-}
-
-/// The distance of a point from a box, 0 inside it.
-fn distance_from_box(point: Point, place: Place) -> usize {
-    let (right, foot) = (
-        place.left.saturating_add(place.wide),
-        place.top.saturating_add(place.high),
-    );
-    let across = place
-        .left
-        .saturating_sub(point.x)
-        .max(point.x.saturating_sub(right));
-    across
-        .max(place.top.saturating_sub(point.y))
-        .max(point.y.saturating_sub(foot))
-}
 
 /// The least distance of a point from others, up to `ENOUGH`.
 fn distance_from(point: Point, others: &[Point]) -> usize {
@@ -183,28 +143,8 @@ fn distance_from(point: Point, others: &[Point]) -> usize {
         .fold(ENOUGH, |found, other| found.min(point.distance(*other)))
 }
 
-/// How free a point of a line is: its distance from all other lines, from the boxes of nodes, and
-/// from the points that others have.
-fn freedom(
-    places: &[Place],
-    lines: &[Vec<Point>],
-    own: usize,
-    taken: &[Point],
-    at: Point,
-) -> usize {
-    let mut found = distance_from(at, taken);
-    for place in places {
-        found = found.min(distance_from_box(at, *place));
-    }
-    for (index, line) in lines.iter().enumerate() {
-        if index != own && found > 0 {
-            found = found.min(distance_from(at, line.as_slice()));
-        }
-    }
-    found
-}
-
-/// The point of a line that is the most free, and of those the nearest to its middle.
+/// The point of a line that is the most free, and of those the nearest to its middle: the farthest
+/// from all other lines, from the boxes of nodes, and from the points that others have.
 fn badge_of(places: &[Place], lines: &[Vec<Point>], own: usize, taken: &[Point]) -> Point {
     let mut found = Point { x: 0, y: 0 };
     let Some(line) = lines.get(own) else {
@@ -218,7 +158,26 @@ fn badge_of(places: &[Place], lines: &[Vec<Point>], own: usize, taken: &[Point])
             number % 2 == 0,
         );
         let point = line.get(index).copied().unwrap_or(found);
-        let free = freedom(places, lines, own, taken, point);
+        let mut free = distance_from(point, taken);
+        for place in places {
+            // The distance from the box, 0 inside it.
+            let right = place.left.saturating_add(place.wide);
+            let foot = place.top.saturating_add(place.high);
+            let across = place
+                .left
+                .saturating_sub(point.x)
+                .max(point.x.saturating_sub(right));
+            let down = place
+                .top
+                .saturating_sub(point.y)
+                .max(point.y.saturating_sub(foot));
+            free = free.min(across.max(down));
+        }
+        for (other, line) in lines.iter().enumerate() {
+            if other != own && free > 0 {
+                free = free.min(distance_from(point, line.as_slice()));
+            }
+        }
         if number == 0 || free > most {
             most = free;
             found = point;
@@ -240,7 +199,16 @@ pub fn badges_of(
 ) -> Result<Vec<Point>, AllocError> {
     let mut lines = Vec::new(alloc);
     for line in &drawing.ways {
-        lines.push(points_of(alloc, line.as_slice())?)?;
+        // Points of the line from its beginning to its end, a stride apart.
+        let mut points = Vec::new(alloc);
+        for (index, from) in line.iter().enumerate() {
+            let to = line.get(index.saturating_add(1)).copied().unwrap_or(*from);
+            let length = from.distance(to);
+            for step in 0..(length / STRIDE).saturating_add(1) {
+                points.push(from.towards(to, step.saturating_mul(STRIDE), length))?;
+            }
+        }
+        lines.push(points)?;
     }
     let mut points = Vec::new(alloc);
     for own in arrows {
