@@ -1,6 +1,6 @@
 //! Reads store files, and the first line of one that is saved.
 
-ghost use Rattle.std.specs.{Prelude.{◌≡◌, IfOk, string_bytes, IfErr, MatchResult, None, ◌++◌, OnOk, decimal, map}, List.{flat_map, list_any}};
+ghost use Rattle.std.specs.{Prelude.{◌≡◌, IfOk, IfErr, MatchResult, None, ◌++◌, OnOk, map}, List.{flat_map, list_any}};
 ghost use Rattle.hex.specs.Hex.{encode_lower};
 ghost use Rattle.sha2.specs.Sha256.{sha256};
 ghost use Rattle.toml.specs.View.{table_view, view};
@@ -10,12 +10,12 @@ ghost use Rattle.vsi_store.specs.Seal as spec;
 ghost use Rattle.vsi_store.specs.File as file_spec;
 ghost use Rattle.vsi_store.specs.Evidence as evidence_spec;
 
-use itoa::Buffer;
 use sha2::{Digest, Sha256};
 use std::alloc::{AllocError, AllocFailed, Global};
 use thiserror::Error;
 use toml::{Table, Value};
 use vsi_image::Image;
+use vsi_syntax::put_number;
 
 /// The beginning of the line.
 const MARK: &[u8] = b"# sha256 ";
@@ -23,18 +23,11 @@ const MARK: &[u8] = b"# sha256 ";
 /// The number of bytes of the line: the mark, 64 digits and a line feed.
 const LENGTH: usize = 74;
 
-/// The SHA-256 of bytes, in hexadecimal.
-fn checksum(alloc: Global, bytes: &[u8]) -> Result<String, AllocError>
-    ensures { IfOk result (λ text. string_bytes text ≡ encode_lower (sha256 bytes.now)) }
-{
-    hex::encode(alloc, Sha256::digest(bytes))
-}
-
 /// The line of a text.
 fn seal(alloc: Global, text: &[u8]) -> Result<Vec<u8>, AllocError>
     ensures { IfOk result (λ line. line.items ≡ spec.seal text.now) }
 {
-    let digits = checksum(alloc, text)?;
+    let digits = hex::encode(alloc, Sha256::digest(text))?;
     let mut line = Vec::from_slice(alloc, MARK)?;
     line.extend_from_slice(digits.as_bytes())?;
     line.extend_from_slice(b"\n")?;
@@ -62,16 +55,6 @@ fn has_own_line(alloc: Global, bytes: &[u8]) -> Result<bool, AllocError>
     Ok(first == line.as_slice())
 }
 
-/// Whether bytes are a mark that was cut: some of its bytes, and no others.
-fn is_cut_mark(bytes: &[u8]) -> bool
-    ensures { result ≡ spec.is_cut_mark bytes.now }
-{
-    if bytes.is_empty() {
-        return false;
-    }
-    MARK.starts_with(bytes)
-}
-
 /// Whether bytes that begin with such a line have the one of the bytes after it. A mark that was cut
 /// isn't whole, and all other bytes are.
 pub fn is_whole(alloc: Global, bytes: &[u8]) -> Result<bool, AllocError>
@@ -80,7 +63,7 @@ pub fn is_whole(alloc: Global, bytes: &[u8]) -> Result<bool, AllocError>
     if bytes.starts_with(MARK) {
         has_own_line(alloc, bytes)
     } else {
-        Ok(!is_cut_mark(bytes))
+        Ok(bytes.is_empty() || !MARK.starts_with(bytes))
     }
 }
 
@@ -270,34 +253,15 @@ fn profile_name(profile: AuditProfile) -> &'static [u8]
 }
 
 /// Whether a byte of a path has to be written as two.
-fn is_special(byte: u8) -> bool
-    ensures { result ≡ evidence_spec.is_special byte }
-{
-    byte == b'\\' || byte == b'\n' || byte == b'\r'
-}
-
-/// Whether a byte of a path has to be written as two.
 fn has_special(path: &[u8]) -> bool
     ensures { result ≡ list_any evidence_spec.is_special path.now }
 {
     for byte in path {
-        if is_special(*byte) {
+        if *byte == b'\\' || *byte == b'\n' || *byte == b'\r' {
             return true;
         }
     }
     false
-}
-
-/// Adds a byte of a path.
-fn put_byte(text: &mut Vec<u8>, byte: u8) -> Result<(), AllocError>
-    ensures { OnOk result (text.new.items ≡ text.old.items ++ evidence_spec.escaped_byte byte) }
-{
-    match byte {
-        b'\\' => text.extend_from_slice(b"\\\\"),
-        b'\n' => text.extend_from_slice(b"\\n"),
-        b'\r' => text.extend_from_slice(b"\\r"),
-        _ => text.extend_from_slice(&[byte]),
-    }
 }
 
 /// Adds a path.
@@ -306,19 +270,14 @@ fn put_path(text: &mut Vec<u8>, path: &[u8]) -> Result<(), AllocError>
         (text.new.items ≡ text.old.items ++ flat_map evidence_spec.escaped_byte path.now) }
 {
     for byte in path {
-        put_byte(text, *byte)?;
+        match *byte {
+            b'\\' => text.extend_from_slice(b"\\\\")?,
+            b'\n' => text.extend_from_slice(b"\\n")?,
+            b'\r' => text.extend_from_slice(b"\\r")?,
+            other => text.extend_from_slice(&[other])?,
+        }
     }
     Ok(())
-}
-
-/// Adds the SHA-256 of a file.
-fn put_sum(alloc: Global, text: &mut Vec<u8>, bytes: &[u8]) -> Result<(), AllocError>
-    ensures { OnOk result
-        (text.new.items ≡ text.old.items ++ encode_lower (sha256 bytes.now)) }
-{
-    let digest = Sha256::digest(bytes);
-    let digits = hex::encode(alloc, digest)?;
-    text.extend_from_slice(digits.as_bytes())
 }
 
 /// Adds the line of a file.
@@ -329,7 +288,8 @@ fn put_file(alloc: Global, text: &mut Vec<u8>, file: Filed<'_>) -> Result<(), Al
     if has_special(file.path) {
         text.extend_from_slice(b"\\")?;
     }
-    put_sum(alloc, text, file.bytes)?;
+    let digits = hex::encode(alloc, Sha256::digest(file.bytes))?;
+    text.extend_from_slice(digits.as_bytes())?;
     text.extend_from_slice(b"  ")?;
     put_path(text, file.path)?;
     text.extend_from_slice(b"\n")
@@ -381,14 +341,6 @@ pub fn evidence(
     judgement.extend_from_slice(profile_name(profile))?;
     judgement.extend_from_slice(b": accepted")?;
     block(alloc, version, &judgement, files)
-}
-
-/// Adds a number in decimal.
-fn put_number(text: &mut Vec<u8>, number: usize) -> Result<(), AllocError>
-    ensures { OnOk result (text.new.items ≡ text.old.items ++ decimal number) }
-{
-    let mut buffer = Buffer::new();
-    text.extend_from_slice(buffer.format(number).as_bytes())
 }
 
 /// Adds the most instructions of a run.
