@@ -140,17 +140,6 @@ fn is_break(byte: u8) -> bool
     byte == b'\n' || byte == b'\r'
 }
 
-/// The length of a line feed at the beginning of a text.
-fn feed_size(text: &[u8]) -> usize
-    ensures size { result ≡ spec.feed_size text.now }
-    ensures within { result ≤ length text.now }
-{
-    match text {
-        [b'\n', ..] => 1,
-        _ => 0,
-    }
-}
-
 /// The length of the first line with its end.
 fn line_size(text: &[u8]) -> usize
     ensures size { result ≡ spec.line_size text.now }
@@ -163,7 +152,10 @@ fn line_size(text: &[u8]) -> usize
             return count + 1;
         }
         if *byte == b'\r' {
-            return count + 1 + feed_size(behind);
+            return match behind {
+                [b'\n', ..] => count + 2,
+                _ => count + 1,
+            };
         }
         count += 1;
         rest = behind;

@@ -78,40 +78,32 @@ fn read(tour: &mut Tour, e: &Ex) -> Made {
 }
 
 /// Walks over a list of commands.
-#[cycle(tour)]
-fn walk_commands(tour: &mut Tour, body: &[Cmd]) -> Made {
+fn walk(tour: &mut Tour, body: &[Cmd]) -> Made {
     for c in body {
-        walk_command(tour, c)?;
+        match c {
+            Cmd::Assign { loc, span, value } => {
+                tour.note_location(*loc, *span)?;
+                read(tour, value)?;
+            }
+            Cmd::If { guard, yes, no } => {
+                read(tour, guard)?;
+                walk(tour, yes)?;
+                walk(tour, no)?;
+            }
+            Cmd::While { guard, body } => {
+                read(tour, guard)?;
+                walk(tour, body)?;
+            }
+            Cmd::Letvar { value, body } => {
+                let outside = tour.scope.len();
+                tour.declare()?;
+                read(tour, value)?;
+                walk(tour, body)?;
+                tour.scope.truncate(outside);
+            }
+        }
     }
     Ok(())
-}
-
-/// Walks over a command.
-#[cycle(tour)]
-fn walk_command(tour: &mut Tour, c: &Cmd) -> Made {
-    match c {
-        Cmd::Assign { loc, span, value } => {
-            tour.note_location(*loc, *span)?;
-            read(tour, value)
-        }
-        Cmd::If { guard, yes, no } => {
-            read(tour, guard)?;
-            walk_commands(tour, yes)?;
-            walk_commands(tour, no)
-        }
-        Cmd::While { guard, body } => {
-            read(tour, guard)?;
-            walk_commands(tour, body)
-        }
-        Cmd::Letvar { value, body } => {
-            let outside = tour.scope.len();
-            tour.declare()?;
-            read(tour, value)?;
-            walk_commands(tour, body)?;
-            tour.scope.truncate(outside);
-            Ok(())
-        }
-    }
 }
 
 /// The names of the variables of a program, in the order of its text.
@@ -129,7 +121,7 @@ pub fn mentions_of(alloc: Global, source: &Source<'_>) -> Result<Vec<Mention>, A
     for _ in source.globals() {
         tour.declare()?;
     }
-    walk_commands(&mut tour, program.body())?;
+    walk(&mut tour, program.body())?;
     Ok(tour.mentions)
 }
 
@@ -226,15 +218,6 @@ fn is_same_code(old: &[Instr], new: &[Instr]) -> bool
     news.is_empty()
 }
 
-/// Whether the code of two programs is the same.
-fn code_alike(alloc: Global, old: &Source<'_>, new: &Source<'_>) -> Result<bool, AllocError>
-    ensures { IfOk result (λ same. same ≡ true → spec.SameCode old.now.resolved new.now.resolved) }
-{
-    let before = generate(alloc, old.resolved())?;
-    let after = generate(alloc, new.resolved())?;
-    Ok(is_same_code(&before.image().code, &after.image().code))
-}
-
 /// Whether a program is another one but for the name of a variable.
 fn is_kept(
     alloc: Global,
@@ -249,7 +232,9 @@ fn is_kept(
     if !keep_variables(variable, name, old.resolved(), new.resolved()) {
         return Ok(false);
     }
-    code_alike(alloc, old, new)
+    let before = generate(alloc, old.resolved())?;
+    let after = generate(alloc, new.resolved())?;
+    Ok(is_same_code(&before.image().code, &after.image().code))
 }
 
 /// Whether the program of a text is that of a source but for the name of a variable.
@@ -309,25 +294,6 @@ fn respelled(
     Ok(Some(out))
 }
 
-/// The changes of a text that put a name at each of these parts, which follow one another: the last
-/// first.
-fn proposed<'a>(
-    alloc: Global,
-    encoding: Encoding,
-    text: &[u8],
-    parts: &[Span],
-    name: &'a [u8],
-) -> Result<Vec<Change<'a>>, AllocError> {
-    let marked = Marked::of(alloc, encoding, text)?;
-    let mut changes = Vec::new(alloc);
-    for part in parts.iter().rev() {
-        let Range { start, stop } = marked.range(*part);
-        let range = Some((start, stop));
-        changes.push(Change { range, text: name })?;
-    }
-    Ok(changes)
-}
-
 /// The changes that put a new name at each mention of a variable of a source, each of the text that
 /// the one before it left: none if the new name is no name or the program would become another one.
 pub fn rename<'a>(
@@ -354,7 +320,14 @@ pub fn rename<'a>(
     let Some(text) = respelled(alloc, name, source.text(), &parts)? else {
         return Ok(None);
     };
-    let changes = proposed(alloc, encoding, source.text(), &parts, name)?;
+    // The parts follow one another: the last is changed first.
+    let marked = Marked::of(alloc, encoding, source.text())?;
+    let mut changes = Vec::new(alloc);
+    for part in parts.iter().rev() {
+        let Range { start, stop } = marked.range(*part);
+        let range = Some((start, stop));
+        changes.push(Change { range, text: name })?;
+    }
     let changed = changed_by(alloc, encoding, source.text(), &changes)?;
     if changed.as_slice() == text.as_slice()
         && keeps_program(alloc, variable, name, source, &changed)?
