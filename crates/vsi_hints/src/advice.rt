@@ -3,11 +3,11 @@
 ghost use Rattle.std.specs.Prelude.{IfOk, IfSome};
 ghost use Rattle.vsi_hints.specs.Hints.{OffersRead};
 
-use crate::drafts::{Found, Hint, Shape, put_sentence, say};
+use crate::drafts::{Found, Hint, Shape, put_sentence};
 use crate::expression::{FALSE, TRUE};
 use crate::names::{declaration, local, named};
-use crate::offers::{hint_of, offer};
-use crate::scan::{Scan, is_one_of};
+use crate::offers::{hint_of, narrow, offer};
+use crate::scan::{DECLARING, Scan, is_one_of};
 use crate::structure::{COUNTED, halved_at, loop_at, sign, structure_at};
 use std::alloc::{AllocError, Global};
 use vsi_syntax::put_place;
@@ -18,43 +18,12 @@ const MOST: usize = 12;
 /// The largest number of bytes of a name that are shown.
 const LONGEST: usize = 40;
 
-/// The constructs of other languages in order; none begins inside another one. A loop is one with
-/// its body, if its commands can be offered.
-fn all_shapes(scan: &Scan) -> Result<Vec<Found>, AllocError> {
-    let mut shapes = Vec::new(scan.alloc);
-    let mut next: usize = 0;
-    for at in 0..scan.pieces.len() {
-        if at < next {
-            continue;
-        }
-        let mut shape = match scan.text(at) {
-            [b'v', b'a', b'r'] => declaration(scan, at),
-            [b'l', b'e', b't', b'v', b'a', b'r'] => local(scan, at),
-            [b'd', b'o'] if scan.is_command_start(at) => {
-                let rest = ": write the body before the loop too, as in `{ C; while E do { C } }` \
-                    for the body C and the guard E.";
-                say(at, at.saturating_add(1), "no loop begins with ", rest)
-            }
-            _ if scan.is_name(at) => named(scan, at).or(sign(scan, at)),
-            _ => sign(scan, at),
-        };
-        if let Some(found) = loop_at(scan, at) {
-            if offer(scan, &found)?.is_some() {
-                shape = Some(found);
-            }
-        }
-        if let Some(found) = shape {
-            next = found.next;
-            shapes.push(found)?;
-        }
-    }
-    Ok(shapes)
-}
-
 /// A text with its constructs of other languages, and the piece at which it is refused.
 #[derive(Drop)]
 struct Advice<'s> {
     scan: Scan<'s>,
+    /// The constructs in order; none begins inside another one. A loop is one with its body, if its
+    /// commands can be offered.
     shapes: Vec<Found>,
     /// The last piece that begins at or before the refused byte, or the one after the last piece.
     piece: usize,
@@ -64,8 +33,33 @@ impl<'s> Advice<'s> {
     /// The advice on a text that is refused at this byte.
     fn of(alloc: Global, source: &'s [u8], at: usize) -> Result<Advice<'s>, AllocError> {
         let scan = Scan::of(alloc, source)?;
-        let shapes = all_shapes(&scan)?;
-        let piece = scan.number_at(at);
+        let mut shapes = Vec::new(alloc);
+        let mut next: usize = 0;
+        for at in 0..scan.pieces.len() {
+            if at < next {
+                continue;
+            }
+            let mut shape = match scan.text(at) {
+                [b'v', b'a', b'r'] => declaration(&scan, at),
+                [b'l', b'e', b't', b'v', b'a', b'r'] => local(&scan, at),
+                _ if scan.is_name(at) => named(&scan, at).or(sign(&scan, at)),
+                _ => sign(&scan, at),
+            };
+            if let Some(found) = loop_at(&scan, at) {
+                if offer(&scan, &found)?.is_some() {
+                    shape = Some(found);
+                }
+            }
+            if let Some(found) = shape {
+                next = found.next;
+                shapes.push(found)?;
+            }
+        }
+        let mut piece = scan.pieces.len();
+        if at < scan.stop(piece.saturating_sub(1)) {
+            let begun = scan.pieces.iter().rposition(|piece| piece.at <= at);
+            piece = begun.unwrap_or(0);
+        }
         Ok(Advice {
             scan,
             shapes,
@@ -75,56 +69,38 @@ impl<'s> Advice<'s> {
 
     /// The last construct that the refused piece belongs to or directly follows.
     fn covering(&self) -> Option<Found> {
-        let mut last = None;
-        for found in &self.shapes {
-            if found.covers(self.piece) {
-                last = Some(*found);
-            }
-        }
-        last
+        let covers = |found: &Found| found.covers(self.piece);
+        let covering = self.shapes.iter().rposition(covers)?;
+        self.shapes.get(covering).copied()
     }
 
     /// Whether a piece is in a construct, and the text that replaces it has or hasn't the piece.
     fn is_in(&self, at: usize, is_kept: bool) -> bool {
-        for found in &self.shapes {
-            let keeps = match found.shape {
-                Shape::Commands if is_kept => found.first < at && at < found.next.saturating_sub(1),
-                Shape::Commands | Shape::Value | Shape::Comment => false,
-                _ => !is_kept && found.first <= at && at < found.next,
-            };
-            if keeps {
-                return true;
-            }
-        }
-        false
+        self.shapes.iter().any(|found| match found.shape {
+            Shape::Commands if is_kept => found.first < at && at < found.next.saturating_sub(1),
+            Shape::Commands | Shape::Value | Shape::Comment => false,
+            _ => !is_kept && found.first <= at && at < found.next,
+        })
     }
 
-    /// The constructs, and then the structures where no commands replace them.
-    fn all(&self) -> Result<Vec<Found>, AllocError> {
-        let mut all = Vec::from_slice(self.scan.alloc, &self.shapes)?;
-        for at in 0..self.scan.pieces.len() {
-            if self.is_in(at, true) {
-                continue;
-            }
-            for found in [structure_at(&self.scan, at), halved_at(&self.scan, at)] {
-                if let Some(found) = found {
-                    all.push(found)?;
-                }
-            }
-        }
-        Ok(all)
-    }
-
-    /// Those that share their advice with none before them or for the refused piece, with whether
-    /// each is a construct.
+    /// The constructs, and then the structures where no commands replace them, with whether each is
+    /// a construct: those that share their advice with none before them or for the refused piece.
     fn chosen(&self) -> Result<Vec<(Found, bool)>, AllocError> {
-        let mut keys = Vec::new(self.scan.alloc);
-        let mut chosen = Vec::new(self.scan.alloc);
-        if let Some(found) = self.covering() {
-            keys.push(found.key(&self.scan))?;
+        let scan = &self.scan;
+        let mut all = Vec::from_slice(scan.alloc, &self.shapes)?;
+        for at in 0..scan.pieces.len() {
+            if !self.is_in(at, true) {
+                all.extend(structure_at(scan, at))?;
+                all.extend(halved_at(scan, at))?;
+            }
         }
-        for (number, found) in self.all()?.iter().enumerate() {
-            let key = found.key(&self.scan);
+        let mut keys = Vec::new(scan.alloc);
+        let mut chosen = Vec::new(scan.alloc);
+        if let Some(found) = self.covering() {
+            keys.push(found.key(scan))?;
+        }
+        for (number, found) in all.iter().enumerate() {
+            let key = found.key(scan);
             if !keys.contains(&key) && keys.len() <= MOST {
                 keys.push(key)?;
                 chosen.push((*found, number < self.shapes.len()))?;
@@ -133,58 +109,31 @@ impl<'s> Advice<'s> {
         Ok(chosen)
     }
 
-    /// Adds a line for each further place.
-    fn put_places(&self, words: &mut Vec<u8>) -> Result<(), AllocError> {
-        let scan = &self.scan;
-        for (found, is_construct) in &self.chosen()? {
-            let is_refused = found.first == self.piece || found.next == self.piece;
-            if is_refused || *is_construct && found.covers(self.piece) {
-                continue;
-            }
-            if let Some(hint) = hint_of(scan, found)? {
-                words.extend_from_slice(b"Also at ")?;
-                put_place(words, scan.source, scan.piece(found.first).at)?;
-                words.extend_from_slice(b": ")?;
-                put_sentence(words, &hint)?;
-                words.extend_from_slice(b"\n")?;
-            }
-        }
-        Ok(())
-    }
-
-    /// Whether a name is declared after the hints for the text are followed.
-    fn gets_declared(&self, name: &[u8]) -> bool {
-        let scan = &self.scan;
-        for found in &self.shapes {
-            let declares = match found.shape {
-                Shape::Say | Shape::Put | Shape::Declarations => {
-                    scan.has(found.first, found.next, name)
-                }
-                Shape::Commands => {
-                    found.after == COUNTED && scan.has(found.first, found.value, name)
-                }
-                // The offer for a name that isn't valid here begins with it.
-                Shape::Expression => {
-                    matches!(name.strip_prefix(scan.text(found.first)), Some([b'_', ..]))
-                }
-                _ => false,
-            };
-            if declares {
-                return true;
-            }
-        }
-        false
-    }
-
-    /// Whether a piece is a name that the text uses and doesn't declare.
+    /// Whether a piece is a name that the text reads or assigns to and doesn't declare, also after
+    /// the hints for the text are followed.
     fn is_undeclared(&self, at: usize) -> bool {
         let scan = &self.scan;
         let name = scan.text(at);
-        scan.is_variable(at)
+        let declares = |found: &Found| match found.shape {
+            Shape::Say | Shape::Put | Shape::Declarations => {
+                scan.has(found.first, found.next, name)
+            }
+            Shape::Commands => found.after == COUNTED && scan.has(found.first, found.value, name),
+            // The offer for a name that isn't valid here begins with it.
+            Shape::Expression => {
+                matches!(name.strip_prefix(scan.text(found.first)), Some([b'_', ..]))
+            }
+            _ => false,
+        };
+        scan.is_operand(at)
+            && scan.is_name(at)
+            && !matches!(narrow(scan.text(at.saturating_sub(1))), [b':'])
+            && !scan.is_operand(at.saturating_add(1))
+            && (at == 0 || !scan.is_operand(at.saturating_sub(1)))
             && !scan.is_declared(name)
             && !self.is_in(at, false)
             && name != scan.text(self.piece)
-            && !self.gets_declared(name)
+            && !self.shapes.iter().any(declares)
             && !is_one_of(TRUE, name)
             && !is_one_of(FALSE, name)
             && !is_one_of(b"default repeat", name)
@@ -197,11 +146,14 @@ impl<'s> Advice<'s> {
         let mut names = Vec::new(scan.alloc);
         for at in 0..scan.pieces.len() {
             let name = scan.text(at);
-            if names.len() >= MOST || names.contains(&name) {
-                continue;
-            }
             let is_wrong = match classes {
-                Some(classes) => scan.is_class(at) && !(&*classes).contains(&name),
+                _ if names.len() >= MOST || names.contains(&name) => false,
+                Some(classes) => {
+                    scan.is_name(at)
+                        && scan.is_after(at, b":")
+                        && scan.is_after(at.saturating_sub(2), DECLARING)
+                        && !(&*classes).contains(&name)
+                }
                 None => self.is_undeclared(at),
             };
             if is_wrong {
@@ -231,10 +183,9 @@ pub fn hint_at<'s>(
 fn put_names(words: &mut Vec<u8>, first: &[u8], names: &[&[u8]]) -> Result<(), AllocError> {
     let mut joint = first;
     for name in names {
-        words.extend_from_slice(joint)?;
-        words.extend_from_slice(b"`")?;
-        words.extend_from_slice(&name[..name.len().min(LONGEST)])?;
-        words.extend_from_slice(b"`")?;
+        for part in [joint, b"`", &name[..name.len().min(LONGEST)], b"`"] {
+            words.extend_from_slice(part)?;
+        }
         joint = b", ";
     }
     Ok(())
@@ -250,7 +201,20 @@ pub fn put_further(
     classes: &[&[u8]],
 ) -> Result<(), AllocError> {
     let advice = Advice::of(alloc, source, at)?;
-    advice.put_places(words)?;
+    let scan = &advice.scan;
+    for (found, is_construct) in &advice.chosen()? {
+        let is_refused = found.first == advice.piece || found.next == advice.piece;
+        if is_refused || *is_construct && found.covers(advice.piece) {
+            continue;
+        }
+        if let Some(hint) = hint_of(scan, found)? {
+            words.extend_from_slice(b"Also at ")?;
+            put_place(words, source, scan.piece(found.first).at)?;
+            words.extend_from_slice(b": ")?;
+            put_sentence(words, &hint)?;
+            words.extend_from_slice(b"\n")?;
+        }
+    }
     let no_classes = advice.names(Some(classes))?;
     if !no_classes.is_empty() {
         put_names(words, b"Also not classes: ", &no_classes)?;

@@ -81,21 +81,6 @@ pub(crate) fn say(
     shaped(first, next, Shape::Say, (b"", after, before))
 }
 
-/// A sentence on these pieces, of which none can be shown.
-pub(crate) fn tell(first: usize, next: usize, sentence: &'static str) -> Option<Found> {
-    shaped(first, next, Shape::Tell, (b"", sentence, ""))
-}
-
-/// Another text in place of a piece.
-pub(crate) fn put(at: usize, text: &'static str, rest: &'static str) -> Option<Found> {
-    shaped(at, at.saturating_add(1), Shape::Put, (b"", rest, text))
-}
-
-/// Commands in place of pieces with a value.
-pub(crate) fn commands(first: usize, value: usize, next: usize, letters: Letters) -> Option<Found> {
-    valued((first, value, next), Shape::Commands, letters)
-}
-
 impl Found {
     /// Whether a piece belongs to the construct or directly follows it.
     pub(crate) fn covers(&self, piece: usize) -> bool {
@@ -161,6 +146,17 @@ fn put_quoted(words: &mut Vec<u8>, text: &[u8]) -> Result<(), AllocError>
     Ok(())
 }
 
+/// Adds that one text replaces another.
+fn put_replacing(words: &mut Vec<u8>, new: &[u8], old: &[u8]) -> Result<(), AllocError>
+    ensures { OnOk result (words.new.items ≡ words.old.items ++ spec.replacing new.now old.now) }
+{
+    words.extend_from_slice(b"write ")?;
+    put_quoted(words, new)?;
+    words.extend_from_slice(b" in place of ")?;
+    put_quoted(words, old)?;
+    Ok(())
+}
+
 /// Adds the reason why a text is offered.
 fn put_reason(words: &mut Vec<u8>, reason: Reason) -> Result<(), AllocError>
     ensures { OnOk result (words.new.items ≡ words.old.items ++ spec.reason reason.entry) }
@@ -173,17 +169,6 @@ fn put_reason(words: &mut Vec<u8>, reason: Reason) -> Result<(), AllocError>
             words.extend_from_slice(b".")
         }
     }
-}
-
-/// Adds that one text replaces another.
-fn put_replacing(words: &mut Vec<u8>, new: &[u8], old: &[u8]) -> Result<(), AllocError>
-    ensures { OnOk result (words.new.items ≡ words.old.items ++ spec.replacing new.now old.now) }
-{
-    words.extend_from_slice(b"write ")?;
-    put_quoted(words, new)?;
-    words.extend_from_slice(b" in place of ")?;
-    put_quoted(words, old)?;
-    Ok(())
 }
 
 /// Adds the form of this language for a sign.
@@ -251,12 +236,13 @@ pub(crate) fn text_of(scan: &Scan, found: &Found) -> Result<Option<Vec<u8>>, All
         found: *found,
         words: Vec::new(scan.alloc),
     };
-    if draft.put_letters(found.letters)? {
-        let Draft { words, .. } = draft;
-        Ok(Some(words))
-    } else {
-        Ok(None)
+    for letter in found.letters {
+        if !draft.put_letter(*letter)? {
+            return Ok(None);
+        }
     }
+    let Draft { words, .. } = draft;
+    Ok(Some(words))
 }
 
 impl<'s, 't> Draft<'s, 't> {
@@ -269,12 +255,9 @@ impl<'s, 't> Draft<'s, 't> {
     /// Adds the first of some names that occurs in no piece.
     fn put_fresh(&mut self, names: &'static [u8]) -> Result<bool, AllocError> {
         let scan = self.scan;
-        for name in names.split(|byte| *byte == b' ') {
-            if !scan.has(0, scan.pieces.len(), name) {
-                return self.put(name);
-            }
-        }
-        self.put(b"a_name_of_its_own")
+        let mut names = names.split(|byte| *byte == b' ');
+        let fresh = names.find(|name| !scan.has(0, scan.pieces.len(), *name));
+        self.put(fresh.unwrap_or(b"a_name_of_its_own"))
     }
 
     /// Adds the expression for a letter, written in this language.
@@ -290,10 +273,8 @@ impl<'s, 't> Draft<'s, 't> {
             b'W' => (stop, stop, 0),
             _ => (found.value, stop, 0),
         };
-        for at in first..next {
-            if scan.is_hyphened(at) {
-                return Ok(false);
-            }
+        if (first..next).any(|at| scan.is_hyphened(at)) {
+            return Ok(false);
         }
         let pieces = scan.pieces.get(first..next).unwrap_or(&[]);
         match rewritten(scan.alloc, pieces, level)? {
@@ -354,16 +335,6 @@ impl<'s, 't> Draft<'s, 't> {
         }
         self.words.extend_from_slice(scan.text(limit))?;
         self.put(if is_counted { b" + 1" } else { b"" })
-    }
-
-    /// Adds what the letters of an offer stand for.
-    fn put_letters(&mut self, letters: &[u8]) -> Result<bool, AllocError> {
-        for letter in letters {
-            if !self.put_letter(*letter)? {
-                return Ok(false);
-            }
-        }
-        Ok(true)
     }
 
     /// Adds what a letter of an offer stands for.

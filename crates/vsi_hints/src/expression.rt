@@ -65,12 +65,7 @@ static BEFORE: [Form; 2] = [
 
 /// The operator with a sign in a table.
 fn form_in(forms: &[Form], sign: &[u8]) -> Option<Form> {
-    for form in forms {
-        if is_one_of(form.0, sign) {
-            return Some(*form);
-        }
-    }
-    None
+    forms.iter().find(|form| is_one_of(form.0, sign)).copied()
 }
 
 /// Whether a sign or a name is an operator of this language or another one.
@@ -159,14 +154,6 @@ impl Operand {
         let pattern = if self.is_truth { same } else { TRUTH };
         joined(alloc, pattern, &self.part, &self.part)
     }
-
-    /// Whether a comparison of this one is chained, as in `a < b < c`, and not as in `a < 5 = 1`.
-    fn is_chained(&self, text: &[u8], last: Option<u64>) -> bool {
-        let is_truth = self.compared != b"P = Q".as_slice() && matches!(last, Some(0 | 1));
-        let is_number = is_decimal(&self.last.text);
-        let asks = text.contains(&b'=') && last.is_some() && (is_number || is_truth);
-        !self.compared.is_empty() && !asks
-    }
 }
 
 /// An operator between two operands, or before one that is given twice, if it can be written.
@@ -180,10 +167,14 @@ fn applied(
     let Some(pattern) = pattern_of(form, are_truths, right.value) else {
         return Ok(None);
     };
+    // A comparison of a comparison is chained, as in `a < b < c`, and not as in `a < 5 = 1`.
+    let is_truth = left.compared != b"P = Q".as_slice() && matches!(right.value, Some(0 | 1));
+    let asks = pattern.0.contains(&b'=')
+        && right.value.is_some()
+        && (is_decimal(&left.last.text) || is_truth);
     let part = if form.1 == AND {
-        let first = left.truth(alloc)?;
-        joined(alloc, pattern, &first, &right.truth(alloc)?)?
-    } else if form.1 == COMPARISON && left.is_chained(pattern.0, right.value) {
+        joined(alloc, pattern, &left.truth(alloc)?, &right.truth(alloc)?)?
+    } else if form.1 == COMPARISON && !left.compared.is_empty() && !asks {
         let second = joined(alloc, pattern, &left.last, &right.part)?;
         joined(alloc, BOTH, &left.part, &second)?
     } else {
@@ -239,60 +230,41 @@ impl Reading {
         Ok(is_short)
     }
 
-    /// Joins the last operands by the last operator, and returns whether that can be written.
-    fn join(&mut self, form: Form) -> Result<bool, AllocError> {
-        let Some(right) = self.operands.pop() else {
-            return Ok(false);
-        };
-        let made = if form.1 == NOT || form.1 == NEGATIVE {
-            applied(self.alloc, form, &right, &right)?
-        } else {
-            let Some(left) = self.operands.pop() else {
-                return Ok(false);
-            };
-            applied(self.alloc, form, &left, &right)?
-        };
-        let Some(part) = made else {
-            return Ok(false);
-        };
-        let Operand { part: last, .. } = right;
-        self.put(Operand {
-            part,
-            is_truth: form.1 <= COMPARISON,
-            value: None,
-            compared: if form.1 == COMPARISON { form.2.0 } else { b"" },
-            last,
-        })
-    }
-
-    /// Joins by each waiting operator that binds at least as strongly.
+    /// Joins the last operands by each waiting operator that binds at least as strongly. Returns
+    /// whether that can be written.
     fn join_stronger(&mut self, strength: u8) -> Result<bool, AllocError> {
         for _ in 0..self.waiting.len() {
-            let Some(form) = self.waiting.last().copied() else {
-                return Ok(true);
+            let form = match self.waiting.last().copied() {
+                Some(form) if 0 < form.1 && strength <= form.1 => form,
+                _ => return Ok(true),
             };
-            if form.1 == 0 || form.1 < strength {
-                return Ok(true);
-            }
             self.waiting.truncate(self.waiting.len().saturating_sub(1));
-            if !self.join(form)? {
+            let is_before = form.1 == NOT || form.1 == NEGATIVE;
+            let Some(right) = self.operands.pop() else {
+                return Ok(false);
+            };
+            let left = if is_before { None } else { self.operands.pop() };
+            let made = match &left {
+                Some(left) => applied(self.alloc, form, left, &right)?,
+                None if is_before => applied(self.alloc, form, &right, &right)?,
+                None => None,
+            };
+            let Some(part) = made else {
+                return Ok(false);
+            };
+            let Operand { part: last, .. } = right;
+            let is_short = self.put(Operand {
+                part,
+                is_truth: form.1 <= COMPARISON,
+                value: None,
+                compared: if form.1 == COMPARISON { form.2.0 } else { b"" },
+                last,
+            })?;
+            if !is_short {
                 return Ok(false);
             }
         }
         Ok(true)
-    }
-
-    /// Reads a closing bracket.
-    fn close(&mut self) -> Result<bool, AllocError> {
-        if !self.join_stronger(0)? {
-            return Ok(false);
-        }
-        let (Some((_, 0, _)), Some(operand)) = (self.waiting.pop(), self.operands.pop()) else {
-            return Ok(false);
-        };
-        let mut operand = operand;
-        operand.compared = b"";
-        self.put(operand)
     }
 
     /// Reads a piece, and returns whether an expression may go on with it.
@@ -300,7 +272,18 @@ impl Reading {
         let wants_operand = self.wants_operand;
         let form = match piece.text {
             [b'('] if wants_operand => Some(OPEN),
-            [b')'] if !wants_operand => return self.close(),
+            [b')'] if !wants_operand => {
+                if !self.join_stronger(0)? {
+                    return Ok(false);
+                }
+                let (Some((_, 0, _)), Some(operand)) = (self.waiting.pop(), self.operands.pop())
+                else {
+                    return Ok(false);
+                };
+                let mut operand = operand;
+                operand.compared = b"";
+                return self.put(operand);
+            }
             sign if wants_operand => form_in(&BEFORE, sign),
             sign => form_in(&BETWEEN, sign),
         };
@@ -316,16 +299,6 @@ impl Reading {
             _ => Ok(false),
         }
     }
-
-    /// Reads pieces, and returns whether they are an expression.
-    fn read_all(&mut self, pieces: &[Piece]) -> Result<bool, AllocError> {
-        for piece in pieces {
-            if !self.read(*piece)? {
-                return Ok(false);
-            }
-        }
-        Ok(!self.wants_operand && self.join_stronger(0)? && self.waiting.is_empty())
-    }
 }
 
 /// The expression of these pieces, written in this language at least at a level, if it is short.
@@ -340,12 +313,18 @@ pub(crate) fn rewritten(
         waiting: Vec::new(alloc),
         wants_operand: true,
     };
-    let mut text = Vec::new(alloc);
-    if reading.read_all(pieces)? {
-        if let Some(operand) = reading.operands.last() {
-            put_part(&mut text, &operand.part, level)?;
-            return Ok(Some(text));
+    for piece in pieces {
+        if !reading.read(*piece)? {
+            return Ok(None);
         }
     }
-    Ok(None)
+    let is_ended = !reading.wants_operand && reading.join_stronger(0)?;
+    let mut text = Vec::new(alloc);
+    match reading.operands.last() {
+        Some(operand) if is_ended && reading.waiting.is_empty() => {
+            put_part(&mut text, &operand.part, level)?;
+            Ok(Some(text))
+        }
+        _ => Ok(None),
+    }
 }

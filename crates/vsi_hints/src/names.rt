@@ -1,10 +1,10 @@
 //! The constructs of other languages that begin with a name, and declarations.
 
-use crate::drafts::{Found, Letters, Shape, commands, put, say, shaped, tell};
+use crate::drafts::{Found, Letters, Shape, say, shaped, valued};
 use crate::expression::{FALSE, TRUE, is_operator};
-use crate::offers::{CALLS, COMMANDS, NONE, Saying, said, saying_in};
+use crate::offers::{CALLS, COMMANDS, NONE, SIGNS, Saying, saying_in};
 use crate::scan::{KEYWORDS, Scan, Sort, after, is_one_of};
-use crate::structure::is_beyond;
+use crate::structure::unwritten;
 
 /// Names that declare a variable.
 const TYPES: &[u8] = b"let const local auto int long unsigned float double bool boolean char \
@@ -122,11 +122,8 @@ pub(crate) fn local(scan: &Scan, at: usize) -> Option<Found> {
     if scan.is_any(name, KEYWORDS) {
         bad_name(scan, name)
     } else if scan.is(sign, b"=") {
-        put(
-            sign,
-            ":=",
-            ": `=` compares, as in `letvar y := x + 1 in z := y`.",
-        )
+        let rest = ": `=` compares, as in `letvar y := x + 1 in z := y`.";
+        shaped(sign, sign.saturating_add(1), Shape::Put, (b"", rest, ":="))
     } else {
         None
     }
@@ -217,29 +214,12 @@ const CALL: Saying = (
 fn call(scan: &Scan, at: usize) -> Option<Found> {
     let next = at.saturating_add(1);
     let has_bracket = scan.is(next, b"(");
-    let saying = match saying_in(&CALLS, scan.text(at)) {
+    let (_, before, after) = match saying_in(&CALLS, scan.text(at)) {
         Some(saying) if has_bracket || scan.is_command_start(at) => saying,
         _ if has_bracket && scan.touches(next) => CALL,
         _ => return None,
     };
-    said(at, call_stop(scan, at), saying)
-}
-
-/// A name that begins or ends a command.
-fn command_word(scan: &Scan, at: usize) -> Option<Found> {
-    let saying = saying_in(&COMMANDS, scan.text(at))?;
-    if !scan.is_after_operand(at) && !scan.is_command_start(at) {
-        return None;
-    }
-    let next = at.saturating_add(1);
-    let is_ended = scan.is(next, b".") || scan.is_any(next, KEYWORDS) && !scan.piece(next).is_first;
-    let stop = match saying.0 {
-        [b'e', b'n', b'd', ..] if is_ended => next.saturating_add(1),
-        [b'e', b'n', b'd', ..] | [b'r', b'e', b'p', ..] => next,
-        [b's', b'w', ..] | [b't', b'r', b'y', ..] => next,
-        _ => call_stop(scan, at),
-    };
-    said(at, stop, saying)
+    say(at, call_stop(scan, at), before, after)
 }
 
 /// The construct that a name begins, unless it is a command that assigns.
@@ -255,23 +235,42 @@ fn word(scan: &Scan, at: usize) -> Option<Found> {
     }
     for (words, new, rest) in REPLACED.as_slice() {
         if is_one_of(*words, text) {
-            return put(at, *new, *rest);
+            return shaped(at, next, Shape::Put, (b"", *rest, *new));
         }
     }
-    declaring_word(scan, at)
-        .or(command_word(scan, at))
-        .or(call(scan, at))
+    let found = declaring_word(scan, at);
+    let is_placed = scan.is_after_operand(at) || scan.is_command_start(at);
+    match saying_in(&COMMANDS, text) {
+        _ if found.is_some() => found,
+        Some((words, before, after)) if is_placed => {
+            let is_ended = scan.is(next, b".")
+                || scan.is_any(next, KEYWORDS) && !scan.piece(next).is_first;
+            let stop = match words {
+                [b'e', b'n', b'd', ..] if is_ended => next.saturating_add(1),
+                [b'e', b'n', b'd', ..] | [b'r', b'e', b'p', ..] => next,
+                [b's', b'w', ..] | [b't', b'r', b'y', ..] => next,
+                _ => call_stop(scan, at),
+            };
+            say(at, stop, before, after)
+        }
+        _ => call(scan, at),
+    }
 }
 
 /// Commands in place of pieces with a value up to a piece; in place of those before the value, if it
-/// has an operator without a translation.
+/// has an operator without a translation or a call.
 fn rewriting(scan: &Scan, at: usize, value: usize, stop: usize, letters: Letters) -> Option<Found> {
-    for place in value..stop {
-        if is_beyond(scan, place) {
-            return commands(at, value, value, letters);
-        }
-    }
-    commands(at, value, stop, letters)
+    let is_beyond = |place: usize| {
+        saying_in(&SIGNS, scan.text(place)).is_some()
+            || unwritten(scan, place).is_some()
+            || scan.is(place.saturating_add(1), b"(") && scan.is_name(place)
+    };
+    let stop = if (value..stop).any(is_beyond) {
+        value
+    } else {
+        stop
+    };
+    valued((at, value, stop), Shape::Commands, letters)
 }
 
 /// An operand that is divided by another one, in the value that a command assigns.
@@ -292,27 +291,7 @@ fn division(scan: &Scan, at: usize) -> Option<Found> {
         above 0.";
     let plain = "divide in a loop, as `while 1 < r do { r := r - 2; q := q + 1 }` does for half of \
         r, if r isn't negative.";
-    commands(at, value, next, (text, rule, plain))
-}
-
-/// A value that is assigned to two names by one command.
-fn twice(scan: &Scan, at: usize) -> Option<Found> {
-    let (sign, second, other, value, end) = after(at);
-    let is_chain = scan.is_any(sign, b":= =") && scan.is(other, scan.text(sign));
-    if !is_chain || !scan.is_name(second) {
-        return None;
-    }
-    let plain = "assign to one variable at a time, as in `y := 1; x := y`.";
-    let next = scan.value_stop(value);
-    if scan.is_any(next, b":= ,") || scan.is(end, b"=") {
-        return tell(at, next, plain);
-    }
-    let text: &'static [u8] = if at == 0 || scan.is_after(at, b"; { }") {
-        b"P := V; N := P"
-    } else {
-        b"{ P := V; N := P }"
-    };
-    rewriting(scan, at, value, next, (text, ONE_VARIABLE, plain))
+    valued((at, value, next), Shape::Commands, (text, rule, plain))
 }
 
 /// A command that assigns by another sign, or to several names, or declares.
@@ -331,7 +310,7 @@ fn assigned(scan: &Scan, at: usize) -> Option<Found> {
         if scan.begins(sign, *signs) {
             let value = value.saturating_add(usize::from(signs.contains(&b' ')));
             if letters.2.is_empty() {
-                return commands(at, value, value, *letters);
+                return valued((at, value, value), Shape::Commands, *letters);
             }
             return rewriting(scan, at, value, scan.value_stop(value), *letters);
         }
@@ -349,7 +328,21 @@ pub(crate) fn named(scan: &Scan, at: usize) -> Option<Found> {
     if found.is_some() || !scan.is_command_start(at) {
         return found;
     }
-    twice(scan, at)
-        .or(division(scan, at))
-        .or(assigned(scan, at))
+    let (sign, second, other, value, end) = after(at);
+    let is_chain = scan.is_any(sign, b":= =") && scan.is(other, scan.text(sign));
+    if !is_chain || !scan.is_name(second) {
+        return division(scan, at).or(assigned(scan, at));
+    }
+    // A value is assigned to two names by one command.
+    let plain = "assign to one variable at a time, as in `y := 1; x := y`.";
+    let next = scan.value_stop(value);
+    if scan.is_any(next, b":= ,") || scan.is(end, b"=") {
+        return shaped(at, next, Shape::Tell, (b"", plain, ""));
+    }
+    let text: &'static [u8] = if at == 0 || scan.is_after(at, b"; { }") {
+        b"P := V; N := P"
+    } else {
+        b"{ P := V; N := P }"
+    };
+    rewriting(scan, at, value, next, (text, ONE_VARIABLE, plain))
 }

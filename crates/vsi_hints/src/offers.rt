@@ -108,11 +108,6 @@ pub(crate) fn saying_in(sayings: &[&'static str], word: &[u8]) -> Option<Saying>
     None
 }
 
-/// The sentence of a saying around the first of these pieces.
-pub(crate) fn said(first: usize, next: usize, saying: Saying) -> Option<Found> {
-    say(first, next, saying.1, saying.2)
-}
-
 /// The sign that a character outside of ASCII looks like, or else the same text.
 pub(crate) fn narrow<'a>(text: &'a [u8]) -> &'a [u8] {
     match text {
@@ -274,18 +269,6 @@ pub(crate) fn offer(scan: &Scan, found: &Found) -> Result<Option<Vec<u8>>, Alloc
     }
 }
 
-/// The reason why a text is offered as a replacement for pieces.
-fn reason<'s>(scan: &Scan<'s>, found: &Found) -> Reason<'s> {
-    if found.shape != Shape::Value {
-        return Reason::Rule(found.after);
-    }
-    match scan.text(found.value) {
-        [b'-'] => Reason::Rule(": a number has no sign before it."),
-        [b'<'] | [b'='] => Reason::Rule(": a comparison has two sides."),
-        text => Reason::Lacking(text),
-    }
-}
-
 /// The sentence for a comment of several lines.
 const BLOCK: &str = "begin each line of a comment with `#`, as in `# count`: it ends with its \
     line, and there is no `/*`.";
@@ -315,20 +298,24 @@ fn fixed_hint<'s>(scan: &Scan<'s>, found: &Found, replaced: &'s [u8]) -> Option<
     }
 }
 
-/// Whether a part of a text can be shown between back quotes in a line.
-fn can_show(part: &[u8]) -> bool {
-    let is_shown = |byte: &u8| matches!(*byte, 32..=126) && *byte != b'`';
-    part.len() <= LONGEST && part.iter().all(is_shown)
-}
-
 /// The hint for pieces, if there is one.
 pub(crate) fn hint_of<'s>(scan: &Scan<'s>, found: &Found) -> Result<Option<Hint<'s>>, AllocError>
     ensures { IfOk result (λ hint. IfSome hint OffersRead) }
 {
-    let replaced = scan.span(found.first, found.next);
-    if can_show(replaced) {
+    let source = scan.source;
+    let stop = scan.stop(found.next.saturating_sub(1)).min(source.len());
+    let replaced = &source[scan.piece(found.first).at.min(stop)..stop];
+    // Only these bytes can be shown between back quotes in a line.
+    let is_shown = |byte: &u8| matches!(*byte, 32..=126) && *byte != b'`';
+    if replaced.len() <= LONGEST && replaced.iter().all(is_shown) {
         if let Some(text) = offer(scan, found)? {
-            return Ok(Some(Hint::Offer(text, replaced, reason(scan, found))));
+            let reason = match scan.text(found.value) {
+                _ if found.shape != Shape::Value => Reason::Rule(found.after),
+                [b'-'] => Reason::Rule(": a number has no sign before it."),
+                [b'<'] | [b'='] => Reason::Rule(": a comparison has two sides."),
+                sign => Reason::Lacking(sign),
+            };
+            return Ok(Some(Hint::Offer(text, replaced, reason)));
         }
     }
     Ok(fixed_hint(scan, found, replaced))

@@ -1,7 +1,6 @@
 //! A text of another language, cut into pieces: words, numbers, signs, texts and comments.
 
 use crate::expression::{NO_OPERANDS, is_operator};
-use crate::offers::narrow;
 use std::alloc::{AllocError, Global};
 
 /// The largest number of pieces of a text that is examined; the rest of a longer text is not.
@@ -40,67 +39,40 @@ const SIGNS: &[u8] = b">>>= === !== **= //= <<= >>= >>> << >> |= &= ^= := == != 
 
 /// Whether a word is one of these, which have blanks between them.
 pub(crate) fn is_one_of(words: &[u8], word: &[u8]) -> bool {
-    for one in words.split(|byte| *byte == b' ') {
-        if one == word {
-            return true;
-        }
-    }
-    false
+    words.split(|byte| *byte == b' ').any(|one| one == word)
 }
 
 /// A text up to the end of its first line.
 fn line(text: &[u8]) -> &[u8] {
-    let end = text.iter().position(|byte| *byte == b'\n');
-    text.get(..end.unwrap_or(text.len())).unwrap_or(text)
+    text.split(|byte| *byte == b'\n').next().unwrap_or(text)
 }
 
 /// The number of bytes of a text up to the end of a part of it that begins at or after `from`.
 fn up_to_end(text: &[u8], from: usize, end: &[u8]) -> usize {
-    for at in from..text.len() {
-        if text.get(at..).unwrap_or(b"").starts_with(end) {
-            return at.saturating_add(end.len());
-        }
-    }
-    text.len()
+    let is_end = |at: &usize| text.get(*at..).unwrap_or(b"").starts_with(end);
+    let found = (from..text.len()).find(is_end);
+    found.map_or(text.len(), |at| at.saturating_add(end.len()))
 }
 
 /// The number of bytes of a name or a number. A point belongs to a number if a digit follows.
 fn word_length(rest: &[u8], is_number: bool) -> usize {
-    for (at, byte) in rest.iter().enumerate() {
-        let next = rest.get(at.saturating_add(1));
-        let is_point = is_number && *byte == b'.' && matches!(next, Some(b'0'..=b'9'));
-        if !byte.is_ascii_alphanumeric() && *byte != b'_' && !is_point {
-            return at;
-        }
-    }
-    rest.len()
-}
-
-/// The number of bytes of the sign at the beginning of a text.
-fn sign_length(rest: &[u8]) -> usize {
-    for sign in SIGNS.split(|byte| *byte == b' ') {
-        if rest.starts_with(sign) {
-            return sign.len();
-        }
-    }
-    1
-}
-
-/// Whether a comment of one line begins a text. In Python `//` divides by the number after it.
-fn is_line_comment(rest: &[u8], is_begun: bool) -> bool {
-    if !rest.starts_with(b"//") {
-        return is_begun && rest.starts_with(b"-- ");
-    }
-    let after = rest.get(2..).unwrap_or(b"");
-    !matches!(after.trim_ascii_start().first(), Some(b'0'..=b'9'))
+    let ends = |at: &usize| match rest.get(*at..).unwrap_or(b"") {
+        [b'.', b'0'..=b'9', ..] if is_number => false,
+        [byte, ..] => !byte.is_ascii_alphanumeric() && *byte != b'_',
+        [] => true,
+    };
+    (0..rest.len()).find(ends).unwrap_or(rest.len())
 }
 
 /// The sort and the length of the piece at the beginning of a text. A quotation is on one line.
 fn measured(rest: &[u8], is_begun: bool) -> (Sort, usize) {
-    if is_line_comment(rest, is_begun) {
-        return (Sort::Comment, line(rest).len());
-    }
     match rest {
+        [b'-', b'-', b' ', ..] if is_begun => (Sort::Comment, line(rest).len()),
+        // In Python `//` divides by the number after it.
+        [b'/', b'/', after @ ..]
+            if !matches!(after.trim_ascii_start().first(), Some(b'0'..=b'9')) => {
+            (Sort::Comment, line(rest).len())
+        }
         [b'/', b'*', ..] => (Sort::Comment, up_to_end(rest, 2, b"*/")),
         [b'a'..=b'z' | b'A'..=b'Z' | b'_', ..] => (Sort::Word, word_length(rest, false)),
         [b'0'..=b'9', ..] => (Sort::Number, word_length(rest, true)),
@@ -109,71 +81,28 @@ fn measured(rest: &[u8], is_begun: bool) -> (Sort, usize) {
         [128..=255, 128..=191, 128..=191, ..] => (Sort::Strange, 3),
         [128..=255, 128..=191, ..] => (Sort::Strange, 2),
         [128..=255, ..] => (Sort::Strange, 1),
-        _ => (Sort::Sign, sign_length(rest)),
-    }
-}
-
-/// The pieces of a text, without the blanks and the comments of the language.
-fn pieces_of<'a>(alloc: Global, source: &'a [u8]) -> Result<Vec<Piece<'a>>, AllocError> {
-    let mut pieces = Vec::new(alloc);
-    let mut at: usize = 0;
-    let mut is_first = true;
-    let mut is_begun = true;
-    for _ in 0..source.len() {
-        let rest = source.get(at..).unwrap_or(b"");
-        let mut length = 1;
-        match rest {
-            [b'#', ..] => length = line(rest).len(),
-            [b' ' | b'\t' | b'\r', ..] => {}
-            [b'\n', ..] => is_first = true,
-            [_, ..] if pieces.len() < MOST => {
-                let (sort, size) = measured(rest, is_first || is_begun);
-                let text = rest.get(..size).unwrap_or(rest);
-                pieces.push(Piece {
-                    sort,
-                    text,
-                    at,
-                    is_first,
-                })?;
-                is_first = false;
-                is_begun = matches!(text, [b';' | b'{' | b'}']);
-                length = size.max(1);
-            }
-            _ => return Ok(pieces),
+        _ => {
+            let mut signs = SIGNS.split(|byte| *byte == b' ');
+            let sign = signs.find(|sign| rest.starts_with(*sign));
+            (Sort::Sign, sign.map_or(1, |sign| sign.len()))
         }
-        at = at.saturating_add(length);
-    }
-    Ok(pieces)
-}
-
-/// The digits of a number, and their base.
-fn digits_of(text: &[u8]) -> (&[u8], u64) {
-    let base = match text.get(1).copied().unwrap_or(0).to_ascii_lowercase() {
-        b'x' => 16,
-        b'b' => 2,
-        b'o' => 8,
-        _ => 10,
-    };
-    match text {
-        [b'0', _, digits @ ..] if base != 10 => (digits, base),
-        [digits @ .., b'l' | b'L' | b'u' | b'U'] => (digits, 10),
-        _ => (text, 10),
     }
 }
 
 /// Whether a text has digits alone.
 pub(crate) fn is_decimal(text: &[u8]) -> bool {
-    for byte in text {
-        if !byte.is_ascii_digit() {
-            return false;
-        }
-    }
-    true
+    text.iter().all(|byte| byte.is_ascii_digit())
 }
 
 /// The value of a whole number of another language, if this language can write it.
 pub(crate) fn number_of(text: &[u8]) -> Option<u64> {
-    let (digits, base) = digits_of(text);
+    let (digits, base) = match text {
+        [b'0', b'x' | b'X', digits @ ..] => (digits, 16),
+        [b'0', b'b' | b'B', digits @ ..] => (digits, 2),
+        [b'0', b'o' | b'O', digits @ ..] => (digits, 8),
+        [digits @ .., b'l' | b'L' | b'u' | b'U'] => (digits, 10),
+        _ => (text, 10),
+    };
     let mut value: u64 = 0;
     for byte in digits {
         if *byte == b'_' {
@@ -215,48 +144,61 @@ pub(crate) const DECLARING: &[u8] = b"var letvar";
 
 /// The numbers of the five pieces after a piece.
 pub(crate) fn after(at: usize) -> (usize, usize, usize, usize, usize) {
-    (
-        at.saturating_add(1),
-        at.saturating_add(2),
-        at.saturating_add(3),
-        at.saturating_add(4),
-        at.saturating_add(5),
-    )
+    let place = |by: usize| at.saturating_add(by);
+    (place(1), place(2), place(3), place(4), place(5))
 }
 
 impl<'s> Scan<'s> {
-    /// A text, cut into its pieces.
+    /// A text, cut into its pieces, without the blanks and the comments of the language.
     pub(crate) fn of(alloc: Global, source: &'s [u8]) -> Result<Scan<'s>, AllocError> {
+        let mut pieces = Vec::new(alloc);
+        let mut at: usize = 0;
+        let mut is_first = true;
+        let mut is_begun = true;
+        for _ in 0..source.len() {
+            let rest = source.get(at..).unwrap_or(b"");
+            let mut length = 1;
+            match rest {
+                [b'#', ..] => length = line(rest).len(),
+                [b' ' | b'\t' | b'\r', ..] => {}
+                [b'\n', ..] => is_first = true,
+                [_, ..] if pieces.len() < MOST => {
+                    let (sort, size) = measured(rest, is_first || is_begun);
+                    let text = rest.get(..size).unwrap_or(rest);
+                    pieces.push(Piece {
+                        sort,
+                        text,
+                        at,
+                        is_first,
+                    })?;
+                    is_first = false;
+                    is_begun = matches!(text, [b';' | b'{' | b'}']);
+                    length = size.max(1);
+                }
+                _ => break,
+            }
+            at = at.saturating_add(length);
+        }
         Ok(Scan {
             alloc,
             source,
-            pieces: pieces_of(alloc, source)?,
+            pieces,
         })
     }
 
     /// A piece, or an empty one if there is none.
     pub(crate) fn piece(&self, at: usize) -> Piece<'s> {
-        match self.pieces.get(at) {
-            Some(piece) => *piece,
-            None => Piece {
-                sort: Sort::Sign,
-                text: b"",
-                at: 0,
-                is_first: true,
-            },
-        }
+        self.pieces.get(at).copied().unwrap_or(Piece {
+            sort: Sort::Sign,
+            text: b"",
+            at: 0,
+            is_first: true,
+        })
     }
 
     /// The text of a piece, or an empty text if there is none.
     pub(crate) fn text(&self, at: usize) -> &'s [u8] {
         self.piece(at).text
-    }
-
-    /// The part of the text from one piece up to another one.
-    pub(crate) fn span(&self, first: usize, next: usize) -> &'s [u8] {
-        let source = self.source;
-        let stop = self.stop(next.saturating_sub(1)).min(source.len());
-        &source[self.piece(first).at.min(stop)..stop]
     }
 
     /// Whether a piece is this text.
@@ -276,33 +218,16 @@ impl<'s> Scan<'s> {
 
     /// Whether the pieces from this one on are these texts. A `*` is any name or number.
     pub(crate) fn begins(&self, at: usize, texts: &[u8]) -> bool {
-        for (number, text) in texts.split(|byte| *byte == b' ').enumerate() {
+        let mut texts = texts.split(|byte| *byte == b' ').enumerate();
+        texts.all(|(number, text)| {
             let place = at.saturating_add(number);
-            let is_any = matches!(text, [b'*']) && self.is_operand(place);
-            if !is_any && !self.is(place, text) {
-                return false;
-            }
-        }
-        true
+            matches!(text, [b'*']) && self.is_operand(place) || self.is(place, text)
+        })
     }
 
     /// Whether a piece may be a name.
     pub(crate) fn is_name(&self, at: usize) -> bool {
         self.piece(at).sort == Sort::Word && !self.is_any(at, KEYWORDS)
-    }
-
-    /// The number of the piece at or before a position, or the number of pieces after the last one.
-    pub(crate) fn number_at(&self, at: usize) -> usize {
-        let count = self.pieces.len();
-        if at >= self.stop(count.saturating_sub(1)) {
-            return count;
-        }
-        for number in (1..count).rev() {
-            if self.piece(number).at <= at {
-                return number;
-            }
-        }
-        0
     }
 
     /// The position after a piece.
@@ -330,22 +255,12 @@ impl<'s> Scan<'s> {
 
     /// Whether a name is declared somewhere in the text.
     pub(crate) fn is_declared(&self, name: &[u8]) -> bool {
-        for at in 1..self.pieces.len() {
-            if self.is(at, name) && self.is_after(at, DECLARING) {
-                return true;
-            }
-        }
-        false
+        (1..self.pieces.len()).any(|at| self.is(at, name) && self.is_after(at, DECLARING))
     }
 
     /// Whether one of the pieces from a number up to another one is one of these texts.
     pub(crate) fn has(&self, first: usize, next: usize, texts: &[u8]) -> bool {
-        for at in first..next {
-            if self.is_any(at, texts) {
-                return true;
-            }
-        }
-        false
+        (first..next).any(|at| self.is_any(at, texts))
     }
 
     /// Whether a sign comes after a name with which a command begins.
@@ -356,40 +271,22 @@ impl<'s> Scan<'s> {
 
     /// The piece with which the expression around a piece begins.
     pub(crate) fn value_start(&self, at: usize) -> usize {
-        for start in (1..at.saturating_add(1)).rev() {
+        let begins = |start: &usize| {
             let before = start.saturating_sub(1);
-            if self.is_any(before, VALUE_STARTS)
+            self.is_any(before, VALUE_STARTS)
                 || self.piece(before).sort == Sort::Comment
                 || self.is(before, b"=") && self.is_assignment(before)
-                || self.piece(start).is_first && self.is_command_start(start)
-            {
-                return start;
-            }
-        }
-        0
+                || self.piece(*start).is_first && self.is_command_start(*start)
+        };
+        (1..at.saturating_add(1)).rev().find(begins).unwrap_or(0)
     }
 
     /// Whether a piece is an operand, or begins a call.
-    fn is_operand(&self, at: usize) -> bool {
+    pub(crate) fn is_operand(&self, at: usize) -> bool {
         let text = self.text(at);
         (self.is_name(at) || self.piece(at).sort == Sort::Number)
             && !is_operator(text)
             && !is_one_of(NO_OPERANDS, text)
-    }
-
-    /// Whether a piece is a name in the position of a class.
-    pub(crate) fn is_class(&self, at: usize) -> bool {
-        let sign = at.saturating_sub(1);
-        self.is_name(at) && self.is(sign, b":") && self.is_after(sign.saturating_sub(1), DECLARING)
-    }
-
-    /// Whether a piece is a name that is read or assigned to, and not a class.
-    pub(crate) fn is_variable(&self, at: usize) -> bool {
-        self.is_operand(at)
-            && self.is_name(at)
-            && !matches!(narrow(self.text(at.saturating_sub(1))), [b':'])
-            && !self.is_operand(at.saturating_add(1))
-            && (at == 0 || !self.is_operand(at.saturating_sub(1)))
     }
 
     /// Whether an operand ends with a piece.
@@ -455,11 +352,8 @@ impl<'s> Scan<'s> {
 
     /// The piece at which the command around a piece has ended.
     pub(crate) fn command_stop(&self, at: usize) -> usize {
-        for place in at.saturating_add(1)..self.pieces.len() {
-            if self.piece(place).is_first || self.is_any(place, b"; { } :") {
-                return place;
-            }
-        }
-        self.pieces.len()
+        let count = self.pieces.len();
+        let ends = |place: &usize| self.piece(*place).is_first || self.is_any(*place, b"; { } :");
+        (at.saturating_add(1)..count).find(ends).unwrap_or(count)
     }
 }

@@ -1,11 +1,9 @@
 //! Keywords and signs that are missing or superfluous, and constructs that begin with a sign.
 
-use crate::drafts::{Found, LONGEST, Letters, Shape, commands, put, say, shaped, tell, valued};
+use crate::drafts::{Found, LONGEST, Letters, Shape, say, shaped, valued};
 use crate::expression::is_operator;
 use crate::names::{ELSE_IF, local_value};
-use crate::offers::{
-    BITS, COMMANDS, NONE, SIGNS, Saying, character_saying, narrow, said, saying_in,
-};
+use crate::offers::{BITS, COMMANDS, NONE, SIGNS, Saying, character_saying, narrow, saying_in};
 use crate::scan::{DECLARING, KEYWORDS, Scan, Sort, is_decimal, number_of};
 
 /// The keywords with which an `if` goes on after its first branch.
@@ -36,34 +34,24 @@ fn is_command(scan: &Scan, at: usize) -> bool {
         || scan.is_name(at) && scan.is_any(next, b":= = += -= ++ --")
 }
 
-/// Whether the line before a piece begins with a keyword that takes a guard or a branch.
-fn is_after_guard(scan: &Scan, at: usize) -> bool {
-    for place in (0..at).rev() {
-        if scan.piece(place).is_first {
-            return scan.is_any(place, b"if while }") || scan.is_any(place, ELSE);
-        }
-    }
-    false
-}
-
 /// A command on a line of its own, after one that has no `;`.
 fn unended(scan: &Scan, at: usize) -> Option<Found> {
     let before = at.checked_sub(1)?;
     if !scan.piece(at).is_first
         || !scan.ends_operand(before)
         || !is_command(scan, at)
-        || is_after_guard(scan, at)
         || saying_in(&COMMANDS, scan.text(before)).is_some()
     {
         return None;
     }
+    // No command has ended if its line begins with a keyword that takes a guard or a branch.
+    let line = (0..at).rev().find(|place| scan.piece(*place).is_first);
+    if line.is_some_and(|at| scan.is_any(at, b"if while }") || scan.is_any(at, ELSE)) {
+        return None;
+    }
+    let (next, before) = (at.saturating_add(1), "end the command before this ");
     let rest = " with a `;`: it separates two commands, as in `x := 1; y := 2`.";
-    say(
-        at,
-        at.saturating_add(1),
-        "end the command before this ",
-        rest,
-    )
+    say(at, next, before, rest)
 }
 
 /// The piece at which the branch that begins at a piece has ended, if that is clear.
@@ -76,19 +64,6 @@ fn branch_stop(scan: &Scan, at: usize) -> Option<usize> {
     } else {
         None
     }
-}
-
-/// Whether an `else` comes after more than one command.
-fn has_late_else(scan: &Scan, stop: usize) -> bool {
-    if !scan.is(stop, b";") || scan.is(stop.saturating_add(1), b"else") {
-        return false;
-    }
-    for at in stop..scan.pieces.len() {
-        if scan.is_any(at, b"else if { }") {
-            return scan.is(at, b"else");
-        }
-    }
-    false
 }
 
 /// An `if` after a value that is assigned, as other languages choose between two values.
@@ -112,7 +87,9 @@ fn unguarded(scan: &Scan, at: usize) -> Option<Found> {
     let stop = scan.value_stop(at.saturating_add(1));
     if scan.is(stop, b":") {
         let rest = " after a guard, as in `if x < 1 then y := 1 else while x < 9 do x := x + 1`.";
-        put(stop, if is_branch { "then" } else { "do" }, rest)
+        let keyword = if is_branch { "then" } else { "do" };
+        let next = stop.saturating_add(1);
+        shaped(stop, next, Shape::Put, (b"", rest, keyword))
     } else if !scan.is(stop, b"{") && !is_command(scan, stop) {
         None
     } else if is_branch {
@@ -140,9 +117,8 @@ pub(crate) fn structure_at(scan: &Scan, at: usize) -> Option<Found> {
             if !scan.is_any(sign, b":= =") || scan.is(stop, b"in") {
                 return None;
             }
-            let rest =
-                ", and { } around the commands that use it, as in `letvar y := 1 in { x := y; z := \
-                    y }`.";
+            let rest = ", and { } around the commands that use it, as in `letvar y := 1 in { x := \
+                y; z := y }`.";
             say(at, stop, "put `in` after the value of this ", rest)
         }
         [b';'] => superfluous(scan, at),
@@ -169,7 +145,10 @@ pub(crate) fn halved_at(scan: &Scan, at: usize) -> Option<Found> {
     let guard = scan.value_stop(at.saturating_add(1));
     let branch = guard.saturating_add(usize::from(scan.is_any(guard, b"then :")));
     let stop = branch_stop(scan, branch)?;
-    if has_late_else(scan, stop) {
+    let is_single = !scan.is(stop, b";") || scan.is(stop.saturating_add(1), b"else");
+    let goes_on = |at: &usize| scan.is_any(*at, b"else if { }");
+    let late = (stop..scan.pieces.len()).find(goes_on);
+    if !is_single && late.is_some_and(|at| scan.is(at, b"else")) {
         let before = "put { } around several commands in a branch of this ";
         let rest = ", as in `if x < 1 then { y := 1; z := 2 } else y := 2`.";
         return say(at, stop, before, rest);
@@ -209,106 +188,78 @@ pub(crate) fn counting_at(scan: &Scan, start: usize) -> Option<(usize, usize, us
         let is_before = scan.is_any(counter, b"( int let var");
         counter = counter.saturating_add(usize::from(is_before));
     }
-    for (signs, first, limit, body) in COUNTING.as_slice() {
-        if scan.begins(counter.saturating_add(1), *signs) {
-            return Some((
-                counter,
-                counter.saturating_add(*first),
-                counter.saturating_add(*limit),
-                counter.saturating_add(*body),
-            ));
-        }
-    }
-    None
+    let after = |offset: usize| counter.saturating_add(offset);
+    let form = COUNTING.iter().find(|form| scan.begins(after(1), form.0))?;
+    Some((counter, after(form.1), after(form.2), after(form.3)))
 }
 
 /// A loop that counts, if its body assigns neither to the counter nor to the limit.
 fn counting(scan: &Scan, start: usize) -> Option<Found> {
     let (counter, _, limit, body) = counting_at(scan, start)?;
     let next = branch_stop(scan, body)?;
-    for at in counter..next {
+    let differs = |at: usize| {
         let sign = at.saturating_add(1);
         let is_counter = scan.is(at, scan.text(counter));
         let is_other = at < body && !is_counter && scan.is_any(sign, b"< <= ++");
         let is_bound = is_counter || scan.is(at, scan.text(limit));
-        if is_other || at >= body && is_bound && scan.is(sign, b":=") {
-            return None;
-        }
+        is_other || at >= body && is_bound && scan.is(sign, b":=")
+    };
+    if (counter..next).any(differs) {
+        return None;
     }
     let text: &'static [u8] = if scan.is_declared(scan.text(counter)) {
         b"{ I := F; while I < G do { B; I := I + 1 } }"
     } else {
         b"letvar I := F in while I < G do { B; I := I + 1 }"
     };
-    commands(start, body, next, (text, COUNTED, ""))
-}
-
-/// A loop with its test after its body.
-fn tested(scan: &Scan, start: usize) -> Option<Found> {
-    let (word, text): (&[u8], &'static [u8]) = if scan.is(start, b"do") {
-        (b"while", b"{ B; while V do { B } }")
-    } else {
-        (b"until", b"{ B; while X = 0 do { B } }")
-    };
-    for value in start.saturating_add(1)..scan.pieces.len().saturating_add(1) {
-        if scan.is_after(value, word) && !scan.is_any(scan.value_stop(value), b"do {") {
-            return commands(start, value, scan.value_stop(value), (text, TESTED, ""));
-        }
-    }
-    None
+    valued((start, body, next), Shape::Commands, (text, COUNTED, ""))
 }
 
 /// A loop of another language at a piece, if it is short and on one line.
 pub(crate) fn loop_at(scan: &Scan, start: usize) -> Option<Found> {
+    let next = start.saturating_add(1);
     let found = if scan.is(start, b"for") {
         counting(scan, start)?
     } else if scan.is_any(start, b"do repeat") && scan.is_command_start(start) {
-        tested(scan, start)?
+        // A loop with its test after its body.
+        let (word, text): (&[u8], &'static [u8]) = if scan.is(start, b"do") {
+            (b"while", b"{ B; while V do { B } }")
+        } else {
+            (b"until", b"{ B; while X = 0 do { B } }")
+        };
+        let value = (next..scan.pieces.len().saturating_add(1)).find(|value| {
+            scan.is_after(*value, word) && !scan.is_any(scan.value_stop(*value), b"do {")
+        })?;
+        valued(
+            (start, value, scan.value_stop(value)),
+            Shape::Commands,
+            (text, TESTED, ""),
+        )?
     } else {
         return None;
     };
     let longest = scan.piece(start).at.saturating_add(LONGEST);
-    for at in start.saturating_add(1)..found.next {
-        if scan.piece(at).is_first || scan.stop(at) > longest {
-            return None;
-        }
-    }
-    Some(found)
+    let is_far = |at: usize| scan.piece(at).is_first || scan.stop(at) > longest;
+    (!(next..found.next).any(is_far)).then_some(found)
 }
 
 /// The signs and names that compare.
 const COMPARING: &[u8] = b"= == === < > <= =< >= != !== <> ~= not !";
 
-/// Whether a sign joins bits: a number follows it, or nothing around it compares.
-fn joins_bits(scan: &Scan, at: usize) -> bool {
-    if !scan.is_any(at, b"& |") {
-        return false;
-    }
-    let start = scan.value_start(at);
-    scan.piece(at.saturating_add(1)).sort == Sort::Number
-        || !scan.has(start, scan.value_stop(start), COMPARING)
-}
-
 /// The sentence for a sign that joins bits, or a power whose exponent is no small number.
-fn unwritten(scan: &Scan, at: usize) -> Option<Saying> {
+pub(crate) fn unwritten(scan: &Scan, at: usize) -> Option<Saying> {
     let has_exponent = matches!(scan.text(at.saturating_add(1)), [b'2'..=b'4']);
     if scan.is_any(at, b"^ **") && !has_exponent {
         return saying_in(&SIGNS, scan.text(at));
     }
-    joins_bits(scan, at).then_some(BITS)
-}
-
-/// Whether a piece is an operator without a translation, or begins a call.
-pub(crate) fn is_beyond(scan: &Scan, at: usize) -> bool {
-    saying_in(&SIGNS, scan.text(at)).is_some()
-        || unwritten(scan, at).is_some()
-        || scan.is(at.saturating_add(1), b"(") && scan.is_name(at)
-}
-
-/// Whether a piece is an operator that no expression replaces, or a sign that is none.
-fn is_unwritten(scan: &Scan, at: usize) -> bool {
-    let text = scan.text(at);
-    saying_in(&SIGNS, text).is_some() && !is_operator(text) || unwritten(scan, at).is_some()
+    if !scan.is_any(at, b"& |") {
+        return None;
+    }
+    // A sign joins bits if a number follows it, or nothing around it compares.
+    let start = scan.value_start(at);
+    let joins_bits = scan.piece(at.saturating_add(1)).sort == Sort::Number
+        || !scan.has(start, scan.value_stop(start), COMPARING);
+    joins_bits.then_some(BITS)
 }
 
 /// Whether a sign compares an operand that the sign before it has already compared.
@@ -325,47 +276,38 @@ fn is_chained(scan: &Scan, at: usize) -> bool {
     false
 }
 
-/// Whether a piece is an operator that the language lacks in this position.
-fn is_foreign_operator(scan: &Scan, at: usize) -> bool {
-    match scan.text(at) {
-        [b'-'] => !scan.is_after_operand(at),
-        [b'<' | b'='] => scan.is_after_operand(at) && is_chained(scan, at),
-        text => is_operator(text) && !scan.is_any(at, b"+ *"),
-    }
-}
-
 /// The value around a foreign operator, or the operator alone if that can't be rewritten.
 fn operator(scan: &Scan, at: usize) -> Option<Found> {
     let next = at.saturating_add(1);
     if scan.is(at, b".") && scan.piece(next).sort == Sort::Number {
         let sentence = "numbers are whole, so count in a smaller unit, such as 50 cents for .50.";
-        return tell(at, next, sentence);
+        return shaped(at, next, Shape::Tell, (b"", sentence, ""));
     }
-    if let Some(saying) = unwritten(scan, at) {
-        return said(at, next, saying);
+    if let Some((_, before, after)) = unwritten(scan, at) {
+        return say(at, next, before, after);
     }
-    if !is_foreign_operator(scan, at) {
-        return said(at, next, saying_in(&SIGNS, scan.text(at))?);
+    // Whether the language lacks the operator in this position.
+    let is_foreign = match scan.text(at) {
+        [b'-'] => !scan.is_after_operand(at),
+        [b'<' | b'='] => scan.is_after_operand(at) && is_chained(scan, at),
+        text => is_operator(text) && !scan.is_any(at, b"+ *"),
+    };
+    if !is_foreign {
+        let (_, before, after) = saying_in(&SIGNS, scan.text(at))?;
+        return say(at, next, before, after);
     }
     let start = scan.value_start(at);
     let stop = scan.value_stop(start).max(next);
-    for place in start..stop {
-        if is_unwritten(scan, place) {
-            return shaped(at, next, Shape::Value, VALUE);
-        }
+    // No expression replaces an operator without a translation, or a sign that is none.
+    let is_unwritten = |place: usize| {
+        let text = scan.text(place);
+        saying_in(&SIGNS, text).is_some() && !is_operator(text) || unwritten(scan, place).is_some()
+    };
+    if (start..stop).any(is_unwritten) {
+        shaped(at, next, Shape::Value, VALUE)
+    } else {
+        valued((start, at, stop), Shape::Value, VALUE)
     }
-    valued((start, at, stop), Shape::Value, VALUE)
-}
-
-/// The construct that a text between quotes begins: three quotes begin a comment of a function.
-fn quoted(scan: &Scan, at: usize) -> Option<Found> {
-    let next = at.saturating_add(1);
-    if scan.text(at).len() == 2 && scan.piece(next).sort == Sort::Quoted && scan.touches(next) {
-        let sentence = "begin each line of a comment with `#`, as in `# count`.";
-        return tell(at, at.saturating_add(3), sentence);
-    }
-    let rest = ": each variable holds a whole number, as in `x := 1`.";
-    say(at, next, "there are no strings such as ", rest)
 }
 
 /// The expression around an operator.
@@ -392,29 +334,39 @@ fn number(scan: &Scan, at: usize) -> Option<Found> {
     shaped(at, next, Shape::Expression, DIGITS)
 }
 
-/// The construct that a sign, a number, a text or a comment begins.
+/// The construct that a sign, a number, a text, a comment or a `do` begins.
 pub(crate) fn sign(scan: &Scan, at: usize) -> Option<Found> {
+    let next = at.saturating_add(1);
+    let text = scan.text(at);
     match scan.piece(at).sort {
-        Sort::Comment => shaped(at, at.saturating_add(1), Shape::Comment, (b"", "", "")),
-        Sort::Strange => {
-            let next = at.saturating_add(1);
-            let text = scan.text(at);
-            if narrow(text) == text {
-                tell(at, next, character_saying(text)?)
-            } else if scan.is_assignment(at) && matches!(narrow(text), [b'=']) {
-                tell(
-                    at,
-                    next,
-                    "write `:=` for this character, which only looks like `=`.",
-                )
-            } else {
-                let rest =
-                    " for this character, which only looks like it: outside comments a text is \
-                        ASCII.";
-                say(at, next, "write ", rest)
-            }
+        Sort::Comment => shaped(at, next, Shape::Comment, (b"", "", "")),
+        Sort::Strange if narrow(text) == text => {
+            shaped(at, next, Shape::Tell, (b"", character_saying(text)?, ""))
         }
-        Sort::Quoted => quoted(scan, at),
+        Sort::Strange if scan.is_assignment(at) && matches!(narrow(text), [b'=']) => {
+            let sentence = "write `:=` for this character, which only looks like `=`.";
+            shaped(at, next, Shape::Tell, (b"", sentence, ""))
+        }
+        Sort::Strange => {
+            let rest = " for this character, which only looks like it: outside comments a text is \
+                ASCII.";
+            say(at, next, "write ", rest)
+        }
+        Sort::Word if scan.is(at, b"do") && scan.is_command_start(at) => {
+            let rest = ": write the body before the loop too, as in `{ C; while E do { C } }` for \
+                the body C and the guard E.";
+            say(at, next, "no loop begins with ", rest)
+        }
+        // Three quotes begin a comment of a function.
+        Sort::Quoted
+            if text.len() == 2 && scan.piece(next).sort == Sort::Quoted && scan.touches(next) => {
+            let sentence = "begin each line of a comment with `#`, as in `# count`.";
+            shaped(at, at.saturating_add(3), Shape::Tell, (b"", sentence, ""))
+        }
+        Sort::Quoted => {
+            let rest = ": each variable holds a whole number, as in `x := 1`.";
+            say(at, next, "there are no strings such as ", rest)
+        }
         Sort::Number => number(scan, at),
         _ => operator(scan, at),
     }
