@@ -10,6 +10,7 @@ use crate::telling::Part;
 use std::alloc::{AllocError, Global};
 use vsi_compiler::{CompileError, Source, judge};
 use vsi_flows::{WalkedPair, raise_lines_of, refused_pairs, walks_of};
+use vsi_lattice::Classes;
 use vsi_scope::Var;
 use vsi_types::{LOOP, Profile, Rule, Step};
 
@@ -100,20 +101,6 @@ fn sentences(rule: Rule) -> &'static str {
     }
 }
 
-/// The first lines of a text that are listed, and whether there are more.
-fn first_lines(lines: &[u8]) -> (&[u8], bool) {
-    let mut count: usize = 0;
-    for place in 0..lines.len() {
-        if lines[place] == b'\n' {
-            count = count.saturating_add(1);
-        }
-        if count == LISTED {
-            return (&lines[..place + 1], place + 1 < lines.len());
-        }
-    }
-    (lines, false)
-}
-
 impl Subject<'_, '_> {
     /// Adds a step of a walk that begins at a variable: where it reads, what happens there, and
     /// which class a variable without a declared one gets.
@@ -126,7 +113,8 @@ impl Subject<'_, '_> {
         }
         match (self.declared(step.target), self.declared(from)) {
             (None, Some(class)) => {
-                let sentence = if self.is_top(from) {
+                let lattice = self.source.lattice();
+                let sentence = if class == lattice.name(lattice.top()) {
                     "So % is %.\n"
                 } else {
                     "So % is % or a class above it.\n"
@@ -137,22 +125,6 @@ impl Subject<'_, '_> {
         }
     }
 
-    /// Adds the steps of a walk.
-    fn put_walk(&mut self, flow: &RefusedFlow<'_>) -> Result<(), AllocError> {
-        let (start, end) = flow.ends();
-        for step in start {
-            self.put_step(flow.source(), step)?;
-        }
-        if !end.is_empty() {
-            let left_out = flow.steps.len().saturating_sub(WHOLE);
-            self.say("Steps left out here: %.\n", &[Part::Number(left_out)])?;
-        }
-        for step in end {
-            self.put_step(flow.source(), step)?;
-        }
-        Ok(())
-    }
-
     /// Adds which class the target of a flow would need, and what that means.
     fn put_raise(&mut self, flow: &RefusedFlow<'_>) -> Result<(), AllocError> {
         let (from, to) = (flow.source(), flow.target());
@@ -161,7 +133,7 @@ impl Subject<'_, '_> {
             let sentence = ".\nNo declaration changes the class of %.\n";
             return self.say(sentence, &[target]);
         };
-        let sentence = if self.is_global(to) {
+        let sentence = if (to.0 as usize) < self.source.resolved().globals().len() {
             ", or\n- declare % as %: nothing at % may then depend on it.\n"
         } else {
             ", or\n- declare % as %, or leave out `: %`, and its class is inferred.\n"
@@ -202,44 +174,35 @@ impl Subject<'_, '_> {
         Ok(())
     }
 
-    /// Adds the conflict of a flow.
-    fn put_conflict(&mut self, flow: &RefusedFlow<'_>) -> Result<(), AllocError> {
-        let (from, to) = (flow.source(), flow.target());
-        let (source, target) = (self.name(from), self.name(to));
-        let low = Part::Text(self.declared(from).unwrap_or(b""));
-        let high = Part::Text(self.declared(to).unwrap_or(b""));
-        self.say(
-            "% flows to %: % is % and % is %, and % is not at or below %.\n",
-            &[source, target, source, low, target, high, low, high],
-        )
-    }
-
-    /// Adds the flows: the first ones step by step, and a line for each of the others.
+    /// Adds the flows: the conflict of each, and the steps of the walks of the first ones.
     fn put_flows(&mut self, flows: &[RefusedFlow<'_>]) -> Result<(), AllocError> {
         for (place, flow) in flows.iter().enumerate() {
-            self.put_conflict(flow)?;
+            let (from, to) = (flow.source(), flow.target());
+            let (source, target) = (self.name(from), self.name(to));
+            let low = Part::Text(self.declared(from).unwrap_or(b""));
+            let high = Part::Text(self.declared(to).unwrap_or(b""));
+            self.say(
+                "% flows to %: % is % and % is %, and % is not at or below %.\n",
+                &[source, target, source, low, target, high, low, high],
+            )?;
             if place < EXPLAINED {
-                self.put_walk(flow)?;
+                let (start, end) = flow.ends();
+                for step in start {
+                    self.put_step(from, step)?;
+                }
+                if !end.is_empty() {
+                    let left_out = flow.steps.len().saturating_sub(WHOLE);
+                    self.say("Steps left out here: %.\n", &[Part::Number(left_out)])?;
+                }
+                for step in end {
+                    self.put_step(from, step)?;
+                }
                 self.put_fixes(flows, place)?;
                 self.say("\n", &[])?;
             }
         }
         let end = if flows.len() > EXPLAINED { "\n" } else { "" };
         self.say(end, &[])
-    }
-
-    /// Adds what is said once for the whole text, of whose refused flows so many are shown.
-    fn put_whole(&mut self, shown: usize, refused: usize) -> Result<(), AllocError> {
-        self.say(
-            "This language has no way to release a single result on purpose.\n\
-            `vsi leak` with the same files looks for two runs that show the leak.\n",
-            &[],
-        )?;
-        if refused == shown {
-            return Ok(());
-        }
-        let parts = [Part::Number(refused), Part::Number(shown)];
-        self.say("Refused flows: %. Shown here: %.\n", &parts)
     }
 
     /// Adds the least raise of classes with which the whole text is accepted, if there is one.
@@ -252,12 +215,20 @@ impl Subject<'_, '_> {
                 return self.say(sentence, &[]);
             }
         };
-        let (first, has_more) = first_lines(&lines);
+        // The lines that are listed have so many bytes.
+        let (mut count, mut length): (usize, usize) = (0, 0);
+        for byte in &lines {
+            if count < LISTED {
+                length = length.saturating_add(1);
+                count = count.saturating_add(usize::from(*byte == b'\n'));
+            }
+        }
+        let first = lines.get(..length).unwrap_or(b"");
         self.say(
             "The whole text is accepted if you raise these classes (`vsi mend`):\n%",
             &[Part::Text(first)],
         )?;
-        let sentence = if has_more {
+        let sentence = if length < lines.len() {
             "`vsi mend` prints the others, too.\nNothing at the class before `->` may then depend \
             on the variable.\n"
         } else {
@@ -307,7 +278,15 @@ fn refused_text(
     let flows = listed(alloc, named, &walks)?;
     let mut subject = Subject::new(alloc, path, source);
     subject.put_flows(&flows)?;
-    subject.put_whole(flows.len(), pairs.len())?;
+    subject.say(
+        "This language has no way to release a single result on purpose.\n\
+        `vsi leak` with the same files looks for two runs that show the leak.\n",
+        &[],
+    )?;
+    if pairs.len() != flows.len() {
+        let parts = [Part::Number(pairs.len()), Part::Number(flows.len())];
+        subject.say("Refused flows: %. Shown here: %.\n", &parts)?;
+    }
     subject.put_least_raise(profile)?;
     subject.shown(mode)
 }

@@ -1,6 +1,6 @@
 //! The explanation of a refused image, and of a refused store file for one.
 
-use crate::parts::{key_place, names_of};
+use crate::parts::key_place;
 use crate::telling::{Part, Telling, Told};
 use std::alloc::AllocError;
 use vsi_answers::Fault;
@@ -67,7 +67,10 @@ impl Telling<'_> {
         otherwise: &'static str,
         place: Option<Span>,
     ) -> Told {
-        let names = names_of(self.alloc, globals)?;
+        let names: Vec<&[u8]> = globals
+            .iter()
+            .map(|(name, _)| name.as_slice())
+            .collect(self.alloc)?;
         let quoted = Part::Quoted(name);
         if names.is_empty() {
             let hint = Part::Text(otherwise.as_bytes());
@@ -100,30 +103,6 @@ impl Telling<'_> {
         }
     }
 
-    /// Adds the explanation if the bytes of an image don't begin as one.
-    fn put_other_file(&mut self) -> Result<(), AllocError> {
-        let start = self.bytes.trim_ascii_start();
-        if start.starts_with(b"var") || start.starts_with(b"letvar") || start.starts_with(b"#") {
-            let path = Part::Text(self.path);
-            let stem = Part::Text(self.path.strip_suffix(b".vsi").unwrap_or(self.path));
-            return self.say(
-                "The file looks like a source text, not an image. Hint: first `vsi build LATTICE % \
-                %.image`, then name %.image here, as in `vsi run %.image --budget 1000`.\n",
-                &[path, stem, stem, stem],
-            );
-        }
-        if start.starts_with(b"classes") || start.starts_with(b"below") {
-            return self.add(
-                "The file looks like a lattice file, not an image. Hint: see `vsi help` for the \
-                order of the files.\n",
-            );
-        }
-        self.add(
-            "The file isn't an image: it doesn't begin with `VSI`. Hint: make one with `vsi build \
-            LATTICE SOURCE IMAGE`, and see `vsi help` for the order of the files.\n",
-        )
-    }
-
     /// Adds the explanation of any other refused file, and answers where it is wrong.
     pub(crate) fn put_file(&mut self, fault: &Fault) -> Told {
         match fault {
@@ -131,8 +110,30 @@ impl Telling<'_> {
             Fault::Store(error) => self.put_store(&[], error),
             Fault::Decode(DecodeError::Memory) | Fault::View(ViewError::Memory) => Err(AllocError),
             Fault::Decode(DecodeError::BadMagic) => {
-                self.put_other_file()?;
-                Ok(None)
+                let start = self.bytes.trim_ascii_start();
+                if start.starts_with(b"var")
+                    || start.starts_with(b"letvar")
+                    || start.starts_with(b"#")
+                {
+                    let path = Part::Text(self.path);
+                    let stem = Part::Text(self.path.strip_suffix(b".vsi").unwrap_or(self.path));
+                    return self.tell(
+                        None,
+                        "The file looks like a source text, not an image. Hint: first `vsi build \
+                        LATTICE % %.image`, then name %.image here, as in `vsi run %.image \
+                        --budget 1000`.\n",
+                        &[path, stem, stem, stem],
+                    );
+                }
+                let sentence = if start.starts_with(b"classes") || start.starts_with(b"below") {
+                    "The file looks like a lattice file, not an image. Hint: see `vsi help` for \
+                    the order of the files.\n"
+                } else {
+                    "The file isn't an image: it doesn't begin with `VSI`. Hint: make one with \
+                    `vsi build LATTICE SOURCE IMAGE`, and see `vsi help` for the order of the \
+                    files.\n"
+                };
+                self.tell(None, sentence, &[])
             }
             other => self.tell(None, image_words(other), &[]),
         }

@@ -34,19 +34,6 @@ fn unknown_in(table: &Table, place: usize) -> Option<&[u8]> {
     None
 }
 
-/// The first key that a lattice file doesn't have; an interface with classes of its own has others.
-fn other_key(table: &Table) -> Option<&[u8]> {
-    if table.get("profile").is_some() && table.get("globals").is_some() {
-        return None;
-    }
-    for (key, _) in table {
-        if key.as_str() != "classes" && key.as_str() != "below" {
-            return Some(key.as_bytes());
-        }
-    }
-    None
-}
-
 /// The number of the class with this name, or that of none.
 fn number_in(names: &[&[u8]], value: Option<&Value>) -> u8 {
     let text = value.and_then(|value| value.as_str()).unwrap_or("");
@@ -75,19 +62,6 @@ fn number_of(class: Class) -> u8 {
     class.index().min(255) as u8
 }
 
-/// The fault of the keys or the values of a table that has no other key.
-fn key_words(table: &Table) -> &'static str {
-    if table.get("classes").is_none() {
-        return "The key `classes` is missing.\n%";
-    }
-    if table.get("below").is_none() {
-        return "The key `below` is missing. Hint: write `below = []` if no class is below \
-            another one.\n%";
-    }
-    "The value of `classes` must be an array of names between quotes, and that of `below` an \
-    array of pairs of them.\n%"
-}
-
 /// The hint for another sort of file in the place of a lattice file.
 fn file_hint(bytes: &[u8]) -> Option<&'static str> {
     let start = bytes.trim_ascii_start();
@@ -106,14 +80,28 @@ fn file_hint(bytes: &[u8]) -> Option<&'static str> {
 }
 
 impl Telling<'_> {
-    /// Adds which keys or values of a table are wrong, and answers where.
+    /// Adds which keys or values of a table are wrong, and answers where. A lattice file has no
+    /// other key than its two; an interface with classes of its own has others.
     fn put_bad_keys(&mut self, table: &Table) -> Told {
-        let Some(key) = other_key(table) else {
-            return self.tell(None, key_words(table), &[SHAPE]);
+        let is_interface = table.get("profile").is_some() && table.get("globals").is_some();
+        for (key, _) in table {
+            if !is_interface && key.as_str() != "classes" && key.as_str() != "below" {
+                let key = key.as_bytes();
+                let place = key_place(self.bytes, key);
+                let sentence = "A lattice file has no key %, only `classes` and `below`.\n%";
+                return self.tell(place, sentence, &[Part::Quoted(key), SHAPE]);
+            }
+        }
+        let sentence = if table.get("classes").is_none() {
+            "The key `classes` is missing.\n%"
+        } else if table.get("below").is_none() {
+            "The key `below` is missing. Hint: write `below = []` if no class is below another \
+            one.\n%"
+        } else {
+            "The value of `classes` must be an array of names between quotes, and that of `below` \
+            an array of pairs of them.\n%"
         };
-        let place = key_place(self.bytes, key);
-        let sentence = "A lattice file has no key %, only `classes` and `below`.\n%";
-        self.tell(place, sentence, &[Part::Quoted(key), SHAPE])
+        self.tell(None, sentence, &[SHAPE])
     }
 
     /// Adds the explanation of a fault at a name, and returns its place after so many others.

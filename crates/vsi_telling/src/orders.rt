@@ -85,8 +85,16 @@ impl<'t> Order<'t> {
     fn cycle(&self, alloc: Global, class: u8) -> Result<Vec<usize>, AllocError> {
         let mut into: Vec<Option<usize>> = Vec::new(alloc);
         into.resize(self.names.len(), None)?;
+        // A turn notes for each class that is reached by one pair more with which pair it is.
         for _ in 0..self.names.len() {
-            self.reach(class, &mut into);
+            for number in 0..self.pairs.len() {
+                let (low, high) = self.pairs[number];
+                let (from, to) = (usize::from(low), usize::from(high));
+                let is_reached = low == class || into.get(from).copied().flatten().is_some();
+                if is_reached && to < into.len() && into[to].is_none() {
+                    into[to] = Some(number);
+                }
+            }
         }
         let mut cycle = Vec::new(alloc);
         let mut at = class;
@@ -101,41 +109,6 @@ impl<'t> Order<'t> {
             }
         }
         Ok(cycle)
-    }
-
-    /// Notes for each class that is reached by one pair more with which pair it is.
-    fn reach(&self, class: u8, into: &mut [Option<usize>]) {
-        for number in 0..self.pairs.len() {
-            let (low, high) = self.pairs[number];
-            let (from, to) = (usize::from(low), usize::from(high));
-            let is_reached = low == class || into.get(from).copied().flatten().is_some();
-            if is_reached && to < into.len() && into[to].is_none() {
-                into[to] = Some(number);
-            }
-        }
-    }
-}
-
-/// The pair of a cycle that goes against the order of the classes, where one alone does.
-fn wrong_in(order: &Order, cycle: &[usize]) -> Option<usize> {
-    let mut wrong = cycle.iter().copied().filter(|number| {
-        let (low, high) = order.pair(*number);
-        high <= low
-    });
-    match (wrong.next(), wrong.next()) {
-        (Some(only), None) => Some(only),
-        _ => None,
-    }
-}
-
-/// The name for an added class by its pairs.
-fn base_name(pairs: &[(u8, u8)], class: usize) -> &'static [u8] {
-    let has_low = pairs.iter().any(|(_, high)| usize::from(*high) == class);
-    let has_high = pairs.iter().any(|(low, _)| usize::from(*low) == class);
-    match (has_low, has_high) {
-        (true, false) => b"Top",
-        (false, true) => b"Public",
-        _ => b"Both",
     }
 }
 
@@ -163,7 +136,7 @@ fn fresh_name(
     Ok(Vec::new(alloc))
 }
 
-/// Names for the added classes.
+/// Names for the added classes, each by the pairs of its class.
 fn fresh_names(
     alloc: Global,
     names: &[&[u8]],
@@ -171,7 +144,20 @@ fn fresh_names(
 ) -> Result<Vec<Vec<u8>>, AllocError> {
     let mut fresh: Vec<Vec<u8>> = Vec::new(alloc);
     for more in 0..addition.count {
-        let base = base_name(&addition.pairs, names.len().saturating_add(more));
+        let class = names.len().saturating_add(more);
+        let has_low = addition
+            .pairs
+            .iter()
+            .any(|(_, high)| usize::from(*high) == class);
+        let has_high = addition
+            .pairs
+            .iter()
+            .any(|(low, _)| usize::from(*low) == class);
+        let base: &[u8] = match (has_low, has_high) {
+            (true, false) => b"Top",
+            (false, true) => b"Public",
+            _ => b"Both",
+        };
         let name = fresh_name(alloc, names, &fresh, base)?;
         fresh.push(name)?;
     }
@@ -202,7 +188,12 @@ impl Telling<'_> {
             self.say(sentence, &order.quoted(order.pair(*number)))?;
             is_first = false;
         }
-        let Some(number) = wrong_in(order, &cycle) else {
+        // The pair that goes against the order of the classes, where one alone does.
+        let mut wrong = cycle.iter().copied().filter(|number| {
+            let (low, high) = order.pair(*number);
+            high <= low
+        });
+        let (Some(number), None) = (wrong.next(), wrong.next()) else {
             return self.tell(
                 None,
                 ": that is a cycle.\nHint: remove the pair that is the wrong way round. Removing \

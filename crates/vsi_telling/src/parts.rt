@@ -104,17 +104,6 @@ pub fn class_names<'l>(alloc: Global, lattice: &'l Lattice) -> Result<Vec<&'l [u
     Ok(names)
 }
 
-/// The names of globals, in their order.
-pub(crate) fn names_of<'g>(
-    alloc: Global,
-    globals: &'g [(Vec<u8>, Vec<u8>)],
-) -> Result<Vec<&'g [u8]>, AllocError> {
-    globals
-        .iter()
-        .map(|(name, _)| name.as_slice())
-        .collect(alloc)
-}
-
 /// The table that a file is, if it is one.
 pub fn table_in(alloc: Global, bytes: &[u8]) -> Result<Option<Table>, AllocError> {
     match toml::table_from_slice(alloc, bytes) {

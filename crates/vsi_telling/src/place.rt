@@ -100,19 +100,10 @@ fn ends_line(source: &[u8], at: usize) -> bool {
     }
 }
 
-/// The number of bytes of the first line, up to the most that are shown.
-fn line_length(rest: &[u8]) -> usize {
-    for at in 0..WIDTH {
-        if ends_line(rest, at) {
-            return at;
-        }
-    }
-    WIDTH
-}
-
 /// Where the part of its line that is shown begins and ends, for a position of a text.
 fn window_of(source: &[u8], start: usize) -> (usize, usize) {
-    let length = line_length(source.get(start..).unwrap_or(b""));
+    let rest = source.get(start..).unwrap_or(b"");
+    let length = (0..WIDTH).find(|at| ends_line(rest, *at)).unwrap_or(WIDTH);
     let left = WIDTH.saturating_sub(length).max(BEFORE);
     let least = start.saturating_sub(left);
     let before = source.get(least..start).unwrap_or(b"");

@@ -59,27 +59,6 @@ fn lists_names(error: &CompileError) -> bool {
     )
 }
 
-/// The hint for a byte that is in no construct of another language.
-fn byte_hint(byte: u8, next: Option<u8>) -> &'static str {
-    match (byte, next) {
-        (0xEF, Some(0xBB)) => {
-            "Hint: there is a byte order mark here: save the text without one, as plain UTF-8 or \
-            ASCII.\n"
-        }
-        (128..=255, _) => {
-            "Hint: outside comments only ASCII is allowed: no letters with accents, and no \
-            symbols that aren't on every keyboard.\n"
-        }
-        (b',', _) => "Hint: each variable is declared on its own: `var a : L; var b : L;`.\n",
-        (b'!', _) => "Hint: there is no `!`: `!P` is written `P = 0`.\n",
-        (b'.', _) => "Hint: numbers are whole: write 150 cents in place of 1.50.\n",
-        _ => {
-            "Hint: the symbols of the language are `:=` `:` `;` `+` `-` `*` `=` `<` `(` `)` `{` \
-            `}` and no others.\n"
-        }
-    }
-}
-
 /// The class that a usual name of another policy means, and which one of the lattice that is.
 fn usual<'l>(lattice: &'l Lattice, name: &[u8]) -> Option<(&'l [u8], &'static [u8])> {
     if is_among(LOWEST, name) {
@@ -97,21 +76,6 @@ fn are_on_line(source: &[u8], first: usize, second: usize) -> bool {
     between.is_some_and(|between| !between.contains(&b'\n'))
 }
 
-/// Whether a byte is the first one after another that isn't blank.
-fn is_next(source: &[u8], first: usize, second: usize) -> bool {
-    let between = source.get(first.saturating_add(1)..second);
-    between.is_some_and(|between| between.trim_ascii().is_empty())
-}
-
-/// The refusal of a fault.
-fn refusal_of(fault: Fault) -> CompileError {
-    match fault.cause {
-        Cause::Lex(error) => CompileError::Lex(error),
-        Cause::Tree => CompileError::Parse(ParseError::Unexpected(fault.span)),
-        Cause::Scope(error) => CompileError::Scope(error),
-    }
-}
-
 impl Telling<'_> {
     /// Adds the explanation of a byte.
     fn put_byte(&mut self, at: usize) -> Result<(), AllocError> {
@@ -127,7 +91,24 @@ impl Telling<'_> {
         if self.add_any(file_hint(source))? || self.hint_at(at)? {
             return Ok(());
         }
-        self.add(byte_hint(byte, next))
+        // The byte is in no construct of another language.
+        self.add(match (byte, next) {
+            (0xEF, Some(0xBB)) => {
+                "Hint: there is a byte order mark here: save the text without one, as plain UTF-8 \
+                or ASCII.\n"
+            }
+            (128..=255, _) => {
+                "Hint: outside comments only ASCII is allowed: no letters with accents, and no \
+                symbols that aren't on every keyboard.\n"
+            }
+            (b',', _) => "Hint: each variable is declared on its own: `var a : L; var b : L;`.\n",
+            (b'!', _) => "Hint: there is no `!`: `!P` is written `P = 0`.\n",
+            (b'.', _) => "Hint: numbers are whole: write 150 cents in place of 1.50.\n",
+            _ => {
+                "Hint: the symbols of the language are `:=` `:` `;` `+` `-` `*` `=` `<` `(` `)` \
+                `{` `}` and no others.\n"
+            }
+        })
     }
 
     /// Adds the explanation of a text without tokens.
@@ -256,7 +237,11 @@ impl Telling<'_> {
 
     /// Adds the line of a further fault: its place, its number and its name.
     fn put_fault(&mut self, fault: Fault) -> Result<(), AllocError> {
-        let error = refusal_of(fault);
+        let error = match fault.cause {
+            Cause::Lex(error) => CompileError::Lex(error),
+            Cause::Tree => CompileError::Parse(ParseError::Unexpected(fault.span)),
+            Cause::Scope(error) => CompileError::Scope(error),
+        };
         let Some(diagnostic) = refusal_diagnostic(self.bytes, &error) else {
             return Ok(());
         };
@@ -290,8 +275,11 @@ impl Telling<'_> {
                 Cause::Tree => are_on_line(source, at, start),
                 _ => false,
             };
+            // A fault is near a place on its line, or where only blanks are between them.
             let is_near = |place: &usize| {
-                are_on_line(source, *place, start) || is_next(source, *place, start)
+                let between = source.get(place.saturating_add(1)..start);
+                are_on_line(source, *place, start)
+                    || between.is_some_and(|between| between.trim_ascii().is_empty())
             };
             if !is_told && !places.iter().any(is_near) {
                 self.put_fault(*fault)?;

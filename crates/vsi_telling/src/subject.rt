@@ -114,17 +114,6 @@ impl<'p, 's> Subject<'p, 's> {
         class_in(lattice, resolved, variable)
     }
 
-    /// Whether a variable is declared with the highest class.
-    pub(crate) fn is_top(&self, variable: Var) -> bool {
-        let lattice = self.source.lattice();
-        declared_class(lattice, self.source.resolved(), variable) == Some(lattice.top())
-    }
-
-    /// Whether a variable is a global.
-    pub(crate) fn is_global(&self, variable: Var) -> bool {
-        (variable.0 as usize) < self.source.resolved().globals().len()
-    }
-
     /// The name of the least class at or above that of the target to which the source may flow.
     pub(crate) fn raised(&self, source: Var, target: Var) -> Option<&'p [u8]> {
         let lattice = self.source.lattice();

@@ -87,14 +87,6 @@ impl<'a, 't> TokenPlace<'a, 't> {
         &self.tokens[..self.at.min(self.tokens.len())]
     }
 
-    /// Whether an operand, or a command, may end with the token in front.
-    pub(crate) fn is_behind_operand(&self) -> bool {
-        matches!(
-            self.kind(-1),
-            Some(Kind::Name | Kind::Number(_) | Kind::Close | Kind::CloseBrace)
-        )
-    }
-
     /// Whether a command begins with the token in front, which is a name.
     pub(crate) fn is_behind_target(&self) -> bool {
         let begins = match self.kind(-2) {
@@ -103,17 +95,6 @@ impl<'a, 't> TokenPlace<'a, 't> {
             Some(_) => false,
         };
         begins && self.kind(-1) == Some(Kind::Name)
-    }
-
-    /// The last of the words that begin or end a guard, an initial value or a command.
-    pub(crate) fn last_word(&self) -> Option<Kind> {
-        let kinds = self.tokens_before().iter().rev().map(|token| token.kind);
-        let mut words = kinds.filter(|kind| match kind {
-            Kind::If | Kind::While | Kind::Letvar | Kind::Then | Kind::Else | Kind::Do => true,
-            Kind::In | Kind::Semicolon | Kind::OpenBrace | Kind::CloseBrace => true,
-            _ => false,
-        });
-        words.next()
     }
 
     /// Whether a bracket of this kind in front of the place isn't closed by one of the other kind.
@@ -127,26 +108,6 @@ impl<'a, 't> TokenPlace<'a, 't> {
             }
         }
         open > 0
-    }
-
-    /// The global that is assigned last in front of the place, or the first global.
-    pub(crate) fn last_target(&self) -> Option<&'a [u8]> {
-        let mut found = None;
-        for at in 0..self.tokens.len().min(self.at) {
-            let token = self.tokens[at];
-            let next = self.tokens.get(at.saturating_add(1)).copied();
-            match (token.kind, next) {
-                (Kind::Var, Some(name)) if found.is_none() && name.kind == Kind::Name => {
-                    found = Some(name.text);
-                }
-                (Kind::Name, Some(sign)) if sign.kind == Kind::Assign => {
-                    let global = declaration(self.tokens, Kind::Var, token.text);
-                    found = global.map(|name| name.text).or(found);
-                }
-                _ => {}
-            }
-        }
-        found
     }
 }
 
@@ -236,7 +197,14 @@ fn separator_hint(place: &TokenPlace) -> Option<&'static str> {
 /// The hint for a place after an operand. `lacks_else` says whether an `if` before it still wants
 /// its `else`, which is explained elsewhere.
 fn operand_hint(place: &TokenPlace, lacks_else: bool) -> Option<&'static str> {
-    let hint = match (place.last_word(), place.kind(0)) {
+    // The last of the words that begin or end a guard, an initial value or a command.
+    let kinds = place.tokens_before().iter().rev().map(|token| token.kind);
+    let mut words = kinds.filter(|kind| match kind {
+        Kind::If | Kind::While | Kind::Letvar | Kind::Then | Kind::Else | Kind::Do => true,
+        Kind::In | Kind::Semicolon | Kind::OpenBrace | Kind::CloseBrace => true,
+        _ => false,
+    });
+    let hint = match (words.next(), place.kind(0)) {
         (_, Some(Kind::Assign)) => "Hint: `:=` assigns. Two numbers are compared with `=`.\n",
         _ if place.has_open(Kind::Open, Kind::Close) => {
             "Hint: a `(` before this place has no `)` yet.\n"
@@ -263,18 +231,25 @@ fn operand_hint(place: &TokenPlace, lacks_else: bool) -> Option<&'static str> {
 }
 
 impl Telling<'_> {
-    /// Adds the tokens that could follow these, if any could.
-    fn put_expected(&mut self, tokens: &[Token]) -> Result<(), AllocError> {
-        let list = expected_after(self.alloc, tokens)?.words(self.alloc)?;
-        if list.is_empty() {
-            return Ok(());
-        }
-        self.say("Expected here: %.\n", &[Part::Text(&list)])
-    }
-
-    /// Adds a sentence about a missing command, with holes for a variable that it could assign.
+    /// Adds a sentence about a missing command, with holes for a variable that it could assign: the
+    /// global that is assigned last in front of the place, or the first global.
     fn put_idle(&mut self, place: &TokenPlace, sentence: &str) -> Result<(), AllocError> {
-        let name = Part::Text(place.last_target().unwrap_or(b"x"));
+        let mut found: Option<&[u8]> = None;
+        for at in 0..place.tokens.len().min(place.at) {
+            let token = place.tokens[at];
+            let next = place.tokens.get(at.saturating_add(1)).copied();
+            match (token.kind, next) {
+                (Kind::Var, Some(name)) if found.is_none() && name.kind == Kind::Name => {
+                    found = Some(name.text);
+                }
+                (Kind::Name, Some(sign)) if sign.kind == Kind::Assign => {
+                    let global = declaration(place.tokens, Kind::Var, token.text);
+                    found = global.map(|name| name.text).or(found);
+                }
+                _ => {}
+            }
+        }
+        let name = Part::Text(found.unwrap_or(b"x"));
         self.say(sentence, &[name, name])
     }
 
@@ -293,32 +268,29 @@ impl Telling<'_> {
         Ok(true)
     }
 
-    /// Adds a hint for a `;` in front of a place that is one too many, and returns whether it is.
-    fn put_superfluous(&mut self, place: &TokenPlace) -> Result<bool, AllocError> {
-        let last = match (place.token(-1), place.kind(0)) {
-            (Some(last), Some(Kind::CloseBrace | Kind::Else) | None) => last,
-            _ => return Ok(false),
-        };
-        if last.kind != Kind::Semicolon {
-            return Ok(false);
-        }
-        self.say(
-            "Hint: the `;` before it, at %, is one too many: a `;` goes between two commands, not \
-            after the last one.\n",
-            &[Part::Place(self.bytes, last.span.start)],
-        )?;
-        Ok(true)
-    }
-
     /// Adds a hint by the place alone, where one is known.
     fn put_place_hint(&mut self, place: &TokenPlace) -> Result<(), AllocError> {
         if self.put_empty(place)? || self.add_any(separator_hint(place))? {
             return Ok(());
         }
         let wants_else = lacks_else(self.alloc, place.tokens_before())?;
-        if !place.is_behind_operand() {
-            self.put_superfluous(place)?;
-            return Ok(());
+        // Whether an operand, or a command, may end with the token in front.
+        let is_behind_operand = matches!(
+            place.kind(-1),
+            Some(Kind::Name | Kind::Number(_) | Kind::Close | Kind::CloseBrace)
+        );
+        if !is_behind_operand {
+            return match (place.token(-1), place.kind(0)) {
+                (Some(last), Some(Kind::CloseBrace | Kind::Else) | None)
+                    if last.kind == Kind::Semicolon => {
+                    self.say(
+                        "Hint: the `;` before it, at %, is one too many: a `;` goes between two \
+                        commands, not after the last one.\n",
+                        &[Part::Place(self.bytes, last.span.start)],
+                    )
+                }
+                _ => Ok(()),
+            };
         }
         if self.add_any(operand_hint(place, wants_else))? || !wants_else {
             return Ok(());
@@ -362,7 +334,10 @@ impl Telling<'_> {
                 if place.is_behind_target() && self.put_keyword(place, -1)? {
                     return Ok(());
                 }
-                self.put_expected(place.tokens_before())?;
+                let list = expected_after(self.alloc, place.tokens_before())?.words(self.alloc)?;
+                if !list.is_empty() {
+                    self.say("Expected here: %.\n", &[Part::Text(&list)])?;
+                }
                 if self.put_keyword(place, 0)? {
                     return Ok(());
                 }
