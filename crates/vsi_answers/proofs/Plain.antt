@@ -73,3 +73,9 @@ pub one_plain : (ds es : List Data) (ms : Members) → es ≡ ds ++ object ms �
 one_plain ds es ms are e f =
     ap (λ (x : List Data). items_have_float (items_of x)) are
     ∙ append_plain ds (object ms ∷ []) e (both (members_have_float ms) false f refl)
+
+-- One more text adds no fractional number.
+pub item_plain : (ds es : List Data) (bytes : List ℕ) → es ≡ ds ++ string (utf8_lossy bytes) ∷ [] →
+    items_have_float (items_of ds) ≡ false → items_have_float (items_of es) ≡ false
+item_plain ds es bytes are e =
+    ap (λ (x : List Data). items_have_float (items_of x)) are ∙ append_plain ds (string (utf8_lossy bytes) ∷ []) e refl

@@ -1,7 +1,8 @@
 //! Objects of JSON without fractional numbers, whose text is therefore known.
 
 ghost use Rattle.std.specs.Prelude.{◌≡◌, ◌++◌, ◌∷◌, [], map, OnErr, OnOk};
-ghost use Rattle.serde_json.specs.{Data.{object}, View.{members_view, view}};
+ghost use Rattle.serde_json.specs.{Data.{object, string}, View.{members_view, view}};
+ghost use Rattle.std.specs.Str.Lossy.{utf8_lossy};
 
 use serde_json::{Map, Value, put};
 use std::alloc::{AllocError, Global};
@@ -29,7 +30,7 @@ impl Model for Object {
     ghost invariant = { λ o. members_have_float (members_view o.members.entries) ≡ false };
 }
 
-/// Objects, in their order.
+/// Objects and strings, in their order.
 #[derive(Drop)]
 pub struct Objects {
     alloc: Global,
@@ -60,9 +61,19 @@ fn put_item(items: &mut Vec<Value>, added: Map<String, Value>) -> Result<(), All
     Ok(items.push(Value::Object(added))?)
 }
 
+/// Adds a text to values, as a JSON string with bytes that aren't UTF-8 replaced.
+fn put_text(alloc: Global, items: &mut Vec<Value>, added: &[u8]) -> Result<(), AllocError>
+    ensures added { OnOk result (map view items.new.items
+        ≡ map view items.old.items ++ string (utf8_lossy added.now) ∷ []) }
+    ensures kept { OnErr result (items.new.items ≡ items.old.items) }
+{
+    let text = String::from_utf8_lossy(alloc, added)?;
+    Ok(items.push(Value::String(text))?)
+}
+
 impl Objects {
-    ghost use Rattle.std.specs.Prelude.{◌≡◌, ◌++◌, ◌∷◌, [], map, IfOk, OnOk};
-    ghost use Rattle.serde_json.specs.{Data.{object}, View.{members_view, view}};
+    ghost use Rattle.std.specs.{Prelude.{◌≡◌, ◌++◌, ◌∷◌, [], map, IfOk, OnOk}, Str.Lossy.{utf8_lossy}};
+    ghost use Rattle.serde_json.specs.{Data.{object, string}, View.{members_view, view}};
 
     /// No objects.
     pub fn new(alloc: Global) -> Objects
@@ -90,6 +101,15 @@ impl Objects {
             ≡ map view self.old ++ object (members_view added) ∷ []) }
     {
         put_item(&mut self.items, added.members)
+    }
+
+    /// Adds a text, as a JSON string with bytes that aren't UTF-8 replaced.
+    #[tactic(auto, using(crate::proofs::Plain::item_plain))]
+    pub fn push_text(&mut self, added: &[u8]) -> Result<(), AllocError>
+        ensures { OnOk result (map view self.new
+            ≡ map view self.old ++ string (utf8_lossy added.now) ∷ []) }
+    {
+        put_text(self.alloc, &mut self.items, added)
     }
 }
 

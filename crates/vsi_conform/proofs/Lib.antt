@@ -4,11 +4,9 @@ pub mod Fitting
 pub mod Converse
 pub mod Numbers
 pub mod Paths
-pub mod Pushed
 pub mod Tables
 pub mod Readable
 pub mod Allowed
 pub mod Profiles
 pub mod ImageFitting
 pub mod Released
-pub mod NoRows

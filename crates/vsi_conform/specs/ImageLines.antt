@@ -1,4 +1,4 @@
--- The lines and the JSON of an answer.
+-- The lines of a refusal, and the rows of an answer.
 use Rattle.std.specs.Prelude.{◌≡◌, ℕ, List, Option, Some, None}
 use Rattle.std.specs.Global.{Vec}
 use Rattle.vsi_lattice.specs.declared.lattice.Lattice.{Lattice}
@@ -11,8 +11,6 @@ use Rattle.vsi_conform.specs.declared.interface.Interface.{Interface}
 use Rattle.vsi_conform.specs.declared.interface.Judgement.{Judgement}
 use Rattle.vsi_conform.specs.Checking.{audit_diagnostic, steady_diagnostic}
 use Rattle.vsi_conform.specs.ImageConforms.{IsJudged}
-use Rattle.vsi_conform.specs.Json.{rows_json}
-use Rattle.vsi_conform.specs.Lines.{rows_text}
 use Rattle.vsi_conform.specs.Rows.{Row, numbered_held, rows_of}
 use Rattle.vsi_conform.specs.declared.images.Answer.{Answer}
 use Rattle.vsi_conform.specs.declared.images.Refusal.{Refusal}
@@ -53,15 +51,3 @@ pub record AreImageRows (l : Lattice) (image : Image) (i : Interface) (a : Answe
   pub first : Option (Vec ℕ)
   pub refusal : AreFirst l image a.refusal first
   pub are : rows ≡ rows_of i (numbered_held image) first a.points.items a.unbounded
-
--- The text of an answer: `conforms`, or the differences.
-pub record IsConformText (l : Lattice) (image : Image) (i : Interface) (a : Answer) (out : List ℕ) : Type 0 where
-  pub rows : List Row
-  pub tells : AreImageRows l image i a rows
-  pub is : out ≡ rows_text rows
-
--- The line of an answer in JSON.
-pub record IsConformJson (l : Lattice) (image : Image) (i : Interface) (a : Answer) (out : List ℕ) : Type 0 where
-  pub rows : List Row
-  pub tells : AreImageRows l image i a rows
-  pub is : out ≡ rows_json rows

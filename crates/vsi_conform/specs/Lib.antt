@@ -12,9 +12,9 @@ pub mod Beside
 pub mod Shown
 pub mod Rows
 pub mod Lines
-pub mod Json
 pub mod Checking
 pub mod ImageConforms
 pub mod ImageLines
 pub mod ImageReaching
 pub mod Reference
+pub mod Conformity

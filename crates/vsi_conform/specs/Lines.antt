@@ -114,14 +114,3 @@ pub record AreTextRows (l : Lattice) (text : List ℕ) (i : Interface) (a : Answ
   pub first : Option (Vec ℕ)
   pub refusal : AreFirst l text i a.refusal first
   pub are : rows ≡ rows_of i (text_held text globals) first a.points.items a.unbounded
-
--- The text of rows: `conforms` if there are none, or their lines.
-abbrev pub rows_text : List Row → List ℕ
-rows_text [] = codes "conforms\n"
-rows_text (r ∷ rs) = flat_map line (r ∷ rs)
-
--- The text of an answer: `conforms`, or the differences.
-pub record IsConformText (l : Lattice) (text : List ℕ) (i : Interface) (a : Answer) (out : List ℕ) : Type 0 where
-  pub rows : List Row
-  pub tells : AreTextRows l text i a rows
-  pub is : out ≡ rows_text rows

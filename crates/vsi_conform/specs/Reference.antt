@@ -23,12 +23,3 @@ IsFound Untried = Unit {0}
 abbrev pub is_alike : Comparison → Bool
 is_alike (Alike runs cycles) = true
 is_alike _ = false
-
--- What is left of a line of JSON where a member is added: everything but the brace and the line feed at its end.
-abbrev pub opened : List ℕ → List ℕ
-opened line = take (length line - 2) line
-
--- The text begins with this one, unless only the reference differs.
-abbrev pub Begins : Bool → List ℕ → List ℕ → Type 0
-Begins true begin text = Unit {0}
-Begins false begin text = (rest : List ℕ) × (text ≡ begin ++ rest)

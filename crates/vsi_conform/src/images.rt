@@ -1,5 +1,5 @@
-//! Images from a vendor beside an interface: whether they conform, and the answer as rows, lines
-//! and JSON, also with the line of a reference.
+//! Images from a vendor beside an interface: whether they conform, the answer as rows, and the line
+//! of a reference.
 
 ghost use Rattle.std.specs.Prelude.{◌≡◌, IfOk, None, true, map, option_map};
 ghost use Rattle.vsi_lattice.specs.LatticeView.{class_named, order};
@@ -10,7 +10,6 @@ ghost use Rattle.vsi_conform.specs.{Bounded.{ReportsBound}, Conforms.{Fits}, Rea
 ghost use Rattle.vsi_conform.specs.ImageConforms as spec;
 ghost use Rattle.vsi_conform.specs.ImageLines as lines_spec;
 ghost use Rattle.vsi_conform.specs.ImageReaching as reaching_spec;
-ghost use Rattle.vsi_conform.specs.Reference as reference_spec;
 
 use crate::checking::{audit_diagnostic, steady_diagnostic};
 use crate::conforming::{bound_report, image_points};
@@ -19,9 +18,9 @@ use crate::keys::Cycle;
 use crate::reaching::{GlobalFlows, Reach, flows_profile, have_released, reaches_of};
 use crate::reference::{Comparison, Contrast, Reference};
 use crate::rows::{Judged, Row, asked, numbered, rows_of};
-use crate::texts::{put_counted, put_parts, rows_json, rows_text};
+use crate::texts::{put_counted, put_parts};
 use std::alloc::{AllocError, Global};
-use vsi_answers::{Diagnostic, Object, bound, without_end};
+use vsi_answers::{Diagnostic, bound};
 use vsi_audit::{AuditError, audit_in, audit_text, image_flows};
 use vsi_flows::Pair;
 use vsi_image::{Image, Verified};
@@ -316,40 +315,6 @@ pub fn image_rows(
     Ok(found)
 }
 
-/// The lines of an answer: `conforms`, or those of the refusal, one for each point and one about
-/// the bound.
-pub fn points_text(
-    alloc: Global,
-    lattice: &Lattice,
-    image: &Image,
-    interface: &Interface,
-    answer: &Answer,
-) -> Result<Vec<u8>, AllocError>
-    ensures text { IfOk result (λ out. lines_spec.IsConformText lattice.now image.now interface.now
-        answer.now out.items) }
-{
-    let rows = image_rows(alloc, lattice, image, interface, answer)?;
-    let lines = rows_text(alloc, &rows)?;
-    Ok(lines)
-}
-
-/// An answer as a line of JSON: an object with `conforms` and `points`. `points` is an array with
-/// an object for each line, or block of lines, of `points_text`.
-pub fn points_json(
-    alloc: Global,
-    lattice: &Lattice,
-    image: &Image,
-    interface: &Interface,
-    answer: &Answer,
-) -> Result<Vec<u8>, AllocError>
-    ensures json { IfOk result (λ out. lines_spec.IsConformJson lattice.now image.now interface.now
-        answer.now out.items) }
-{
-    let rows = image_rows(alloc, lattice, image, interface, answer)?;
-    let line = rows_json(alloc, &rows)?;
-    Ok(line)
-}
-
 /// Adds how an image differs from the reference in a cycle.
 fn put_contrast(
     text: &mut Vec<u8>,
@@ -425,54 +390,5 @@ pub fn reference_line(
     put_parts(&mut text, &[b"reference ", path, b": "])?;
     put_comparison(&mut text, reference, comparison)?;
     text.extend_from_slice(b"\n")?;
-    Ok(text)
-}
-
-/// The lines of an answer and that of a trial. If only the reference differs, there is no line
-/// `conforms`.
-pub fn lines_with(
-    alloc: Global,
-    is_alone: bool,
-    answer: Vec<u8>,
-    line: &[u8],
-) -> Result<Vec<u8>, AllocError>
-    ensures begins { IfOk result (λ text. reference_spec.Begins is_alone answer.items text.items) }
-{
-    let mut text = if is_alone {
-        let points = answer.strip_prefix(b"conforms\n").unwrap_or(&answer);
-        Vec::from_slice(alloc, points)?
-    } else {
-        answer
-    };
-    text.extend_from_slice(line)?;
-    Ok(text)
-}
-
-/// The JSON of an answer with the line of a trial as a member `reference`. If only the reference
-/// differs, the answer is that of a file that doesn't conform.
-pub fn json_with(
-    alloc: Global,
-    is_alone: bool,
-    answer: &[u8],
-    agrees: bool,
-    line: &[u8],
-) -> Result<Vec<u8>, AllocError>
-    ensures begins { IfOk result (λ text.
-        reference_spec.Begins is_alone (reference_spec.opened answer.now) text.items) }
-{
-    let open = &answer[..answer.len().saturating_sub(2)];
-    let object = Object::new(alloc).flag("agrees", agrees)?;
-    let object = object.text("text", line)?.line()?;
-    let mut text = Vec::new(alloc);
-    if is_alone {
-        let rest = open.strip_prefix(b"{\"conforms\":true").unwrap_or(open);
-        put_parts(&mut text, &[b"{\"conforms\":false", rest])?;
-    } else {
-        text.extend_from_slice(open)?;
-    }
-    put_parts(
-        &mut text,
-        &[b",\"reference\":", without_end(&object), b"}\n"],
-    )?;
     Ok(text)
 }

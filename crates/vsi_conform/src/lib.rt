@@ -9,8 +9,9 @@
 //! `conform` reports each point in which a text differs from an interface; if there is none, the
 //! text conforms to it (`specs/Conforms`). `conform_image` does the same for a verified image,
 //! whoever made it (`specs/ImageConforms`), and `refused_image` says why an image isn't as a
-//! profile requires. `text_rows` and `image_rows` make the points into rows (`specs/Rows`), and
-//! `points_text` and `points_json` write them (`specs/Lines`, `specs/Json`, `specs/ImageLines`).
+//! profile requires. `text_rows` and `image_rows` make the points into rows (`specs/Rows`,
+//! `specs/Lines`, `specs/ImageLines`). `Conformity` is all that is said of a text or an image, and
+//! writes it as lines and as JSON (`specs/Conformity`).
 //! `is_within` compares the budgets of all runs with one budget (`specs/Totals`). `text_reaches`
 //! and `image_reaches` list the globals that reach each released output, and `are_within` says
 //! whether the interface allows them (`specs/Reaching`, `specs/ReachedLines`,
@@ -23,6 +24,7 @@
 
 mod checking;
 mod conforming;
+mod conformity;
 pub mod images;
 mod interface;
 mod keys;
@@ -37,21 +39,17 @@ pub use checking::{
     steady_diagnostic, unread_json, unsteady_diagnostic,
 };
 pub use conforming::{conform, judged, judged_of};
+pub use conformity::{Conformity, Tried};
 pub use images::{
-    Refusal, conform_image, image_reaches, image_rows, json_with, lines_with, reference_line,
-    refused_image,
+    Refusal, conform_image, image_reaches, image_rows, reference_line, refused_image,
 };
 pub use interface::{
     Answer, Bounded, Interface, InterfaceError, Judgement, Point, Trial, fault_name,
     interface_text, is_within,
 };
 pub use keys::{Cycle, unknown_cycle};
-pub use reaching::{
-    Reach, are_within, flows_profile, is_among, text_reaches, with_reached_json, with_reached_lines,
-};
+pub use reaching::{Reach, are_within, flows_profile, is_among, text_reaches};
 pub use reader::{InterfaceFile, Policy, path_beside, read_interface, unknown_class};
 pub use reference::{Comparison, Contrast, Difference, Reference, compare_reference};
 pub use rows::{Detail, Kind, Row};
-pub use texts::{
-    points_json, points_text, put_parts, put_row, refusal_lines, refusal_lines_of, text_rows,
-};
+pub use texts::{put_parts, put_row, refusal_lines, refusal_lines_of, text_rows};

@@ -1,4 +1,4 @@
-//! The globals that released outputs can depend on, and the lines and the JSON about them.
+//! The globals that released outputs can depend on, and the lines about them.
 
 ghost use Rattle.std.specs.Prelude.{◌≡◌, ◌++◌, map, option_map, IfOk, OnOk};
 ghost use Rattle.vsi_conform.specs.Reading.{bytes_of, cycle as cycle_of, is_among as is_among_of};
@@ -268,8 +268,8 @@ fn put_names(
 
 /// Adds the line of a released output: the globals that reach it, and those of them that aren't
 /// allowed.
-fn put_line(text: &mut Vec<u8>, reach: &Reach) -> Result<(), AllocError>
-    ensures { OnOk result
+pub(crate) fn put_reach(text: &mut Vec<u8>, reach: &Reach) -> Result<(), AllocError>
+    ensures line { OnOk result
         (text.new.items ≡ text.old.items ++ lines_spec.released_line (spec.released reach.now)) }
 {
     put_parts(
@@ -279,112 +279,4 @@ fn put_line(text: &mut Vec<u8>, reach: &Reach) -> Result<(), AllocError>
     put_names(text, &reach.sources, b"", b" (nothing)")?;
     put_names(text, &reach.beyond, b", unexpected", b"")?;
     text.extend_from_slice(b"\n")
-}
-
-/// The comma before the item of an array with this number.
-fn comma(number: usize) -> &'static [u8]
-    ensures { result.now ≡ lines_spec.comma number }
-{
-    if number == 0 { b"" } else { b"," }
-}
-
-/// Adds the items of an array of names. A name has no character that JSON escapes.
-fn put_quoted(text: &mut Vec<u8>, names: &[Vec<u8>]) -> Result<(), AllocError>
-    ensures { OnOk result
-        (text.new.items ≡ text.old.items ++ lines_spec.quoted 0 (bytes_of names.now)) }
-{
-    for (i, name) in names.iter().enumerate() {
-        text.extend_from_slice(comma(i))?;
-        put_parts(text, &[b"\"", name, b"\""])?;
-    }
-    Ok(())
-}
-
-/// Adds the object of a released output.
-fn put_object(text: &mut Vec<u8>, reach: &Reach) -> Result<(), AllocError>
-    ensures { OnOk result
-        (text.new.items ≡ text.old.items ++ lines_spec.released_object (spec.released reach.now)) }
-{
-    text.extend_from_slice(b"{\"beyond\":[")?;
-    put_quoted(text, &reach.beyond)?;
-    put_parts(text, &[b"],\"class\":\"", &reach.class, b"\""])?;
-    text.extend_from_slice(b",\"from\":[")?;
-    put_quoted(text, &reach.sources)?;
-    put_parts(text, &[b"],\"output\":\"", &reach.output, b"\"}"])
-}
-
-/// Adds the objects of released outputs.
-fn put_objects(text: &mut Vec<u8>, reaches: &[Reach]) -> Result<(), AllocError>
-    ensures { OnOk result (text.new.items
-        ≡ text.old.items ++ lines_spec.objects 0 (map spec.released reaches.now)) }
-{
-    for (i, reach) in reaches.iter().enumerate() {
-        text.extend_from_slice(comma(i))?;
-        put_object(text, reach)?;
-    }
-    Ok(())
-}
-
-/// Adds the member of released outputs, and the end of the line.
-fn put_member(text: &mut Vec<u8>, reaches: &[Reach]) -> Result<(), AllocError>
-    ensures { OnOk result (text.new.items
-        ≡ text.old.items ++ lines_spec.released_member (map spec.released reaches.now)) }
-{
-    text.extend_from_slice(b",\"reached\":[")?;
-    put_objects(text, reaches)?;
-    put_parts(text, &[b"]}\n"])
-}
-
-/// Whether the points don't differ, and a released output does.
-fn is_overturned(fits: bool, reaches: &[Reach]) -> bool
-    ensures { result ≡ lines_spec.is_overturned fits (map spec.released reaches.now) }
-{
-    fits && !are_within(reaches)
-}
-
-/// The lines of an answer: those of its points and then one for each released output. If nothing
-/// but a released output differs, the line `conforms` isn't among them.
-pub fn with_reached_lines(
-    alloc: Global,
-    fits: bool,
-    points: &[u8],
-    reaches: &[Reach],
-) -> Result<Vec<u8>, AllocError>
-    ensures lines { IfOk result
-        (λ text. text.items
-        ≡ lines_spec.with_lines fits points.now (map spec.released reaches.now)) }
-{
-    let mut text = Vec::new(alloc);
-    if !is_overturned(fits, reaches) {
-        text.extend_from_slice(points)?;
-    }
-    for reach in reaches {
-        put_line(&mut text, reach)?;
-    }
-    Ok(text)
-}
-
-/// The line of JSON of an answer: that of its points, with a member for the released outputs if
-/// there are any.
-pub fn with_reached_json(
-    alloc: Global,
-    fits: bool,
-    points: &[u8],
-    reaches: &[Reach],
-) -> Result<Vec<u8>, AllocError>
-    ensures line { IfOk result
-        (λ text. text.items
-        ≡ lines_spec.with_member fits points.now (map spec.released reaches.now)) }
-{
-    if reaches.is_empty() {
-        return Vec::from_slice(alloc, points);
-    }
-    let line: &[u8] = if is_overturned(fits, reaches) {
-        b"{\"conforms\":false,\"points\":[]}\n"
-    } else {
-        points
-    };
-    let mut text = Vec::from_slice(alloc, &line[..line.len().saturating_sub(2)])?;
-    put_member(&mut text, reaches)?;
-    Ok(text)
 }

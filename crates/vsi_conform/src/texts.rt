@@ -1,19 +1,16 @@
-//! The lines and the JSON of an answer.
+//! The lines of a refusal and of the rows of an answer.
 
 ghost use Rattle.std.specs.{Prelude.{◌≡◌, ◌++◌, codes, decimal, map, option_map, IfOk, OnOk}, Fmt.{signed_decimal}, List.{flat_map}};
-ghost use Rattle.serde_json.specs.View.{members_view};
 ghost use Rattle.vsi_conform.specs.Rows.{row};
 ghost use Rattle.vsi_conform.specs.Rows as rows_spec;
 ghost use Rattle.vsi_conform.specs.Lines as spec;
-ghost use Rattle.vsi_conform.specs.Json as json_spec;
 
 use crate::conforming::declarations;
 use crate::interface::{Answer, Interface, Judgement};
 use crate::rows::{Detail, Judged, Kind, Row, rows_of};
 use std::alloc::{AllocError, Global};
 use vsi_answers::{
-    Object, Objects, image_text, image_text_of, looped_text, looped_text_of, refusal_text,
-    refusal_text_of,
+    image_text, image_text_of, looped_text, looped_text_of, refusal_text, refusal_text_of,
 };
 use vsi_compiler::{CompileError, Source};
 use vsi_lattice::Lattice;
@@ -248,109 +245,4 @@ pub fn put_row(text: &mut Vec<u8>, point: &Row) -> Result<(), AllocError>
         text.extend_from_slice(b" ")?;
     }
     put_detail(text, point.kind, &point.detail)
-}
-
-/// The lines of an answer: `conforms`, or those of its rows.
-pub(crate) fn rows_text(alloc: Global, rows: &[Row]) -> Result<Vec<u8>, AllocError>
-    ensures text { IfOk result (λ out. out.items ≡ spec.rows_text (map row rows.now)) }
-{
-    if rows.is_empty() {
-        return Vec::from_slice(alloc, b"conforms\n");
-    }
-    let mut lines = Vec::new(alloc);
-    for point in rows {
-        put_row(&mut lines, point)?;
-    }
-    Ok(lines)
-}
-
-/// The lines of an answer: `conforms`, or those of the refusal, one for each point and one about
-/// the bound.
-pub fn points_text(
-    alloc: Global,
-    lattice: &Lattice,
-    text: &[u8],
-    interface: &Interface,
-    answer: &Answer,
-) -> Result<Vec<u8>, AllocError>
-    ensures text { IfOk result (λ out. spec.IsConformText lattice.now text.now interface.now
-        answer.now out.items) }
-{
-    let rows = text_rows(alloc, lattice, text, interface, answer)?;
-    let lines = rows_text(alloc, &rows)?;
-    Ok(lines)
-}
-
-/// The object of a row.
-fn row_object(alloc: Global, point: &Row) -> Result<Object, AllocError>
-    ensures { IfOk result (λ made. members_view made ≡ json_spec.members (row point.now)) }
-{
-    let made = Object::new(alloc).text("point", point.kind.word())?;
-    match &point.detail {
-        Detail::Lines(lines) => made.text("text", lines),
-        Detail::Global {
-            name,
-            class,
-            expected,
-        } => {
-            let mut made = made.text("name", name)?.text("class", class)?;
-            if let Some((line, column)) = point.place {
-                made = made.natural("line", line)?.natural("column", column)?;
-            }
-            match expected {
-                Some(expected) => made.text("expected", expected),
-                None => Ok(made),
-            }
-        }
-        Detail::Budget { run, budget } => {
-            let made = made.natural("run", *run)?;
-            match budget {
-                Some(budget) => made.natural("budget", *budget as usize),
-                None => Ok(made),
-            }
-        }
-        Detail::Word {
-            run,
-            name,
-            expected,
-            found,
-        } => {
-            made.natural("run", *run)?
-                .text("name", name)?
-                .word("expected", *expected)?
-                .found("word", *found)
-        }
-    }
-}
-
-/// The line of JSON of an answer with these rows: an object with `conforms`, whether there are
-/// none, and `points`, an array with an object for each.
-pub(crate) fn rows_json(alloc: Global, rows: &[Row]) -> Result<Vec<u8>, AllocError>
-    ensures json { IfOk result (λ out. out.items ≡ json_spec.rows_json (map row rows.now)) }
-{
-    let mut objects = Objects::new(alloc);
-    for point in rows {
-        objects.push(row_object(alloc, point)?)?;
-    }
-    Object::new(alloc)
-        .flag("conforms", rows.is_empty())?
-        .array("points", objects)?
-        .line()
-}
-
-/// An answer as a line of JSON: an object with `conforms` and `points`. `points` is an array with
-/// an object for each line, or block of lines, of `points_text`.
-pub fn points_json(
-    alloc: Global,
-    lattice: &Lattice,
-    text: &[u8],
-    interface: &Interface,
-    answer: &Answer,
-) -> Result<Vec<u8>, AllocError>
-    ensures json { IfOk result (λ out. json_spec.IsConformJson lattice.now text.now interface.now
-        answer.now out.items) }
-{
-    let rows = text_rows(alloc, lattice, text, interface, answer)?;
-    let line = rows_json(alloc, &rows)?;
-    Ok(line)
 }

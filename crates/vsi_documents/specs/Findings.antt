@@ -1,16 +1,10 @@
 -- The answer about a text or an image beside an interface as a document: a result for each row.
-use Rattle.std.specs.Prelude.{◌≡◌, ℕ, List, [], ◌∷◌, map, codes, None}
+use Rattle.std.specs.Prelude.{ℕ, List, [], ◌∷◌, map, codes, None}
 use Rattle.serde_json.specs.Data.{Data, object, Members}
-use Rattle.vsi_lattice.specs.declared.lattice.Lattice.{Lattice}
-use Rattle.vsi_image.specs.declared.instr.Image.{Image}
-use Rattle.vsi_conform.specs.declared.interface.Interface.{Interface}
-use Rattle.vsi_conform.specs.declared.interface.Answer.{Answer}
 use Rattle.vsi_conform.specs.declared.rows.Kind.{Kind}
 use Rattle.vsi_conform.specs.declared.rows.Kind.TheVariants.{Refused, Missing, Unexpected, Class, Order, Budget, Word, Bound}
-use Rattle.vsi_conform.specs.Lines.{AreTextRows, line}
+use Rattle.vsi_conform.specs.Lines.{line}
 use Rattle.vsi_conform.specs.Rows.{Row, word_of}
-use Rattle.vsi_conform.specs.ImageLines.{AreImageRows}
-use Rattle.vsi_conform.specs.declared.images.Answer as image
 use Rattle.vsi_documents.specs.Document.{document_text}
 use Rattle.vsi_documents.specs.Location.{location_members, uri_of}
 use Rattle.vsi_documents.specs.Objects.{text_members}
@@ -51,16 +45,3 @@ results uri rows = map (λ r. object (finding uri r)) rows
 -- The document about the file at a path with the results of rows, whose rules are all kinds of points.
 abbrev pub rows_sarif : List ℕ → List Row → List ℕ
 rows_sarif path rows = document_text (rules_of kinds) (results (uri_of path) rows)
-
--- The document about a text.
-pub record IsConformSarif (l : Lattice) (path text : List ℕ) (i : Interface) (a : Answer) (out : List ℕ) : Type 0 where
-  pub rows : List Row
-  pub tells : AreTextRows l text i a rows
-  pub is : out ≡ rows_sarif path rows
-
--- The document about an image.
-pub record IsImageSarif (l : Lattice) (path : List ℕ) (im : Image) (i : Interface) (a : image.Answer) (out : List ℕ)
-    : Type 0 where
-  pub rows : List Row
-  pub tells : AreImageRows l im i a rows
-  pub is : out ≡ rows_sarif path rows

@@ -14,9 +14,8 @@
 //! document of a refused text has one: its rule is the number and the name of the refusal, its
 //! message the lines that `check` prints, its place that of the refusal, and for a refused flow it
 //! has a location for each step of the walk. `audit_sarif` judges an image as `vsi audit` does, and
-//! its document has the same form; a refusal of an image has no position. `points_sarif` and
-//! `image_sarif` write the answer about a text or an image beside an interface: a result for each
-//! point, whose rule is the kind of the point. `specs/Checking`, `specs/Auditing` and
+//! its document has the same form; a refusal of an image has no position. `rows_sarif` writes the
+//! points of a text or an image beside an interface: a result for each, whose rule is its kind. `specs/Checking`, `specs/Auditing` and
 //! `specs/Findings` say which answers are written, `specs/Refusals` and `specs/Document` define
 //! their text.
 //!
@@ -43,7 +42,7 @@ mod warnings;
 pub use answer::{Reply, refused_interface_json, refused_json};
 pub use images::{audit_json, bound_json, bound_json_in, compare_json, leak_json, run_json};
 pub use roles::{seen_changes, seen_table, unused_warnings, visible_changes, visible_table};
-pub use sarif::{audit_sarif, check_sarif, image_sarif, points_sarif};
+pub use sarif::{audit_sarif, check_sarif, rows_sarif};
 pub use shape::{Shape, ShapeError, lattice_text, named_policy};
 pub use texts::{classes_json, flows_json, mend_json};
 pub use warnings::policy_warnings;

@@ -15,10 +15,10 @@ use std::alloc::{AllocError, Global};
 use vsi_answers::{Object, Objects};
 use vsi_compiler::{CompileError, Source, read_source};
 use vsi_conform::{
-    Answer, Interface, Judgement, Kind, Row, image_rows, images, judged_of, put_row, refusal_lines,
-    refusal_lines_of, refused_image, text_rows, unsteady_diagnostic,
+    Judgement, Kind, Row, judged_of, put_row, refusal_lines, refusal_lines_of, refused_image,
+    unsteady_diagnostic,
 };
-use vsi_image::{Image, Verified};
+use vsi_image::Verified;
 use vsi_lattice::Lattice;
 use vsi_steady::UnsteadyError;
 
@@ -83,52 +83,15 @@ fn results(alloc: Global, uri: &[u8], rows: &[Row]) -> Result<Objects, AllocErro
     Ok(found)
 }
 
-/// The document about the file at a path with a result for each row, whose rules are all kinds of
-/// points.
-fn rows_sarif(alloc: Global, path: &str, rows: &[Row]) -> Result<Vec<u8>, AllocError>
-    ensures { IfOk result
+/// The document of SARIF 2.1.0 about the file at a path with a result for each row, whose rules are
+/// all kinds of points. An error means that memory ran out.
+pub fn rows_sarif(alloc: Global, path: &str, rows: &[Row]) -> Result<Vec<u8>, AllocError>
+    ensures document { IfOk result
         (λ out. out.items ≡ spec.rows_sarif path.now (map row rows.now)) }
 {
     let uri = uri_of(alloc, path)?;
     let made = results(alloc, uri.as_bytes(), rows)?;
     document(alloc, rules(alloc, &KINDS)?, made)
-}
-
-/// The answer about the text of the file at a path beside an interface as a document of SARIF
-/// 2.1.0, which has a result for each line, or block of lines, of `points_text`. An error means
-/// that memory ran out.
-pub fn points_sarif(
-    alloc: Global,
-    lattice: &Lattice,
-    path: &str,
-    text: &[u8],
-    interface: &Interface,
-    answer: &Answer,
-) -> Result<Vec<u8>, AllocError>
-    ensures document { IfOk result (λ out. spec.IsConformSarif lattice.now path.now text.now
-        interface.now answer.now out.items) }
-{
-    let rows = text_rows(alloc, lattice, text, interface, answer)?;
-    let line = rows_sarif(alloc, path, &rows)?;
-    Ok(line)
-}
-
-/// The answer about the image of the file at a path beside an interface as such a document. Its
-/// results have no position.
-pub fn image_sarif(
-    alloc: Global,
-    lattice: &Lattice,
-    path: &str,
-    image: &Image,
-    interface: &Interface,
-    answer: &images::Answer,
-) -> Result<Vec<u8>, AllocError>
-    ensures document { IfOk result (λ out. spec.IsImageSarif lattice.now path.now image.now
-        interface.now answer.now out.items) }
-{
-    let rows = image_rows(alloc, lattice, image, interface, answer)?;
-    let line = rows_sarif(alloc, path, &rows)?;
-    Ok(line)
 }
 
 /// The object of a run of the tool, with its rules.

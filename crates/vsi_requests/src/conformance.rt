@@ -1,19 +1,21 @@
 //! A source text, or an image, beside an interface that is fixed from outside.
 
-ghost use Rattle.std.specs.Prelude.{◌≡◌, ◌<◌, Err, [], IfErr, IfOk};
-ghost use Rattle.vsi_subject.specs.{Holding.{IsReadAt}, Noted.{MayWarn}, Performed.{ConformsFiles, IsWrittenAs, TellsBytes, TellsConforming}, Refusals.{NoOther, FailsBy}, Reasons.{RefusesBytes, RefusesConform}, Undriven.{IsUnusable}, Failures.{status_of}, Supplied.{IsSuppliedAs, TellsSupplied}};
+ghost use Rattle.std.specs.Prelude.{◌≡◌, ◌<◌, Err, [], IfErr, IfOk, map};
+ghost use Rattle.vsi_subject.specs.{Holding.{IsReadAt}, Noted.{MayWarn}, Performed.{ConformsFiles, JudgesBytes, JudgesText}, Reached.{written_as}, Refusals.{NoOther, FailsBy}, Reasons.{RefusesBytes, RefusesConform}, Undriven.{IsUnusable}, Failures.{status_of}, Supplied.{JudgesSupplied}};
 ghost use Rattle.vsi_answers.specs.Requests.{ReadsImage};
+ghost use Rattle.vsi_conform.specs.{Conformity.{said as said_of}, Rows.{row}};
 ghost use Rattle.vsi_subject.specs.Supplied as supplied;
 
-use crate::conformity::{lines_after, reached_answer, with_lines, with_reference};
+use crate::conformity::{lines_after, reaches_in, tried_beside};
 use std::alloc::{AllocError, Global};
 use vsi_answers::judged_image;
 use vsi_arguments::{AnswerForm, Conformance};
 use vsi_audit::{AuditError, audit_in};
 use vsi_compiler::{CompileError, unjudged_image};
-use vsi_conform::{Answer, Interface, Judgement, conform_image, images, points_json, points_text};
-use vsi_documents::{Reply, image_sarif, points_sarif};
-use vsi_image::Image;
+use vsi_conform::{
+    Answer, Conformity, Interface, Judgement, Row, conform_image, image_rows, text_rows,
+};
+use vsi_documents::{Reply, rows_sarif};
 use vsi_lattice::Lattice;
 use vsi_subject::{Fallible, Files, InputKind, Subject, whole_in};
 use vsi_types::Profile;
@@ -51,44 +53,41 @@ pub fn conform<'a, F: Files>(
     ensures failed { IfErr result
         (FailsBy (RefusesConform (F.holds subject.now.files.now) asked.entry) IsUnusable) }
 {
+    let alloc = subject.alloc;
     let read = subject.asked_files(asked.interface, Some(asked.budget))?;
     let bytes = operand_in(subject, asked.source)?;
-    let (fits, points) = bytes_answer(
-        subject.alloc,
-        asked.form,
-        asked.source,
-        &read.lattice,
-        &bytes,
-        &read.found.interface,
-        note,
-    )?;
-    let (holds, answer) = reached_answer(subject.alloc, asked.form, &read, &bytes, fits, &points)?;
-    let (conforms, told) = with_reference(subject, asked, &read, &bytes, holds, answer)?;
-    let lines = lines_after(subject.alloc, asked, conforms, &read, &bytes)?;
-    let text = with_lines(told, &lines)?;
-    Ok(Reply {
-        text,
-        is_good: conforms,
-    })
+    let is_image = begins_image(&bytes);
+    let interface = &read.found.interface;
+    let (fits, rows) = judged_rows(alloc, is_image, &read.lattice, &bytes, interface, note)?;
+    let reaches = reaches_in(alloc, is_image, &read.lattice, &bytes, &read.found)?;
+    let tried = tried_beside(subject, asked, &read, &bytes)?;
+    let said = Conformity {
+        fits,
+        rows,
+        reaches,
+        tried,
+    };
+    let is_good = said.conforms();
+    let mut text = written(alloc, asked.form, asked.source, &said)?;
+    let lines = lines_after(alloc, asked, is_good, &read, &bytes)?;
+    text.extend_from_slice(&lines)?;
+    Ok(Reply { text, is_good })
 }
 
-/// An answer as it is written.
-fn answer_text(
+/// The text of what is said of the file at a path.
+fn written(
     alloc: Global,
     form: AnswerForm,
     path: &str,
-    lattice: &Lattice,
-    text: &[u8],
-    interface: &Interface,
-    answer: &Answer,
+    said: &Conformity,
 ) -> Result<Vec<u8>, AllocError>
-    ensures { IfOk result (λ out.
-        IsWrittenAs form path.now lattice.now text.now interface.now answer.now out.items) }
+    ensures { IfOk result
+        (λ text. text.items ≡ written_as form path.now (said_of said.now)) }
 {
     match form {
-        AnswerForm::Lines => points_text(alloc, lattice, text, interface, answer),
-        AnswerForm::Json => points_json(alloc, lattice, text, interface, answer),
-        AnswerForm::Sarif => points_sarif(alloc, lattice, path, text, interface, answer),
+        AnswerForm::Lines => said.lines(alloc),
+        AnswerForm::Json => said.json(alloc),
+        AnswerForm::Sarif => rows_sarif(alloc, path, &said.rows),
     }
 }
 
@@ -138,26 +137,23 @@ fn warn_of_image(
     Ok(())
 }
 
-/// The answer of a text as it is written, and whether it conforms. The note gets the warning about
-/// its image.
-fn answer_of<'a>(
+/// The points of a text, and whether there are none. The note gets the warning about its image.
+fn rows_of_text<'a>(
     alloc: Global,
-    form: AnswerForm,
-    path: &str,
     lattice: &Lattice,
     text: &[u8],
     interface: &Interface,
     note: &mut Vec<u8>,
-) -> Fallible<'a, (bool, Vec<u8>)>
+) -> Fallible<'a, (bool, Vec<Row>)>
     ensures warned { note.old.items ≡ [] → MayWarn note.new.items }
     ensures told { IfOk result (λ pair.
-        TellsConforming form path.now pair.0 lattice.now text.now interface.now pair.1.items) }
+        JudgesText lattice.now text.now interface.now pair.0 (map row pair.1.items)) }
     ensures failed { IfErr result (λ failure. 3 < status_of failure) }
 {
     let answer = vsi_conform::conform(alloc, lattice, text, interface)?;
-    let written = answer_text(alloc, form, path, lattice, text, interface, &answer)?;
+    let rows = text_rows(alloc, lattice, text, interface, &answer)?;
     warn_of_image(alloc, lattice, text, interface, &answer, note)?;
-    Ok((answer.conforms(), written))
+    Ok((answer.conforms(), rows))
 }
 
 /// Whether bytes begin as those of an image do, with its magic bytes and a version. No source text
@@ -168,75 +164,44 @@ pub(crate) fn begins_image(bytes: &[u8]) -> bool
     matches!(bytes, [b'V', b'S', b'I', version, ..] if *version < 9)
 }
 
-/// An answer about an image as it is written.
-fn image_text(
+/// The points of an image, and whether there are none.
+fn rows_of_image<'a>(
     alloc: Global,
-    form: AnswerForm,
-    path: &str,
-    lattice: &Lattice,
-    image: &Image,
-    interface: &Interface,
-    answer: &images::Answer,
-) -> Result<Vec<u8>, AllocError>
-    ensures { IfOk result (λ out.
-        IsSuppliedAs form path.now lattice.now image.now interface.now answer.now out.items) }
-{
-    match form {
-        AnswerForm::Lines => { images::points_text(alloc, lattice, image, interface, answer) }
-        AnswerForm::Json => { images::points_json(alloc, lattice, image, interface, answer) }
-        AnswerForm::Sarif => image_sarif(alloc, lattice, path, image, interface, answer),
-    }
-}
-
-/// The answer of an image as it is written, and whether it conforms.
-fn image_answer<'a>(
-    alloc: Global,
-    form: AnswerForm,
-    path: &str,
     lattice: &Lattice,
     bytes: &[u8],
     interface: &Interface,
-) -> Fallible<'a, (bool, Vec<u8>)>
+) -> Fallible<'a, (bool, Vec<Row>)>
     ensures told { IfOk result (λ pair.
-        TellsSupplied form path.now pair.0 lattice.now bytes.now interface.now pair.1.items) }
+        JudgesSupplied lattice.now bytes.now interface.now pair.0 (map row pair.1.items)) }
     ensures failed { IfErr result
         (FailsBy (λ reason. ReadsImage bytes.now (Err reason)) NoOther) }
 {
     let verified = judged_image(alloc, bytes)?;
     let answer = conform_image(alloc, lattice, &verified, interface)?;
-    let written = image_text(
-        alloc,
-        form,
-        path,
-        lattice,
-        verified.image(),
-        interface,
-        &answer,
-    )?;
+    let rows = image_rows(alloc, lattice, verified.image(), interface, &answer)?;
     let conforms = answer.conforms();
-    Ok((conforms, written))
+    Ok((conforms, rows))
 }
 
-/// The answer of the bytes of a file as it is written, and whether they conform: those of an image,
-/// if they begin as one, and otherwise of a source text.
-fn bytes_answer<'a>(
+/// The points of the bytes of a file, and whether there are none: those of an image, if they begin
+/// as one, and otherwise of a source text.
+fn judged_rows<'a>(
     alloc: Global,
-    form: AnswerForm,
-    path: &str,
+    is_image: bool,
     lattice: &Lattice,
     bytes: &[u8],
     interface: &Interface,
     note: &mut Vec<u8>,
-) -> Fallible<'a, (bool, Vec<u8>)>
+) -> Fallible<'a, (bool, Vec<Row>)>
+    requires { is_image ≡ supplied.begins_image bytes.now }
     ensures warned { note.old.items ≡ [] → MayWarn note.new.items }
-    ensures told { IfOk result (λ pair. TellsBytes (supplied.begins_image bytes.now) form path.now
-        pair.0 lattice.now bytes.now interface.now pair.1.items) }
+    ensures told { IfOk result (λ pair. JudgesBytes is_image lattice.now bytes.now interface.now
+        pair.0 (map row pair.1.items)) }
     ensures failed { IfErr result (FailsBy (RefusesBytes bytes.now) NoOther) }
 {
-    let is_image = begins_image(bytes);
     if is_image {
-        image_answer(alloc, form, path, lattice, bytes, interface)
+        rows_of_image(alloc, lattice, bytes, interface)
     } else {
-        answer_of(alloc, form, path, lattice, bytes, interface, note)
+        rows_of_text(alloc, lattice, bytes, interface, note)
     }
 }

@@ -1,24 +1,23 @@
 //! The evidence of a judgement by an interface, and the reference beside which a file is run.
 
-ghost use Rattle.std.specs.Prelude.{◌≡◌, ◌++◌, IfErr, IfOk, map, true};
-ghost use Rattle.vsi_subject.specs.{Filed.{Follows, HasBound, IsFiledBound, IsJudged}, Performed.{IsConformity, judged_files, program_version}, Refusals.{FailsBy}, Undriven.{IsUnusable}, Referred.{BeginsSo, IsReferred, IsTried}};
+ghost use Rattle.std.specs.Prelude.{◌≡◌, IfErr, IfOk, map, option_map, true};
+ghost use Rattle.vsi_subject.specs.{Filed.{Follows, HasBound, IsFiledBound, IsJudged}, Performed.{IsConformity, judged_files, program_version}, Refusals.{FailsBy}, Undriven.{IsUnusable}};
 ghost use Rattle.vsi_answers.specs.Judged.{AreImage};
 ghost use Rattle.vsi_store.specs.Evidence.{conformity_text};
-ghost use Rattle.vsi_conform.specs.Reaching.{released};
+ghost use Rattle.vsi_conform.specs.{Conformity.{trial}, Reaching.{released}};
 ghost use Rattle.vsi_subject.specs.Filed as spec;
 ghost use Rattle.vsi_subject.specs.Reached as reached;
-ghost use Rattle.vsi_subject.specs.Supplied as supplied;
 
 use crate::conformance::begins_image;
 use crate::images::version;
 use std::alloc::{AllocError, Global};
 use vsi_answers::{enough_budget, judged_image, without_end};
-use vsi_arguments::{AnswerForm, Conformance};
+use vsi_arguments::Conformance;
 use vsi_compiler::{CompileError, unjudged_image};
 use vsi_conform::{
-    Bounded, InterfaceError, InterfaceFile, Judgement, Policy, Reach, Reference, are_within,
-    compare_reference, image_reaches, json_with, judged, lines_with, path_beside, reference_line,
-    refusal_lines, text_reaches, with_reached_json, with_reached_lines,
+    Bounded, InterfaceError, InterfaceFile, Judgement, Policy, Reach, Reference, Tried,
+    compare_reference, image_reaches, judged, path_beside, reference_line, refusal_lines,
+    text_reaches,
 };
 use vsi_image::Verified;
 use vsi_lattice::Lattice;
@@ -180,15 +179,6 @@ pub(crate) fn lines_after<'x>(
     }
 }
 
-/// An answer with lines after it.
-pub(crate) fn with_lines(answer: Vec<u8>, lines: &[u8]) -> Result<Vec<u8>, AllocError>
-    ensures { IfOk result (λ text. text.items ≡ answer.items ++ lines.now) }
-{
-    let mut text = answer;
-    text.extend_from_slice(lines)?;
-    Ok(text)
-}
-
 /// The fault of an interface whose reference isn't accepted: its path, and the lines of `check`.
 fn refused_reference(
     alloc: Global,
@@ -229,15 +219,14 @@ fn reference_image<'a, F: Files>(
     }
 }
 
-/// Whether a source text or an image agrees with the reference at a path, and the line about
-/// it.
-fn told_of<'a, F: Files>(
+/// The trial of a source text or an image beside the reference at a path.
+fn tried_at<'a, F: Files>(
     subject: &Subject<'_, F>,
     asked: Conformance<'a>,
     path: &[u8],
     read: &AskedFiles,
     bytes: &[u8],
-) -> Fallible<'a, (bool, Vec<u8>)>
+) -> Fallible<'a, Tried>
     ensures { IfErr result (FailsBy (λ reason. ⊥) IsUnusable) }
 {
     let verified = reference_image(subject, asked.interface, path, read)?;
@@ -250,29 +239,28 @@ fn told_of<'a, F: Files>(
     let budget = asked.budget;
     let found = compare_reference(subject.alloc, &read.lattice, image.as_ref(), beside, budget)?;
     let line = reference_line(subject.alloc, path, beside, found)?;
-    Ok((found.agrees(), line))
+    Ok(Tried {
+        agrees: found.agrees(),
+        line,
+    })
 }
 
-/// An answer with the line of the trial beside the reference, if the interface names one, and
-/// whether all is as required.
-pub(crate) fn with_reference<'a, F: Files>(
+/// The trial beside the reference that the interface names, if it names one.
+pub(crate) fn tried_beside<'a, F: Files>(
     subject: &Subject<'_, F>,
     asked: Conformance<'a>,
     read: &AskedFiles,
     bytes: &[u8],
-    holds: bool,
-    answer: Vec<u8>,
-) -> Fallible<'a, (bool, Vec<u8>)>
-    ensures tried { IfOk result (λ pair. IsTried asked.entry.form read.now.found.reference holds
-        pair.0 answer.items pair.1.items) }
+) -> Fallible<'a, Option<Tried>>
+    ensures tried { IfOk result
+        (λ tried. reached.IsTried read.now.found.reference (option_map trial tried)) }
     ensures failed { IfErr result (FailsBy (λ reason. ⊥) IsUnusable) }
 {
     let Some(path) = &read.found.reference else {
-        return Ok((holds, answer));
+        return Ok(None);
     };
-    let (agrees, line) = told_of(subject, asked, path, read, bytes)?;
-    let told = referred(subject.alloc, asked.form, holds, answer, agrees, &line)?;
-    Ok(told)
+    let tried = tried_at(subject, asked, path, read, bytes)?;
+    Ok(Some(tried))
 }
 
 /// The image with these bytes, or that of a source text, if there is one. The bytes of an image
@@ -293,43 +281,6 @@ fn image_beside(
         Err(CompileError::Memory) => Err(AllocError),
         Err(_) => Ok(None),
     }
-}
-
-/// An answer with the line of a trial, which a document of SARIF doesn't have.
-fn written_with(
-    alloc: Global,
-    form: AnswerForm,
-    is_alone: bool,
-    answer: Vec<u8>,
-    agrees: bool,
-    line: &[u8],
-) -> Result<Vec<u8>, AllocError>
-    ensures { IfOk result (λ text. BeginsSo form is_alone answer.items text.items) }
-{
-    match form {
-        AnswerForm::Lines => lines_with(alloc, is_alone, answer, line),
-        AnswerForm::Json => json_with(alloc, is_alone, &answer, agrees, line),
-        AnswerForm::Sarif => Ok(answer),
-    }
-}
-
-/// An answer with the line of a trial, and whether all is as required.
-fn referred(
-    alloc: Global,
-    form: AnswerForm,
-    holds: bool,
-    answer: Vec<u8>,
-    agrees: bool,
-    line: &[u8],
-) -> Result<(bool, Vec<u8>), AllocError>
-    ensures { IfOk result (λ pair. IsReferred form holds pair.0 answer.items pair.1.items) }
-{
-    if holds {
-        let text = written_with(alloc, form, !agrees, answer, agrees, line)?;
-        return Ok((agrees, text));
-    }
-    let text = written_with(alloc, form, false, answer, agrees, line)?;
-    Ok((false, text))
 }
 
 /// The image with these bytes, which were judged before.
@@ -360,14 +311,14 @@ fn image_released(
 
 /// The released outputs of an interface, by the flows of the image with these bytes or of a source
 /// text. The bytes of an image were judged before.
-fn reaches_in(
+pub(crate) fn reaches_in(
     alloc: Global,
     is_image: bool,
     lattice: &Lattice,
     bytes: &[u8],
     asked: &InterfaceFile,
 ) -> Result<Vec<Reach>, AllocError>
-    ensures { IfOk result (λ reaches. reached.AreReleasedIn is_image lattice.now bytes.now asked.now
+    ensures reaches { IfOk result (λ reaches. reached.AreReleasedIn is_image lattice.now bytes.now asked.now
         (map released reaches.items)) }
 {
     if is_image {
@@ -375,41 +326,4 @@ fn reaches_in(
     }
     let judgement = asked.interface.judgement;
     text_reaches(alloc, lattice, bytes, judgement, asked.cycles.as_slice())
-}
-
-/// An answer with its points and the released outputs.
-fn with_reached(
-    alloc: Global,
-    form: AnswerForm,
-    fits: bool,
-    points: &[u8],
-    reaches: &[Reach],
-) -> Result<Vec<u8>, AllocError>
-    ensures { IfOk result (λ answer. answer.items
-        ≡ reached.with_released form fits points.now (map released reaches.now)) }
-{
-    match form {
-        AnswerForm::Lines => with_reached_lines(alloc, fits, points, reaches),
-        AnswerForm::Json => with_reached_json(alloc, fits, points, reaches),
-        AnswerForm::Sarif => Vec::from_slice(alloc, points),
-    }
-}
-
-/// The answer with the released outputs, and whether the bytes of a file conform: if no point
-/// differs, and the interface allows each global that reaches a released output.
-pub(crate) fn reached_answer(
-    alloc: Global,
-    form: AnswerForm,
-    read: &AskedFiles,
-    bytes: &[u8],
-    fits: bool,
-    points: &[u8],
-) -> Result<(bool, Vec<u8>), AllocError>
-    ensures { IfOk result (λ pair. reached.IsReachedAs form (supplied.begins_image bytes.now)
-        read.now.lattice bytes.now read.now.found fits points.now pair.0 pair.1.items) }
-{
-    let is_image = begins_image(bytes);
-    let reaches = reaches_in(alloc, is_image, &read.lattice, bytes, &read.found)?;
-    let answer = with_reached(alloc, form, fits, points, &reaches)?;
-    Ok((fits && are_within(&reaches), answer))
 }

@@ -14,9 +14,8 @@ use crate::policies::policy_and_image;
 use crate::running::words_in;
 use std::alloc::{AllocError, Global};
 use vsi_arguments::{DrivePolicy, RUNS_BUDGET, Viewing};
-use vsi_conform::images::points_text;
 use vsi_conform::{
-    Cycle, Interface, InterfaceFile, are_within, conform_image, image_reaches, with_reached_lines,
+    Conformity, Cycle, Interface, InterfaceFile, conform_image, image_reaches, image_rows,
 };
 use vsi_drive::Controller;
 use vsi_image::Verified;
@@ -76,12 +75,17 @@ fn know_image<'a>(
     let judgement = interface.judgement;
     let reaches = image_reaches(alloc, lattice, verified, judgement, &asked.cycles)?;
     let fits = answer.conforms();
-    let conforms = fits && are_within(&reaches);
-    if conforms {
+    let rows = image_rows(alloc, lattice, verified.image(), interface, &answer)?;
+    let said = Conformity {
+        fits,
+        rows,
+        reaches,
+        tried: None,
+    };
+    if said.conforms() {
         return Ok(());
     }
-    let points = points_text(alloc, lattice, verified.image(), interface, &answer)?;
-    let lines = with_reached_lines(alloc, fits, &points, &reaches)?;
+    let lines = said.lines(alloc)?;
     Err(Failure::Refused(lines, None))
 }
 

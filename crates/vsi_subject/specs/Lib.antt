@@ -28,7 +28,6 @@ pub mod State
 pub mod Feeding
 pub mod Viewing
 pub mod Supplied
-pub mod Referred
 pub mod Stepping
 pub mod Performed
 pub mod Refusals

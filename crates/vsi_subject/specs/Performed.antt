@@ -39,9 +39,9 @@ use Rattle.vsi_report.specs.Graph.{IsLatticeGraph}
 use Rattle.vsi_report.specs.Page.{HasPanel}
 use Rattle.vsi_report.specs.Verdict.{HasVerdict}
 use Rattle.vsi_conform.specs.Conforms.{Conforms, IsUnbounded, Tells as TellsPoints}
-use Rattle.vsi_conform.specs.Json.{IsConformJson}
-use Rattle.vsi_conform.specs.Lines.{IsConformText}
-use Rattle.vsi_documents.specs.Findings.{IsConformSarif}
+use Rattle.vsi_conform.specs.Conformity.{Said, conforms as is_well}
+use Rattle.vsi_conform.specs.Lines.{AreTextRows}
+use Rattle.vsi_conform.specs.Rows.{Row}
 use Rattle.vsi_conform.specs.Points.{is_conforming}
 use Rattle.vsi_conform.specs.Totals.{total_of}
 use Rattle.vsi_conform.specs.declared.interface.Answer.{Answer}
@@ -53,8 +53,6 @@ use Rattle.vsi_answers.specs.Bounds.{IsBound, TellsBound}
 use Rattle.vsi_answers.specs.Judged.{AreImage}
 use Rattle.vsi_answers.specs.Requests.{BuildsTo, ChecksSteadyTo, ChecksTo, ClassesTo, ComparesTo, FlowsTo, ListsTo, ViewsTo, WalksTo}
 use Rattle.vsi_answers.specs.declared.bounds.BoundAnswer.{BoundAnswer}
-use Rattle.vsi_arguments.specs.declared.request.AnswerForm.{AnswerForm}
-use Rattle.vsi_arguments.specs.declared.request.AnswerForm.TheVariants.{Lines, Json, Sarif}
 use Rattle.vsi_arguments.specs.declared.request.Audit.{Audit}
 use Rattle.vsi_arguments.specs.declared.request.Bounding.{Bounding}
 use Rattle.vsi_arguments.specs.declared.request.Comparison.{Comparison}
@@ -77,18 +75,17 @@ use Rattle.vsi_subject.specs.Documents.{AuditsDocument, judgement_of, RunsJson, 
 use Rattle.vsi_subject.specs.Driven.{DrivesInput}
 use Rattle.vsi_subject.specs.Filed.{IsFiledBound, IsFollowed, IsJudged, filed_profile, lattice_file, policy_bytes}
 use Rattle.vsi_subject.specs.Holding.{Delivers, Holding, IsImageAt, IsLatticeAt, IsReadAt}
-use Rattle.vsi_subject.specs.Referred.{IsTried}
 use Rattle.vsi_subject.specs.Interfaces.{IsAskedAt, IsPolicyAt}
 use Rattle.vsi_subject.specs.Laying.{PerformsLayout, ToldCanonical}
 use Rattle.vsi_subject.specs.Naming.{function_name}
 use Rattle.vsi_subject.specs.Raises.{ToldMended, ToldMendedJson}
-use Rattle.vsi_subject.specs.Reached.{IsReachedAs}
+use Rattle.vsi_subject.specs.Reached.{AreReleasedIn, IsTried, written_as}
 use Rattle.vsi_subject.specs.Seeing.{SeesFiles}
 use Rattle.vsi_subject.specs.Visible.{ShowsFiles}
 use Rattle.vsi_subject.specs.Served.{Serves}
 use Rattle.vsi_subject.specs.Shaping.{ShapedText}
 use Rattle.vsi_subject.specs.Steering.{IsSteered}
-use Rattle.vsi_subject.specs.Supplied.{TellsSupplied, begins_image}
+use Rattle.vsi_subject.specs.Supplied.{JudgesSupplied, begins_image}
 use Rattle.vsi_subject.specs.Tried.{TriesFile}
 use Rattle.vsi_subject.specs.Beginning.{IsBegun}
 use Rattle.vsi_subject.specs.Files.{BeginsAt, IsBudgetOf, IsStoredAt, LooksAt, LooksFor, OfFile, OfFiles, Writes, shown}
@@ -398,12 +395,6 @@ pub record AreAsked (holds : Holding) (c : Conformance) (asked : InterfaceFile) 
   pub lattice : IsPolicyAt holds c.interface.now asked.policy l
   pub read : IsReadAt holds c.source.now source
 
--- How an answer about the text of the file at a path is written: as lines, as a line of JSON or as a document of SARIF.
-abbrev pub IsWrittenAs : AnswerForm → List ℕ → Lattice → List ℕ → Interface → Answer → List ℕ → Type 0
-IsWrittenAs Lines path l source i answer out = IsConformText l source i answer out
-IsWrittenAs Json path l source i answer out = IsConformJson l source i answer out
-IsWrittenAs Sarif path l source i answer out = IsConformSarif l path source i answer out
-
 -- The source text conforms to the interface; or it doesn't; or a bound is required, and this line is about the bound of
 -- its image, for which there is no number.
 abbrev pub IsVerdict : Bool → Option (Vec ℕ) → Lattice → List ℕ → Interface → Type 0
@@ -411,19 +402,18 @@ IsVerdict true line l source i = Conforms l source i
 IsVerdict false None l source i = ¬ (Conforms l source i)
 IsVerdict false (Some line) l source i = IsUnbounded l source i line.items
 
--- A text that says whether a source text conforms to an interface, and where it differs.
-pub record TellsConforming (form : AnswerForm) (path : List ℕ) (conforms : Bool) (l : Lattice) (source : List ℕ)
-    (i : Interface) (text : List ℕ) : Type 0 where
+-- These rows say where a source text differs from an interface, if it does; there are none exactly if nothing differs.
+pub record JudgesText (l : Lattice) (source : List ℕ) (i : Interface) (fits : Bool) (rows : List Row) : Type 0 where
   pub answer : Answer
   pub tells : TellsPoints l source i answer
-  pub verdict : is_conforming answer ≡ conforms
-  pub is : IsVerdict conforms answer.unbounded l source i
-  pub written : IsWrittenAs form path l source i answer text
+  pub verdict : is_conforming answer ≡ fits
+  pub is : IsVerdict fits answer.unbounded l source i
+  pub are : AreTextRows l source i answer rows
 
 -- What is said of the bytes of a file: of an image, if they begin as one, and otherwise of a source text.
-abbrev pub TellsBytes : Bool → AnswerForm → List ℕ → Bool → Lattice → List ℕ → Interface → List ℕ → Type 0
-TellsBytes true = TellsSupplied
-TellsBytes false = TellsConforming
+abbrev pub JudgesBytes : Bool → Lattice → List ℕ → Interface → Bool → List Row → Type 0
+JudgesBytes true = JudgesSupplied
+JudgesBytes false = JudgesText
 
 -- The files of a conformance with these bytes: the interface, its lattice file if it names one, and the source text or
 -- the image.
@@ -447,24 +437,21 @@ IsEvidence holds c asked l source files =
     (judged_files c asked files.interface.bytes (policy_bytes holds c.interface.now asked.policy l files.lattice) source)
 
 -- The text written for the files of a conformance, whose source text or image conforms to the interface under its
--- lattice or doesn't: the answer, with its points and the released outputs, the line about its reference, if it names
--- one, and the evidence after it. The runs of the interface take together no more instructions than the budget has.
--- Without a reference the file conforms exactly if no point and no released output differs, and with one only then.
+-- lattice or doesn't: its points, the released outputs and the trial beside the reference, if the interface names one,
+-- and the evidence after them. The runs of the interface take together no more instructions than the budget has.
 pub record ConformsFiles (holding : Holding) (c : Conformance) (conforms : Bool) (text : Vec ℕ) : Type 0 where
   pub asked : InterfaceFile
   pub lattice : Lattice
   pub source : List ℕ
   pub files : AreAsked holding c asked lattice source
   pub within : total_of asked.interface ≤ c.budget
-  pub fits : Bool
-  pub points : List ℕ
-  pub tells : TellsBytes (begins_image source) c.form c.source.now fits lattice source asked.interface points
-  pub holds : Bool
-  pub answer : List ℕ
-  pub reached : IsReachedAs c.form (begins_image source) lattice source asked fits points holds answer
-  pub told : List ℕ
-  pub tried : IsTried c.form asked.reference holds conforms answer told
-  pub followed : IsFollowed c.has_evidence conforms (IsEvidence holding c asked lattice source files) told text.items
+  pub said : Said
+  pub judges : JudgesBytes (begins_image source) lattice source asked.interface said.fits said.rows
+  pub released : AreReleasedIn (begins_image source) lattice source asked said.found
+  pub tried : IsTried asked.reference said.tried
+  pub verdict : conforms ≡ is_well said
+  pub followed : IsFollowed c.has_evidence conforms (IsEvidence holding c asked lattice source files)
+      (written_as c.form c.source.now said) text.items
 
 -- The document that answers a request, and that says of its files that all is well or that something is wrong.
 abbrev pub DocumentOf : Holding → Document → Bool → Vec ℕ → Type 0

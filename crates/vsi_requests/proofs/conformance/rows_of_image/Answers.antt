@@ -1,9 +1,10 @@
-use Rattle.std.proofs.Common.{◌∙◌, Err, sym, subst}
+use Rattle.std.proofs.Common.{◌∙◌, Err, map, sym, subst}
 use Rattle.vsi_answers.specs.Requests.{ReadsImage}
+use Rattle.vsi_conform.specs.ImageLines.{AreImageRows}
+use Rattle.vsi_conform.specs.Rows.{row}
 use Rattle.vsi_subject.specs.Refusals.{NoOther}
-use Rattle.vsi_subject.specs.Supplied.{IsSuppliedAs}
 use Rattle.vsi_subject.proofs.Reasons.{handed_reason}
-use Rattle.vsi_requests.proofs.conformance.image_answer.Goals as goal
+use Rattle.vsi_requests.proofs.conformance.rows_of_image.Goals as goal
 
 pub returns-clause-told : goal.returns-clause-told
 returns-clause-told c = (
@@ -14,8 +15,8 @@ returns-clause-told c = (
     tells = c.in_ok-answer.ensures.told;
     verdict = sym c.conforms-conforms.ensures;
     is = λ is. c.in_ok-answer.ensures.conforms (sym c.conforms-conforms.ensures ∙ is);
-    written = subst (λ im. IsSuppliedAs c.args.form c.args.path.now c.args.lattice.now im c.args.interface.now
-        c.in_ok-answer.answer c.in_ok-written.written.items) c.image.ensures.same c.in_ok-written.ensures;
+    are = subst (λ im. AreImageRows c.args.lattice.now im c.args.interface.now
+        c.in_ok-answer.answer (map row c.in_ok-rows.rows.items)) c.image.ensures.same c.in_ok-rows.ensures.rows;
   },
 )
 
