@@ -1,4 +1,4 @@
--- What is said of a text or an image beside an interface, as lines and as a line of JSON.
+-- The answer about a text or an image beside an interface, as lines and as a line of JSON.
 use Rattle.std.specs.Prelude.{ℕ, Bool, true, ◌&&◌, if◌then◌else◌, List, [], ◌∷◌, ◌++◌, map, codes, Option, Some, None, option_map}
 use Rattle.std.specs.List.{flat_map}
 use Rattle.std.specs.Str.Lossy.{utf8_lossy}
@@ -21,15 +21,15 @@ pub record Trial : Type 0 where
 abbrev pub trial : Tried → Trial
 trial t = record { agrees = t.agrees; line = t.line.items }
 
--- What is said: whether no point differs, the points that do, the released outputs, and the trial beside the reference,
--- if the interface names one.
+-- An answer: whether no point differs, the points that do, the released outputs, and the trial beside the reference, if
+-- the interface names one.
 pub record Said : Type 0 where
   pub fits : Bool
   pub rows : List Row
   pub found : List Released
   pub tried : Option Trial
 
--- What the code says.
+-- An answer of the code.
 abbrev pub said : Conformity → Said
 said c =
     record {
@@ -115,7 +115,7 @@ reach_members r =
 abbrev pub reached : List Released → List Data
 reached found = map (λ r. object (reach_members r)) found
 
--- ---- the object of what is said.
+-- ---- the object of an answer.
 
 -- The members with the released outputs added, if there are any.
 abbrev pub with_reached : List Released → Members → Members

@@ -1,4 +1,4 @@
-//! What is said of a text or an image beside an interface, as lines and as a line of JSON.
+//! The answer about a text or an image beside an interface, as lines and as a line of JSON.
 
 ghost use Rattle.std.specs.Prelude.{◌≡◌, ◌++◌, map, option_map, IfOk, OnOk};
 ghost use Rattle.serde_json.specs.View.{members_view, view};
@@ -18,8 +18,8 @@ pub struct Tried {
     pub line: Vec<u8>,
 }
 
-/// What is said of a text or an image beside an interface. It conforms if no point differs, the
-/// interface allows each global that reaches a released output, and a trial shows no difference.
+/// The answer about a text or an image beside an interface. It conforms if no point differs, the
+/// interface allows each global that reaches a released output, and no trial shows a difference.
 #[derive(Drop)]
 pub struct Conformity {
     /// Whether no point differs.

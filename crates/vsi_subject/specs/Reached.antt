@@ -38,14 +38,14 @@ pub record TellsDifference (l : Lattice) (image : Image) (asked : InterfaceFile)
   pub differs : conforms said ≡ false
   pub is : text ≡ lines said
 
--- There is a trial exactly if the interface names a reference. What it shows is only tested.
+-- There is a trial exactly if the interface names a reference. Its result is only tested.
 abbrev pub IsTried : Option (Vec ℕ) → Option Trial → Type 0
 IsTried None None = Unit {0}
 IsTried None (Some t) = ⊥
 IsTried (Some path) None = ⊥
 IsTried (Some path) (Some t) = Unit {0}
 
--- What is said of the file at a path, as it is written: as lines, as a line of JSON or as a document of SARIF, which has
+-- The answer about the file at a path, as it is written: as lines, as a line of JSON or as a document of SARIF, which has
 -- the points alone.
 abbrev pub written_as : AnswerForm → List ℕ → Said → List ℕ
 written_as Lines path s = lines s
