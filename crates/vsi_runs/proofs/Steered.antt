@@ -1,22 +1,19 @@
 -- The class that drives or views an image, the reasons why none does, and the tables of classes.
-use Rattle.std.proofs.Common.{◌≡◌, ◌<◌, ◌⊎◌, ℕ, List, [], ◌∷◌, Result, true, false, Some, None, length, map, refl, sym, ap, subst, arith}
+use Rattle.std.proofs.Common.{◌≡◌, ◌⊎◌, ℕ, List, ◌∷◌, Result, false, map, sym, subst}
 use Rattle.std.specs.Prelude.{Bool, Option, IfErr, IfOk, bytes_eq, option_map}
 use Rattle.std.specs.Borrow.{Bor}
-use Rattle.std.proofs.lemmas.Result.{IfOk-weaker}
 use Rattle.vsi_conform.specs.Reading.{ClassBoundary, cycle}
 use Rattle.vsi_conform.specs.declared.keys.Cycle.{Cycle}
-use Rattle.vsi_drive.specs.Boundary.{no_boundary}
 use Rattle.vsi_answers.specs.declared.unanswered.Unanswered.{Unanswered}
 use Rattle.vsi_arguments.specs.declared.request.DrivePolicy.{DrivePolicy}
 use Rattle.vsi_arguments.specs.declared.request.DrivePolicy.TheVariants as policy
 use Rattle.vsi_arguments.specs.declared.request.NameLists.{NameLists}
 use Rattle.vsi_subject.specs.declared.failure.Failure.{Failure}
 use Rattle.vsi_runs.specs.declared.steering.Steering.{Steering}
-use Rattle.vsi_subject.specs.Boundaries.{boundary_at, boundary_for, bound_by, requested, table_of}
-use Rattle.vsi_subject.specs.Files.{LooksAt}
+use Rattle.vsi_subject.specs.Boundaries.{boundary_for, bound_by, table_of}
 use Rattle.vsi_subject.specs.Holding.{Holding}
 use Rattle.vsi_subject.specs.Refusals.{LacksClassAt, RefusesImage, RefusesLattice, FailsBy}
-use Rattle.vsi_subject.specs.Steering.{IsGoverned, IsListed, IsSteeredBy}
+use Rattle.vsi_subject.specs.Steering.{IsGoverned, IsSteeredBy}
 use Rattle.vsi_subject.specs.Undriven.{LacksGoverned, LacksPolicy, RefusesAsked, RefusesSteering}
 
 -- The lattice of an interface is refused, or an image.
@@ -35,19 +32,6 @@ later_table left rest c class found is other same =
     rw other at first
 
 -- ---- the class of a drive or of a view.
-
--- The class that a lattice file gives drives by the policy that names the file.
-pub steered_listed : (holds : Holding) (class : List ℕ) (p : DrivePolicy) (path : Bor (List ℕ)) (lists : NameLists)
-    (is_unbounded : Bool) (result : Result Steering Failure) → p ≡ policy.Lattice path lists →
-    IfOk result (λ s. LooksAt holds path.now class s.lattice s.driver) →
-    IfOk result (λ s. IsSteeredBy holds class p is_unbounded s.lattice s.driver s.verified (boundary_for p s.cycle))
-steered_listed holds class p path lists is_unbounded result is looks =
-    subst
-    (λ q. IfOk result (λ s. IsSteeredBy holds class q is_unbounded s.lattice s.driver s.verified (boundary_for q s.cycle)))
-    (sym is)
-    (IfOk-weaker result (λ s. LooksAt holds path.now class s.lattice s.driver)
-    (λ s. IsListed holds path.now class (requested lists) s.lattice s.driver (requested lists))
-    (λ s seen. record { looks = seen; same = refl }) looks)
 
 -- The class that an interface gives drives by the policy that names the interface.
 pub steered_governed : (holds : Holding) (class : List ℕ) (p : DrivePolicy) (path : Bor (List ℕ)) (is_unbounded : Bool)

@@ -5,7 +5,7 @@ use Rattle.vsi_lattice.specs.NamePlaces.{texts}
 use Rattle.vsi_lattice.specs.declared.lattice.Lattice.{Lattice}
 use Rattle.vsi_image.specs.declared.instr.Image.{Image}
 use Rattle.vsi_drive.specs.Boundary.{Boundary}
-use Rattle.vsi_drive.specs.Control.{Control, controlled}
+use Rattle.vsi_drive.specs.Control.{controlled}
 use Rattle.vsi_drive.specs.Views.{view_of}
 use Rattle.vsi_answers.specs.Answers.{Because}
 use Rattle.vsi_answers.specs.Judged.{TellsStartFault}
@@ -85,25 +85,6 @@ control_failed holds asked l viewer image b words budget result failure viewed b
     run_failed holds asked l viewer image b words budget result failure viewed begins within is
     (fails_by (RefusesControl b l viewer image budget) (RefusesRun b l viewer image budget words asked.initial_store) NoOther
     (λ reason refused. inl refused) failure told)
-
--- A run of its controller that is out of budget is one of the view.
-pub spent_failed : {T : Type 0} (holds : Holding) (asked : Viewing) (l : Lattice) (viewer : ℕ) (image : Image)
-    (b : Boundary) (words given : List ℤ) (budget : ℕ) (k : Control) (result : Result T Failure) (failure : Failure) →
-    IsViewed holds asked l viewer image b → BeginsAt holds asked.execution asked.initial_store image words →
-    IsBudgetOf asked.execution.budget image budget → k ≡ controlled l viewer image budget b → given ≡ words →
-    IsErrAnd result (λ s. s ≡ failure) →
-    FailsBy (λ reason. (reason ≡ unanswered.OutOfBudget) × (view_of k k.budget given ≡ None)) NoOther failure →
-    IfErr result (FailsBy (WhyViewWithin holds asked) (LacksView holds asked))
-spent_failed holds asked l viewer image b words given budget k result failure viewed begins within same at is told =
-    run_failed holds asked l viewer image b words budget result failure viewed begins within is
-    (fails_by (λ reason. (reason ≡ unanswered.OutOfBudget) × (view_of k k.budget given ≡ None))
-    (RefusesRun b l viewer image budget words asked.initial_store) NoOther
-    (λ reason spent. inr (inl (
-      spent.0,
-      subst (λ w. view_of (controlled l viewer image budget b) budget w ≡ None) at
-          (subst (λ c. view_of c c.budget given ≡ None) same spent.1),
-    )))
-    failure told)
 
 -- If the budget isn't enough, the view says so.
 pub view_short : {T : Type 0} (holds : Holding) (v : Viewing) (l : Lattice) (viewer : ℕ) (image : Image) (b : Boundary)

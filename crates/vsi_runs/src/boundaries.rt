@@ -5,15 +5,13 @@ ghost use Rattle.vsi_conform.specs.Reading.{bytes_of};
 ghost use Rattle.vsi_drive.specs.{Boundary.{boundary_of, listed}, BoundaryFaults.{boundary_fault}, Control.{control, controlled}, Settings.{settings_of}};
 ghost use Rattle.vsi_answers.specs.{Answers.{Because}, Judged.{TellsStartFault}};
 ghost use Rattle.vsi_lattice.specs.{LatticeView.{order}, NamePlaces.{texts}, Order.{IsClass}};
-ghost use Rattle.vsi_subject.specs.{Boundaries.{boundary_for, bound_by, given_names, requested}, Undriven.{RefusesControl}, Refusals.{NoOther, FailsBy}, Feeding.{AreFed, AreInputs, IsUnfed, at_number, fault_of, unfed}};
+ghost use Rattle.vsi_subject.specs.{Boundaries.{boundary_for, given_names}, Undriven.{RefusesControl}, Refusals.{NoOther, FailsBy}, Feeding.{AreFed, IsUnfed, at_number, fault_of, unfed}};
 ghost use Rattle.vsi_runs.specs.ReadNames.{boundary_in, read_names};
-ghost use Rattle.vsi_conform.specs.Reading as spec;
-ghost use Rattle.vsi_drive.specs.declared.boundary.StartFault.TheVariants as start;
 
 use crate::steering::Steering;
 use std::alloc::{AllocError, Global};
 use vsi_answers::{Fault, refused_start};
-use vsi_arguments::{DrivePolicy, NameLists};
+use vsi_arguments::DrivePolicy;
 use vsi_conform::Cycle;
 use vsi_drive::{
     Boundary, BoundaryFault, Controller, CycleEnding, LineFault, StartFault, names_of,
@@ -52,20 +50,6 @@ fn released_names<'a>(alloc: Global, list: Option<&'a str>) -> Result<Vec<&'a [u
     }
 }
 
-/// The names in all lists.
-fn listed_names<'a>(alloc: Global, lists: NameLists<'a>) -> Result<Names<'a>, AllocError>
-    ensures { IfOk result (λ names. boundary_in names ≡ requested lists.entry) }
-{
-    let inputs = given_names(alloc, lists.inputs)?;
-    let outputs = given_names(alloc, lists.outputs)?;
-    let released = released_names(alloc, lists.released)?;
-    Ok(Names {
-        inputs,
-        outputs,
-        released,
-    })
-}
-
 /// The names that a table has.
 fn shown_names<'c>(alloc: Global, owned: &'c [Vec<u8>]) -> Result<Vec<&'c [u8]>, AllocError>
     ensures { IfOk result (λ names. texts names.items ≡ bytes_of owned.now) }
@@ -91,35 +75,6 @@ fn shown_list<'c>(
     }
 }
 
-/// The names in the table of a class.
-fn table_names<'c>(alloc: Global, cycle: &'c Cycle) -> Result<Names<'c>, AllocError>
-    ensures { IfOk result (λ names. boundary_in names ≡ bound_by (Some (spec.cycle cycle.now))) }
-{
-    let inputs = shown_list(alloc, &cycle.inputs)?;
-    let outputs = shown_list(alloc, &cycle.outputs)?;
-    let released = shown_names(alloc, &cycle.released)?;
-    Ok(Names {
-        inputs,
-        outputs,
-        released,
-    })
-}
-
-/// The names of a class by an interface, which may have a table for it.
-fn governed_names<'c>(alloc: Global, cycle: &'c Option<Cycle>) -> Result<Names<'c>, AllocError>
-    ensures { IfOk result (λ names.
-        boundary_in names ≡ bound_by (option_map spec.cycle cycle.now)) }
-{
-    match cycle {
-        Some(cycle) => table_names(alloc, cycle),
-        None => Ok(Names {
-            inputs: None,
-            outputs: None,
-            released: Vec::new(alloc),
-        }),
-    }
-}
-
 /// The names that bound a drive or a view.
 pub(crate) fn names_in<'c>(
     alloc: Global,
@@ -130,8 +85,33 @@ pub(crate) fn names_in<'c>(
         boundary_in names ≡ boundary_for policy.entry cycle.now) }
 {
     match policy {
-        DrivePolicy::Lattice(_, lists) => listed_names(alloc, lists),
-        DrivePolicy::Interface(_) => governed_names(alloc, cycle),
+        DrivePolicy::Lattice(_, lists) => {
+            let inputs = given_names(alloc, lists.inputs)?;
+            let outputs = given_names(alloc, lists.outputs)?;
+            let released = released_names(alloc, lists.released)?;
+            Ok(Names {
+                inputs,
+                outputs,
+                released,
+            })
+        }
+        DrivePolicy::Interface(_) => match cycle {
+            Some(cycle) => {
+                let inputs = shown_list(alloc, &cycle.inputs)?;
+                let outputs = shown_list(alloc, &cycle.outputs)?;
+                let released = shown_names(alloc, &cycle.released)?;
+                Ok(Names {
+                    inputs,
+                    outputs,
+                    released,
+                })
+            }
+            None => Ok(Names {
+                inputs: None,
+                outputs: None,
+                released: Vec::new(alloc),
+            }),
+        },
     }
 }
 
@@ -161,46 +141,25 @@ impl<'a> Names<'a> {
     }
 }
 
-/// The option with the name at fault, and its list.
-fn faulty_list<'a>(lists: NameLists<'a>, fault: BoundaryFault) -> (&'static str, &'a str) {
-    match fault {
-        BoundaryFault::UnknownInput(_) | BoundaryFault::InputAboveClass(_) => {
-            ("--inputs", lists.inputs.unwrap_or(""))
-        }
-        BoundaryFault::UnknownOutput(_) | BoundaryFault::OutputAboveClass(_) => {
-            ("--outputs", lists.outputs.unwrap_or(""))
-        }
-        BoundaryFault::NotAnOutput(_) => ("--release", lists.released.unwrap_or("")),
-    }
-}
-
 /// Keeps the list at fault for an explanation, if it was given on the command line.
 fn keep_list(
     cache: &InputCache,
     policy: DrivePolicy<'_>,
     fault: BoundaryFault,
 ) -> Result<(), AllocError> {
-    match policy {
-        DrivePolicy::Lattice(_, lists) => {
-            let (option, list) = faulty_list(lists, fault);
-            cache.keep(InputKind::Names, option, list.as_bytes())
+    let DrivePolicy::Lattice(_, lists) = policy else {
+        return Ok(());
+    };
+    let (option, list) = match fault {
+        BoundaryFault::UnknownInput(_) | BoundaryFault::InputAboveClass(_) => {
+            ("--inputs", lists.inputs)
         }
-        DrivePolicy::Interface(_) => Ok(()),
-    }
-}
-
-/// The failure for a fault of the boundary. The list at fault is kept for an explanation.
-fn boundary_failure<'a>(
-    cache: &InputCache,
-    policy: DrivePolicy<'a>,
-    fault: BoundaryFault,
-) -> Failure<'a>
-    ensures { FailsBy (Because (TellsStartFault (λ f. f ≡ start.Boundary fault)) ⊥) NoOther result }
-{
-    if keep_list(cache, policy, fault).is_err() {
-        return Failure::Memory;
-    }
-    Failure::from(refused_start(cache.alloc, StartFault::Boundary(fault)))
+        BoundaryFault::UnknownOutput(_) | BoundaryFault::OutputAboveClass(_) => {
+            ("--outputs", lists.outputs)
+        }
+        BoundaryFault::NotAnOutput(_) => ("--release", lists.released),
+    };
+    cache.keep(InputKind::Names, option, list.unwrap_or("").as_bytes())
 }
 
 /// A controller of an image with the boundary of its drive or of its view.
@@ -230,7 +189,13 @@ pub(crate) fn controller_of<'a, 'c>(
         names.boundary(),
     ) {
         Ok(Ok(controller)) => Ok(controller),
-        Ok(Err(fault)) => Err(boundary_failure(cache, policy, fault)),
+        Ok(Err(fault)) => {
+            if keep_list(cache, policy, fault).is_err() {
+                return Err(Failure::Memory);
+            }
+            let reason = StartFault::Boundary(fault);
+            Err(Failure::from(refused_start(cache.alloc, reason)))
+        }
         Err(error) => Err(faulty(cache.alloc, Fault::View(error))),
     }
 }
@@ -287,61 +252,6 @@ fn first_unfed(
     Ok(None)
 }
 
-/// The failure for the fault of a setting.
-fn unfed_failure<'a>(alloc: Global, fault: LineFault) -> Failure<'a>
-    ensures { FailsBy (Because (TellsStartFault (λ f. f ≡ start.Setting fault)) ⊥) NoOther result }
-{
-    Failure::from(refused_start(alloc, StartFault::Setting(fault)))
-}
-
-/// Refuses settings that the class of the controller may not make.
-fn feed_all<'a>(
-    alloc: Global,
-    controller: &Controller<'_>,
-    words: &[i64],
-    settings: &[&[u8]],
-) -> Fallible<'a, ()>
-    requires { length words.now ≡ length (control controller.now).image.globals.items }
-    ensures fed { OnOk result (AreInputs (control controller.now) (texts settings.now)) }
-    ensures failed { IfErr result (FailsBy (Because (TellsStartFault
-        (IsUnfed (control controller.now) (texts settings.now))) ⊥) NoOther) }
-{
-    let fault = first_unfed(alloc, controller, words, settings)?;
-    match fault {
-        Some(fault) => Err(unfed_failure(alloc, fault)),
-        None => Ok(()),
-    }
-}
-
-/// Refuses settings that set anything but inputs within a boundary, which has no fault.
-fn feed_within<'a>(
-    alloc: Global,
-    steering: &Steering,
-    names: &Names<'_>,
-    words: &[i64],
-    settings: &[&[u8]],
-) -> Fallible<'a, ()>
-    requires class { IsClass (order steering.now.lattice) steering.now.driver }
-    requires words { length words.now ≡ length steering.now.verified.globals.items }
-    ensures fed { OnOk result (AreInputs (controlled steering.now.lattice steering.now.driver
-        steering.now.verified 0 (boundary_in names.now)) (texts settings.now)) }
-    ensures failed { IfErr result (FailsBy (Because (TellsStartFault (IsUnfed
-        (controlled steering.now.lattice steering.now.driver steering.now.verified 0
-        (boundary_in names.now)) (texts settings.now))) ⊥) NoOther) }
-{
-    // With no budget, a cycle of the controller judges its line and runs nothing.
-    match Controller::within(
-        &steering.lattice,
-        &steering.verified,
-        steering.driver,
-        0,
-        names.boundary(),
-    ) {
-        Ok(Ok(controller)) => feed_all(alloc, &controller, words, settings),
-        _ => Err(Failure::Memory),
-    }
-}
-
 /// Refuses settings that set anything but inputs, if an interface lists those.
 pub(crate) fn feed<'a>(
     alloc: Global,
@@ -361,6 +271,24 @@ pub(crate) fn feed<'a>(
 {
     match policy {
         DrivePolicy::Lattice(_, _) => Ok(()),
-        DrivePolicy::Interface(_) => feed_within(alloc, steering, names, words, settings),
+        DrivePolicy::Interface(_) => {
+            // With no budget, a cycle of the controller judges its line and runs nothing.
+            let Ok(Ok(controller)) = Controller::within(
+                &steering.lattice,
+                &steering.verified,
+                steering.driver,
+                0,
+                names.boundary(),
+            ) else {
+                return Err(Failure::Memory);
+            };
+            match first_unfed(alloc, &controller, words, settings) {
+                Ok(None) => Ok(()),
+                Ok(Some(fault)) => {
+                    Err(Failure::from(refused_start(alloc, StartFault::Setting(fault))))
+                }
+                Err(_) => Err(Failure::Memory),
+            }
+        }
     }
 }

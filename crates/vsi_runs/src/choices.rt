@@ -24,32 +24,28 @@ fn known(lattice: &Lattice, class: Class) -> Class
     }
 }
 
-/// Raises the class of a declaration to the join with that of another, and returns whether it has
-/// risen.
-fn raise(lattice: &Lattice, classes: &mut [Class], from: usize, to: usize) -> bool {
-    let (Some(low), Some(high)) = (classes.get(from), classes.get(to)) else {
-        return false;
-    };
-    let (low, high) = (known(lattice, *low), known(lattice, *high));
-    if lattice.leq(low, high) {
-        return false;
-    }
-    let risen = lattice.join(low, high);
-    if let Some(class) = classes.get_mut(to) {
-        *class = risen;
-    }
-    true
-}
-
-/// Raises classes along the flows of a program, each once, and returns whether one has risen.
+/// Raises classes along the flows of a program, each once, to the join with the class that flows
+/// there, and returns whether one has risen.
 fn raise_each(lattice: &Lattice, flow: &FlowRows, classes: &mut [Class]) -> bool {
     let count = classes.len();
     let mut has_risen = false;
     for from in 0..count {
         for to in 0..count {
-            if flow.has(from, to) {
-                has_risen = raise(lattice, classes, from, to) || has_risen;
+            if !flow.has(from, to) {
+                continue;
             }
+            let (Some(low), Some(high)) = (classes.get(from), classes.get(to)) else {
+                continue;
+            };
+            let (low, high) = (known(lattice, *low), known(lattice, *high));
+            if lattice.leq(low, high) {
+                continue;
+            }
+            let risen = lattice.join(low, high);
+            if let Some(class) = classes.get_mut(to) {
+                *class = risen;
+            }
+            has_risen = true;
         }
     }
     has_risen

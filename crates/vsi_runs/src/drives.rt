@@ -3,7 +3,7 @@
 ghost use Rattle.std.specs.{Prelude.{◌≡◌, ◌<◌, ◌≤◌, ◌∷◌, [], ℕ, List, length, IfOk, IfErr, OnOk, false, MatchResult}, Io.KnownBytes.{Appends}};
 ghost use Rattle.vsi_subject.specs.{Driven.{Drives, DrivesInput, begun, last_line, whole_lines}, Files.{IsStoredAt, IsBudgetOf}, Performed.{PerformsDrive}, Noted.{NotesDrive, NotesStop, TellsBudget}, Partly.{AnswersDrive, Leaves}, Saved.{Advances, CutsInput, CutsLines, LeavesState}, State.{Touches}, Failures.{TellsFault, status_of}, Holding.{IsStoreAt}, Refusals.{NoOther, FailsBy, LacksBound}, Undriven.{LacksDrive, WhyDrive, SaysShort}, Admitted.{IsAdmitted, IsEnough, IsShort, short_line}};
 ghost use Rattle.vsi_drive.specs.{Counted.{device_of, faults_of}, Control.{control}, Cycles.{cycle}};
-ghost use Rattle.vsi_answers.specs.{Answers.{Because}, Judged.{IsStoreFault}, Bounds.{IsBound}};
+ghost use Rattle.vsi_answers.specs.{Answers.{Because}, Judged.{IsStoreFault}};
 ghost use Rattle.vsi_answers.specs.Judged as judged;
 
 use crate::boundaries::{controller_of, names_in};
@@ -286,20 +286,22 @@ fn short_line(alloc: Global, budget: u64, most: u64) -> Result<Vec<u8>, AllocErr
     Ok(text)
 }
 
-/// Whether a budget is enough for an image with this bound: it isn't below the bound, or the image
-/// is steady. If it isn't enough, the line that says so.
-fn reaching(
+/// Whether a budget is enough for an image: it isn't below the bound, or the image is steady. If it
+/// isn't enough, or no bound is found, the line that says so.
+fn judged(
     alloc: Global,
     classes: &Lattice,
     verified: &Verified,
     budget: u64,
-    most: u64,
 ) -> Result<Result<(), Vec<u8>>, AllocError>
-    requires { IsBound verified.now most }
     ensures { IfOk result (λ answer. MatchResult answer
         (λ _. IsEnough classes.now verified.now budget)
         (λ line. IsShort classes.now verified.now budget line.items)) }
 {
+    let most = match enough_budget(alloc, verified)? {
+        Ok(most) => most,
+        Err(line) => return Ok(Err(line)),
+    };
     if most <= budget {
         return Ok(Ok(()));
     }
@@ -312,23 +314,6 @@ fn reaching(
                 Ok(Err(line))
             }
         },
-    }
-}
-
-/// Whether a budget is enough for an image, or the line that says that it isn't.
-fn judged(
-    alloc: Global,
-    classes: &Lattice,
-    verified: &Verified,
-    budget: u64,
-) -> Result<Result<(), Vec<u8>>, AllocError>
-    ensures { IfOk result (λ answer. MatchResult answer
-        (λ _. IsEnough classes.now verified.now budget)
-        (λ line. IsShort classes.now verified.now budget line.items)) }
-{
-    match enough_budget(alloc, verified)? {
-        Ok(most) => reaching(alloc, classes, verified, budget, most),
-        Err(line) => Ok(Err(line)),
     }
 }
 

@@ -1,30 +1,11 @@
 //! The lattice, the class and the image of a request that runs an image.
 
 ghost use Rattle.std.specs.Prelude.{IfErr, IfOk, ◌⊎◌};
-ghost use Rattle.vsi_subject.specs.{Refusals.{NoOther, RefusesLattice, FailsBy, LacksClassAt, RefusesImage}, Holding.{IsLatticeAt, IsImageAt}, Files.{LooksAt}};
+ghost use Rattle.vsi_subject.specs.{Refusals.{RefusesLattice, FailsBy, LacksClassAt, RefusesImage}, Holding.{IsImageAt}, Files.{LooksAt}};
 
-use std::alloc::Global;
 use vsi_image::Verified;
 use vsi_lattice::{Class, Lattice};
 use vsi_subject::{Failure, Fallible, Files, InputKind, Subject, class_in, declared_lattice};
-
-/// The lattice of a file that comes before an image, which a drive may not give in its place.
-fn first_lattice<'a, F: Files>(
-    subject: &Subject<'_, F>,
-    path: &'a str,
-    is_drive: bool,
-) -> Fallible<'a, Lattice>
-    ensures read { IfOk result (IsLatticeAt (F.holds subject.now.files.now) path.now) }
-    ensures failed { IfErr result
-        (FailsBy (RefusesLattice (F.holds subject.now.files.now) path.now) NoOther) }
-{
-    let bytes = subject.bytes_in(InputKind::Lattice, path)?;
-    let is_exchanged = is_drive && begins_image(bytes.as_slice());
-    if is_exchanged {
-        return Err(exchanged(subject.alloc));
-    }
-    declared_lattice(subject.alloc, bytes.as_slice())
-}
 
 /// The message if an image is given where the lattice file should be.
 const EXCHANGED: &str = "\
@@ -41,18 +22,9 @@ fn begins_image(bytes: &[u8]) -> bool {
     matches!(bytes, [b'V', b'S', b'I', version, ..] if *version < b' ')
 }
 
-/// The failure for an image in place of the lattice file.
-fn exchanged<'a>(alloc: Global) -> Failure<'a>
-    ensures { FailsBy (λ reason. ⊥) NoOther result }
-{
-    match String::from_str(alloc, EXCHANGED) {
-        Ok(text) => Failure::Usage(text),
-        Err(_) => Failure::Memory,
-    }
-}
-
 /// The lattice of a file, the class of the viewer or the driver, and the image that it views or
-/// drives. The image is read only if the lattice has the class.
+/// drives. A drive may not give an image in place of the lattice file. The image is read only if
+/// the lattice has the class.
 pub(crate) fn policy_and_image<'a, F: Files>(
     subject: &Subject<'_, F>,
     lattice: &'a str,
@@ -69,7 +41,13 @@ pub(crate) fn policy_and_image<'a, F: Files>(
         ⊎ RefusesImage (F.holds subject.now.files.now) image.now reason)
         (LacksClassAt (F.holds subject.now.files.now) lattice.now class.now)) }
 {
-    let classes = first_lattice(subject, lattice, is_drive)?;
+    let bytes = subject.bytes_in(InputKind::Lattice, lattice)?;
+    let is_exchanged = is_drive && begins_image(bytes.as_slice());
+    if is_exchanged {
+        let text = String::from_str(subject.alloc, EXCHANGED)?;
+        return Err(Failure::Usage(text));
+    }
+    let classes = declared_lattice(subject.alloc, bytes.as_slice())?;
     let viewer = class_in(&classes, class)?;
     let verified = subject.image_in(image)?;
     Ok((classes, viewer, verified))

@@ -1,7 +1,7 @@
 //! Runs of images.
 
 ghost use Rattle.std.specs.Prelude.{◌≡◌, ◌⊎◌, [], IfErr, IfOk, OnOk, ◌<◌, true, length, Ok, Err};
-ghost use Rattle.vsi_subject.specs.{Documents.{RunsJson}, Refusals.{NoOther, RefusesImage, FailsBy, LacksBoundAt, RefusesStart, LacksEither}, Files.{BeginsAt}, Noted.{Counts, CountsRun, NotesCompare}, Performed.{AreCompared, PerformsRun, TellsComparison, ToldComparison, ViewsFiles}, Partly.{AnswersRun, Leaves}, State.{StaysBeside}, Failures.{TellsFault, status_of}, declared.failure.Failure.TheVariants.{Memory}, Reasons.{WhyRun, WhyView, LacksCompare, WhyCompare}};
+ghost use Rattle.vsi_subject.specs.{Documents.{RunsJson}, Refusals.{NoOther, RefusesImage, FailsBy, LacksBoundAt, RefusesStart, LacksEither}, Files.{BeginsAt}, Noted.{Counts, CountsRun, NotesCompare}, Performed.{PerformsRun, TellsComparison, ToldComparison, ViewsFiles}, Partly.{AnswersRun, Leaves}, State.{StaysBeside}, Failures.{TellsFault, status_of}, declared.failure.Failure.TheVariants.{Memory}, Reasons.{WhyRun, WhyView, LacksCompare, WhyCompare}};
 ghost use Rattle.vsi_lattice.specs.{LatticeView.{order}, Order.{IsClass}, NamePlaces.{texts}};
 ghost use Rattle.vsi_compiler.specs.declared.source.CompileError.TheVariants.{Memory};
 ghost use Rattle.vsi_answers.specs.Requests.{BeginsWith, ComparesTo};
@@ -121,19 +121,17 @@ pub fn view<'a, F: Files>(
     Ok(vsi_answers::view(subject.alloc, &classes, &verified, viewer, &words, budget)?)
 }
 
-/// Reads the files of a comparison. The note gets a line if the budget isn't enough and is
-/// taken all the same.
-fn runs_in<'a, F: Files>(
+/// The comparison that a class makes of the runs of an image file from two store files, as
+/// lines or as a line of JSON. The note gets a line if the budget isn't enough and is taken all
+/// the same.
+pub fn compare<'a, F: Files>(
     subject: &Subject<'_, F>,
     asked: Comparison<'a>,
+    is_json: bool,
     note: &mut Vec<u8>,
-) -> Fallible<'a, TwoRuns>
-    ensures first { IfOk result
-        (λ read. length read.first.items ≡ length read.verified.globals.items) }
-    ensures second { IfOk result
-        (λ read. length read.second.items ≡ length read.verified.globals.items) }
-    ensures told { IfOk result (λ read. AreCompared (F.holds subject.now.files.now) asked.entry
-        read.lattice read.viewer read.verified read.first.items read.second.items read.budget) }
+) -> Fallible<'a, Reply>
+    ensures told { IfOk result (λ reply. TellsComparison is_json (F.holds subject.now.files.now)
+        asked.entry reply.is_good reply.text) }
     ensures noted { note.old.items ≡ [] → OnOk result
         (NotesCompare (F.holds subject.now.files.now) asked.entry note.new.items) }
     ensures hushed { note.old.items ≡ [] → IfErr result (λ _. (note.new.items ≡ []) ⊎
@@ -159,35 +157,14 @@ fn runs_in<'a, F: Files>(
         budget,
         note,
     )?;
-    Ok(TwoRuns {
+    let runs = TwoRuns {
         lattice,
         viewer,
         verified,
         first,
         second,
         budget,
-    })
-}
-
-/// The comparison that a class makes of the runs of an image file from two store files, as
-/// lines or as a line of JSON. The note gets a line if the budget isn't enough and is taken all
-/// the same.
-pub fn compare<'a, F: Files>(
-    subject: &Subject<'_, F>,
-    asked: Comparison<'a>,
-    is_json: bool,
-    note: &mut Vec<u8>,
-) -> Fallible<'a, Reply>
-    ensures told { IfOk result (λ reply. TellsComparison is_json (F.holds subject.now.files.now)
-        asked.entry reply.is_good reply.text) }
-    ensures noted { note.old.items ≡ [] → OnOk result
-        (NotesCompare (F.holds subject.now.files.now) asked.entry note.new.items) }
-    ensures hushed { note.old.items ≡ [] → IfErr result (λ _. (note.new.items ≡ []) ⊎
-        NotesCompare (F.holds subject.now.files.now) asked.entry note.new.items) }
-    ensures failed { IfErr result (FailsBy (WhyCompare (F.holds subject.now.files.now) asked.entry)
-        (LacksCompare (F.holds subject.now.files.now) asked.entry)) }
-{
-    let runs = runs_in(subject, asked, note)?;
+    };
     let reply = compare_runs(subject.alloc, is_json, &runs)?;
     Ok(reply)
 }

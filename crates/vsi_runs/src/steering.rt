@@ -1,23 +1,20 @@
 //! The class that drives or views an image, by a lattice file or by an interface with boundaries.
 
-ghost use Rattle.std.specs.Prelude.{◌≡◌, ◌⊎◌, Some, false, map, option_map, true, IfErr, IfOk, OnOk, [], None, length};
+ghost use Rattle.std.specs.Prelude.{◌≡◌, ◌⊎◌, Some, false, map, option_map, true, IfErr, IfOk, OnOk, [], None};
 ghost use Rattle.vsi_conform.specs.{Bounded.{demands_bound}, ImageConforms.{Conforms}};
 ghost use Rattle.vsi_lattice.specs.{Order.{IsClass}, LatticeView.{order}};
-ghost use Rattle.vsi_subject.specs.{Boundaries.{boundary_at, boundary_for, bound_by, table_of}, Files.{LooksAt}, Holding.{IsImageAt}, Reached.{AllowsReleases}, Undriven.{LacksCycle, LacksGoverned, LacksPolicy, RefusesAsked, RefusesSteering, SaysDiffering, SaysLine, LacksView}, Refusals.{LacksClassAt, RefusesImage, RefusesLattice, FailsBy, NoOther}, Steering.{IsGoverned, IsSteeredBy, insisting_line, no_cycle_line}, Noted.{NotesView}, Viewing.{ViewsWithin}, Reasons.{WhyViewWithin}};
-ghost use Rattle.vsi_drive.specs.{Control.{control}, Views.{view_of}};
-ghost use Rattle.vsi_answers.specs.declared.unanswered.Unanswered.TheVariants as unanswered;
+ghost use Rattle.vsi_subject.specs.{Boundaries.{boundary_at, boundary_for, bound_by, table_of}, Holding.{IsImageAt}, Reached.{AllowsReleases}, Undriven.{LacksCycle, LacksGoverned, LacksPolicy, RefusesAsked, RefusesSteering, SaysDiffering, SaysLine, LacksView}, Refusals.{RefusesImage, FailsBy}, Steering.{IsGoverned, IsSteeredBy, insisting_line}, Noted.{NotesView}, Viewing.{ViewsWithin}, Reasons.{WhyViewWithin}};
 ghost use Rattle.vsi_conform.specs.Reading as reading;
 
 use crate::boundaries::{controller_of, feed, names_in};
 use crate::drives::{admit, budget_of};
 use crate::policies::policy_and_image;
 use crate::running::words_in;
-use std::alloc::{AllocError, Global};
+use std::alloc::Global;
 use vsi_arguments::{DrivePolicy, RUNS_BUDGET, Viewing};
 use vsi_conform::{
     Conformity, Cycle, Interface, InterfaceFile, conform_image, image_reaches, image_rows,
 };
-use vsi_drive::Controller;
 use vsi_image::Verified;
 use vsi_lattice::{Class, Lattice};
 use vsi_subject::{Failure, Fallible, Files, Subject, class_in};
@@ -33,13 +30,7 @@ pub(crate) struct Steering {
 }
 
 /// The line of `--unbounded` with an interface that requires a bound.
-fn insisting_line(alloc: Global) -> Result<Vec<u8>, AllocError>
-    ensures { IfOk result (λ text. text.items ≡ insisting_line) }
-{
-    let mut text = Vec::new(alloc);
-    text.extend_from_slice(b"--unbounded refused: the interface requires a bound\n")?;
-    Ok(text)
-}
+const INSISTING: &[u8] = b"--unbounded refused: the interface requires a bound\n";
 
 /// Refuses `--unbounded` with an interface that requires a bound.
 fn insist<'a>(alloc: Global, is_unbounded: bool, interface: &Interface) -> Fallible<'a, ()>
@@ -54,7 +45,7 @@ fn insist<'a>(alloc: Global, is_unbounded: bool, interface: &Interface) -> Falli
     if !interface.demands_bound() {
         return Ok(());
     }
-    let line = insisting_line(alloc)?;
+    let line = Vec::from_slice(alloc, INSISTING)?;
     Err(Failure::Refused(line, None))
 }
 
@@ -102,17 +93,6 @@ fn own_cycle(cycles: Vec<Cycle>, class: &[u8]) -> Option<Cycle>
     None
 }
 
-/// The line of a class without a boundary.
-fn lacking_line(alloc: Global, class: &[u8]) -> Result<Vec<u8>, AllocError>
-    ensures { IfOk result (λ text. text.items ≡ no_cycle_line class.now) }
-{
-    let mut text = Vec::new(alloc);
-    text.extend_from_slice(b"no cycle of class ")?;
-    text.extend_from_slice(class)?;
-    text.extend_from_slice(b"\n")?;
-    Ok(text)
-}
-
 /// The boundary of a class among those of an interface; without any, no class needs one.
 fn cycle_for<'a>(alloc: Global, cycles: Vec<Cycle>, class: &'a str) -> Fallible<'a, Option<Cycle>>
     ensures bounded { IfOk result (λ cycle.
@@ -127,36 +107,12 @@ fn cycle_for<'a>(alloc: Global, cycles: Vec<Cycle>, class: &'a str) -> Fallible<
     match own_cycle(cycles, class.as_bytes()) {
         Some(cycle) => Ok(Some(cycle)),
         None => {
-            let line = lacking_line(alloc, class.as_bytes())?;
+            let mut line = Vec::from_slice(alloc, b"no cycle of class ")?;
+            line.extend_from_slice(class.as_bytes())?;
+            line.extend_from_slice(b"\n")?;
             Err(Failure::Refused(line, None))
         }
     }
-}
-
-/// The class that drives or views an image by a lattice file.
-fn by_lattice<'a, F: Files>(
-    subject: &Subject<'_, F>,
-    lattice: &'a str,
-    class: &'a str,
-    image: &'a str,
-    is_drive: bool,
-) -> Fallible<'a, Steering>
-    ensures looks { IfOk result (λ steering. LooksAt (F.holds subject.now.files.now) lattice.now
-        class.now steering.lattice steering.driver) }
-    ensures held { IfOk result
-        (λ steering. IsImageAt (F.holds subject.now.files.now) image.now steering.verified) }
-    ensures failed { IfErr result (FailsBy (λ reason.
-        RefusesLattice (F.holds subject.now.files.now) lattice.now reason
-        ⊎ RefusesImage (F.holds subject.now.files.now) image.now reason)
-        (LacksClassAt (F.holds subject.now.files.now) lattice.now class.now)) }
-{
-    let (lattice, driver, verified) = policy_and_image(subject, lattice, class, image, is_drive)?;
-    Ok(Steering {
-        lattice,
-        driver,
-        verified,
-        cycle: None,
-    })
 }
 
 /// The class that drives or views an image by an interface, to which the image conforms.
@@ -212,7 +168,17 @@ pub(crate) fn steered<'a, F: Files>(
         policy.entry is_unbounded)) }
 {
     match policy {
-        DrivePolicy::Lattice(path, _) => by_lattice(subject, path, class, image, is_drive),
+        DrivePolicy::Lattice(path, _) => {
+            let (lattice, driver, verified) = policy_and_image(
+                subject, path, class, image, is_drive,
+            )?;
+            Ok(Steering {
+                lattice,
+                driver,
+                verified,
+                cycle: None,
+            })
+        }
         DrivePolicy::Interface(path) => { by_interface(subject, path, class, image, is_unbounded) }
     }
 }
@@ -247,14 +213,8 @@ pub fn view_within<'a, F: Files>(
     let budget = budget_of(subject.alloc, asked.execution.budget, &steering.verified)?;
     let names = names_in(subject.alloc, asked.policy, &steering.cycle)?;
     let controller = controller_of(subject.cache, asked.policy, &names, &steering, budget)?;
-    feed(
-        subject.alloc,
-        asked.policy,
-        &steering,
-        &names,
-        &words,
-        asked.initial_store.settings.as_slice(),
-    )?;
+    let settings = asked.initial_store.settings.as_slice();
+    feed(subject.alloc, policy, &steering, &names, &words, settings)?;
     admit(
         subject.alloc,
         is_unbounded,
@@ -263,25 +223,10 @@ pub fn view_within<'a, F: Files>(
         budget,
         note,
     )?;
-    let text = written_lines(subject.alloc, &controller, &words)?;
+    let text = match controller.view(subject.alloc, &words) {
+        Ok(Some(text)) => text,
+        Ok(None) => return Err(Failure::OutOfBudget),
+        Err(_) => return Err(Failure::Memory),
+    };
     Ok(text)
-}
-
-/// The lines that a controller writes of the final store of the run from these words.
-fn written_lines<'a>(
-    alloc: Global,
-    controller: &Controller<'_>,
-    words: &[i64],
-) -> Fallible<'a, Vec<u8>>
-    requires { length words.now ≡ length (control controller.now).image.globals.items }
-    ensures view { IfOk result (λ text. view_of (control controller.now) (control
-        controller.now).budget words.now ≡ Some text.items) }
-    ensures failed { IfErr result (FailsBy (λ reason. (reason ≡ unanswered.OutOfBudget) × (view_of
-        (control controller.now) (control controller.now).budget words.now ≡ None)) NoOther) }
-{
-    match controller.view(alloc, words) {
-        Ok(Some(text)) => Ok(text),
-        Ok(None) => Err(Failure::OutOfBudget),
-        Err(_) => Err(Failure::Memory),
-    }
 }

@@ -1,8 +1,13 @@
-use Rattle.std.proofs.Common.{◌≡◌, ◌∙◌, Some, ap, sym}
+use Rattle.std.proofs.Common.{◌≡◌, ◌∙◌, Some, ap, sym, subst}
+use Rattle.vsi_answers.specs.Answers.{Because}
+use Rattle.vsi_answers.specs.Judged.{TellsStartFault}
 use Rattle.vsi_drive.specs.Boundary.{boundary_of}
 use Rattle.vsi_drive.specs.BoundaryFaults.{boundary_fault}
 use Rattle.vsi_drive.specs.Control.{control, controlled}
+use Rattle.vsi_drive.specs.declared.boundary.StartFault.TheVariants as start
 use Rattle.vsi_subject.specs.Boundaries.{boundary_for}
+use Rattle.vsi_subject.specs.Refusals.{NoOther, FailsBy}
+use Rattle.vsi_subject.proofs.Reasons.{reason_fails}
 use Rattle.vsi_runs.proofs.Undriven.{boundary_fails, controller_fails}
 use Rattle.vsi_runs.proofs.boundaries.controller_of.Goals as goal
 
@@ -25,8 +30,11 @@ returns-in-Ok-Err-clause-failed c =
     let got : boundary_fault (made (boundary_of c.boundary.result)) ≡ Some c.in-Ok-Err.fault =
     rw c.in-Ok-Err.field-0-is at c.in-Ok-Err.ensures.fault in
     boundary_fails (boundary_for c.args.policy s.cycle) s.lattice s.driver s.verified c.args.budget c.in-Ok-Err.fault
-    c.boundary_failure.result (sym (ap (λ b. boundary_fault (made b)) (c.boundary.ensures ∙ c.requires.names)) ∙ got)
-    c.boundary_failure.ensures
+    c.from.result (sym (ap (λ b. boundary_fault (made b)) (c.boundary.ensures ∙ c.requires.names)) ∙ got)
+    (subst (FailsBy (Because (TellsStartFault (λ f. f ≡ start.Boundary c.in-Ok-Err.fault)) ⊥) NoOther)
+    (sym c.from.ensures)
+    (reason_fails (Because (TellsStartFault (λ f. f ≡ start.Boundary c.in-Ok-Err.fault)) ⊥) NoOther
+    c.refused_start.result c.refused_start.ensures))
 
 pub returns-in-Err-clause-failed : goal.returns-in-Err-clause-failed
 returns-in-Err-clause-failed c =

@@ -13,7 +13,7 @@ use Rattle.vsi_subject.proofs.CarriedOut.{each_failure}
 use Rattle.vsi_subject.proofs.Reasons.{late_failed}
 use Rattle.vsi_subject.proofs.Unrun.{begins_at, memory_failed, start_failed, unbounded_failed}
 use Rattle.vsi_runs.proofs.Undriven.{steered_lattice}
-use Rattle.vsi_runs.proofs.Viewed.{control_failed, spent_failed, unfed_failed, unviewed_failed, view_short}
+use Rattle.vsi_runs.proofs.Viewed.{control_failed, unfed_failed, unviewed_failed, view_short}
 use Rattle.vsi_runs.proofs.steering.view_within.Goals as goal
 
 pub returns-clause-told : goal.returns-clause-told
@@ -39,16 +39,16 @@ returns-clause-told g c =
           (λ own. AreFed asked.policy l viewer image own (texts asked.initial_store.settings.items))
           c.in_ok-names.ensures
           (subst (λ ss. AreFed asked.policy l viewer image (boundary_in c.in_ok-names.names) (texts ss))
-          c.as_slice.ensures.value c.in_ok-feed.ensures.fed);
+          c.as_slice-settings.ensures.value c.in_ok-feed.ensures.fed);
       budget = budget;
       within = c.in_ok-budget.ensures.budget;
       admitted = c.in_ok-admit.ensures.admitted;
       sound = subst (λ k. boundary_fault k ≡ None) c.in_ok-controller.ensures.control
           c.in_ok-controller.ensures.sound;
-      view = subst (λ w. view_of (controlled l viewer image budget b) budget w ≡ Some c.in_ok-text.text.items)
+      view = subst (λ w. view_of (controlled l viewer image budget b) budget w ≡ Some c.in-Ok-Some.text.items)
           c.deref-3.ensures.value
-          (subst (λ k. view_of k k.budget c.deref-3.result.now ≡ Some c.in_ok-text.text.items)
-          c.in_ok-controller.ensures.control c.in_ok-text.ensures.view);
+          (subst (λ k. view_of k k.budget c.deref-3.result.now ≡ Some c.in-Ok-Some.text.items)
+          c.in_ok-controller.ensures.control (sym (rw c.in-Ok-Some.field-0-is at c.in-Ok-Some.ensures.view)));
     }
 
 pub returns-clause-noted : goal.returns-clause-noted
@@ -136,32 +136,46 @@ returns-in_err-feed-clause-failed g c =
     let asked = c.args.asked.now in
     unfed_failed holds asked c.in_ok-steering.steering.lattice c.in_ok-steering.steering.driver
     c.in_ok-steering.steering.verified (boundary_for asked.policy c.in_ok-steering.steering.cycle)
-    (boundary_in c.in_ok-names.names) c.in_ok-words.words.items c.in_ok-budget.budget (texts c.as_slice.result.now)
+    (boundary_in c.in_ok-names.names) c.in_ok-words.words.items c.in_ok-budget.budget (texts c.as_slice-settings.result.now)
     c.from_residual-in_err-feed.result c.in_err-feed.field-0.0 c.in_ok-steering.ensures.steered
     (begins_at holds asked.execution asked.initial_store c.in_ok-steering.steering.verified c.in_ok-file.file.items
     c.deref.result.now c.in_ok-words.words.items c.in_ok-steering.ensures.held
     c.in_ok-file.ensures.read
     c.deref.ensures.value c.in_ok-words.ensures.begins c.in_ok-words.ensures.len)
-    c.in_ok-budget.ensures.budget c.in_ok-names.ensures (ap texts c.as_slice.ensures.value)
+    c.in_ok-budget.ensures.budget c.in_ok-names.ensures (ap texts c.as_slice-settings.ensures.value)
     c.from_residual-in_err-feed.ensures.1 c.in_err-feed.ensures.failed
 
-pub returns-in_err-text-clause-failed : goal.returns-in_err-text-clause-failed
-returns-in_err-text-clause-failed g c =
-    let holds = g.F.Files.holds c.args.subject.now.files.now in
+pub returns-in-Ok-None-clause-failed : goal.returns-in-Ok-None-clause-failed
+returns-in-Ok-None-clause-failed g c =
     let asked = c.args.asked.now in
-    spent_failed holds asked c.in_ok-steering.steering.lattice c.in_ok-steering.steering.driver
-    c.in_ok-steering.steering.verified (boundary_for asked.policy c.in_ok-steering.steering.cycle)
-    c.in_ok-words.words.items c.deref-3.result.now c.in_ok-budget.budget (control c.in_ok-controller.controller)
-    c.from_residual-in_err-text.result c.in_err-text.field-0.0 c.in_ok-steering.ensures.steered
-    (begins_at holds asked.execution asked.initial_store c.in_ok-steering.steering.verified c.in_ok-file.file.items
-    c.deref.result.now c.in_ok-words.words.items c.in_ok-steering.ensures.held
-    c.in_ok-file.ensures.read
-    c.deref.ensures.value c.in_ok-words.ensures.begins c.in_ok-words.ensures.len)
-    c.in_ok-budget.ensures.budget c.in_ok-controller.ensures.control
-    c.deref-3.ensures.value c.from_residual-in_err-text.ensures.1 c.in_err-text.ensures.failed
+    let l = c.in_ok-steering.steering.lattice in
+    let viewer = c.in_ok-steering.steering.driver in
+    let image = c.in_ok-steering.steering.verified in
+    let budget = c.in_ok-budget.budget in
+    let b = boundary_for asked.policy c.in_ok-steering.steering.cycle in
+    inr (inr (inr (record {
+      lattice = l;
+      viewer = viewer;
+      image = image;
+      boundary = b;
+      viewed = c.in_ok-steering.ensures.steered;
+      words = c.in_ok-words.words.items;
+      begins = begins_at (g.F.Files.holds c.args.subject.now.files.now) asked.execution asked.initial_store image
+          c.in_ok-file.file.items c.deref.result.now c.in_ok-words.words.items c.in_ok-steering.ensures.held
+          c.in_ok-file.ensures.read
+          c.deref.ensures.value c.in_ok-words.ensures.begins c.in_ok-words.ensures.len;
+      budget = budget;
+      within = c.in_ok-budget.ensures.budget;
+      is = inr (inl (
+        refl,
+        subst (λ w. view_of (controlled l viewer image budget b) budget w ≡ None) c.deref-3.ensures.value
+            (subst (λ k. view_of k k.budget c.deref-3.result.now ≡ None) c.in_ok-controller.ensures.control
+            (sym (rw c.in-Ok-None.field-0-is at c.in-Ok-None.ensures.view))),
+      ));
+    })))
 
-pub written_lines-requires : goal.written_lines-requires
-written_lines-requires g c =
+pub view-requires : goal.view-requires
+view-requires g c =
     ap length c.deref-3.ensures.value ∙ c.in_ok-words.ensures.len
     ∙ sym (ap (λ k. length k.image.globals.items) c.in_ok-controller.ensures.control)
 
@@ -201,10 +215,26 @@ pub returns-in_err-admit-clause-hushed : goal.returns-in_err-admit-clause-hushed
 returns-in_err-admit-clause-hushed g c = λ fresh.
     each_failure _ c.from_residual-in_err-admit.result (λ failure. inl (c.in_err-admit.ensures.quiet ∙ fresh))
 
-pub returns-in_err-text-clause-hushed : goal.returns-in_err-text-clause-hushed
-returns-in_err-text-clause-hushed g c = λ fresh.
+pub returns-in-Ok-None-clause-hushed : goal.returns-in-Ok-None-clause-hushed
+returns-in-Ok-None-clause-hushed g c = λ fresh.
     let asked = c.args.asked.now in
-    each_failure _ c.from_residual-in_err-text.result (λ failure. inr record {
+    inr (record {
+      lattice = c.in_ok-steering.steering.lattice;
+      declared = steered_lattice (g.F.Files.holds c.args.subject.now.files.now) asked.class.now asked.policy
+          asked.is_unbounded
+          c.in_ok-steering.steering.lattice c.in_ok-steering.steering.driver c.in_ok-steering.steering.verified
+          (boundary_for asked.policy c.in_ok-steering.steering.cycle) c.in_ok-steering.ensures.steered;
+      image = c.in_ok-steering.steering.verified;
+      held = c.in_ok-steering.ensures.held;
+      budget = c.in_ok-budget.budget;
+      within = c.in_ok-budget.ensures.budget;
+      is = c.in_ok-admit.ensures.told fresh;
+    })
+
+pub returns-in-Err-clause-hushed : goal.returns-in-Err-clause-hushed
+returns-in-Err-clause-hushed g c = λ fresh.
+    let asked = c.args.asked.now in
+    inr (record {
       lattice = c.in_ok-steering.steering.lattice;
       declared = steered_lattice (g.F.Files.holds c.args.subject.now.files.now) asked.class.now asked.policy
           asked.is_unbounded

@@ -3,16 +3,29 @@ use Rattle.vsi_subject.proofs.Partly.{any_failure}
 use Rattle.vsi_runs.proofs.Served.{served_partly}
 use Rattle.vsi_runs.proofs.trials.serve.Goals as goal
 
-pub returns-in_err-put_two-clause-cut : goal.returns-in_err-put_two-clause-cut
-returns-in_err-put_two-clause-cut g c =
+pub returns-in_err-extend_from_slice-clause-cut : goal.returns-in_err-extend_from_slice-clause-cut
+returns-in_err-extend_from_slice-clause-cut g c =
     let contents = g.W.Write.contents in
-    any_failure _ c.from_residual-in_err-put_two.result
+    any_failure _ c.from_residual-in_err-extend_from_slice.result
+    (served_partly (contents (device_of c.args.output.now)) (contents (device_of c.serve_input.new.output))
+    c.in_ok-serve_input.ensures.served)
+
+pub returns-in_err-extend_from_slice-2-clause-cut : goal.returns-in_err-extend_from_slice-2-clause-cut
+returns-in_err-extend_from_slice-2-clause-cut g c =
+    let contents = g.W.Write.contents in
+    any_failure _ c.from_residual-in_err-extend_from_slice-2.result
+    (served_partly (contents (device_of c.args.output.now)) (contents (device_of c.serve_input.new.output))
+    c.in_ok-serve_input.ensures.served)
+
+pub returns-in_err-text-clause-cut : goal.returns-in_err-text-clause-cut
+returns-in_err-text-clause-cut g c =
+    let contents = g.W.Write.contents in
+    any_failure _ c.from_residual-in_err-text.result
     (served_partly (contents (device_of c.args.output.now)) (contents (device_of c.serve_input.new.output))
     c.in_ok-serve_input.ensures.served)
 
 pub returns-clause-cut : goal.returns-clause-cut
 returns-clause-cut g c =
     let contents = g.W.Write.contents in
-    any_failure _ c.ended.result
-    (served_partly (contents (device_of c.args.output.now)) (contents (device_of c.serve_input.new.output))
-    c.in_ok-serve_input.ensures.served)
+    served_partly (contents (device_of c.args.output.now)) (contents (device_of c.serve_input.new.output))
+    c.in_ok-serve_input.ensures.served
