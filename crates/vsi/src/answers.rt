@@ -1,7 +1,7 @@
 //! The answers of requests that don't write while they work, and where they go.
 
 ghost use Rattle.std.specs.{Prelude.{◌≡◌, ◌⊎◌, [], IfErr, IfOk, OnOk, ◌<◌, true, false}, Io.KnownBytes.{Appends}};
-ghost use Rattle.vsi_subject.specs.{Noted.{IsNoteBefore, NotesAnswer, document_noting, Notes, noting}, Performed.{DocumentOf, PutsAnswer, Tells}, Reasons.{LacksDocument, RefusesDocument, Refuses, WhyAnswer}, Refusals.{NoOther, FailsBy}, Failures.{TellsFault, status_of}, Partly.{WritesPart, AnswersText, Leaves}, Works.{Puts, Stays, out_of, cut_of, document_spends, end_of, spends}};
+ghost use Rattle.vsi_subject.specs.{Noted.{IsNoteBefore, NotesAnswer, document_noting, Notes, noting}, Performed.{DocumentOf, PutsAnswer, Tells}, Reasons.{LacksDocument, RefusesDocument, Refuses, WhyAnswer}, Refusals.{NoOther, FailsBy}, Failures.{TellsFault, status_of}, Partly.{WritesPart, AnswersText, Leaves}, Works.{Puts, Stays, out_of, cut_of, end_of, spends}};
 ghost use Rattle.vsi_drive.specs.Counted.{device_of, faults_of};
 ghost use Rattle.vsi_subject.specs.Works as spec;
 
@@ -88,25 +88,13 @@ fn finish<'a, F: Files, W: Write>(
     }
 }
 
-/// How the program fails after a bad document: the budget of a run is spent, or there is a
+/// How the program fails after a bad answer: the budget of a run is spent, or there is a
 /// difference.
-fn document_end<'a>(asked: &Document<'_>) -> Failure<'a>
-    ensures { result ≡ end_of (document_spends asked.now) }
-{
-    match asked {
-        Document::Run { .. } => Failure::OutOfBudget,
-        Document::Sarif(_) | Document::Classes(_) | Document::Flows(_) => Failure::Differs,
-        Document::Audit(_) | Document::AuditSarif(_) | Document::Bound(_) => Failure::Differs,
-        Document::Compare(_) | Document::Leak(_) => Failure::Differs,
-    }
-}
-
-/// How the program fails after a bad answer.
 fn bad_end<'a>(asked: &Request<'_>) -> Failure<'a>
     ensures { result ≡ end_of (spends asked.now) }
 {
     match asked {
-        Request::Document(asked) => document_end(asked),
+        Request::Document(Document::Run { .. }) => Failure::OutOfBudget,
         Request::Steps { .. } => Failure::OutOfBudget,
         _ => Failure::Differs,
     }

@@ -252,20 +252,9 @@ fn write_run<'a, W: Write>(
         (FailsFor (λ reason. RunsSourceTo lattice.now source.now 1000000 (Err reason))
         (IsStreamFault (faults_of output.old < faults_of output.new))) }
 {
-    let text = ran(alloc, lattice, source)?;
-    write(text.as_slice(), output)
-}
-
-/// The text of the final store of the run of a source text.
-fn ran<'a>(alloc: Global, lattice: &Lattice, source: &[u8]) -> Fallible<'a, Vec<u8>>
-    ensures ran { IfOk result
-        (λ text. RunsSourceTo lattice.now source.now 1000000 (Ok text)) }
-    ensures failed { IfErr result
-        (FailsFor (λ reason. RunsSourceTo lattice.now source.now 1000000 (Err reason))
-        (λ path. ⊥)) }
-{
     let answer = vsi_answers::run_source(alloc, lattice, source, DEFAULT_BUDGET);
-    answered(answer)
+    let text = answered(answer)?;
+    write(text.as_slice(), output)
 }
 
 /// The note after a failure, or after a request that was performed.
@@ -293,25 +282,19 @@ impl ErrorText {
         self.lines.extend_from_slice(&lines?)
     }
 
-    /// Writes the note, if no byte of it controls a terminal except for its colours.
+    /// Writes the note to standard error, whose faults change nothing, if no byte of it controls a
+    /// terminal except for its colours.
     pub(crate) fn tell<E: Write>(&self, error: &mut Counted<E>)
         ensures count { faults_of error.old ≤ faults_of error.new }
         ensures told { Gets E.contents error.old error.new (tamed_text self.now.lines.items) }
     {
         let text = tamed(&self.lines);
-        if !text.is_empty() {
-            say(text, error);
+        if text.is_empty() {
+            return;
         }
-    }
-}
-
-/// Writes a text to standard error, whose faults change nothing.
-fn say<E: Write>(text: &[u8], error: &mut Counted<E>)
-    ensures count { faults_of error.old ≤ faults_of error.new }
-    ensures told { Gets E.contents error.old error.new text.now }
-{
-    if error.faults() < u64::MAX {
-        let _ = write_out(text, error);
+        if error.faults() < u64::MAX {
+            let _ = write_out(text, error);
+        }
     }
 }
 

@@ -4,13 +4,16 @@ ghost use Rattle.std.specs.Prelude.{◌≡◌, ◌⊎◌, Contains, IfOk, IfSome
 ghost use Rattle.vsi_subject.specs.Objections.{MayObject, OBJECTIONS, objection_line};
 ghost use Rattle.vsi_subject.specs.Objections as spec;
 
-use crate::refusals::{cause_diagnostic, failure_diagnostic};
+use crate::refusals::cause_diagnostic;
 use std::alloc::{AllocError, Global};
 use vsi_advice::advice;
 use vsi_answers::{Cause, Diagnostic, Fault};
 use vsi_arguments::{Colour, Document, Request};
 use vsi_compiler::{CompileError, read_source};
-use vsi_conform::{InterfaceError, Judgement, Policy, flows_profile, judged, read_interface};
+use vsi_conform::{
+    InterfaceError, Judgement, Policy, audit_diagnostic, flows_profile, judged, read_interface,
+    steady_diagnostic,
+};
 use vsi_drive::{LineFault, StartFault};
 use vsi_image::{Image, decode};
 use vsi_lattice::{Lattice, read_lattice};
@@ -51,78 +54,65 @@ pub(crate) struct Explaining {
 impl Explaining {
     /// The settings for explaining a request's refusal.
     pub(crate) fn new<F: Files>(request: &Request<'_>, colour: Colour, files: &F) -> Self {
-        let is_coloured = match colour {
-            Colour::Always => true,
-            Colour::Never => false,
-            Colour::Auto => files.wants_colour(),
+        let mode = match colour {
+            Colour::Never => ColourMode::Plain,
+            Colour::Auto if !files.wants_colour() => ColourMode::Plain,
+            Colour::Always | Colour::Auto => ColourMode::Coloured,
+        };
+        let is_strict = match request {
+            Request::Check(asked) | Request::Document(Document::Sarif(asked)) => {
+                asked.compilation.is_strict || asked.is_steady
+            }
+            Request::Classes(compilation)
+            | Request::Document(Document::Classes(compilation))
+            | Request::Document(Document::Flows(compilation))
+            | Request::Build(compilation, _)
+            | Request::Report(compilation)
+            | Request::Flows { compilation, .. } => compilation.is_strict,
+            Request::Mend(asked) => asked.compilation.is_strict,
+            Request::Draw(drawing) => drawing.is_strict,
+            _ => false,
         };
         Explaining {
-            mode: if is_coloured {
-                ColourMode::Coloured
-            } else {
-                ColourMode::Plain
-            },
-            profile: profile(is_strict(request)),
+            mode,
+            profile: profile(is_strict),
         }
     }
-}
 
-/// Whether the strict profile judges the source text.
-fn is_strict(request: &Request<'_>) -> bool {
-    match request {
-        Request::Check(asked) | Request::Document(Document::Sarif(asked)) => {
-            asked.compilation.is_strict || asked.is_steady
-        }
-        Request::Classes(compilation)
-        | Request::Document(Document::Classes(compilation))
-        | Request::Document(Document::Flows(compilation))
-        | Request::Build(compilation, _)
-        | Request::Report(compilation)
-        | Request::Flows { compilation, .. } => compilation.is_strict,
-        Request::Mend(asked) => asked.compilation.is_strict,
-        Request::Draw(drawing) => drawing.is_strict,
-        _ => false,
-    }
-}
-
-/// The explanation of a failure, with the page that says more about a refusal that has a number.
-pub(crate) fn explained<F: Files>(
-    inputs: &Inputs,
-    explaining: Explaining,
-    files: &F,
-    failure: &Failure<'_>,
-) -> Result<Vec<u8>, AllocError> {
-    let mut lines = explaining.of_failure(inputs, files, failure)?;
-    if let Some(diagnostic) = failure_diagnostic(source_of(inputs), failure) {
-        put_page(&mut lines, &diagnostic)?;
-    }
-    Ok(lines)
-}
-
-impl Explaining {
-    /// The explanation of a failure.
-    fn of_failure<F: Files>(
+    /// The explanation of a failure, with the page that says more about a refusal that has a
+    /// number.
+    pub(crate) fn of_failure<F: Files>(
         self,
         inputs: &Inputs,
         files: &F,
         failure: &Failure<'_>,
     ) -> Result<Vec<u8>, AllocError> {
-        match failure {
-            Failure::Refused(_, Some(cause)) => self.of_cause(inputs, cause),
-            Failure::Interface(_, error) => self.of_interface(inputs, error),
-            Failure::Audit(_, _) | Failure::Unsteady(_, _) => self.of_audit(inputs, failure),
-            Failure::FileFault(path) => of_fault(inputs, files, path),
-            Failure::LostFile(path) => of_fault(inputs, files, path.as_str()),
-            Failure::OutOfBudget => Vec::from_slice(inputs.alloc, SPENT),
+        let mut lines = match failure {
+            Failure::Refused(_, Some(cause)) => self.of_cause(inputs, cause)?,
+            Failure::Interface(_, error) => self.of_interface(inputs, error)?,
+            Failure::Audit(_, _) | Failure::Unsteady(_, _) => self.of_audit(inputs, failure)?,
+            Failure::FileFault(path) => of_fault(inputs, files, path)?,
+            Failure::LostFile(path) => of_fault(inputs, files, path.as_str())?,
+            Failure::OutOfBudget => Vec::from_slice(inputs.alloc, SPENT)?,
             Failure::NoClass(_) => {
                 let lattice = policy(inputs).ok_or(AllocError)?;
-                class_list(inputs.alloc, &lattice)
+                class_list(inputs.alloc, &lattice)?
             }
-            Failure::Differs => self.of_difference(inputs),
+            Failure::Differs => self.of_difference(inputs)?,
             Failure::Refused(_, None) | Failure::Usage(_) | Failure::Memory => {
-                Ok(Vec::new(inputs.alloc))
+                Vec::new(inputs.alloc)
             }
+        };
+        let diagnostic = match failure {
+            Failure::Refused(_, Some(cause)) => cause_diagnostic(source_of(inputs), cause),
+            Failure::Audit(_, error) => audit_diagnostic(error),
+            Failure::Unsteady(_, error) => steady_diagnostic(error),
+            _ => None,
+        };
+        if let Some(diagnostic) = diagnostic {
+            put_page(&mut lines, &diagnostic)?;
         }
+        Ok(lines)
     }
 
     /// The explanation of a source text that isn't accepted as its interface requires, with the
@@ -253,12 +243,17 @@ impl Explaining {
 
     /// The explanation of a refused lattice file or image.
     fn of_file(self, inputs: &Inputs, fault: &Fault) -> Result<Vec<u8>, AllocError> {
-        let kind = match fault {
-            Fault::Lattice(_) => InputKind::Lattice,
-            Fault::Store(_) => InputKind::Store,
-            Fault::Decode(_) | Fault::Verify(_) | Fault::View(_) => InputKind::Image,
+        let kept = match fault {
+            // An interface that has its own classes counts as a lattice file.
+            Fault::Lattice(_) => {
+                inputs
+                    .last(InputKind::Lattice)
+                    .or(inputs.last(InputKind::Interface))
+            }
+            Fault::Store(_) => inputs.last(InputKind::Store),
+            Fault::Decode(_) | Fault::Verify(_) | Fault::View(_) => inputs.last(InputKind::Image),
         };
-        let Some(kept) = of_kind(inputs, kind) else {
+        let Some(kept) = kept else {
             return Ok(Vec::new(inputs.alloc));
         };
         self.refusal_of(inputs.alloc, kept, Reason::File(fault))
@@ -269,22 +264,16 @@ impl Explaining {
         let Some(kept) = inputs.last(InputKind::Interface) else {
             return Ok(Vec::new(inputs.alloc));
         };
-        match read_policy(inputs)? {
-            Some(lattice) => self.interface_advice(inputs.alloc, kept, Some(&lattice), error),
-            None => self.interface_advice(inputs.alloc, kept, None, error),
-        }
-    }
-
-    /// The explanation of this refused interface, with its lattice if that was read.
-    fn interface_advice<'d>(
-        self,
-        alloc: Global,
-        kept: &'d Kept,
-        lattice: Option<&'d Lattice>,
-        error: &'d InterfaceError,
-    ) -> Result<Vec<u8>, AllocError> {
-        let reason = vsi_advice::Reason::Interface(lattice, error);
-        self.advice_on(alloc, kept, reason)
+        let lattice = match inputs.last(InputKind::Lattice) {
+            Some(kept) => Some(
+                read_lattice(inputs.alloc, &kept.bytes)
+                    .ok()
+                    .ok_or(AllocError)?,
+            ),
+            None => None,
+        };
+        let reason = vsi_advice::Reason::Interface(lattice.as_ref(), error);
+        self.advice_on(inputs.alloc, kept, reason)
     }
 
     /// The explanation of an image that an audit refuses.
@@ -337,25 +326,6 @@ fn read_image(inputs: &Inputs) -> Option<Image> {
     .ok()
 }
 
-/// The last file of a kind; an interface that has its own classes counts as a lattice file.
-fn of_kind<'d>(inputs: &'d Inputs, kind: InputKind) -> Option<&'d Kept> {
-    match inputs.last(kind) {
-        None if kind == InputKind::Lattice => inputs.last(InputKind::Interface),
-        kept => kept,
-    }
-}
-
-/// The lattice of the file that was read, if one was.
-fn read_policy(inputs: &Inputs) -> Result<Option<Lattice>, AllocError> {
-    match inputs.last(InputKind::Lattice) {
-        Some(kept) => match read_lattice(inputs.alloc, &kept.bytes) {
-            Ok(lattice) => Ok(Some(lattice)),
-            Err(_) => Err(AllocError),
-        },
-        None => Ok(None),
-    }
-}
-
 /// The text that keeps a run from beginning: a setting, a list of names, the store file, or else
 /// the image.
 fn faulty_start<'d>(inputs: &'d Inputs, fault: StartFault) -> Option<&'d Kept> {
@@ -369,10 +339,11 @@ fn faulty_start<'d>(inputs: &'d Inputs, fault: StartFault) -> Option<&'d Kept> {
         ) => inputs.behind(InputKind::Setting, number),
         StartFault::Setting(LineFault::TooLong) => None,
         StartFault::Boundary(_) => inputs.last(InputKind::Names),
-        StartFault::Unnamed(_) => match inputs.last(InputKind::Store) {
-            None => inputs.last(InputKind::Image),
-            kept => kept,
-        },
+        StartFault::Unnamed(_) => {
+            inputs
+                .last(InputKind::Store)
+                .or(inputs.last(InputKind::Image))
+        }
     }
 }
 

@@ -1,6 +1,6 @@
 //! Refusals as values, and their lines of JSON.
 
-ghost use Rattle.std.specs.{Prelude.{◌≡◌, ◌<◌, ◌⊎◌, true, IfSome, ◌++◌, ℕ, List, IfOk}, Io.KnownBytes.{Appends}};
+ghost use Rattle.std.specs.{Prelude.{◌≡◌, ◌<◌, ◌⊎◌, IfSome, IfOk}, Io.KnownBytes.{Appends}};
 ghost use Rattle.vsi_subject.specs.{Failures.{status_of}, Partly.{WritesPart}, FaultyFiles.{IsRefusalBy}};
 ghost use Rattle.vsi_drive.specs.Counted.{device_of, faults_of};
 ghost use Rattle.vsi_answers.specs.View.{diagnostic_of};
@@ -11,51 +11,39 @@ use std::alloc::AllocError;
 use std::io::Write;
 use vsi_answers::{Cause, Diagnostic, Field, fault_diagnostic, line_text, refusal_diagnostic};
 use vsi_arguments::{AnswerForm, Document, Request};
-use vsi_conform::{audit_diagnostic, steady_diagnostic, unsteady_diagnostic};
+use vsi_conform::unsteady_diagnostic;
 use vsi_documents::{refused_interface_json, refused_json};
 use vsi_drive::{BoundaryFault, Counted, LineFault, StartFault};
 use vsi_subject::{Failure, Inputs, source_of, write};
-
-/// The refusal of a setting.
-fn setting_diagnostic(fault: LineFault) -> Diagnostic<'static>
-    ensures { diagnostic_of result ≡ spec.setting_diagnostic fault }
-{
-    match fault {
-        LineFault::TooLong => Diagnostic::new(44, b"LineTooLong", Field::Nothing),
-        LineFault::BadSetting(n) => Diagnostic::new(45, b"BadSetting", Field::Number(n)),
-        LineFault::UnknownGlobal(n) => Diagnostic::new(46, b"NoGlobal", Field::Number(n)),
-        LineFault::AboveClass(n) => Diagnostic::new(47, b"AboveClass", Field::Number(n)),
-        LineFault::NotAnInput(n) => Diagnostic::new(60, b"NotAnInput", Field::Number(n)),
-        LineFault::NotANumber(n) => Diagnostic::new(48, b"NoNumber", Field::Number(n)),
-    }
-}
-
-/// The refusal of a faulty boundary.
-fn boundary_diagnostic(fault: BoundaryFault) -> Diagnostic<'static>
-    ensures { diagnostic_of result ≡ spec.boundary_diagnostic fault }
-{
-    match fault {
-        BoundaryFault::UnknownInput(n) => { Diagnostic::new(61, b"UnknownInput", Field::Number(n)) }
-        BoundaryFault::InputAboveClass(n) => {
-            Diagnostic::new(62, b"InputAboveClass", Field::Number(n))
-        }
-        BoundaryFault::UnknownOutput(n) => {
-            Diagnostic::new(63, b"UnknownOutput", Field::Number(n))
-        }
-        BoundaryFault::OutputAboveClass(n) => {
-            Diagnostic::new(64, b"OutputAboveClass", Field::Number(n))
-        }
-        BoundaryFault::NotAnOutput(n) => Diagnostic::new(65, b"NotAnOutput", Field::Number(n)),
-    }
-}
 
 /// The refusal of a run that doesn't begin.
 fn start_diagnostic(fault: StartFault) -> Diagnostic<'static>
     ensures { diagnostic_of result ≡ spec.start_diagnostic fault }
 {
     match fault {
-        StartFault::Setting(fault) => setting_diagnostic(fault),
-        StartFault::Boundary(fault) => boundary_diagnostic(fault),
+        StartFault::Setting(fault) => match fault {
+            LineFault::TooLong => Diagnostic::new(44, b"LineTooLong", Field::Nothing),
+            LineFault::BadSetting(n) => Diagnostic::new(45, b"BadSetting", Field::Number(n)),
+            LineFault::UnknownGlobal(n) => Diagnostic::new(46, b"NoGlobal", Field::Number(n)),
+            LineFault::AboveClass(n) => Diagnostic::new(47, b"AboveClass", Field::Number(n)),
+            LineFault::NotAnInput(n) => Diagnostic::new(60, b"NotAnInput", Field::Number(n)),
+            LineFault::NotANumber(n) => Diagnostic::new(48, b"NoNumber", Field::Number(n)),
+        },
+        StartFault::Boundary(fault) => match fault {
+            BoundaryFault::UnknownInput(n) => {
+                Diagnostic::new(61, b"UnknownInput", Field::Number(n))
+            }
+            BoundaryFault::InputAboveClass(n) => {
+                Diagnostic::new(62, b"InputAboveClass", Field::Number(n))
+            }
+            BoundaryFault::UnknownOutput(n) => {
+                Diagnostic::new(63, b"UnknownOutput", Field::Number(n))
+            }
+            BoundaryFault::OutputAboveClass(n) => {
+                Diagnostic::new(64, b"OutputAboveClass", Field::Number(n))
+            }
+            BoundaryFault::NotAnOutput(n) => Diagnostic::new(65, b"NotAnOutput", Field::Number(n)),
+        },
         StartFault::Unnamed(i) => Diagnostic::new(56, b"GlobalNotNamed", Field::Number(i)),
     }
 }
@@ -73,50 +61,19 @@ pub(crate) fn cause_diagnostic<'s>(source: &[u8], cause: &'s Cause) -> Option<Di
     }
 }
 
-/// The refusal that a failure is, if the source text that was read is this one; none if the failure
-/// has no number.
-pub(crate) fn failure_diagnostic<'s>(
-    source: &[u8],
-    failure: &'s Failure<'_>,
-) -> Option<Diagnostic<'s>> {
-    match failure {
-        Failure::Refused(_, Some(cause)) => cause_diagnostic(source, cause),
-        Failure::Audit(_, error) => audit_diagnostic(error),
-        Failure::Unsteady(_, error) => steady_diagnostic(error),
-        _ => None,
-    }
-}
-
-/// Whether a document is a line of JSON.
-fn document_answers_json(document: &Document<'_>) -> bool
-    ensures { result ≡ faulty_spec.document_answers_json document.now }
-{
-    match document {
-        Document::Sarif(_) | Document::AuditSarif(_) => false,
-        Document::Classes(_) | Document::Flows(_) | Document::Audit(_) => true,
-        Document::Bound(_) | Document::Run { .. } => true,
-        Document::Compare(_) | Document::Leak(_) => true,
-    }
-}
-
-/// Whether an answer is written as a line of JSON.
-fn is_json(form: AnswerForm) -> bool
-    ensures { result ≡ faulty_spec.is_json form }
-{
-    match form {
-        AnswerForm::Json => true,
-        AnswerForm::Lines | AnswerForm::Sarif => false,
-    }
-}
-
 /// Whether a request answers with a line of JSON.
 pub(crate) fn answers_json(request: &Request<'_>) -> bool
     ensures { result ≡ faulty_spec.answers_json request.now }
 {
     match request {
         Request::Check(asked) => asked.is_json,
-        Request::Document(asked) => document_answers_json(asked),
-        Request::Conform(asked) => is_json(asked.form),
+        Request::Document(Document::Sarif(_)) => false,
+        Request::Document(Document::AuditSarif(_)) => false,
+        Request::Document(_) => true,
+        Request::Conform(asked) => match asked.form {
+            AnswerForm::Json => true,
+            AnswerForm::Lines | AnswerForm::Sarif => false,
+        },
         Request::Mend(asked) => asked.is_json,
         Request::Steps { is_json, .. }
         | Request::Monitor { is_json, .. }
@@ -135,13 +92,6 @@ fn is_refusal(failure: &Failure<'_>) -> bool
     }
 }
 
-/// Whether a text begins with a line.
-fn begins_with(text: &[u8], line: &[u8]) -> bool
-    ensures { result ≡ true → (more : List ℕ) × (text.now ≡ line.now ++ more) }
-{
-    text.starts_with(line)
-}
-
 /// The line of JSON of the refusal with this cause and this text. An error means that memory ran
 /// out, or that the text isn't that of the cause, which it always is.
 fn line_by(inputs: &Inputs, cause: &Cause, text: &[u8]) -> Result<Vec<u8>, AllocError>
@@ -151,7 +101,7 @@ fn line_by(inputs: &Inputs, cause: &Cause, text: &[u8]) -> Result<Vec<u8>, Alloc
         return Err(AllocError);
     };
     let fixed = line_text(inputs.alloc, &diagnostic)?;
-    if !begins_with(text, fixed.as_slice()) {
+    if !text.starts_with(fixed.as_slice()) {
         return Err(AllocError);
     }
     let line = refused_json(inputs.alloc, &diagnostic, text)?;

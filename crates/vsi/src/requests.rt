@@ -1,6 +1,6 @@
 //! Carries out arguments.
 
-ghost use Rattle.std.specs.Prelude.{◌≡◌, ◌<◌, ◌⊎◌, ◌++◌, ℕ, List, [], false, None, IfErr, IfOk, OnOk};
+ghost use Rattle.std.specs.Prelude.{◌≡◌, ◌<◌, ◌⊎◌, ◌++◌, ℕ, List, [], false, None, IfErr, OnOk};
 ghost use Rattle.vsi_subject.specs.{Done.{Done, EndsEarly, IsMistake, Failed, Unread}, Noted.{IsFailureNote, IsNote, NotesFailure, NotesOf, noting, Notes}, Objections.{MayObject}, Performed.{Performs}, Saved.{KeepsState, KeepsStateOf}, Screen.{tamed}, Failures.{TellsFault, status_of}, declared.failure.Failure.TheVariants.{Memory}, Partly.{Answers, Leaves}, Works.{cut_from}, Reasons.{Why}};
 ghost use Rattle.vsi_arguments.specs.Help.{AsksHelp};
 ghost use Rattle.vsi_drive.specs.Counted.{device_of, faults_of};
@@ -8,9 +8,9 @@ ghost use Rattle.vsi_subject.specs.Words as words_spec;
 
 use crate::answers::put_answer;
 use crate::command_line::ErrorText;
-use crate::explanations::{Explaining, explained, objection};
+use crate::explanations::{Explaining, objection};
 use crate::refusals::{answers_json, tell_refusal};
-use std::alloc::{AllocError, Global};
+use std::alloc::Global;
 use std::io::{Read, Write};
 use vsi_arguments::{ArgumentsError, Manner, Reporting, Request, asks_help, manner_of, request_of};
 use vsi_drive::Counted;
@@ -127,7 +127,11 @@ fn carry_out_asked<'a, F: Files, R: Read, W: Write>(
 {
     let explaining = explaining_of(&asking, files);
     let is_json = answers_json(&asking.request);
-    let cache = cache_for(alloc, &explaining, is_json);
+    let mode = match &explaining {
+        Some(explaining) => Some(explaining.mode),
+        None => None,
+    };
+    let cache = InputCache::new(alloc, mode, is_json);
     match perform(&cache, asking.request, files, input, output, error_text) {
         Ok(()) => Ok(()),
         Err(failure) => {
@@ -136,15 +140,6 @@ fn carry_out_asked<'a, F: Files, R: Read, W: Write>(
             Err(tell_refusal(&inputs, is_json, explained, output))
         }
     }
-}
-
-/// An empty cache, which keeps files for an explanation or for the position in a line of JSON.
-fn cache_for(alloc: Global, explaining: &Option<Explaining>, is_json: bool) -> InputCache {
-    let mode = match explaining {
-        Some(explaining) => Some(explaining.mode),
-        None => None,
-    };
-    InputCache::new(alloc, mode, is_json)
 }
 
 /// The settings for explaining a refusal, if explanations are requested.
@@ -159,7 +154,8 @@ fn explaining_of<F: Files>(asking: &Asking<'_>, files: &F) -> Option<Explaining>
     }
 }
 
-/// The failure of a request, once the lines about it have been added to the note.
+/// The failure of a request, once the lines about it have been added to the note: its explanation,
+/// if one is requested, or else why its file isn't used, where each user has to know.
 fn explain_failure<'a, F: Files>(
     inputs: &Inputs,
     explaining: Option<Explaining>,
@@ -172,25 +168,12 @@ fn explain_failure<'a, F: Files>(
     ensures objects { explaining ≡ None → (line : List ℕ) × MayObject failure.entry line
         × (error_text.new.lines.items ≡ error_text.old.lines.items ++ line) }
 {
-    let lines = lines_about(inputs, explaining, files, &failure);
+    let Some(explaining) = explaining else {
+        let lines = objection(inputs, files, &failure);
+        return failure.after(error_text.put(lines));
+    };
+    let lines = explaining.of_failure(inputs, files, &failure);
     failure.after(error_text.put(lines))
-}
-
-/// The explanation of a failure, if one is requested, or else why its file isn't used, where each
-/// user has to know.
-fn lines_about<F: Files>(
-    inputs: &Inputs,
-    explaining: Option<Explaining>,
-    files: &F,
-    failure: &Failure<'_>,
-) -> Result<Vec<u8>, AllocError>
-    ensures { explaining ≡ None
-        → IfOk result (λ lines. MayObject failure.now lines.items) }
-{
-    match explaining {
-        Some(explaining) => explained(inputs, explaining, files, failure),
-        None => objection(inputs, files, failure),
-    }
 }
 
 /// The failure for arguments that aren't understood.
