@@ -125,12 +125,10 @@ impl Explaining {
         ) else {
             return Ok(Vec::new(inputs.alloc));
         };
-        let (Ok(asked), Some(lattice)) = (
-            read_interface(inputs.alloc, &asked.bytes),
-            policy(inputs),
-        ) else {
-            return Err(AllocError);
-        };
+        let asked = read_interface(inputs.alloc, &asked.bytes)
+            .ok()
+            .ok_or(AllocError)?;
+        let lattice = policy(inputs).ok_or(AllocError)?;
         let judgement = asked.interface.judgement;
         let Err(error) = judged(inputs.alloc, judgement, &lattice, &kept.bytes)? else {
             return Ok(Vec::new(inputs.alloc));
@@ -174,11 +172,8 @@ impl Explaining {
                     return Ok(Vec::new(inputs.alloc));
                 };
                 let image = read_image(inputs).ok_or(AllocError)?;
-                self.advice_on(
-                    inputs.alloc,
-                    kept,
-                    vsi_advice::Reason::Start(&image, *fault),
-                )
+                let reason = vsi_advice::Reason::Start(&image, *fault);
+                self.advice_on(inputs.alloc, kept, reason)
             }
             Cause::Raised(_) => Vec::from_slice(inputs.alloc, TOO_LONG),
             Cause::Steady(UnsteadyError::Memory) => Ok(Vec::new(inputs.alloc)),
@@ -226,11 +221,8 @@ impl Explaining {
             return Ok(Vec::new(inputs.alloc));
         };
         let lattice = policy(inputs).ok_or(AllocError)?;
-        self.advice_on(
-            inputs.alloc,
-            kept,
-            vsi_advice::Reason::Text(&lattice, error),
-        )
+        let reason = vsi_advice::Reason::Text(&lattice, error);
+        self.advice_on(inputs.alloc, kept, reason)
     }
 
     /// The explanation of a source text that is refused for a flow, which is read once more.
@@ -319,11 +311,8 @@ fn policy(inputs: &Inputs) -> Option<Lattice> {
 
 /// The image that was read.
 fn read_image(inputs: &Inputs) -> Option<Image> {
-    decode(
-        inputs.alloc,
-        inputs.last(InputKind::Image)?.bytes.as_slice(),
-    )
-    .ok()
+    let kept = inputs.last(InputKind::Image)?;
+    decode(inputs.alloc, kept.bytes.as_slice()).ok()
 }
 
 /// The text that keeps a run from beginning: a setting, a list of names, the store file, or else
