@@ -60,3 +60,9 @@ ending_object budget OutOfBudget = object (end_members false budget)
 -- The members with that object added, at this key.
 abbrev pub with_ending : List ℕ → ℕ → RunEnding → Members → Members
 with_ending key budget e ms = put key (ending_object budget e) ms
+
+-- The members with those objects for the ends of both runs, and with the ends themselves.
+abbrev pub with_endings : Known → Lattice → ℕ → List Global → ℕ → RunEnding → RunEnding → Members → Members
+with_endings known L a gs budget first second ms =
+    with_ending (codes "second") budget second (with_ending (codes "first") budget first
+    (with_after known L a gs first second ms))

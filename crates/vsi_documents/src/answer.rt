@@ -1,8 +1,8 @@
 //! Answers and refused files as lines of JSON, and their parts.
 
-ghost use Rattle.std.specs.Prelude.{◌≡◌, false, IfOk, OnOk, ◌++◌, length, map, IfSome};
+ghost use Rattle.std.specs.Prelude.{◌≡◌, false, IfOk, length, map, IfSome};
 ghost use Rattle.serde_json.specs.View.{members_view, view};
-ghost use Rattle.vsi_answers.specs.View.{diagnostic_of};
+ghost use Rattle.vsi_answers.specs.{Members.{object_line}, View.{diagnostic_of}};
 ghost use Rattle.vsi_image.specs.Fields.{globals};
 ghost use Rattle.vsi_lattice.specs.{LatticeView.{class_named, order}, Order.{IsClass}};
 ghost use Rattle.vsi_documents.specs.Objects.{verdict_line as verdict_line_of};
@@ -103,62 +103,6 @@ pub(crate) fn word_objects(
     Ok(found)
 }
 
-/// The object of a global with its words in two runs.
-fn pair_object(alloc: Global, name: &[u8], words: (i64, i64)) -> Result<Object, AllocError>
-    ensures { IfOk result
-        (λ made. members_view made ≡ words_spec.pair_members name.now words.0 words.1) }
-{
-    Object::new(alloc)
-        .text("name", name)?
-        .word("first", words.0)?
-        .word("second", words.1)
-}
-
-/// Adds the object of a global in two runs, if it is shown.
-fn put_pair_object(
-    alloc: Global,
-    found: &mut Objects,
-    shown: bool,
-    name: &[u8],
-    words: (i64, i64),
-) -> Result<(), AllocError>
-    ensures { OnOk result (map view found.new
-        ≡ map view found.old ++ words_spec.shown_pair shown name.now words.0 words.1) }
-{
-    if shown {
-        found.push(pair_object(alloc, name, words)?)?;
-    }
-    Ok(())
-}
-
-/// Adds an object for each global that is shown.
-fn put_pair_objects(
-    alloc: Global,
-    found: &mut Objects,
-    lattice: &Lattice,
-    to: &Option<Class>,
-    variables: &[(Vec<u8>, Vec<u8>)],
-    words: (&[i64], &[i64]),
-) -> Result<(), AllocError>
-    requires { IfSome to.now (IsClass (order lattice.now)) }
-    ensures { OnOk result (map view found.new ≡ map view found.old
-        ++ words_spec.pair_objects (class_named lattice.now) (order lattice.now) to.now
-        (globals variables.now) words.entry.0.now words.entry.1.now) }
-{
-    let (first, second) = words;
-    for (i, variable) in variables.iter().enumerate() {
-        let shown = is_shown(lattice, to, variable.1.as_slice());
-        match (first.get(i), second.get(i)) {
-            (Some(one), Some(other)) => {
-                let pair = (*one, *other);
-                put_pair_object(alloc, found, shown, variable.0.as_slice(), pair)?;
-            }
-            _ => return Ok(()),
-        }
-    }
-    Ok(())
-}
-
 /// The object with an array of an object for each global that is shown.
 pub(crate) fn with_pairs(
     alloc: Global,
@@ -174,38 +118,52 @@ pub(crate) fn with_pairs(
         (class_named lattice.now) (order lattice.now) to.now (globals variables.now)
         words.entry.0.now words.entry.1.now (members_view made)) }
 {
+    let (first, second) = words;
     let mut found = Objects::new(alloc);
-    put_pair_objects(alloc, &mut found, lattice, to, variables, words)?;
+    for (i, variable) in variables.iter().enumerate() {
+        let (Some(one), Some(other)) = (first.get(i), second.get(i)) else {
+            break;
+        };
+        if is_shown(lattice, to, variable.1.as_slice()) {
+            let made = Object::new(alloc).text("name", variable.0.as_slice())?;
+            found.push(made.word("first", *one)?.word("second", *other)?)?;
+        }
+    }
     made.array(key, found)
 }
 
-/// The object with the globals that the class sees at the ends of both runs, if both halt.
-pub(crate) fn with_after(
+/// The line of the object with the globals that the class sees at the ends of both runs, if both
+/// halt, and how they end within a budget.
+pub(crate) fn runs_line(
     alloc: Global,
     made: Object,
     lattice: &Lattice,
     class: Class,
     variables: &[(Vec<u8>, Vec<u8>)],
-    first: &RunEnding,
-    second: &RunEnding,
-) -> Result<Object, AllocError>
+    budget: u64,
+    ends: (&RunEnding, &RunEnding),
+) -> Result<Vec<u8>, AllocError>
     requires { IsClass (order lattice.now) class }
-    ensures { IfOk result (λ all. members_view all ≡ words_spec.with_after (class_named lattice.now)
-        (order lattice.now) class (globals variables.now) first.now second.now
-        (members_view made)) }
+    ensures { IfOk result (λ line. line.items ≡ object_line
+        (words_spec.with_endings (class_named lattice.now) (order lattice.now) class
+        (globals variables.now) budget ends.entry.0.now ends.entry.1.now
+        (members_view made))) }
 {
-    match (first, second) {
+    let (first, second) = ends;
+    let made = match (first, second) {
         (RunEnding::Halted { words, .. }, RunEnding::Halted { words: others, .. }) => {
-            let (to, ends) = (Some(class), (words.as_slice(), others.as_slice()));
-            with_pairs(alloc, made, "after", lattice, &to, variables, ends)
+            let (to, stores) = (Some(class), (words.as_slice(), others.as_slice()));
+            with_pairs(alloc, made, "after", lattice, &to, variables, stores)?
         }
-        (RunEnding::Halted { .. }, RunEnding::OutOfBudget) => Ok(made),
-        (RunEnding::OutOfBudget, _) => Ok(made),
-    }
+        (RunEnding::Halted { .. }, RunEnding::OutOfBudget) => made,
+        (RunEnding::OutOfBudget, _) => made,
+    };
+    let made = with_ending(alloc, made, "first", budget, first)?;
+    with_ending(alloc, made, "second", budget, second)?.line()
 }
 
 /// The object with the end of a run within a budget at a key.
-pub(crate) fn with_ending(
+fn with_ending(
     alloc: Global,
     made: Object,
     key: &str,

@@ -1,31 +1,27 @@
 //! The judgement of an image, its bound, its runs, and a search for a leak, as lines of JSON.
 
-ghost use Rattle.std.specs.Prelude.{◌≡◌, IfOk, ℕ, List, length, slice_get, IfErr, IfSome, Some};
-ghost use Rattle.serde_json.specs.View.{members_view};
+ghost use Rattle.std.specs.Prelude.{◌≡◌, IfOk, length, IfErr, IfSome};
 ghost use Rattle.vsi_answers.specs.Bounds.{TellsBound};
-ghost use Rattle.vsi_image.specs.Fields.{globals};
-ghost use Rattle.vsi_lattice.specs.{LatticeView.{class_named, names, order}, Order.{IsClass}};
+ghost use Rattle.vsi_lattice.specs.{LatticeView.{class_named, order}, Order.{IsClass}};
 ghost use Rattle.vsi_compiler.specs.{Readable.{HasProgram}, Refusal.{RefusesProgram}, declared.source.CompileError.TheVariants.{Memory}};
 ghost use Rattle.vsi_documents.specs.Audits as spec;
 ghost use Rattle.vsi_documents.specs.Bounds as bounds_spec;
 ghost use Rattle.vsi_answers.specs.Members as lines;
 ghost use Rattle.vsi_documents.specs.Runs as runs_spec;
-ghost use Rattle.vsi_documents.specs.Words as words_spec;
 ghost use Rattle.vsi_documents.specs.Comparisons as comparisons_spec;
 ghost use Rattle.vsi_documents.specs.Leaks as leaks_spec;
 
-use crate::answer::{Reply, end_object, with_after, with_ending, with_pairs, word_objects};
+use crate::answer::{Reply, end_object, runs_line, with_pairs, word_objects};
 use std::alloc::{AllocError, Global};
 use vsi_answers::{
     BoundAnswer, Object, Unanswered, accepted_json, bound, bound_in, refusal_json, without_end,
 };
 use vsi_compiler::CompileError;
 use vsi_conform::{Judgement, refused_image};
-use vsi_image::{Image, Verified};
+use vsi_image::Verified;
 use vsi_lattice::{Class, Lattice};
-use vsi_leak::{Finding, Leak, Wanted, leak_of_text};
+use vsi_leak::{Finding, Wanted, leak_of_text};
 use vsi_machine::{Bound, Outcome, counted};
-use vsi_store::Comparison;
 
 /// The answer of `vsi audit` to an image as a line of JSON: an object with `accepted` and, for a
 /// refused image, `number`, `name` and `text`, the lines of the refusal without the last line feed.
@@ -53,22 +49,6 @@ pub fn audit_json(
     }
 }
 
-/// The object with the numbers of a bound.
-fn with_bound(made: Object, found: Bound) -> Result<Object, AllocError>
-    ensures { IfOk result
-        (λ all. members_view all ≡ bounds_spec.with_bound found (members_view made)) }
-{
-    match found {
-        Bound::Halts { least, most } => {
-            made.natural("least", least as usize)?
-                .natural("most", most as usize)
-        }
-        Bound::Endless { test, reason: _ } => made.natural("instruction", test),
-        Bound::Unstructured(at) => made.natural("instruction", at),
-        Bound::TooLarge => Ok(made),
-    }
-}
-
 /// The line of an answer with this text.
 fn bound_line(
     alloc: Global,
@@ -80,9 +60,16 @@ fn bound_line(
         ≡ lines.object_line (bounds_spec.bound_members is_bounded found text.now)) }
 {
     let made = Object::new(alloc).flag("bounded", is_bounded)?;
-    with_bound(made, found)?
-        .text("text", without_end(text))?
-        .line()
+    let made = match found {
+        Bound::Halts { least, most } => {
+            let made = made.natural("least", least as usize)?;
+            made.natural("most", most as usize)?
+        }
+        Bound::Endless { test, reason: _ } => made.natural("instruction", test)?,
+        Bound::Unstructured(at) => made.natural("instruction", at)?,
+        Bound::TooLarge => made,
+    };
+    made.text("text", without_end(text))?.line()
 }
 
 /// An answer about an image, with its line.
@@ -122,24 +109,6 @@ pub fn bound_json_in(
     document_of(alloc, verified, answer)
 }
 
-/// The line of a run that halts after so many instructions, with these words in the globals.
-fn halted_line(
-    alloc: Global,
-    image: &Image,
-    words: &[i64],
-    instructions: u64,
-) -> Result<Vec<u8>, AllocError>
-    requires { length words.now ≡ length image.now.globals.items }
-    ensures { IfOk result (λ line. line.items ≡ lines.object_line
-        (runs_spec.halted_members instructions
-        (words_spec.word_objects (globals image.now.globals.items) words.now))) }
-{
-    let objects = word_objects(alloc, image.globals.as_slice(), words)?;
-    end_object(alloc, true, instructions)?
-        .array("globals", objects)?
-        .line()
-}
-
 /// The answer of `vsi run` to an image and words for its globals as a line of JSON: an object with
 /// `halted`, whether the run halts within the budget, `instructions`, how many it executes, and, if
 /// it halts, `globals`, an array with an object for each global, which has its `name` and its
@@ -160,7 +129,10 @@ pub fn run_json(
     match count.outcome {
         Outcome::Halted => {
             let (image, last) = (verified.image(), count.machine.store());
-            let text = halted_line(alloc, image, last, count.instructions)?;
+            let objects = word_objects(alloc, image.globals.as_slice(), last)?;
+            let text = end_object(alloc, true, count.instructions)?
+                .array("globals", objects)?
+                .line()?;
             let is_good = true;
             Ok(Reply { is_good, text })
         }
@@ -170,43 +142,6 @@ pub fn run_json(
             Ok(Reply { is_good, text })
         }
     }
-}
-
-/// The line of a comparison of runs from two stores.
-fn comparison_line(
-    alloc: Global,
-    lattice: &Lattice,
-    image: &Image,
-    class: Class,
-    stores: (&[i64], &[i64]),
-    budget: u64,
-    found: &Comparison,
-) -> Result<Vec<u8>, AllocError>
-    requires { IsClass (order lattice.now) class }
-    ensures { IfOk result (λ line. (name : List ℕ)
-        × (slice_get (names lattice.now) class ≡ Some name)
-        × (line.items ≡ lines.object_line (comparisons_spec.comparison_members
-        (class_named lattice.now) (order lattice.now) name class (globals image.now.globals.items)
-        stores.entry.0.now stores.entry.1.now budget found.now))) }
-{
-    let variables = image.globals.as_slice();
-    let to = Some(class);
-    let made = Object::new(alloc)
-        .flag("same", found.is_same)?
-        .text("class", lattice.name(class))?;
-    let made = with_pairs(alloc, made, "before", lattice, &to, variables, stores)?;
-    let made = with_after(
-        alloc,
-        made,
-        lattice,
-        class,
-        variables,
-        &found.first,
-        &found.second,
-    )?;
-    let made = with_ending(alloc, made, "first", budget, &found.first)?;
-    let made = with_ending(alloc, made, "second", budget, &found.second)?;
-    made.line()
 }
 
 /// The answer of `vsi compare` to an image and words for two runs as a line of JSON: an object with
@@ -235,52 +170,20 @@ pub fn compare_json(
 {
     match vsi_answers::compare(alloc, lattice, verified, class, first, second, budget) {
         Ok(found) => {
-            let (image, stores) = (verified.image(), (first, second));
-            let text = comparison_line(alloc, lattice, image, class, stores, budget, &found)?;
+            let image = verified.image();
+            let (variables, to) = (image.globals.as_slice(), Some(class));
+            let made = Object::new(alloc)
+                .flag("same", found.is_same)?
+                .text("class", lattice.name(class))?;
+            let stores = (first, second);
+            let made = with_pairs(alloc, made, "before", lattice, &to, variables, stores)?;
+            let ends = (&found.first, &found.second);
+            let text = runs_line(alloc, made, lattice, class, variables, budget, ends)?;
             let is_good = found.is_same;
             Ok(Reply { is_good, text })
         }
         Err(error) => Err(error),
     }
-}
-
-/// The line of a leak.
-fn leak_line(
-    alloc: Global,
-    lattice: &Lattice,
-    image: &Image,
-    budget: u64,
-    leak: &Leak,
-) -> Result<Vec<u8>, AllocError>
-    requires { IsClass (order lattice.now) leak.now.class }
-    ensures { IfOk result (λ line. (name : List ℕ)
-        × (slice_get (names lattice.now) leak.now.class ≡ Some name)
-        × (line.items ≡ lines.object_line (leaks_spec.leak_members
-        (class_named lattice.now) (order lattice.now) name budget
-        (globals image.now.globals.items) leak.now))) }
-{
-    let variables = image.globals.as_slice();
-    let stores = (leak.first.store.as_slice(), leak.second.store.as_slice());
-    let made = Object::new(alloc)
-        .flag("found", true)?
-        .text("class", lattice.name(leak.class))?;
-    let made = with_pairs(alloc, made, "before", lattice, &None, variables, stores)?;
-    let (first, second) = (&leak.first.ending, &leak.second.ending);
-    let made = with_after(alloc, made, lattice, leak.class, variables, first, second)?;
-    let made = with_ending(alloc, made, "first", budget, first)?;
-    let made = with_ending(alloc, made, "second", budget, second)?;
-    made.line()
-}
-
-/// The line of a search that found no leak in so many pairs of runs.
-fn nothing_line(alloc: Global, pairs: u64) -> Result<Vec<u8>, AllocError>
-    ensures { IfOk result
-        (λ line. line.items ≡ lines.object_line (leaks_spec.nothing_members pairs)) }
-{
-    Object::new(alloc)
-        .flag("found", false)?
-        .natural("pairs", pairs as usize)?
-        .line()
 }
 
 /// The answer of `vsi leak` to a text as a line of JSON: an object with `found`, whether a leak was
@@ -311,13 +214,21 @@ pub fn leak_json(
     };
     match &finding {
         Finding::Leak(leak) => {
-            let image = verified.image();
-            let text = leak_line(alloc, lattice, image, wanted.effort.budget, leak)?;
+            let (image, budget) = (verified.image(), wanted.effort.budget);
+            let variables = image.globals.as_slice();
+            let stores = (leak.first.store.as_slice(), leak.second.store.as_slice());
+            let made = Object::new(alloc)
+                .flag("found", true)?
+                .text("class", lattice.name(leak.class))?;
+            let made = with_pairs(alloc, made, "before", lattice, &None, variables, stores)?;
+            let ends = (&leak.first.ending, &leak.second.ending);
+            let text = runs_line(alloc, made, lattice, leak.class, variables, budget, ends)?;
             let is_good = false;
             Ok(Reply { is_good, text })
         }
         Finding::Nothing { pairs } => {
-            let text = nothing_line(alloc, *pairs)?;
+            let made = Object::new(alloc).flag("found", false)?;
+            let text = made.natural("pairs", *pairs as usize)?.line()?;
             let is_good = true;
             Ok(Reply { is_good, text })
         }

@@ -1,6 +1,6 @@
 //! The document of a refusal, its locations and the steps of a flow.
 
-ghost use Rattle.std.specs.Prelude.{◌≡◌, decimal, map, option_map, string_bytes, IfOk};
+ghost use Rattle.std.specs.Prelude.{◌≡◌, map, option_map, string_bytes, IfOk};
 ghost use Rattle.serde_json.specs.View.{members_view, view};
 ghost use Rattle.vsi_lattice.specs.declared.lattice.Lattice.{Lattice as Named};
 ghost use Rattle.vsi_answers.specs.View.{diagnostic_of};
@@ -60,19 +60,8 @@ pub(crate) fn location(
     Object::new(alloc).object("physicalLocation", physical)
 }
 
-/// The message of a step: its two variables and its rule.
-fn step_text(alloc: Global, program: &Resolved<'_>, step: &Step) -> Result<Vec<u8>, AllocError>
-    ensures { IfOk result (λ text. text.items ≡ steps_spec.step_text program.now step.now) }
-{
-    let mut text = Vec::from_slice(alloc, variable_name(program, step.source))?;
-    text.extend_from_slice(b" flows to ")?;
-    text.extend_from_slice(variable_name(program, step.target))?;
-    text.extend_from_slice(b" by ")?;
-    text.extend_from_slice(rule_text(step.rule))?;
-    Ok(text)
-}
-
-/// The object of a step: its message, and the position where its source is read.
+/// The object of a step: its message, of its two variables and its rule, and the position where its
+/// source is read.
 fn step_object(
     alloc: Global,
     uri: &[u8],
@@ -83,34 +72,19 @@ fn step_object(
     ensures { IfOk result (λ made. members_view made
         ≡ steps_spec.step_members uri.now source.now program.now step.now) }
 {
-    let text = step_text(alloc, program, step)?;
+    let mut text = Vec::from_slice(alloc, variable_name(program, step.source))?;
+    text.extend_from_slice(b" flows to ")?;
+    text.extend_from_slice(variable_name(program, step.target))?;
+    text.extend_from_slice(b" by ")?;
+    text.extend_from_slice(rule_text(step.rule))?;
     let (line, column) = line_column(source, step.read.start);
     let message = Object::new(alloc).text("text", &text)?;
     let inner = location(alloc, uri, Some((line, column)))?.object("message", message)?;
     Object::new(alloc).object("location", inner)
 }
 
-/// The objects of steps, in their order.
-fn step_objects(
-    alloc: Global,
-    uri: &[u8],
-    source: &[u8],
-    program: &Resolved<'_>,
-    steps: &[Step],
-) -> Result<Objects, AllocError>
-    ensures { IfOk result (λ found. map view found
-        ≡ steps_spec.step_objects uri.now source.now program.now steps.now) }
-{
-    let mut found = Objects::new(alloc);
-    for step in steps {
-        let made = step_object(alloc, uri, source, program, step)?;
-        found.push(made)?;
-    }
-    Ok(found)
-}
-
 /// The objects of the steps of a flow of a source text, or none for any other refusal.
-fn flow_objects(
+pub(crate) fn flow_objects(
     alloc: Global,
     uri: &[u8],
     source: &Source<'_>,
@@ -123,8 +97,12 @@ fn flow_objects(
     let Some(steps) = steps else {
         return Ok(None);
     };
-    let program = source.resolved();
-    let found = step_objects(alloc, uri, source.text(), program, steps)?;
+    let (text, program) = (source.text(), source.resolved());
+    let mut found = Objects::new(alloc);
+    for step in steps {
+        let made = step_object(alloc, uri, text, program, step)?;
+        found.push(made)?;
+    }
     Ok(Some(found))
 }
 
@@ -132,16 +110,9 @@ fn flow_objects(
 fn written_place(source: &[u8], steps: Option<&[Step]>) -> Option<(usize, usize)>
     ensures { result ≡ spec.written_place source.now (option_map (λ s. s.now) steps.entry) }
 {
-    match steps {
-        Some(steps) => match steps.last() {
-            Some(step) => {
-                let (line, column) = line_column(source, step.written.start);
-                Some((line, column))
-            }
-            None => None,
-        },
-        None => None,
-    }
+    let step = steps?.last()?;
+    let (line, column) = line_column(source, step.written.start);
+    Some((line, column))
 }
 
 /// The position of a refusal: its own, or for a flow that at which the last step writes.
@@ -154,37 +125,6 @@ fn place_of(source: &[u8], diagnostic: &Diagnostic) -> Option<(usize, usize)>
             written_place(source, diagnostic.steps)
         }
         Field::Word(_) | Field::Numbered(_, _) => written_place(source, diagnostic.steps),
-    }
-}
-
-/// The identifier of a rule: the number of the refusal.
-fn rule_id(alloc: Global, diagnostic: &Diagnostic) -> Result<Vec<u8>, AllocError>
-    ensures { IfOk result (λ id. id.items ≡ decimal (diagnostic_of diagnostic.now).code) }
-{
-    let mut id = Vec::new(alloc);
-    put_number(&mut id, diagnostic.code)?;
-    Ok(id)
-}
-
-/// The object of the flow whose locations are these.
-fn flow(alloc: Global, locations: Objects) -> Result<Object, AllocError>
-    ensures { IfOk result (λ made. members_view made ≡ spec.flow_members (map view locations)) }
-{
-    let thread = Object::new(alloc).array("locations", locations)?;
-    Object::new(alloc).array("threadFlows", Objects::of(alloc, thread)?)
-}
-
-/// The object with the flow of the steps, if there is one.
-fn with_flow(alloc: Global, made: Object, steps: Option<Objects>) -> Result<Object, AllocError>
-    ensures { IfOk result (λ all. members_view all
-        ≡ spec.with_flow (option_map (map view) steps) (members_view made)) }
-{
-    match steps {
-        Some(steps) => {
-            let flows = Objects::of(alloc, flow(alloc, steps)?)?;
-            made.array("codeFlows", flows)
-        }
-        None => Ok(made),
     }
 }
 
@@ -201,35 +141,43 @@ pub(crate) fn result_object(
         (members_view location) (option_map (map view) steps) lines.now) }
 {
     let message = Object::new(alloc).text("text", without_end(lines))?;
-    with_flow(alloc, Object::new(alloc), steps)?
-        .text("level", b"error")?
+    let made = match steps {
+        Some(steps) => {
+            let thread = Object::new(alloc).array("locations", steps)?;
+            let flow = Object::new(alloc).array("threadFlows", Objects::of(alloc, thread)?)?;
+            Object::new(alloc).array("codeFlows", Objects::of(alloc, flow)?)?
+        }
+        None => Object::new(alloc),
+    };
+    made.text("level", b"error")?
         .array("locations", Objects::of(alloc, location)?)?
         .object("message", message)?
         .text("ruleId", id)?
         .natural("ruleIndex", index)
 }
 
-/// The document of a refusal whose rule has this identifier and whose flow has these objects.
-fn identified(
+/// The document of a refusal whose flow has these objects. The identifier of its rule is the number
+/// of the refusal.
+pub(crate) fn identified(
     alloc: Global,
     uri: &[u8],
     text: &[u8],
     diagnostic: &Diagnostic,
     steps: Option<Objects>,
     lines: &[u8],
-    id: &[u8],
 ) -> Result<Vec<u8>, AllocError>
-    ensures { IfOk result (λ out. (l : Named) → id.now ≡ decimal (diagnostic_of diagnostic.now).code
-        → steps_spec.LocatesFlow l uri.now text.now (diagnostic_of diagnostic.now).steps
-        (option_map (map view) steps)
+    ensures { IfOk result (λ out. (l : Named) → steps_spec.LocatesFlow l uri.now text.now
+        (diagnostic_of diagnostic.now).steps (option_map (map view) steps)
         → spec.IsRefusalDocument l uri.now text.now
         (diagnostic_of diagnostic.now) lines.now out.items) }
 {
+    let mut id = Vec::new(alloc);
+    put_number(&mut id, diagnostic.code)?;
     let rule = Object::new(alloc)
-        .text("id", id)?
+        .text("id", &id)?
         .text("name", diagnostic.name)?;
     let place = location(alloc, uri, place_of(text, diagnostic))?;
-    let found = result_object(alloc, id, 0, place, steps, lines)?;
+    let found = result_object(alloc, &id, 0, place, steps, lines)?;
     document(alloc, Objects::of(alloc, rule)?, Objects::of(alloc, found)?)
 }
 
@@ -249,25 +197,6 @@ pub(crate) fn refusal_document(
     let None = diagnostic.steps else {
         return Err(AllocError);
     };
-    let id = rule_id(alloc, diagnostic)?;
-    let written = identified(alloc, uri, text, diagnostic, None, lines, &id)?;
-    Ok(written)
-}
-
-/// The document of a refusal of a source text that was read.
-pub(crate) fn source_document(
-    alloc: Global,
-    uri: &[u8],
-    source: &Source<'_>,
-    diagnostic: &Diagnostic,
-    lines: &[u8],
-) -> Result<Vec<u8>, AllocError>
-    ensures { IfOk result (λ out. spec.IsRefusalDocument source.now.lattice uri.now source.now.text
-        (diagnostic_of diagnostic.now) lines.now out.items) }
-{
-    let id = rule_id(alloc, diagnostic)?;
-    let steps = flow_objects(alloc, uri, source, diagnostic.steps)?;
-    let text = source.text();
-    let written = identified(alloc, uri, text, diagnostic, steps, lines, &id)?;
+    let written = identified(alloc, uri, text, diagnostic, None, lines)?;
     Ok(written)
 }

@@ -1,6 +1,6 @@
 //! The globals that a class sees, sets, reads and releases, as tables and as differences.
 
-ghost use Rattle.std.specs.{Prelude.{◌≡◌, is_some, map, option_map, ◌++◌, IfOk, OnOk}, Option.{option_copied}};
+ghost use Rattle.std.specs.Prelude.{◌≡◌, is_some, map, option_map, ◌++◌, IfOk, OnOk};
 ghost use Rattle.vsi_image.specs.Fields.{globals as globals_of, global, globals};
 ghost use Rattle.vsi_lattice.specs.{LatticeView.{order}, Order.{IsClass}};
 ghost use Rattle.vsi_documents.specs.Roles.{view};
@@ -57,30 +57,20 @@ pub(crate) fn alone<'a>(lattice: &'a Lattice, globals: &'a [(Vec<u8>, Vec<u8>)])
     }
 }
 
-/// The class name of the global with this name.
-fn class_of<'a>(variables: &'a [(Vec<u8>, Vec<u8>)], name: &[u8]) -> Option<&'a [u8]>
-    ensures { option_copied result ≡ asked.class_of (globals_of variables.now) name.now }
-{
-    for variable in variables {
-        if variable.0.as_slice() == name {
-            return Some(variable.1.as_slice());
-        }
-    }
-    None
-}
-
 /// Whether a class sees a global, both by their names.
 fn sees(side: &Side, class: &[u8], name: &[u8]) -> bool
     ensures { result ≡ spec.sees (spec.view side.now) class.now name.now }
 {
-    let Some(found) = class_of(side.globals, name) else {
-        return false;
-    };
-    let seen = side.lattice.class_named(found);
-    match (side.lattice.class_named(class), seen) {
-        (Some(viewer), Some(seen)) => side.lattice.leq(seen, viewer),
-        _ => false,
+    for variable in side.globals {
+        if variable.0.as_slice() == name {
+            let seen = side.lattice.class_named(variable.1.as_slice());
+            return match (side.lattice.class_named(class), seen) {
+                (Some(viewer), Some(seen)) => side.lattice.leq(seen, viewer),
+                _ => false,
+            };
+        }
     }
+    false
 }
 
 /// Whether a name is in a list; without a list, whether it is one of those that are meant.
@@ -131,19 +121,6 @@ pub(crate) fn may_drive(side: &Side, class: &[u8]) -> bool
     side.lattice.class_named(class).is_some()
 }
 
-/// Whether a table lets its class, which sees the global or doesn't, do this with it.
-fn allows(role: Role, cycle: &Cycle, is_seen: bool, name: &[u8]) -> bool
-    ensures { result ≡ spec.allows role (reading.cycle cycle.now) is_seen name.now }
-{
-    let is_released = is_among(cycle.released.as_slice(), name);
-    match role {
-        Role::Sees => is_seen,
-        Role::Sets => is_listed(&cycle.inputs, is_seen, name),
-        Role::Reads => is_listed(&cycle.outputs, is_seen || is_released, name),
-        Role::Releases => is_released,
-    }
-}
-
 /// Whether a class may do this with a global, by the tables or their absence. No table changes what
 /// a class sees.
 pub(crate) fn may(role: Role, side: &Side, class: &[u8], name: &[u8]) -> bool
@@ -156,9 +133,15 @@ pub(crate) fn may(role: Role, side: &Side, class: &[u8], name: &[u8]) -> bool
     if !has_tables(side) {
         return is_seen && !matches!(role, Role::Releases);
     }
-    match table_of(side.cycles, class) {
-        Some(cycle) => allows(role, cycle, is_seen, name),
-        None => false,
+    let Some(cycle) = table_of(side.cycles, class) else {
+        return false;
+    };
+    let is_released = is_among(cycle.released.as_slice(), name);
+    match role {
+        Role::Sees => is_seen,
+        Role::Sets => is_listed(&cycle.inputs, is_seen, name),
+        Role::Reads => is_listed(&cycle.outputs, is_seen || is_released, name),
+        Role::Releases => is_released,
     }
 }
 
@@ -205,8 +188,7 @@ fn put_row(text: &mut Vec<u8>, role: Role, side: &Side, class: &[u8]) -> Result<
     ensures { OnOk result
         (text.new.items ≡ text.old.items ++ rows_spec.role_row role (view side.now) class.now) }
 {
-    put_parts(text, &[class, b" "])?;
-    text.extend_from_slice(verb(role))?;
+    put_parts(text, &[class, b" ", verb(role)])?;
     for variable in side.globals {
         if may(role, side, class, variable.0.as_slice()) {
             put_parts(text, &[b" ", variable.0.as_slice()])?;
@@ -225,23 +207,6 @@ fn put_seen(text: &mut Vec<u8>, side: &Side) -> Result<(), AllocError>
     Ok(())
 }
 
-/// Adds the rows of all classes with tables.
-fn put_cycles(text: &mut Vec<u8>, side: &Side) -> Result<(), AllocError>
-    ensures { OnOk result
-        (text.new.items ≡ text.old.items ++ rows_spec.cycle_rows (view side.now)) }
-{
-    for class in 0..side.lattice.count() {
-        let name = name_of(side.lattice, class);
-        if !has_table(side, name) {
-            continue;
-        }
-        put_row(text, Role::Sets, side, name)?;
-        put_row(text, Role::Reads, side, name)?;
-        put_row(text, Role::Releases, side, name)?;
-    }
-    Ok(())
-}
-
 /// The table of an interface and its lattice: a row for each class, with the names of the globals
 /// whose class is at or below it, and then the rows of the tables `[[cycle]]`. An error means that
 /// memory ran out.
@@ -256,7 +221,15 @@ pub fn visible_table(
     let mut text = Vec::new(alloc);
     let side = side_of(lattice, asked);
     put_seen(&mut text, &side)?;
-    put_cycles(&mut text, &side)?;
+    for class in 0..lattice.count() {
+        let name = name_of(lattice, class);
+        if !has_table(&side, name) {
+            continue;
+        }
+        put_row(&mut text, Role::Sets, &side, name)?;
+        put_row(&mut text, Role::Reads, &side, name)?;
+        put_row(&mut text, Role::Releases, &side, name)?;
+    }
     Ok(text)
 }
 
@@ -324,9 +297,7 @@ impl Change<'_> {
         for variable in self.side.globals {
             let name = variable.0.as_slice();
             if may(role, self.side, class, name) && !may(role, self.other, class, name) {
-                put_parts(text, &[class, self.adverb])?;
-                text.extend_from_slice(verb(role))?;
-                put_parts(text, &[b" ", name, b"\n"])?;
+                put_parts(text, &[class, self.adverb, verb(role), b" ", name, b"\n"])?;
             }
         }
         Ok(())
@@ -368,17 +339,6 @@ impl Change<'_> {
     }
 }
 
-/// The line that says who may drive at all, if only one interface has tables.
-fn who_drives(side: &Side, old: &Side) -> &'static [u8]
-    ensures { result.now ≡ changes_spec.who_drives (view side.now) (view old.now) }
-{
-    match (has_tables(side), has_tables(old)) {
-        (false, _) => b"every class may now drive\n",
-        (true, true) => b"",
-        (true, false) => b"only classes with a table may now drive\n",
-    }
-}
-
 /// The differences of one side from an older one.
 fn changed<'a>(alloc: Global, side: &'a Side<'a>, old: &'a Side<'a>) -> Result<Vec<u8>, AllocError>
     ensures { IfOk result (λ text. text.items ≡ changes_spec.changes (view side.now) (view
@@ -398,7 +358,11 @@ fn changed<'a>(alloc: Global, side: &'a Side<'a>, old: &'a Side<'a>) -> Result<V
     added.put_seen(&mut lines)?;
     removed.put_seen(&mut lines)?;
     if has_tables(side) || has_tables(old) {
-        lines.extend_from_slice(who_drives(side, old))?;
+        lines.extend_from_slice(match (has_tables(side), has_tables(old)) {
+            (false, _) => b"every class may now drive\n",
+            (true, true) => b"",
+            (true, false) => b"only classes with a table may now drive\n",
+        })?;
         added.put_classes(&mut lines)?;
         removed.put_classes(&mut lines)?;
     }

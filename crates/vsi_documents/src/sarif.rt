@@ -1,16 +1,15 @@
 //! Documents of SARIF: the answers of checks, and the points of an interface, as results.
 
-ghost use Rattle.std.specs.Prelude.{◌≡◌, map, IfOk, false, []};
+ghost use Rattle.std.specs.Prelude.{◌≡◌, map, IfOk};
 ghost use Rattle.serde_json.specs.View.{members_view, view};
 ghost use Rattle.vsi_conform.specs.{Rows.{row}, Lines.{is_steady as is_steady_of}};
-ghost use Rattle.vsi_documents.specs.Document.{document_text};
 ghost use Rattle.vsi_documents.specs.Findings as spec;
 ghost use Rattle.vsi_documents.specs.Document as document_spec;
 ghost use Rattle.vsi_documents.specs.Auditing as auditing_spec;
 ghost use Rattle.vsi_documents.specs.Checking as checking_spec;
 
 use crate::answer::Reply;
-use crate::refusal::{location, refusal_document, result_object, source_document, uri_of};
+use crate::refusal::{flow_objects, identified, location, refusal_document, result_object, uri_of};
 use std::alloc::{AllocError, Global};
 use vsi_answers::{Object, Objects};
 use vsi_compiler::{CompileError, Source, read_source};
@@ -94,24 +93,8 @@ pub fn rows_sarif(alloc: Global, path: &str, rows: &[Row]) -> Result<Vec<u8>, Al
     document(alloc, rules(alloc, &KINDS)?, made)
 }
 
-/// The object of a run of the tool, with its rules.
-fn run(alloc: Global, rules: Objects, results: Objects) -> Result<Object, AllocError>
-    ensures { IfOk result
-        (λ made. members_view made
-        ≡ document_spec.run_members (map view rules) (map view results)) }
-{
-    let driver = Object::new(alloc)
-        .text("name", b"vsi")?
-        .array("rules", rules)?
-        .text("version", b"0.1.0")?;
-    let tool = Object::new(alloc).object("driver", driver)?;
-    Object::new(alloc)
-        .text("columnKind", b"unicodeCodePoints")?
-        .array("results", results)?
-        .object("tool", tool)
-}
-
-/// The text of the document of these rules and results, a line.
+/// The text of the document of these rules and results, a line. An accepted text or image has no
+/// result.
 pub(crate) fn document(
     alloc: Global,
     rules: Objects,
@@ -120,9 +103,17 @@ pub(crate) fn document(
     ensures { IfOk result (λ line.
         line.items ≡ document_spec.document_text (map view rules) (map view results)) }
 {
-    let runs = Objects::of(alloc, run(alloc, rules, results)?)?;
+    let driver = Object::new(alloc)
+        .text("name", b"vsi")?
+        .array("rules", rules)?
+        .text("version", b"0.1.0")?;
+    let tool = Object::new(alloc).object("driver", driver)?;
+    let run = Object::new(alloc)
+        .text("columnKind", b"unicodeCodePoints")?
+        .array("results", results)?
+        .object("tool", tool)?;
     Object::new(alloc)
-        .array("runs", runs)?
+        .array("runs", Objects::of(alloc, run)?)?
         .text("$schema", b"https://json.schemastore.org/sarif-2.1.0.json")?
         .text("version", b"2.1.0")?
         .line()
@@ -142,7 +133,7 @@ pub fn audit_sarif(
 {
     match refused_image(alloc, judgement, lattice, image)? {
         None => {
-            let text = accepted(alloc)?;
+            let text = document(alloc, Objects::new(alloc), Objects::new(alloc))?;
             let is_good = true;
             Ok(Reply { is_good, text })
         }
@@ -162,33 +153,6 @@ fn is_steady(judgement: Judgement) -> bool
     matches!(judgement, Judgement::Steady)
 }
 
-/// The document of an accepted text or image, which has no result.
-fn accepted(alloc: Global) -> Result<Vec<u8>, AllocError>
-    ensures { IfOk result (λ out. out.items ≡ document_text [] []) }
-{
-    document(alloc, Objects::new(alloc), Objects::new(alloc))
-}
-
-/// The document of a refused text, which has no program.
-fn refused(
-    alloc: Global,
-    judgement: Judgement,
-    lattice: &Lattice,
-    path: &str,
-    text: &[u8],
-    error: &UnsteadyError,
-) -> Result<Vec<u8>, AllocError>
-    ensures { IfOk result (λ out.
-        checking_spec.WritesRefusal lattice.now judgement path.now text.now error.now out.items) }
-{
-    let Some(diagnostic) = unsteady_diagnostic(text, error) else {
-        return Err(AllocError);
-    };
-    let lines = refusal_lines(alloc, lattice, text, error, is_steady(judgement))?;
-    let uri = uri_of(alloc, path)?;
-    refusal_document(alloc, uri.as_bytes(), text, &diagnostic, &lines)
-}
-
 /// The document of a source text that was read and is refused.
 fn source_refused(
     alloc: Global,
@@ -200,36 +164,16 @@ fn source_refused(
     ensures { IfOk result (λ out. checking_spec.WritesRefusal source.now.lattice judgement path.now
         source.now.text error.now out.items) }
 {
-    let Some(diagnostic) = unsteady_diagnostic(source.text(), error) else {
+    let text = source.text();
+    let Some(diagnostic) = unsteady_diagnostic(text, error) else {
         return Err(AllocError);
     };
     let lines = refusal_lines_of(alloc, source, error, is_steady(judgement))?;
     let name = uri_of(alloc, path)?;
-    source_document(alloc, name.as_bytes(), source, &diagnostic, &lines)
-}
-
-/// The answer for a source text that was read.
-fn source_sarif(
-    alloc: Global,
-    judgement: Judgement,
-    path: &str,
-    source: &Source<'_>,
-) -> Result<Reply, AllocError>
-    ensures { IfOk result (λ told. checking_spec.TellsDocument source.now.lattice judgement path.now
-        source.now.text told.is_good told.text.items) }
-{
-    match judged_of(alloc, judgement, source)? {
-        Ok(_verified) => {
-            let text = accepted(alloc)?;
-            let is_good = true;
-            Ok(Reply { is_good, text })
-        }
-        Err(error) => {
-            let text = source_refused(alloc, judgement, path, source, &error)?;
-            let is_good = false;
-            Ok(Reply { is_good, text })
-        }
-    }
+    let uri = name.as_bytes();
+    let steps = flow_objects(alloc, uri, source, diagnostic.steps)?;
+    let written = identified(alloc, uri, text, &diagnostic, steps, &lines)?;
+    Ok(written)
 }
 
 /// The answer of `vsi check` to the text of the file at a path as a document of SARIF 2.1.0. The
@@ -244,12 +188,29 @@ pub fn check_sarif(
     ensures answer { IfOk result (λ told. checking_spec.TellsDocument lattice.now judgement path.now
         text.now told.is_good told.text.items) }
 {
-    match read_source(alloc, lattice, text) {
-        Ok(source) => source_sarif(alloc, judgement, path, &source),
-        Err(CompileError::Memory) => Err(AllocError),
+    let source = match read_source(alloc, lattice, text) {
+        Ok(source) => source,
+        Err(CompileError::Memory) => return Err(AllocError),
         Err(error) => {
             let error = UnsteadyError::Compile(error);
-            let text = refused(alloc, judgement, lattice, path, text, &error)?;
+            let Some(diagnostic) = unsteady_diagnostic(text, &error) else {
+                return Err(AllocError);
+            };
+            let lines = refusal_lines(alloc, lattice, text, &error, is_steady(judgement))?;
+            let name = uri_of(alloc, path)?;
+            let text = refusal_document(alloc, name.as_bytes(), text, &diagnostic, &lines)?;
+            let is_good = false;
+            return Ok(Reply { is_good, text });
+        }
+    };
+    match judged_of(alloc, judgement, &source)? {
+        Ok(_verified) => {
+            let text = document(alloc, Objects::new(alloc), Objects::new(alloc))?;
+            let is_good = true;
+            Ok(Reply { is_good, text })
+        }
+        Err(error) => {
+            let text = source_refused(alloc, judgement, path, &source, &error)?;
             let is_good = false;
             Ok(Reply { is_good, text })
         }

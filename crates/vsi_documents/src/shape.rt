@@ -1,6 +1,6 @@
 //! The shapes of lattices, and the lattice files that are made by them.
 
-ghost use Rattle.std.specs.Prelude.{◌≡◌, IfSome, IfOk, OnOk, ◌≤◌, option_map, length, ◌<◌, Some, IsTrue, true};
+ghost use Rattle.std.specs.Prelude.{◌≡◌, IfSome, IfOk, option_map, IsTrue};
 ghost use Rattle.vsi_lattice.specs.{NamePlaces.{texts}, LatticeView.{class_named, order}};
 ghost use Rattle.vsi_documents.specs.{Shapes.{IsShapedText}, declared.shape.ShapeError.TheVariants.{Memory}};
 ghost use Rattle.vsi_documents.specs.Shapes as spec;
@@ -68,7 +68,26 @@ impl Shape {
         match self {
             Shape::Two => Vec::from_slice(alloc, given_name(&LEVELS, class)),
             Shape::Levels | Shape::Diamond => Vec::from_slice(alloc, given_name(given, class)),
-            Shape::Powerset => set_name(alloc, given, class),
+            Shape::Powerset => {
+                // The names that belong to the set, joined.
+                let mut front = Vec::new(alloc);
+                let mut rest = given;
+                let mut digits = class;
+                while let [name, behind @ ..] = rest {
+                    if digits % 2 == 1 {
+                        if !front.is_empty() {
+                            front.push(b'_')?;
+                        }
+                        front.extend_from_slice(name)?;
+                    }
+                    rest = behind;
+                    digits /= 2;
+                }
+                if front.is_empty() {
+                    return Vec::from_slice(alloc, b"none");
+                }
+                Ok(front)
+            }
         }
     }
 }
@@ -83,36 +102,6 @@ fn given_name<'a>(given: &[&'a [u8]], class: usize) -> &'a [u8]
     }
 }
 
-/// Joins one more name to those before it.
-fn join(front: &mut Vec<u8>, name: &[u8]) -> Result<(), AllocError>
-    ensures { OnOk result (front.new.items ≡ spec.joined front.old.items name.now) }
-{
-    if !front.is_empty() {
-        front.push(b'_')?;
-    }
-    front.extend_from_slice(name)
-}
-
-/// The name of a set of names: those that belong to it, joined.
-fn set_name(alloc: Global, given: &[&[u8]], set: usize) -> Result<Vec<u8>, AllocError>
-    ensures { IfOk result (λ name. name.items ≡ spec.set_name (texts given.now) set) }
-{
-    let mut front = Vec::new(alloc);
-    let mut rest = given;
-    let mut digits = set;
-    while let [name, behind @ ..] = rest {
-        if digits % 2 == 1 {
-            join(&mut front, name)?;
-        }
-        rest = behind;
-        digits /= 2;
-    }
-    if front.is_empty() {
-        return Vec::from_slice(alloc, b"none");
-    }
-    Ok(front)
-}
-
 /// The beginning of a comment that names a lattice file.
 const START: &[u8] = b" policy: ";
 
@@ -122,7 +111,16 @@ pub fn named_policy(text: &[u8]) -> Option<&[u8]>
 {
     let comment = first_comment(text)?;
     let path = comment.strip_prefix(START)?;
-    Some(&path[..line_length(path)])
+    let mut count = 0;
+    let mut rest = path;
+    while let [byte, behind @ ..] = rest {
+        if *byte == b'\n' || *byte == b'\r' {
+            break;
+        }
+        count += 1;
+        rest = behind;
+    }
+    Some(&path[..count])
 }
 
 /// The text after the first `#`.
@@ -139,41 +137,6 @@ fn first_comment(text: &[u8]) -> Option<&[u8]>
     None
 }
 
-/// The number of bytes before the first line feed or carriage return.
-fn line_length(text: &[u8]) -> usize
-    ensures count { result ≡ named_spec.line_length text.now }
-    ensures within { result ≤ length text.now }
-{
-    let mut count = 0;
-    let mut rest = text;
-    while let [byte, behind @ ..] = rest {
-        if *byte == b'\n' || *byte == b'\r' {
-            break;
-        }
-        count += 1;
-        rest = behind;
-    }
-    count
-}
-
-/// Whether each of the lowest binary digits that is 1 in the first number is 1 in the second too.
-fn is_within(digits: usize, low: usize, high: usize) -> bool
-    ensures { result ≡ spec.is_within digits low high }
-{
-    let mut left = digits;
-    let mut inner = low;
-    let mut outer = high;
-    while left > 0 {
-        if inner % 2 > outer % 2 {
-            return false;
-        }
-        left -= 1;
-        inner /= 2;
-        outer /= 2;
-    }
-    true
-}
-
 /// Whether a class of a shape with this many names is at or below another.
 pub(crate) fn is_below(shape: Shape, names: usize, low: usize, high: usize) -> bool
     ensures { result ≡ spec.is_below shape names low high }
@@ -181,7 +144,21 @@ pub(crate) fn is_below(shape: Shape, names: usize, low: usize, high: usize) -> b
     match shape {
         Shape::Two | Shape::Levels => low <= high,
         Shape::Diamond => low == high || low == 0 || high == 3,
-        Shape::Powerset => is_within(names, low, high),
+        Shape::Powerset => {
+            // Each binary digit that is 1 in the first number is 1 in the second too.
+            let mut left = names;
+            let mut inner = low;
+            let mut outer = high;
+            while left > 0 {
+                if inner % 2 > outer % 2 {
+                    return false;
+                }
+                left -= 1;
+                inner /= 2;
+                outer /= 2;
+            }
+            true
+        }
     }
 }
 
@@ -279,14 +256,6 @@ fn class_names(
     Ok(classes)
 }
 
-/// Whether a class of a shape is directly below another: at or below it, different from it, and
-/// with none between.
-fn is_direct(shape: Shape, names: usize, count: usize, low: usize, high: usize) -> bool {
-    let is_below = |low: usize, high: usize| low != high && is_below(shape, names, low, high);
-    let mut others = 0..count;
-    is_below(low, high) && !others.any(|middle| is_below(low, middle) && is_below(middle, high))
-}
-
 /// A proposed text for the lattice file of a shape with classes of these names.
 fn proposed(
     alloc: Global,
@@ -302,9 +271,14 @@ fn proposed(
         between = b", \"";
     }
     text.extend_from_slice(b"]\nbelow = [\n")?;
+    // A class is directly below another if none is between them.
+    let is_below = |low: usize, high: usize| low != high && is_below(shape, names, low, high);
     for (low, name) in classes.iter().enumerate() {
         for (high, other) in classes.iter().enumerate() {
-            if is_direct(shape, names, classes.len(), low, high) {
+            let mut others = 0..classes.len();
+            if is_below(low, high)
+                && !others.any(|middle| is_below(low, middle) && is_below(middle, high))
+            {
                 put_parts(&mut text, &[b"  [\"", name, b"\", \"", other, b"\"],\n"])?;
             }
         }

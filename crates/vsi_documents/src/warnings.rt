@@ -1,8 +1,6 @@
 //! Warnings about a lattice that says, by its names, something else than its author may mean. A
 //! lattice with a warning is as good as any other.
 
-ghost use Rattle.vsi_lattice.specs.{LatticeView.{order}, Order.{IsClass}};
-
 use crate::roles::name_of;
 use std::alloc::{AllocError, Global};
 use vsi_conform::put_parts;
@@ -39,50 +37,13 @@ fn plain_name(alloc: Global, name: &[u8]) -> Result<Vec<u8>, AllocError> {
     Ok(plain)
 }
 
-/// Whether a name is this word, whatever the size of its letters and where its `_` are.
-fn is_word(name: &[u8], word: &[u8]) -> bool {
-    let mut rest = word;
-    for letter in name {
-        if *letter == b'_' {
-            continue;
-        }
-        match rest {
-            [first, more @ ..] if *first == letter.to_ascii_lowercase() => rest = more,
-            _ => return false,
-        }
-    }
-    rest.is_empty()
-}
-
-/// Whether a name is one of these, in small letters and without `_`.
+/// Whether a name is one of these, whatever the size of its letters and where its `_` are.
 fn is_one_of(name: &[u8], words: &[u8]) -> bool {
-    words
-        .split(|byte| *byte == b' ')
-        .any(|word| is_word(name, word))
-}
-
-/// Adds the warnings about a class and those after it.
-fn put_class(
-    text: &mut Vec<u8>,
-    alloc: Global,
-    lattice: &Lattice,
-    class: usize,
-) -> Result<(), AllocError>
-    requires { IsClass (order lattice.now) class }
-{
-    let name = name_of(lattice, class);
-    let plain = plain_name(alloc, name)?;
-    for other in 0..lattice.count() {
-        let second = name_of(lattice, other);
-        if class < other && plain_name(alloc, second)?.as_slice() == plain.as_slice() {
-            put_parts(text, &[b"warning: ", name, b" and ", second, ALIKE])?;
-        }
-        let is_seen = lattice.leq(Class::at(other as u8), Class::at(class as u8));
-        if is_seen && is_one_of(name, LOW) && is_one_of(second, HIGH) {
-            put_parts(text, &[b"warning: ", name, b" sees ", second, REVERSED])?;
-        }
-    }
-    Ok(())
+    words.split(|byte| *byte == b' ').any(|word| {
+        let letters = name.iter().filter(|letter| **letter != b'_');
+        let small = letters.map(|letter| letter.to_ascii_lowercase());
+        small.eq(word.iter().copied())
+    })
 }
 
 /// The warnings about a lattice: that it has one class alone, that two names look alike, and that a
@@ -94,7 +55,21 @@ pub fn policy_warnings(alloc: Global, lattice: &Lattice) -> Result<Vec<u8>, Allo
         text.extend_from_slice(b"warning: there is only one class, so every flow is allowed\n")?;
     }
     for class in 0..lattice.count() {
-        put_class(&mut text, alloc, lattice, class)?;
+        let name = name_of(lattice, class);
+        let plain = plain_name(alloc, name)?;
+        for other in 0..lattice.count() {
+            let second = name_of(lattice, other);
+            if class < other && plain_name(alloc, second)?.as_slice() == plain.as_slice() {
+                put_parts(&mut text, &[b"warning: ", name, b" and ", second, ALIKE])?;
+            }
+            let is_seen = lattice.leq(Class::at(other as u8), Class::at(class as u8));
+            if is_seen && is_one_of(name, LOW) && is_one_of(second, HIGH) {
+                put_parts(
+                    &mut text,
+                    &[b"warning: ", name, b" sees ", second, REVERSED],
+                )?;
+            }
+        }
     }
     Ok(text)
 }

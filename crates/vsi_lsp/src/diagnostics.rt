@@ -8,7 +8,7 @@ ghost use Rattle.vsi_lsp.specs.Verdict as spec;
 use crate::document::{DocumentText, Made, joined, text_value};
 use serde_json::{Value, json};
 use std::alloc::AllocError;
-use vsi_answers::{Warning, put_message, refusal_diagnostic, warnings_of};
+use vsi_answers::{put_message, refusal_diagnostic, warnings_of};
 use vsi_compiler::{CompileError, Source, judge, read_source};
 use vsi_flows::{ends_text, further_flows, step_text};
 use vsi_lattice::Lattice;
@@ -45,7 +45,11 @@ fn source_objects(document: DocumentText<'_>, source: &Source<'_>) -> Made<Vec<V
     }
 }
 
-/// The errors in a text that has no program.
+/// The most tokens that are read again to find faults: those of a text of 64 KB some eight times.
+const MAX_READ: usize = 131_072;
+
+/// The errors in a text that has no program. A text that is too large has no other error, since its
+/// size is judged last.
 fn refused_objects(
     document: DocumentText<'_>,
     lattice: &Lattice,
@@ -55,7 +59,18 @@ fn refused_objects(
     ensures begins { IfOk result (λ objects. spec.BeginsWithErrors objects.items) }
 {
     let mut errors = refusal_errors(document, error)?;
-    let mut further = further_errors(document, lattice, error)?;
+    if let CompileError::Scope(ScopeError::TooLarge) = error {
+        return Ok(errors);
+    }
+    let mut further = Vec::new(document.alloc);
+    for fault in &further_faults(document.alloc, lattice, document.text, MAX_READ)? {
+        let error = match fault.cause {
+            Cause::Lex(error) => CompileError::Lex(error),
+            Cause::Tree => CompileError::Parse(ParseError::Unexpected(fault.span)),
+            Cause::Scope(error) => CompileError::Scope(error),
+        };
+        further.append(&mut refusal_errors(document, &error)?)?;
+    }
     errors.append(&mut further)?;
     Ok(errors)
 }
@@ -120,19 +135,12 @@ pub(crate) fn error_list(
     ensures alone { IfOk result (λ errors. length errors.items ≡ 1) }
     ensures severe { IfOk result (λ errors. All IsError errors.items) }
 {
-    let error = error_object(document, span, code, message)?;
-    Ok(vec![in document.alloc; error]?)
-}
-
-/// The object of an error at a part of a document.
-fn error_object(document: DocumentText<'_>, span: Span, code: usize, message: &[u8]) -> Made<Value>
-    ensures { IfOk result IsError }
-{
     let range = document.range(span)?;
     let message = text_value(document.alloc, message)?;
-    json!(in document.alloc; {
+    let error = json!(in document.alloc; {
         "range": range, "severity": 1, "code": code, "source": "vsi", "message": message
-    })
+    })?;
+    Ok(vec![in document.alloc; error]?)
 }
 
 /// The number of a refusal, and its line without its position.
@@ -150,21 +158,16 @@ fn line_of(document: DocumentText<'_>, error: &CompileError) -> Made<(usize, Vec
 /// The part of no length at the beginning of a text.
 pub(crate) const START: Span = Span { start: 0, stop: 0 };
 
-/// The part of the character at a byte.
-fn character_at(text: &[u8], at: usize) -> Span {
-    let next = at.saturating_add(1);
-    let rest = text.get(next..).unwrap_or(b"").iter().take(3);
-    let more = rest
-        .take_while(|byte| **byte >= 128 && **byte < 192)
-        .count();
-    let stop = next.saturating_add(more);
-    Span { start: at, stop }
-}
-
 /// The part to which a refusal points; for a flow, where its first step reads.
 fn refused_span(text: &[u8], error: &CompileError) -> Span {
     match error {
-        CompileError::Lex(LexError::BadByte(at)) => character_at(text, *at),
+        CompileError::Lex(LexError::BadByte(at)) => {
+            let next = at.saturating_add(1);
+            let rest = text.get(next..).unwrap_or(b"").iter().take(3);
+            let more = rest.take_while(|byte| **byte >= 128 && **byte < 192);
+            let stop = next.saturating_add(more.count());
+            Span { start: *at, stop }
+        }
         CompileError::Lex(LexError::BadWord(span) | LexError::BadNumber(span)) => *span,
         CompileError::Parse(ParseError::Unexpected(span) | ParseError::TooDeep(span)) => *span,
         CompileError::Scope(error) => match error {
@@ -178,44 +181,8 @@ fn refused_span(text: &[u8], error: &CompileError) -> Span {
     }
 }
 
-/// The most tokens that are read again to find faults: those of a text of 64 KB some eight times.
-const MAX_READ: usize = 131_072;
-
-/// The errors in a text that has no program, after its first one. A text that is too large has no
-/// other error, since its size is judged last.
-fn further_errors(
-    document: DocumentText<'_>,
-    lattice: &Lattice,
-    first: &CompileError,
-) -> Made<Vec<Value>> {
-    let mut objects = Vec::new(document.alloc);
-    if matches!(first, CompileError::Scope(ScopeError::TooLarge)) {
-        return Ok(objects);
-    }
-    for fault in &further_faults(document.alloc, lattice, document.text, MAX_READ)? {
-        let error = match fault.cause {
-            Cause::Lex(error) => CompileError::Lex(error),
-            Cause::Tree => CompileError::Parse(ParseError::Unexpected(fault.span)),
-            Cause::Scope(error) => CompileError::Scope(error),
-        };
-        objects.append(&mut refusal_errors(document, &error)?)?;
-    }
-    Ok(objects)
-}
-
 /// The most warnings that are published for a text.
 const MAX_WARNINGS: usize = 100;
-
-/// The object of a warning: its part and its message.
-fn warning_object(document: DocumentText<'_>, warning: Warning) -> Made<Value>
-    ensures { IfOk result IsWarning }
-{
-    let mut message = Vec::new(document.alloc);
-    put_message(&mut message, document.text, warning)?;
-    let message = text_value(document.alloc, &message)?;
-    let range = document.range(warning.span)?;
-    json!(in document.alloc; {"range": range, "severity": 2, "source": "vsi", "message": message})
-}
 
 /// The warnings about a source text, up to the first 100.
 fn source_warnings(document: DocumentText<'_>, source: &Source<'_>) -> Made<Vec<Value>>
@@ -224,7 +191,14 @@ fn source_warnings(document: DocumentText<'_>, source: &Source<'_>) -> Made<Vec<
     let alloc = document.alloc;
     let mut objects = Vec::new(alloc);
     for warning in warnings_of(alloc, source)?.iter().take(MAX_WARNINGS) {
-        objects.push(warning_object(document, *warning)?)?;
+        let mut message = Vec::new(alloc);
+        put_message(&mut message, document.text, *warning)?;
+        let message = text_value(alloc, &message)?;
+        let range = document.range(warning.span)?;
+        let object = json!(in alloc; {
+            "range": range, "severity": 2, "source": "vsi", "message": message
+        })?;
+        objects.push(object)?;
     }
     Ok(objects)
 }
@@ -239,35 +213,24 @@ struct RefusedText<'p, 's, 'a> {
 }
 
 impl RefusedText<'_, '_, '_> {
-    /// The objects of the steps of a walk: where each reads, and its message.
-    fn steps(&self, steps: &[Step]) -> Made<Value> {
+    /// The object of a refused flow: the line of the text with the classes of the flow's ends, and
+    /// for each step of its walk where it reads, and its message.
+    fn flow(&self, span: Span, from: Var, to: Var, steps: &[Step]) -> Made<Value>
+        ensures { IfOk result IsError }
+    {
         let alloc = self.document.alloc;
-        let mut objects = Vec::new(alloc);
+        let ends = ends_text(alloc, self.source, from, to)?;
+        let message = text_value(alloc, &joined(alloc, &[&self.line, b"\n", &ends])?)?;
+        let mut related = Vec::new(alloc);
         for step in steps {
             let location = self.document.location(step.read)?;
             let (line, column) = self.document.marked.line_column(step.written.start);
             let message = step_text(alloc, self.source, step, line, column)?;
             let message = text_value(alloc, &message)?;
-            objects.push(json!(in alloc; {"location": location, "message": message})?)?;
+            related.push(json!(in alloc; {"location": location, "message": message})?)?;
         }
-        Ok(Value::Array(objects))
-    }
-
-    /// The message of a refused flow: the line of the text, and the classes of the flow's ends.
-    fn message(&self, from: Var, to: Var) -> Made<Value> {
-        let alloc = self.document.alloc;
-        let ends = ends_text(alloc, self.source, from, to)?;
-        text_value(alloc, &joined(alloc, &[&self.line, b"\n", &ends])?)
-    }
-
-    /// The object of a refused flow: its message, and the steps of its walk.
-    fn flow(&self, span: Span, from: Var, to: Var, steps: &[Step]) -> Made<Value>
-        ensures { IfOk result IsError }
-    {
-        let message = self.message(from, to)?;
-        let related = self.steps(steps)?;
-        let range = self.document.range(span)?;
-        json!(in self.document.alloc; {
+        let (range, related) = (self.document.range(span)?, Value::Array(related));
+        json!(in alloc; {
             "range": range, "severity": 1, "code": self.code, "source": "vsi", "message": message,
             "relatedInformation": related
         })

@@ -1,6 +1,6 @@
 //! A document, JSON objects about its parts, and messages to the client.
 
-ghost use Rattle.std.specs.Prelude.{IfOk, IfSome, ◌≡◌, ◌++◌, OnOk};
+ghost use Rattle.std.specs.Prelude.{IfOk, IfSome};
 ghost use Rattle.vsi_syntax.specs.Layout.{IsLayout};
 ghost use Rattle.vsi_client.specs.Frames as spec;
 
@@ -65,14 +65,6 @@ impl<'a> DocumentText<'a> {
         self.edits(Span { start: 0, stop }, new)
     }
 
-    /// The change that lays the text out: nothing for a text that is no program's.
-    pub(crate) fn layout_edits(&self) -> Made<Value> {
-        match laid_out(self.alloc, self.text)? {
-            Some(out) => self.whole_edits(&out),
-            None => Ok(Value::Null),
-        }
-    }
-
     /// The changes of the document in a list.
     pub(crate) fn changes(&self, list: Value) -> Made<Value> {
         let uri = String::from_utf8_lossy(self.alloc, self.uri)?;
@@ -135,7 +127,7 @@ pub(crate) fn tokens_of(alloc: Global, text: &[u8]) -> Made<Option<Vec<Token<'_>
 }
 
 /// The layout of a text, which keeps its comments: nothing for a text that is no program's.
-fn laid_out(alloc: Global, text: &[u8]) -> Made<Option<Vec<u8>>>
+pub(crate) fn laid_out(alloc: Global, text: &[u8]) -> Made<Option<Vec<u8>>>
     ensures laid { IfOk result (λ found. IfSome found (λ out. IsLayout text.now out.items)) }
 {
     match layout(alloc, text) {
@@ -212,16 +204,6 @@ impl From<AllocError> for Fault {
     }
 }
 
-/// Adds a message after its header.
-fn put_frame(out: &mut Vec<u8>, body: &[u8]) -> Made<()>
-    ensures { OnOk result (out.new.items ≡ out.old.items ++ spec.frame body.now) }
-{
-    out.extend_from_slice(b"Content-Length: ")?;
-    put_number(out, body.len())?;
-    out.extend_from_slice(b"\r\n\r\n")?;
-    out.extend_from_slice(body)
-}
-
 /// The bytes of messages, each after its header.
 pub fn framed(alloc: Global, messages: &[Value]) -> Result<Vec<u8>, AllocError>
     ensures framed { IfOk result (λ bytes. spec.AreFrames bytes.items) }
@@ -229,7 +211,10 @@ pub fn framed(alloc: Global, messages: &[Value]) -> Result<Vec<u8>, AllocError>
     let mut out = Vec::new(alloc);
     for message in messages {
         let body = message.to_vec(alloc)?;
-        put_frame(&mut out, &body)?;
+        out.extend_from_slice(b"Content-Length: ")?;
+        put_number(&mut out, body.len())?;
+        out.extend_from_slice(b"\r\n\r\n")?;
+        out.extend_from_slice(&body)?;
     }
     Ok(out)
 }
@@ -272,11 +257,6 @@ pub(crate) fn welcome(alloc: Global, encoding: Encoding) -> Made<Value> {
     json!(in alloc; {"capabilities": able, "serverInfo": {"name": "vsi"}})
 }
 
-/// A message that isn't an answer.
-fn notification(alloc: Global, method: &str, parameters: Value) -> Made<Value> {
-    json!(in alloc; {"jsonrpc": "2.0", "method": method, "params": parameters})
-}
-
 /// The message with the errors of a document.
 pub(crate) fn published(
     alloc: Global,
@@ -290,11 +270,7 @@ pub(crate) fn published(
         Some(version) => json!(in alloc; {"uri": uri, "version": version, "diagnostics": errors})?,
         None => json!(in alloc; {"uri": uri, "diagnostics": errors})?,
     };
-    notification(alloc, "textDocument/publishDiagnostics", parameters)
-}
-
-/// A message for the log of the client.
-pub(crate) fn said(alloc: Global, line: &[u8]) -> Made<Value> {
-    let parameters = json!(in alloc; {"type": 3, "message": text_value(alloc, line)?})?;
-    notification(alloc, "window/logMessage", parameters)
+    json!(in alloc; {
+        "jsonrpc": "2.0", "method": "textDocument/publishDiagnostics", "params": parameters
+    })
 }

@@ -36,7 +36,7 @@ pub(crate) enum Policy {
 
 impl Policy {
     /// The bytes of the file, or the path of one that can't be read.
-    fn bytes(&self) -> Result<&[u8], &[u8]> {
+    pub(crate) fn bytes(&self) -> Result<&[u8], &[u8]> {
         match self {
             Policy::Two => Ok(TWO_CLASSES),
             Policy::File(bytes) => Ok(bytes.as_slice()),
@@ -83,34 +83,23 @@ impl Document {
         }
     }
 
-    /// Whether a line of the text begins with a key.
-    fn has(&self, key: &[u8]) -> bool {
-        self.text
-            .split(|byte| *byte == b'\n')
-            .any(|line| line.starts_with(key))
-    }
-
     /// The kind of the document: a TOML file that has a key of interfaces is an interface, and
     /// another one that has a key of lattice files is a lattice file.
     pub(crate) fn kind(&self) -> DocumentKind {
         if !self.uri.ends_with(b".toml") {
             return DocumentKind::Source;
         }
-        if OF_INTERFACES.iter().any(|key| self.has(key)) {
+        let has = |key: &[u8]| {
+            let mut lines = self.text.split(|byte| *byte == b'\n');
+            lines.any(|line| line.starts_with(key))
+        };
+        if OF_INTERFACES.iter().any(|key| has(key)) {
             return DocumentKind::Interface;
         }
-        if self.has(b"classes") || self.has(b"below") {
+        if has(b"classes") || has(b"below") {
             return DocumentKind::Lattice;
         }
         DocumentKind::Other
-    }
-
-    /// The bytes of the lattice file of the document, if it is a text and the file can be read.
-    pub(crate) fn policy_bytes(&self) -> Option<&[u8]> {
-        match self.kind() {
-            DocumentKind::Source => self.policy.bytes().ok(),
-            _ => None,
-        }
     }
 
     /// The errors and warnings of the document.
@@ -130,7 +119,13 @@ impl Document {
                 Err(error) => refused_errors(document, line_span(&self.text, 0), error),
             },
             DocumentKind::Source => {
-                let span = naming_span(document.text);
+                // The part of the text that names its lattice file.
+                let span = match self.text.iter().position(|byte| *byte == b'#') {
+                    Some(start) if named_policy(&self.text).is_some() => {
+                        line_span(&self.text, start)
+                    }
+                    _ => START,
+                };
                 match self.policy.bytes() {
                     Ok(bytes) => match read_lattice(document.alloc, bytes) {
                         Ok(lattice) => objects_in(document, &lattice),
@@ -152,16 +147,6 @@ fn line_span(text: &[u8], start: usize) -> Span {
         .count();
     let stop = start.saturating_add(size);
     Span { start, stop }
-}
-
-/// The part of a source text that names its lattice file.
-fn naming_span(text: &[u8]) -> Span {
-    if named_policy(text).is_some()
-        && let Some(start) = text.iter().position(|byte| *byte == b'#')
-    {
-        return line_span(text, start);
-    }
-    START
 }
 
 /// The error of a lattice file that can't be read.

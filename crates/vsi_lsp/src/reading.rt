@@ -1,23 +1,20 @@
 //! A document as requests about its names read it, and the words with which it can go on.
 
-ghost use Rattle.std.specs.List.{All};
-ghost use Rattle.vsi_lattice.specs.{LatticeView.{order}, Order.{IsClass}};
-
 use crate::document::{
-    DocumentText, Fault, Made, PARAMETERS, RENAME, edit, folds, joined, text_at, text_value,
-    tokens_of,
+    DocumentText, Fault, Made, PARAMETERS, RENAME, edit, folds, joined, laid_out, text_at,
+    text_value, tokens_of,
 };
 use crate::repairs::fixes;
 use serde_json::{Value, json};
 use std::alloc::{AllocError, Global};
-use vsi_client::{Change, Mention, Range, mentions_of, rename};
+use vsi_client::{Mention, Range, mentions_of, rename};
 use vsi_compiler::{CompileError, Source, judge};
 use vsi_flows::related;
 use vsi_infer::put_variable;
 use vsi_lattice::{Class, Classes, Lattice, LatticeError, read_lattice};
 use vsi_recovery::{Sort, expected_after};
 use vsi_scope::Var;
-use vsi_syntax::{Kind, MAX_DEPTH, Span, Token};
+use vsi_syntax::{Kind, MAX_DEPTH, Token};
 
 /// The numbers of the protocol for kinds of items.
 const VARIABLE: usize = 6;
@@ -114,16 +111,6 @@ enum Open<'a> {
     Letvar(&'a [u8]),
 }
 
-/// What was read: the names of the globals, the parts that haven't ended, the name of the last
-/// letvar, and the kind of the last token.
-#[derive(Drop)]
-struct Walk<'a> {
-    globals: Vec<&'a [u8]>,
-    open: Vec<Open<'a>>,
-    letvar: &'a [u8],
-    last: Kind,
-}
-
 /// The number of parts that a token leaves: a `;` ends the letvars in its block, a `}` the block
 /// too, and an `else` the first command of its `if`.
 fn left(open: &[Open<'_>], kind: Kind) -> usize {
@@ -140,54 +127,40 @@ fn left(open: &[Open<'_>], kind: Kind) -> usize {
     count
 }
 
-impl<'a> Walk<'a> {
-    /// Reads a token. A name after `var` or `letvar` is declared.
-    fn note(&mut self, token: &Token<'a>) -> Made<()> {
+/// The names in scope after these tokens: the letvars, the innermost first, and the globals.
+pub(crate) fn names_after<'a>(alloc: Global, tokens: &[Token<'a>]) -> Made<Vec<&'a [u8]>> {
+    let mut globals = Vec::new(alloc);
+    // The parts that haven't ended, the name of the last letvar, and the kind of the last token.
+    let mut open = Vec::new(alloc);
+    let mut letvar: &'a [u8] = b"";
+    let mut last = Kind::Semicolon;
+    for token in tokens {
         match token.kind {
-            Kind::Name if self.last == Kind::Var => self.globals.push(token.text)?,
-            Kind::Name if self.last == Kind::Letvar => self.letvar = token.text,
-            Kind::In => self.open.push(Open::Letvar(self.letvar))?,
-            Kind::Then => self.open.push(Open::Branch)?,
-            Kind::OpenBrace => self.open.push(Open::Block)?,
+            Kind::Name if last == Kind::Var => globals.push(token.text)?,
+            Kind::Name if last == Kind::Letvar => letvar = token.text,
+            Kind::In => open.push(Open::Letvar(letvar))?,
+            Kind::Then => open.push(Open::Branch)?,
+            Kind::OpenBrace => open.push(Open::Block)?,
             Kind::Semicolon | Kind::CloseBrace | Kind::Else => {
-                let stays = left(&self.open, token.kind);
-                self.open.truncate(stays);
+                let stays = left(&open, token.kind);
+                open.truncate(stays);
             }
             _ => {}
         }
-        self.last = token.kind;
-        Ok(())
+        last = token.kind;
     }
-
-    /// The names of letvars in scope, the innermost first: no more than a program can nest.
-    fn letvars(&self, alloc: Global) -> Made<Vec<&'a [u8]>> {
-        let mut names = Vec::new(alloc);
-        for part in self.open.iter().rev() {
-            if let Open::Letvar(name) = part
-                && names.len() < usize::from(MAX_DEPTH)
-                && !names.contains(name)
-            {
-                names.push(*name)?;
-            }
+    // No more letvars are in scope than a program can nest.
+    let mut names = Vec::new(alloc);
+    for part in open.iter().rev() {
+        if let Open::Letvar(name) = part
+            && names.len() < usize::from(MAX_DEPTH)
+            && !names.contains(name)
+        {
+            names.push(*name)?;
         }
-        Ok(names)
     }
-}
-
-/// The names in scope after these tokens: the letvars, the innermost first, and the globals.
-pub(crate) fn names_after<'a>(alloc: Global, tokens: &[Token<'a>]) -> Made<Vec<&'a [u8]>> {
-    let mut walk = Walk {
-        globals: Vec::new(alloc),
-        open: Vec::new(alloc),
-        letvar: b"",
-        last: Kind::Semicolon,
-    };
-    for token in tokens {
-        walk.note(token)?;
-    }
-    let mut names = walk.letvars(alloc)?;
     let letvars = Vec::from_slice(alloc, &names)?;
-    let globals = walk.globals.iter().copied();
+    let globals = globals.iter().copied();
     names.extend(globals.filter(|name| !letvars.contains(name)))?;
     Ok(names)
 }
@@ -210,7 +183,10 @@ pub(crate) fn answer(
     value: &Value,
 ) -> Result<Value, Fault> {
     match (topic, policy) {
-        ("formatting", _) => Ok(document.layout_edits()?),
+        ("formatting", _) => match laid_out(document.alloc, document.text)? {
+            Some(out) => Ok(document.whole_edits(&out)?),
+            None => Ok(Value::Null),
+        },
         ("foldingRange", _) => Ok(folds(document.alloc, document.text)?),
         (_, None) => Ok(Value::Null),
         (_, Some(bytes)) => match read_lattice(document.alloc, bytes) {
@@ -241,31 +217,21 @@ struct Reading<'a> {
     classes: Vec<&'a [u8]>,
 }
 
-/// The names of classes.
-fn names_of<'a>(alloc: Global, lattice: &'a Lattice, classes: &[Class]) -> Made<Vec<&'a [u8]>>
-    requires { All (IsClass (order lattice.now)) classes.now }
-{
-    let mut names = Vec::new(alloc);
-    for class in classes {
-        names.push(lattice.name(*class))?;
-    }
-    Ok(names)
-}
-
-/// The names of the least classes of the letvars; none if a flow is refused.
-fn classes_of<'a>(document: DocumentText<'a>, source: &Source<'a>) -> Made<Vec<&'a [u8]>> {
-    match judge(document.alloc, document.profile, source) {
-        Ok(classes) => names_of(document.alloc, source.lattice(), &classes),
-        Err(CompileError::Memory) => Err(AllocError),
-        Err(_) => Ok(Vec::new(document.alloc)),
-    }
-}
-
 impl<'a> Reading<'a> {
     /// A document as requests read it.
     fn of(document: DocumentText<'a>, source: Source<'a>) -> Made<Self> {
         let mentions = mentions_of(document.alloc, &source)?;
-        let classes = classes_of(document, &source)?;
+        let lattice = source.lattice();
+        let mut classes = Vec::new(document.alloc);
+        match judge(document.alloc, document.profile, &source) {
+            Ok(least) => {
+                for class in &least {
+                    classes.push(lattice.name(*class))?;
+                }
+            }
+            Err(CompileError::Memory) => return Err(AllocError),
+            Err(_) => {}
+        }
         Ok(Reading {
             document,
             source,
@@ -276,32 +242,25 @@ impl<'a> Reading<'a> {
 
     /// The answer to a request about the names of a program, or about the one to which it points.
     fn answer(&self, topic: &str, value: &Value) -> Result<Value, Fault> {
-        match (topic, self.pointed(value)) {
+        let at = self.document.byte_at(value, "/params/position");
+        let mut names = self.mentions.iter();
+        let pointed = names.find(|name| at.is_some_and(|at| name.span.start <= at
+            && at <= name.span.stop));
+        match (topic, pointed.copied()) {
             ("inlayHint", _) => Ok(self.hints()?),
             ("documentSymbol", _) => Ok(self.symbols()?),
             ("rename", Some(name)) => self.renaming(name.variable, value),
             ("rename", None) => Err(RENAME),
             ("hover", Some(name)) => Ok(self.hover(name)?),
-            ("definition", Some(name)) => Ok(self.definition(name.variable)?),
+            ("definition", Some(name)) => {
+                let mut names = self.mentions.iter();
+                match names.find(|one| one.is_declaration && one.variable == name.variable) {
+                    Some(name) => Ok(self.document.location(name.span)?),
+                    None => Ok(Value::Null),
+                }
+            }
             (_, Some(name)) => Ok(self.parts(name.variable, topic == "references")?),
             (_, None) => Ok(Value::Null),
-        }
-    }
-
-    /// The name to which a message points.
-    fn pointed(&self, value: &Value) -> Option<Mention> {
-        let at = self.document.byte_at(value, "/params/position")?;
-        let mut names = self.mentions.iter();
-        names
-            .find(|name| name.span.start <= at && at <= name.span.stop)
-            .copied()
-    }
-
-    /// The text of a part.
-    fn text_of(&self, span: Span) -> &[u8] {
-        match self.document.text.get(span.start..span.stop) {
-            Some(text) => text,
-            None => b"",
         }
     }
 
@@ -323,7 +282,8 @@ impl<'a> Reading<'a> {
     /// or that it reaches.
     fn hover(&self, name: Mention) -> Made<Value> {
         let alloc = self.document.alloc;
-        let mut shown = Vec::from_slice(alloc, self.text_of(name.span))?;
+        let part = self.document.text.get(name.span.start..name.span.stop);
+        let mut shown = Vec::from_slice(alloc, part.unwrap_or(b""))?;
         let (class, is_inferred) = self.class_of(name.variable);
         if let Some(class) = class {
             shown.extend_from_slice(b" : ")?;
@@ -340,15 +300,6 @@ impl<'a> Reading<'a> {
         }
         let range = self.document.range(name.span)?;
         json!(in alloc; {"contents": text_value(alloc, &shown)?, "range": range})
-    }
-
-    /// Where a variable is declared.
-    fn definition(&self, variable: usize) -> Made<Value> {
-        let mut names = self.mentions.iter();
-        match names.find(|name| name.is_declaration && name.variable == variable) {
-            Some(name) => self.document.location(name.span),
-            None => Ok(Value::Null),
-        }
     }
 
     /// The parts of the text that name a variable, with the name of the document or without.
@@ -386,11 +337,12 @@ impl<'a> Reading<'a> {
 
     /// The declarations.
     fn symbols(&self) -> Made<Value> {
-        let alloc = self.document.alloc;
+        let (alloc, text) = (self.document.alloc, self.document.text);
         let mut list = Vec::new(alloc);
         let names = self.mentions.iter();
         for mention in names.filter(|name| name.is_declaration) {
-            let name = text_value(alloc, self.text_of(mention.span))?;
+            let part = text.get(mention.span.start..mention.span.stop);
+            let name = text_value(alloc, part.unwrap_or(b""))?;
             let class = self.class_of(mention.variable).0.unwrap_or(b"");
             let class = text_value(alloc, class)?;
             let range = self.document.range(mention.span)?;
@@ -407,21 +359,17 @@ impl<'a> Reading<'a> {
         let (alloc, encoding) = (self.document.alloc, self.document.encoding);
         let (source, mentions) = (&self.source, &self.mentions);
         match rename(alloc, encoding, source, mentions, variable, name.as_bytes())? {
-            Some(changes) => Ok(self.edits(&changes)?),
+            Some(changes) => {
+                let mut list = Vec::new(alloc);
+                for change in &changes {
+                    if let Some((start, stop)) = change.range {
+                        list.push(edit(alloc, Range { start, stop }, change.text)?)?;
+                    }
+                }
+                Ok(self.document.changes(Value::Array(list))?)
+            }
             None => Err(RENAME),
         }
-    }
-
-    /// The object of changes at positions.
-    fn edits(&self, changes: &[Change<'_>]) -> Made<Value> {
-        let alloc = self.document.alloc;
-        let mut list = Vec::new(alloc);
-        for change in changes {
-            if let Some((start, stop)) = change.range {
-                list.push(edit(alloc, Range { start, stop }, change.text)?)?;
-            }
-        }
-        self.document.changes(Value::Array(list))
     }
 }
 

@@ -40,8 +40,18 @@ pub(crate) fn fixes(document: DocumentText<'_>, lattice: &Lattice, value: &Value
     let mut repairs = Repairs { document, list };
     if let Some(Value::Array(errors)) = value.pointer("/params/context/diagnostics") {
         let mut codes = errors.iter().map(|error| number_at(error, "/code"));
-        if codes.any(|code| code == Some(REFUSED)) {
-            repairs.put_raises(lattice)?;
+        // One repair makes all raises at once: none if the text has no program, no raise makes it
+        // accepted, or it is accepted as it is.
+        if codes.any(|code| code == Some(REFUSED))
+            && let Some(source) = document.source(lattice)?
+            && let Some(title) = raising_title(document, &source)?
+            && let Some(new) = raised_text(document, &source)?
+        {
+            let title = text_value(document.alloc, &title)?;
+            let changes = document.changes(document.whole_edits(&new)?)?;
+            repairs.list.push(json!(in document.alloc; {
+                "title": title, "kind": "quickfix", "isPreferred": true, "edit": changes
+            })?)?;
         }
         for error in errors.iter().take(20) {
             repairs.put_rewrites(error)?;
@@ -57,26 +67,7 @@ struct Repairs<'a> {
     list: Vec<Value>,
 }
 
-impl<'a> Repairs<'a> {
-    /// Adds the repair that makes all raises of a text at once: none if it has no program, no raise
-    /// makes it accepted, or it is accepted as it is.
-    fn put_raises(&mut self, lattice: &'a Lattice) -> Made<()> {
-        let alloc = self.document.alloc;
-        let Some(source) = self.document.source(lattice)? else {
-            return Ok(());
-        };
-        if let Some(title) = raising_title(self.document, &source)?
-            && let Some(new) = raised_text(self.document, &source)?
-        {
-            let title = text_value(alloc, &title)?;
-            let changes = self.document.changes(self.document.whole_edits(&new)?)?;
-            self.list.push(json!(in alloc; {
-                "title": title, "kind": "quickfix", "isPreferred": true, "edit": changes
-            })?)?;
-        }
-        Ok(())
-    }
-
+impl Repairs<'_> {
     /// Adds the rewrites for an error of a request.
     fn put_rewrites(&mut self, error: &Value) -> Made<()> {
         let Some(at) = self.document.byte_at(error, "/range/start") else {
@@ -132,10 +123,14 @@ impl<'a> Repairs<'a> {
         if old.is_empty() || LONGEST < old.len() || LONGEST < new.len() {
             return Ok(());
         }
-        match span_of(text, old, at) {
-            Some(span) => self.put_rewrite(span, new, old),
-            None => Ok(()),
+        // The offer is for the part of the text around the byte.
+        for start in at.saturating_sub(old.len())..at.saturating_add(1) {
+            let stop = start.saturating_add(old.len());
+            if at <= stop && text.get(start..).unwrap_or(b"").starts_with(old) {
+                return self.put_rewrite(Span { start, stop }, new, old);
+            }
         }
+        Ok(())
     }
 
     /// Adds the repair of an `if` whose `else` is missing at a byte, if `else` may come there and
@@ -152,7 +147,7 @@ impl<'a> Repairs<'a> {
             && let Some(name) = assigned(alloc, ahead)?
         {
             let stop = last.span.stop;
-            let new = branch(alloc, name)?;
+            let new = joined(alloc, &[b" else ", name, b" := ", name])?;
             if is_read(alloc, text, stop, &new, rest)? {
                 let branch = new.trim_ascii_start();
                 let span = Span {
@@ -164,11 +159,6 @@ impl<'a> Repairs<'a> {
         }
         Ok(())
     }
-}
-
-/// A branch that assigns to a variable its own value.
-fn branch(alloc: Global, name: &[u8]) -> Made<Vec<u8>> {
-    joined(alloc, &[b" else ", name, b" := ", name])
 }
 
 /// The text with the least raises, which is accepted: nothing if no raise makes the text accepted.
@@ -258,38 +248,19 @@ fn parted<'a>(tokens: &'a [Token<'a>], at: usize) -> (&'a [Token<'a>], &'a [Toke
     (ahead, tokens.get(count..).unwrap_or(&[]))
 }
 
-/// The span of a part of a text around a byte.
-fn span_of(text: &[u8], part: &[u8], at: usize) -> Option<Span> {
-    for start in at.saturating_sub(part.len())..at.saturating_add(1) {
-        let stop = start.saturating_add(part.len());
-        if at <= stop && text.get(start..).unwrap_or(b"").starts_with(part) {
-            return Some(Span { start, stop });
-        }
-    }
-    None
-}
-
-/// How many letters differ between two names, if they are near: fewer than a third of them.
-fn distance(alloc: Global, written: &[u8], meant: &[u8]) -> Made<Option<usize>> {
-    let (Ok(written_text), Ok(meant_text)) = (from_utf8(written), from_utf8(meant)) else {
-        return Ok(None);
-    };
-    if written.eq_ignore_ascii_case(meant) {
-        return Ok(Some(0));
-    }
-    let far = osa_distance(alloc, written_text, meant_text)?;
-    let is_near = far.saturating_mul(2) < written.len().min(meant.len());
-    Ok(is_near.then_some(far))
-}
-
-/// The nearest of the names, the first of those as near.
+/// The nearest of the names, the first of those as near: fewer than half of its letters differ.
 fn nearest<'n>(alloc: Global, written: &[u8], names: &[&'n [u8]]) -> Made<Option<&'n [u8]>> {
     let mut best = None;
     let mut least = LONGEST;
     for name in names {
-        if let Some(far) = distance(alloc, written, name)?
-            && far < least
-        {
+        let (Ok(written_text), Ok(text)) = (from_utf8(written), from_utf8(name)) else {
+            continue;
+        };
+        let mut far = 0;
+        if !written.eq_ignore_ascii_case(name) {
+            far = osa_distance(alloc, written_text, text)?;
+        }
+        if far.saturating_mul(2) < written.len().min(name.len()) && far < least {
             least = far;
             best = Some(*name);
         }

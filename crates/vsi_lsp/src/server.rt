@@ -5,7 +5,7 @@ ghost use Rattle.vsi_client.specs.Frames.{AreFrames};
 
 use crate::document::{
     EARLY, Fault, METHOD, Made, PARAMETERS, PARSE, REQUEST, encoding_for, framed, place_at,
-    published, said, text_at, welcome,
+    published, text_at, text_value, welcome,
 };
 use crate::documents::{Document, DocumentKind, Policy, interface_path};
 use crate::reading::{answer, is_topic};
@@ -128,28 +128,25 @@ impl Server {
     /// Does what a message asks, and returns the lattice file that is to be read and given to
     /// `judge` then.
     pub fn obey(&mut self, message: &[u8]) -> Result<Option<Wanted>, AllocError> {
-        match Value::from_slice(self.alloc, message) {
-            Ok(value) => self.obey_value(&value),
-            Err(error) if error.is_memory() => Err(AllocError),
+        let value = match Value::from_slice(self.alloc, message) {
+            Ok(value) => value,
+            Err(error) if error.is_memory() => return Err(AllocError),
             Err(_) => {
                 self.fail(&Value::Null, PARSE)?;
-                Ok(None)
+                return Ok(None);
             }
-        }
-    }
-
-    /// Does what a value asks. Answers of the client are nothing to do.
-    fn obey_value(&mut self, value: &Value) -> Made<Option<Wanted>> {
-        let Some(method) = text_at(value, "/method") else {
+        };
+        let Some(method) = text_at(&value, "/method") else {
+            // Answers of the client are nothing to do.
             if value.get("result").is_none() && value.get("error").is_none() {
                 self.fail(&Value::Null, REQUEST)?;
             }
             return Ok(None);
         };
         let Some(id) = value.get("id") else {
-            return self.note(method, value);
+            return self.note(method, &value);
         };
-        match self.reply(method, value) {
+        match self.reply(method, &value) {
             Ok(answer) => {
                 let message = json!(in self.alloc; {"jsonrpc": "2.0", "id": id, "result": answer})?;
                 self.messages.push(message)?;
@@ -190,7 +187,11 @@ impl Server {
                     let document = self.documents.get(place).ok_or(PARAMETERS)?;
                     let marked = Marked::of(self.alloc, self.encoding, &document.text)?;
                     let judged = document.text_in(self.alloc, self.encoding, self.profile, &marked);
-                    answer(judged, document.policy_bytes(), topic, value)
+                    let policy = match document.kind() {
+                        DocumentKind::Source => document.policy.bytes().ok(),
+                        _ => None,
+                    };
+                    answer(judged, policy, topic, value)
                 }
                 _ => Err(METHOD),
             },
@@ -205,7 +206,15 @@ impl Server {
             (_, "exit") => self.phase = Phase::Failed,
             (Phase::Running, "textDocument/didOpen") => return self.open(value),
             (Phase::Running, "textDocument/didChange") => return self.change(value),
-            (Phase::Running, "textDocument/didClose") => self.close(value)?,
+            (Phase::Running, "textDocument/didClose") => {
+                if let Some(uri) = text_at(value, "/params/textDocument/uri") {
+                    self.forget(uri.as_bytes());
+                    // A closed document has no errors.
+                    let none = Vec::new(self.alloc);
+                    let message = published(self.alloc, uri.as_bytes(), None, none)?;
+                    self.messages.push(message)?;
+                }
+            }
             (Phase::Running, "textDocument/didSave") => {
                 if let Some(place) = self.place_of(value) {
                     return self.want(place);
@@ -255,16 +264,6 @@ impl Server {
         }
     }
 
-    /// Closes a document, which has no errors then.
-    fn close(&mut self, value: &Value) -> Made<()> {
-        let Some(uri) = text_at(value, "/params/textDocument/uri") else {
-            return Ok(());
-        };
-        self.forget(uri.as_bytes());
-        let message = published(self.alloc, uri.as_bytes(), None, Vec::new(self.alloc))?;
-        Ok(self.messages.push(message)?)
-    }
-
     /// Changes a document, up to the first change that is malformed.
     fn change(&mut self, value: &Value) -> Made<Option<Wanted>> {
         let Some(place) = self.place_of(value) else {
@@ -287,26 +286,22 @@ impl Server {
         self.want(place)
     }
 
-    /// The path of the lattice file of a document, if it has one.
-    fn policy_path(&self, document: &Document) -> Made<Option<String>> {
-        match document.kind() {
-            DocumentKind::Interface => interface_path(self.alloc, &document.uri, &document.text),
-            DocumentKind::Lattice | DocumentKind::Other => Ok(None),
-            DocumentKind::Source => match (named_policy(&document.text), &self.lattice) {
-                (Some(name), _) => Ok(Some(path_beside(self.alloc, &document.uri, name)?)),
-                (None, Some(path)) => Ok(Some(path.clone()?)),
-                (None, None) => Ok(None),
-            },
-        }
-    }
-
     /// The lattice file that is to be read for a document; if there is none, its errors are
     /// published.
     fn want(&mut self, place: usize) -> Made<Option<Wanted>> {
         let Some(document) = self.documents.get(place) else {
             return Ok(None);
         };
-        if let Some(path) = self.policy_path(document)? {
+        let path = match document.kind() {
+            DocumentKind::Interface => interface_path(self.alloc, &document.uri, &document.text)?,
+            DocumentKind::Lattice | DocumentKind::Other => None,
+            DocumentKind::Source => match (named_policy(&document.text), &self.lattice) {
+                (Some(name), _) => Some(path_beside(self.alloc, &document.uri, name)?),
+                (None, Some(path)) => Some(path.clone()?),
+                (None, None) => None,
+            },
+        };
+        if let Some(path) = path {
             let uri = document.uri.clone()?;
             return Ok(Some(Wanted { path, uri }));
         }
@@ -324,7 +319,12 @@ impl Server {
         document.policy = policy;
         if is_by_two && document.kind() == DocumentKind::Source && !self.has_said {
             self.has_said = true;
-            self.messages.push(said(self.alloc, TWO_SAID)?)?;
+            let line = text_value(self.alloc, TWO_SAID)?;
+            let message = json!(in self.alloc; {
+                "jsonrpc": "2.0", "method": "window/logMessage",
+                "params": {"type": 3, "message": line}
+            })?;
+            self.messages.push(message)?;
         }
         let errors = document.errors(self.alloc, self.encoding, self.profile)?;
         let message = published(self.alloc, &document.uri, document.version, errors)?;

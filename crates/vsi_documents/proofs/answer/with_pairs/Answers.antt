@@ -7,7 +7,7 @@ use Rattle.vsi_lattice.specs.LatticeView.{class_named, order}
 use Rattle.vsi_leak.specs.Texts.{is_shown}
 use Rattle.vsi_documents.specs.Words.{pair_objects, shown_pair}
 use Rattle.vsi_documents.proofs.Worded.{pairs_step}
-use Rattle.vsi_documents.proofs.answer.put_pair_objects.Goals as goal
+use Rattle.vsi_documents.proofs.answer.with_pairs.Goals as goal
 
 pub loop-i-preserved : goal.loop-i-preserved
 loop-i-preserved c =
@@ -28,5 +28,5 @@ loop-i-preserved c =
     let found = map view c.loop-i.found in
     let pair = shown_pair (is_shown known L to g.1.items) g.0.items w v in
     let rest = pair_objects known L to (globals (drop (i + 1) gs)) (drop (i + 1) ws) (drop (i + 1) vs) in
-    let one : map view c.put_pair_object.new.found ≡ found ++ pair = search rules in
+    let one : map view c.if-is_shown.found ≡ found ++ pair = search rules in
     ap (λ t. t ++ rest) one ∙ append_assoc found pair rest ∙ ap (λ r. found ++ r) (sym step) ∙ c.loop-i.invariant

@@ -1,4 +1,4 @@
-use Rattle.std.proofs.Common.{map, sym, subst}
+use Rattle.std.proofs.Common.{map, rules, sym, subst}
 use Rattle.serde_json.specs.View.{view}
 use Rattle.vsi_lattice.specs.LatticeView.{order}
 use Rattle.vsi_types.specs.Security.{program}
@@ -7,37 +7,45 @@ use Rattle.vsi_flows.specs.Raising.{Answers}
 use Rattle.vsi_flows.specs.Answers.{HasClassesIn}
 use Rattle.vsi_flows.proofs.AnswerLemmas.{final_walk}
 use Rattle.vsi_flows.proofs.RaiseLemmas.{classes_in}
+use Rattle.vsi_documents.specs.Answers.{HasNoRaises}
 use Rattle.vsi_documents.proofs.Lines.{walk_apart}
-use Rattle.vsi_documents.proofs.texts.raised_line.Goals as goal
+use Rattle.vsi_documents.proofs.texts.source_mended.Goals as goal
 
-pub objects_of-requires : goal.objects_of-requires
-objects_of-requires c =
+pub raise_objects-requires : goal.raise_objects-requires
+raise_objects-requires c =
     let s = c.args.source.now in
     subst (HasClassesIn (order s.lattice)) (sym c.deref.ensures.value)
     (classes_in (order s.lattice) c.args.profile (program s.resolved) c.in-Raised.raises.items
     (subst (Answers (order s.lattice) c.args.profile (program s.resolved)) c.in-Raised.is
     c.in_ok-raising.ensures.answer))
 
-pub returns-in_ok-line-in-Raised : goal.returns-in_ok-line-in-Raised
-returns-in_ok-line-in-Raised c =
+pub returns-in_ok-text-in-Raised : goal.returns-in_ok-text-in-Raised
+returns-in_ok-text-in-Raised c =
     let s = c.args.source.now in
     record {
-      resolved = s.resolved;
-      stands = c.resolved-program.ensures.kept.stands;
-      raises = c.in-Raised.raises.items;
-      least = subst (Answers (order s.lattice) c.args.profile (program s.resolved)) c.in-Raised.is
-          c.in_ok-raising.ensures.answer;
-      objects = map view c.in_ok-objects-in-Raised.objects;
-      line = c.in_ok-line-in-Raised.ensures;
+      accepted = c.in_ok-checked.checked.is_accepted;
+      checked = c.in_ok-checked.checked.line.items;
+      judged = c.in_ok-checked.ensures.answer;
+      raises = record {
+        resolved = s.resolved;
+        stands = c.resolved-_program.ensures.kept.stands;
+        raises = c.in-Raised.raises.items;
+        least = subst (Answers (order s.lattice) c.args.profile (program s.resolved)) c.in-Raised.is
+            c.in_ok-raising.ensures.answer;
+        objects = map view c.in_ok-objects-in-Raised.objects;
+        line = c.in_ok-text-in-Raised.ensures;
+      };
     }
 
 pub returns-in-Refused : goal.returns-in-Refused
 returns-in-Refused c =
     let s = c.args.source.now in
+    let none : HasNoRaises s.lattice c.args.profile s.text =
     record {
       error = Flow c.in-Refused._walk;
       other = walk_apart c.in-Refused._walk;
-      refused = final_walk s c.resolved-program.ensures.kept c.args.profile c.in-Refused._walk.steps.items
+      refused = final_walk s c.resolved-_program.ensures.kept c.args.profile c.in-Refused._walk.steps.items
           (subst (Answers (order s.lattice) c.args.profile (program s.resolved)) c.in-Refused.is
           c.in_ok-raising.ensures.answer);
-    }
+    } in
+    search (rules, none)

@@ -1,7 +1,7 @@
 use Rattle.std.proofs.Common.{◌≡◌, ◌++◌}
 use Rattle.vsi_documents.specs.Roles.{view}
 use Rattle.vsi_documents.specs.Rows.{each_below, numbered_rows}
-use Rattle.vsi_documents.proofs.roles.put_cycles.Given as goal
+use Rattle.vsi_documents.proofs.roles.visible_table.Given as goal
 
 -- The text has the rows of the classes so far.
 abbrev pub invariant-loop-class : goal.invariant-loop-class

@@ -2,13 +2,14 @@ use Rattle.std.proofs.Common.{◌≡◌, ◌++◌, ◌∙◌, subst, sym}
 use Rattle.vsi_documents.specs.Roles.{view}
 use Rattle.vsi_documents.specs.Rows.{class_rows, numbered_rows}
 use Rattle.vsi_documents.proofs.Below.{more_below, three_rows}
-use Rattle.vsi_documents.proofs.roles.put_cycles.Goals as goal
+use Rattle.vsi_documents.proofs.roles.visible_table.Goals as goal
 
 pub loop-class-preserved : goal.loop-class-preserved
 loop-class-preserved c =
-    let b = view c.args.side.now in
+    let b = view c.side_of-side.result in
+    let start = c.put_seen.new.text.items in
     let last = c.put_row-in-loop-class-2.new.text.items in
-    more_below c.args.text.now.items c.loop-class.text.items last (numbered_rows b) c.loop-class.class
+    more_below start c.loop-class.text.items last (numbered_rows b) c.loop-class.class
     c.loop-class.invariant
     (subst (λ name. last ≡ c.loop-class.text.items ++ class_rows b name) c.name_of-name.ensures
     (three_rows b c.name_of-name.result.now c.loop-class.text.items c.put_row.new.text.items

@@ -1,7 +1,7 @@
 use Rattle.std.proofs.Common.{◌<◌, ◌≤◌, ◌%◌, ◌∙◌, sym, arith}
 use Rattle.std.proofs.lemmas.Bool.Decides.{nat_tests}
 use Rattle.vsi_documents.proofs.Digits.{within_next}
-use Rattle.vsi_documents.proofs.shape.is_within.Goals as goal
+use Rattle.vsi_documents.proofs.shape.is_below.Goals as goal
 
 pub loop-left-preserved : goal.loop-left-preserved
 loop-left-preserved c =
