@@ -156,18 +156,12 @@ impl Judged<'_> {
     }
 }
 
-/// A flow from a variable to another one, or to a jump. Variables have numbers, globals first.
-#[derive(Clone, Copy)]
-struct Flow {
-    from: usize,
-    to: Option<usize>,
-}
-
-/// The flows of a program by assignments and guards.
+/// The flows of a program by assignments and guards. Variables have numbers, globals first.
 #[derive(Drop)]
 struct Flows {
     globals: usize,
-    steps: Vec<Flow>,
+    /// The flows, each from a variable to another one, or to a jump.
+    steps: Vec<(usize, Option<usize>)>,
     /// The slot of each variable.
     slots: Vec<usize>,
     /// The variables in scope, by their slots.
@@ -184,7 +178,7 @@ fn put_reads(e: &Ex, to: Option<usize>, flows: &mut Flows) -> Result<(), AllocEr
         Ex::Num(_) => Ok(()),
         Ex::Loc(slot, _) => {
             if let Some(from) = flows.scope.get(*slot as usize).copied() {
-                flows.steps.push(Flow { from, to })?;
+                flows.steps.push((from, to))?;
             }
             Ok(())
         }
@@ -240,21 +234,6 @@ fn put_one(c: &Cmd, flows: &mut Flows) -> Result<(), AllocError> {
     }
 }
 
-/// The flows of a program.
-fn flows_of(alloc: Global, program: &Resolved<'_>) -> Result<Flows, AllocError> {
-    let mut flows = Flows {
-        globals: program.globals().len(),
-        steps: Vec::new(alloc),
-        slots: Vec::new(alloc),
-        scope: Vec::new(alloc),
-    };
-    for _ in program.globals() {
-        begin(&mut flows)?;
-    }
-    put_all(program.body(), &mut flows)?;
-    Ok(flows)
-}
-
 /// Whether a variable is reached.
 fn is_reached(reached: &[Reached], variable: usize) -> bool {
     matches!(reached.get(variable), Some(Some(_)))
@@ -275,14 +254,15 @@ fn follow(flows: &Flows, reached: &mut [Reached], target: Option<usize>) -> Opti
     for _ in 0..=flows.slots.len() {
         let mut has_changed = false;
         for step in &flows.steps {
-            if !is_reached(reached, step.from) {
+            let (from, to) = *step;
+            if !is_reached(reached, from) {
                 continue;
             }
-            if step.to == target {
-                return Some(step.from);
+            if to == target {
+                return Some(from);
             }
-            if let Some(to) = step.to {
-                has_changed = mark(flows, reached, to, (step.from, false)) || has_changed;
+            if let Some(to) = to {
+                has_changed = mark(flows, reached, to, (from, false)) || has_changed;
             }
         }
         if !has_changed {
@@ -290,22 +270,6 @@ fn follow(flows: &Flows, reached: &mut [Reached], target: Option<usize>) -> Opti
         }
     }
     None
-}
-
-/// Goes on from each local variable to those with the same slot, and says whether one was reached.
-fn share(flows: &Flows, reached: &mut [Reached]) -> bool {
-    let mut has_changed = false;
-    for variable in flows.globals..flows.slots.len() {
-        if !is_reached(reached, variable) {
-            continue;
-        }
-        for other in flows.globals..flows.slots.len() {
-            if flows.slots.get(other) == flows.slots.get(variable) {
-                has_changed = mark(flows, reached, other, (variable, true)) || has_changed;
-            }
-        }
-    }
-    has_changed
 }
 
 /// The last two variables with the same slot on the way to a variable.
@@ -337,7 +301,19 @@ fn shared_pair(
         if let Some(last) = follow(flows, &mut reached, target) {
             return Ok(pair_before(&reached, last));
         }
-        if !share(flows, &mut reached) {
+        // Goes on from each local variable to those with the same slot.
+        let mut has_changed = false;
+        for variable in flows.globals..flows.slots.len() {
+            if !is_reached(&reached, variable) {
+                continue;
+            }
+            for other in flows.globals..flows.slots.len() {
+                if flows.slots.get(other) == flows.slots.get(variable) {
+                    has_changed = mark(flows, &mut reached, other, (variable, true)) || has_changed;
+                }
+            }
+        }
+        if !has_changed {
             return Ok(None);
         }
     }
@@ -361,7 +337,16 @@ fn sharers(
         _ => None,
     };
     let program = optimise(alloc, source.resolved())?;
-    let flows = flows_of(alloc, &program)?;
+    let mut flows = Flows {
+        globals: program.globals().len(),
+        steps: Vec::new(alloc),
+        slots: Vec::new(alloc),
+        scope: Vec::new(alloc),
+    };
+    for _ in program.globals() {
+        begin(&mut flows)?;
+    }
+    put_all(program.body(), &mut flows)?;
     let Some((one, other)) = shared_pair(alloc, &flows, first as usize, target)? else {
         return Ok(None);
     };

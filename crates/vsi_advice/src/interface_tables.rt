@@ -59,32 +59,21 @@ const CYCLES: Tables = Tables {
         inputs = [\"typed\"]\n  outputs = [\"open\"]\n  released = [\"open\"]\n",
 };
 
-/// Whether bytes begin with a name, with a quote after it or not, and `=`.
-fn begins_entry(bytes: &[u8], name: &[u8]) -> bool {
-    let rest = match bytes.strip_prefix(name) {
-        Some([b'"' | b'\'', rest @ ..]) => rest,
-        Some(rest) => rest,
-        None => return false,
-    };
-    rest.trim_ascii_start().first() == Some(&b'=')
-}
-
-/// The position of a name with a value.
+/// The position of a name, with a quote after it or not, and `=`.
 fn entry_place(text: &[u8], name: &[u8]) -> Option<Span> {
     let mut is_within = false;
     for at in 0..text.len() {
-        if !is_within && begins_entry(&text[at..], name) {
+        let rest = match text[at..].strip_prefix(name) {
+            Some([b'"' | b'\'', rest @ ..]) => Some(rest),
+            rest => rest,
+        };
+        let is_entry = rest.is_some_and(|rest| rest.trim_ascii_start().first() == Some(&b'='));
+        if is_entry && !is_within {
             return Some(span_at(at, name.len()));
         }
         is_within = text[at].is_ascii_alphanumeric() || text[at] == b'_';
     }
     None
-}
-
-/// Whether a value is an array of texts.
-fn is_list(value: &Value) -> bool {
-    let array = value.as_array();
-    array.is_some_and(|array| array.as_slice().iter().all(|item| item.as_str().is_some()))
 }
 
 /// The table with a number, from 1, among those of a sort in an interface.
@@ -237,6 +226,10 @@ impl<'t> Numbered<'t> {
                 there, as in `class = \"user\"`.\n";
             return telling.tell(place, sentence, &[counted]);
         };
+        let is_list = |value: &Value| {
+            let array = value.as_array();
+            array.is_some_and(|array| array.as_slice().iter().all(|item| item.as_str().is_some()))
+        };
         let is_faulty = |key: &str| self.value(key).is_some_and(|value| !is_list(value));
         if let Some(key) = LIST_KEYS.into_iter().find(|key| is_faulty(*key)) {
             let sentence = "The value of % in boundary % isn't an array of names between quotes.\n\
@@ -276,20 +269,11 @@ impl<'t> Numbered<'t> {
 }
 
 impl<'t> Interface<'t> {
-    /// The run with this number.
-    fn run(self, number: usize) -> Numbered<'t> {
+    /// The run or the boundary with this number.
+    fn nth(self, tables: &'static Tables, number: usize) -> Numbered<'t> {
         Numbered {
             interface: self,
-            tables: &RUNS,
-            number,
-        }
-    }
-
-    /// The boundary with this number.
-    fn cycle(self, number: usize) -> Numbered<'t> {
-        Numbered {
-            interface: self,
-            tables: &CYCLES,
+            tables,
             number,
         }
     }
@@ -303,26 +287,30 @@ impl<'t> Interface<'t> {
                 let place = key_place(self.bytes, b"runs").or(key_place(self.bytes, b"[runs"));
                 telling.tell(place, sentence, &[Text(RUNS.shape)])
             }
-            InterfaceError::BadRun(run) => self.run(*run).explain(telling).unwrap_or(Ok(None)),
-            InterfaceError::BadStore(run) => self.run(*run).bad_words(telling, "store"),
-            InterfaceError::NoBudget(run) => self.run(*run).bad_budget(telling),
-            InterfaceError::NothingExpected(run) => self.run(*run).bad_expectation(telling),
+            InterfaceError::BadRun(run) => self
+                .nth(&RUNS, *run)
+                .explain(telling)
+                .unwrap_or(Ok(None)),
+            InterfaceError::BadStore(run) => self.nth(&RUNS, *run).bad_words(telling, "store"),
+            InterfaceError::NoBudget(run) => self.nth(&RUNS, *run).bad_budget(telling),
+            InterfaceError::NothingExpected(run) => self.nth(&RUNS, *run).bad_expectation(telling),
             InterfaceError::UnknownGlobal(run, name) => {
                 let hint =
                     "Hint: add it to `globals` with its class, or leave it out of the run.\n";
-                let place = self.run(*run).place_of(name, false);
-                self.run(*run).unknown_global(telling, name, place, hint)
+                let place = self.nth(&RUNS, *run).place_of(name, false);
+                self.nth(&RUNS, *run)
+                    .unknown_global(telling, name, place, hint)
             }
             InterfaceError::AboveBudget(most) => {
                 let sentence = "The budgets of the runs add up to more than % instructions. Hint: \
                     give more with `--budget`, if you want to wait for that many, or give each run \
                     a smaller budget.\n";
-                let place = self.run(1).key_place("budget");
+                let place = self.nth(&RUNS, 1).key_place("budget");
                 telling.tell(place, sentence, &[Number(*most as usize)])
             }
-            InterfaceError::BadCycle(cycle) => self.cycle(*cycle).bad_cycle(telling),
+            InterfaceError::BadCycle(cycle) => self.nth(&CYCLES, *cycle).bad_cycle(telling),
             InterfaceError::UnknownInCycle(cycle, name) => {
-                self.cycle(*cycle).unknown_in_cycle(telling, name)
+                self.nth(&CYCLES, *cycle).unknown_in_cycle(telling, name)
             }
             _ => Ok(None),
         }

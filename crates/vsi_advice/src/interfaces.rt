@@ -72,34 +72,17 @@ fn side_of(pair: &Value, side: usize) -> Option<&[u8]> {
     Some(text.as_bytes())
 }
 
-/// Whether an entry of `globals` is a pair of texts.
-fn is_pair(entry: &Value) -> bool {
-    let has_two = entry.as_array().is_some_and(|array| array.len() == 2);
-    has_two && side_of(entry, 0).is_some() && side_of(entry, 1).is_some()
-}
-
-/// Adds the explanation if the file isn't TOML, and returns the position of the fault.
-fn not_toml(telling: &mut Telling<'_>, error: &toml::de::Error) -> Told {
-    // An error of memory has no position.
-    let Some(range) = error.span() else {
-        return Err(AllocError);
-    };
-    let why = Text(error.message().as_bytes());
-    telling.say("The file isn't a TOML document: %.\n", &[why])?;
-    let start = telling.bytes.trim_ascii_start();
-    let sentence = if start.starts_with(b"VSI") {
+/// The sentence about a file that isn't TOML, before an example.
+fn toml_hint(bytes: &[u8]) -> &'static str {
+    let start = bytes.trim_ascii_start();
+    if start.starts_with(b"VSI") {
         "Hint: this is an image. The interface comes first.\n%"
     } else if start.starts_with(b"var") || start.starts_with(b"letvar") {
         "Hint: this looks like a source text. The interface comes first, and the source text after \
         it: `vsi conform INTERFACE SOURCE`.\n%"
     } else {
         "%"
-    };
-    let place = Span {
-        start: range.start,
-        stop: range.end,
-    };
-    telling.tell(Some(place), sentence, &[SHAPE])
+    }
 }
 
 impl<'t> Interface<'t> {
@@ -135,10 +118,14 @@ impl<'t> Interface<'t> {
         Some(named.nth(others)?.0)
     }
 
-    /// The number of occurrences of a text in `globals` before one side of a pair.
-    fn times_before(self, number: usize, side: usize, text: &[u8]) -> usize {
+    /// The position of the text at one side of a pair of `globals`.
+    fn pair_place(self, number: usize, side: usize) -> Option<Span> {
+        let start = key_place(self.bytes, b"globals")?.stop;
+        let pairs = array_in(self.table, "globals");
+        let text = side_of(pairs.get(number)?, side)?;
+        // The text may be there before.
         let mut times: usize = 0;
-        for (at, pair) in array_in(self.table, "globals").iter().enumerate() {
+        for (at, pair) in pairs.iter().enumerate() {
             for place in 0..2 {
                 let is_before = at < number || at == number && place < side;
                 if is_before && side_of(pair, place) == Some(text) {
@@ -146,16 +133,9 @@ impl<'t> Interface<'t> {
                 }
             }
         }
-        times
-    }
-
-    /// The position of the text at one side of a pair of `globals`.
-    fn pair_place(self, number: usize, side: usize) -> Option<Span> {
-        let start = key_place(self.bytes, b"globals")?.stop;
-        let text = side_of(array_in(self.table, "globals").get(number)?, side)?;
         let stop = self.bytes.len();
         let rest = part_of(self.bytes, Span { start, stop });
-        let found = quoted_place(rest, text, self.times_before(number, side, text))?;
+        let found = quoted_place(rest, text, times)?;
         Some(behind(start, found))
     }
 
@@ -228,7 +208,11 @@ impl<'t> Interface<'t> {
                 globals.\n";
             return telling.tell(place, sentence, &[]);
         }
-        let faulty = pairs.iter().position(|pair| !is_pair(pair)).unwrap_or(0);
+        let is_faulty = |pair: &Value| {
+            let has_two = pair.as_array().is_some_and(|array| array.len() == 2);
+            !has_two || side_of(pair, 0).is_none() || side_of(pair, 1).is_none()
+        };
+        let faulty = pairs.iter().position(is_faulty).unwrap_or(0);
         let sentence = "Entry % of `globals` isn't a pair of a name and a class. Hint: write \
             `[\"x\", \"L\"]` for each global `var x : L`.\n%";
         let parts = [Number(faulty.saturating_add(1)), SHAPE];
@@ -315,7 +299,16 @@ pub(crate) fn of_interface(
     let bytes = telling.bytes;
     let table = match toml::table_from_slice(telling.alloc, bytes) {
         Ok(table) => table,
-        Err(fault) => return not_toml(telling, &fault),
+        Err(fault) => {
+            // An error of memory has no position.
+            let Some(range) = fault.span() else {
+                return Err(AllocError);
+            };
+            let why = Text(fault.message().as_bytes());
+            telling.say("The file isn't a TOML document: %.\n", &[why])?;
+            let (start, stop) = (range.start, range.end);
+            return telling.tell(Some(Span { start, stop }), toml_hint(bytes), &[SHAPE]);
+        }
     };
     let interface = Interface {
         bytes,

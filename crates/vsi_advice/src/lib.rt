@@ -23,7 +23,7 @@ use vsi_drive::StartFault;
 use vsi_image::Image;
 use vsi_lattice::Lattice;
 use vsi_steady::SteadyError;
-use vsi_telling::{ColourMode, Telling, Told, shown};
+use vsi_telling::{ColourMode, Telling, shown};
 
 /// Why a file or an image is refused.
 #[derive(Clone, Copy)]
@@ -41,19 +41,6 @@ pub enum Reason<'a> {
     Text(&'a Lattice, &'a SteadyError),
 }
 
-/// Adds the explanation of a refusal, and returns the position of the fault in the file.
-fn put_refusal(telling: &mut Telling<'_>, reason: Reason<'_>) -> Told {
-    match reason {
-        Reason::Interface(lattice, error) => of_interface(telling, lattice, error),
-        Reason::Start(image, fault) => of_start(telling, image, fault),
-        Reason::Text(lattice, error) => of_shared(telling, lattice, error),
-        Reason::Audit(lattice, image, error) => Judged { lattice, image }.of_audit(telling, error),
-        Reason::Steady(lattice, image, error) => {
-            Judged { lattice, image }.of_steady(telling, error)
-        }
-    }
-}
-
 /// The explanation that follows a refusal: the position in the file with this path, its line and
 /// carets if the position is known, and then, in whole sentences of at most 80 columns, what is
 /// wrong, what is expected, and what to do. Positions refer to these bytes; an image has none.
@@ -68,6 +55,16 @@ pub fn advice(
     ensures plain { mode ≡ Plain → IfOk result (λ text. all_plain text.items ≡ true) }
 {
     let mut telling = Telling::new(alloc, path, bytes);
-    let place = put_refusal(&mut telling, reason)?;
+    let place = match reason {
+        Reason::Interface(lattice, error) => of_interface(&mut telling, lattice, error)?,
+        Reason::Start(image, fault) => of_start(&mut telling, image, fault)?,
+        Reason::Text(lattice, error) => of_shared(&mut telling, lattice, error)?,
+        Reason::Audit(lattice, image, error) => {
+            Judged { lattice, image }.of_audit(&mut telling, error)?
+        }
+        Reason::Steady(lattice, image, error) => {
+            Judged { lattice, image }.of_steady(&mut telling, error)?
+        }
+    };
     shown(alloc, mode, path, bytes, place, &telling.words)
 }

@@ -18,20 +18,6 @@ fn trimmed(setting: &[u8], part: Span) -> Span {
     )
 }
 
-/// The parts of a setting before its first `=` and after it.
-fn sides(setting: &[u8]) -> (Span, Span) {
-    let stop = setting.len();
-    let at = setting
-        .iter()
-        .position(|byte| *byte == b'=')
-        .unwrap_or(stop);
-    let start = stop.min(at.saturating_add(1));
-    (
-        trimmed(setting, span_at(0, at)),
-        trimmed(setting, Span { start, stop }),
-    )
-}
-
 /// The advice for a setting that doesn't have the required form.
 fn form_hint(setting: &[u8], name: &[u8], value: &[u8]) -> &'static [u8] {
     if name.ends_with(b":") {
@@ -68,7 +54,12 @@ fn number_hint(value: &[u8]) -> &'static [u8] {
 /// Explains a setting with this fault.
 fn bad_setting(telling: &mut Telling<'_>, image: &Image, fault: LineFault) -> Told {
     let setting = telling.bytes;
-    let (before, after) = sides(setting);
+    let stop = setting.len();
+    let at = setting.iter().position(|byte| *byte == b'=');
+    let at = at.unwrap_or(stop);
+    let start = stop.min(at.saturating_add(1));
+    let before = trimmed(setting, span_at(0, at));
+    let after = trimmed(setting, Span { start, stop });
     let (name, value) = (part_of(setting, before), part_of(setting, after));
     match fault {
         LineFault::UnknownGlobal(_) => telling.put_no_global(
@@ -96,21 +87,6 @@ fn bad_setting(telling: &mut Telling<'_>, image: &Image, fault: LineFault) -> To
     }
 }
 
-/// The part of a list that is the name with this number.
-fn name_part(list: &[u8], number: usize) -> Span {
-    let mut start: usize = 0;
-    for (at, name) in list.split(|byte| *byte == b',').enumerate() {
-        if at == number {
-            return span_at(start, name.len());
-        }
-        start = start.saturating_add(name.len()).saturating_add(1);
-    }
-    Span {
-        start: list.len(),
-        stop: list.len(),
-    }
-}
-
 /// Adds the explanation of a faulty list, and returns the part with the name at fault.
 fn bad_list(telling: &mut Telling<'_>, image: &Image, fault: BoundaryFault) -> Told {
     let list = telling.bytes;
@@ -132,7 +108,15 @@ fn bad_list(telling: &mut Telling<'_>, image: &Image, fault: BoundaryFault) -> T
             Hint: leave the name out, or let a class set it that is above this one.\n",
         ),
     };
-    let part = name_part(list, number);
+    let mut part = span_at(list.len(), 0);
+    let mut start: usize = 0;
+    for (at, name) in list.split(|byte| *byte == b',').enumerate() {
+        if at == number {
+            part = span_at(start, name.len());
+            break;
+        }
+        start = start.saturating_add(name.len()).saturating_add(1);
+    }
     let name = part_of(list, part);
     let mut globals = image.globals.iter();
     let Some((_, class)) = globals.find(|global| global.0.as_slice() == name) else {

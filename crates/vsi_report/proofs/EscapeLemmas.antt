@@ -1,5 +1,5 @@
 -- The text that a reader sees of an escaped text, and of tags.
-use Rattle.std.proofs.Common.{◌≡◌, ℕ, List, [], ◌∷◌, ◌++◌, ap, sym, ◌∙◌, arith, refl, append_assoc}
+use Rattle.std.proofs.Common.{◌≡◌, ℕ, List, [], ◌∷◌, ◌++◌, ap, sym, subst, ◌∙◌, arith, refl, append_assoc}
 use Rattle.std.specs.Prelude.{codes, decimal}
 use Rattle.vsi_report.specs.Escape.{escape, escaped}
 use Rattle.vsi_report.specs.Panel.{attribute, line_tag, next_tag, open_tag, close_tag}
@@ -82,6 +82,22 @@ close_shows rest = refl
 pub more_shows : (a b t : List ℕ) → Shows a t → Shows b [] → Shows (a ++ b) t
 more_shows a b t ha hb rest =
     ap (seen Between) (append_assoc a b rest) ∙ ha (b ++ rest) ∙ ap (λ x. t ++ x) (hb rest)
+
+-- The beginning of a token, added piece by piece, shows nothing.
+pub tag_shows : (p p₁ p₂ p₃ p₄ p₅ kind class step t : List ℕ) → p₁ ≡ p ++ codes "<b class=\"" → p₂ ≡ p₁ ++ escaped kind →
+    p₃ ≡ p₂ ++ attribute (codes "\" data-class=\"") class → p₄ ≡ p₃ ++ attribute (codes "\" data-step=\"") step →
+    p₅ ≡ p₄ ++ codes "\">" → Shows p t → Shows p₅ t
+tag_shows p p₁ p₂ p₃ p₄ p₅ kind class step t e₁ e₂ e₃ e₄ e₅ h =
+    let a = codes "<b class=\"" in
+    let b = escaped kind in
+    let c = attribute (codes "\" data-class=\"") class in
+    let d = attribute (codes "\" data-step=\"") step in
+    let e = codes "\">" in
+    subst (λ x. Shows x t)
+    (sym (e₅ ∙ ap (λ x. x ++ e) (e₄ ∙ ap (λ x. x ++ d) (e₃ ∙ ap (λ x. x ++ c) (e₂ ∙ ap (λ x. x ++ b) e₁)))
+    ∙ append_assoc (p ++ a ++ b ++ c) d e ∙ append_assoc (p ++ a ++ b) c (d ++ e)
+    ∙ append_assoc (p ++ a) b (c ++ (d ++ e)) ∙ append_assoc p a (b ++ (c ++ (d ++ e)))))
+    (more_shows p (open_tag kind class step) t h (open_shows kind class step))
 
 -- The end of the last line shows nothing.
 pub end_shows : Shows (codes "</span>") []

@@ -1,8 +1,8 @@
 -- The parts of filled markup.
-use Rattle.std.proofs.Common.{◌≡◌, ℕ, zero, suc, ◌<◌, ◌≤◌, cond, Bool, true, false, List, [], ◌∷◌, ◌++◌, length, get_or, refl, sym, ap, subst, ◌∙◌, arith, append_assoc}
+use Rattle.std.proofs.Common.{◌≡◌, ℕ, zero, suc, ◌<◌, ◌≤◌, ◌-◌, cond, Bool, true, false, List, [], ◌∷◌, ◌++◌, length, get_or, refl, sym, ap, subst, ◌∙◌, arith, append_assoc}
 use Rattle.std.proofs.lemmas.Bool.{false≢true}
 use Rattle.vsi_report.specs.declared.page.Part.{Part}
-use Rattle.vsi_report.specs.Filled.{text_at}
+use Rattle.vsi_report.specs.Filled.{filled, text_at}
 use Rattle.vsi_report.specs.Parts.{is_stated, are_stated, words, texts_of}
 
 -- Both of two tests hold.
@@ -30,3 +30,12 @@ pub no_words : (ps : List Part) (n : ℕ) → length ps ≤ n → text_at (texts
 no_words [] n le = refl
 no_words (q ∷ qs) zero le = absurd (omega (arith, le))
 no_words (q ∷ qs) (suc n) le = no_words qs n (omega (arith, le))
+
+-- A text that is added for a hole fills it.
+pub hole_filled : (ts : List (List ℕ)) (hole : Bool) (b : ℕ) (old new x rest : List ℕ) → hole ≡ true →
+    new ≡ old ++ x → x ≡ text_at ts (b - 48) →
+    new ++ filled ts false rest ≡ old ++ filled ts hole (b ∷ rest)
+hole_filled ts hole b old new x rest is e words =
+    ap (λ l. l ++ filled ts false rest) (e ∙ ap (λ l. old ++ l) words)
+    ∙ append_assoc old (text_at ts (b - 48)) (filled ts false rest)
+    ∙ ap (λ h. old ++ filled ts h (b ∷ rest)) (sym is)

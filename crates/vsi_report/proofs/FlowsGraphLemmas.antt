@@ -16,7 +16,7 @@ use Rattle.vsi_lattice.specs.LatticeView.{names, order}
 use Rattle.vsi_scope.specs.Program.{Resolved}
 use Rattle.vsi_types.specs.declared.rules.Step.{Step}
 use Rattle.vsi_report.specs.Covering.{HasJust, IsCoveringPair}
-use Rattle.vsi_report.specs.FlowsGraph.{AreProgramLines, AreShown, Flowing, Shown, flow_line, line_by, lines_between, edge_lines, flows_by_step, flows_lines, shown_in}
+use Rattle.vsi_report.specs.FlowsGraph.{AreProgramLines, AreShown, Flowing, Shown, flow_line, line_by, lines_between, edge_lines, flows_by_step, flows_lines, frame_lines, nodes_shown, numbers_drawn, shown_in, size, variable_line}
 
 -- The lines of one more number are added.
 pub more_lines : (f : ℕ → List ℕ) (start before after : List ℕ) (i : ℕ) → before ≡ start ++ flat_map f (count_from 0 i)
@@ -111,3 +111,16 @@ program_lines_so l P r ns chosen found walk steps pairs lines en ec ew judged co
           ∙ ap (λ x. flows_lines P (shown_in l r x steps) pairs) ec
           ∙ ap (λ x. flows_lines P (shown_in l r chosen x) pairs) ew;
     }
+
+-- The lines of the variables, the frame and the edges, one after another, are all lines.
+pub lines_so : (P : Profile) (s : Shown) (pairs : List (ℕ × ℕ)) (k n : ℕ) (start t₁ t₂ t₃ : List ℕ) → start ≡ [] →
+    k ≡ size s → n ≡ nodes_shown P k → t₁ ≡ start ++ flat_map (variable_line s) (count_from 0 n) →
+    t₂ ≡ t₁ ++ frame_lines s n pairs →
+    t₃ ≡ t₂ ++ edge_lines s (flows_by_step P (program s.resolved)) (numbers_drawn k) →
+    t₃ ≡ flows_lines P s pairs
+lines_so P s pairs k n start t₁ t₂ t₃ es ek en e₁ e₂ e₃ =
+    let nodes = λ (m : ℕ). flat_map (variable_line s) (count_from 0 m) in
+    let edges = λ (m : ℕ). edge_lines s (flows_by_step P (program s.resolved)) (numbers_drawn m) in
+    e₃ ∙ ap (λ x. x ++ edges k) (e₂ ∙ ap (λ x. x ++ frame_lines s n pairs) (e₁ ∙ ap (λ x. x ++ nodes n) es))
+    ∙ ap (λ m. nodes m ++ frame_lines s m pairs ++ edges k) en
+    ∙ ap (λ m. nodes (nodes_shown P m) ++ frame_lines s (nodes_shown P m) pairs ++ edges m) ek

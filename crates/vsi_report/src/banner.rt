@@ -2,19 +2,16 @@
 
 ghost use Rattle.std.specs.Prelude.{◌≡◌, ◌++◌, IfOk, OnOk};
 ghost use Rattle.vsi_lattice.specs.LatticeView.{names};
-ghost use Rattle.vsi_types.specs.Walks as walks;
 ghost use Rattle.vsi_report.specs.Graph.{texts};
 ghost use Rattle.vsi_report.specs.Lead as spec;
 
 use crate::dot::{Order, name_of};
-use crate::page::Part::{Markup, Name, Number, Position, Text};
+use crate::page::Part::{Markup, Name, Number, Text};
 use crate::page::{Added, Made, Page, either, put_escaped};
 use crate::panel::{ends_at, hidden_at};
 use crate::report::View;
 use crate::sections::{leaf, profile_text};
 use std::alloc::{AllocError, Global};
-use vsi_answers::refusal_diagnostic;
-use vsi_compiler::CompileError;
 use vsi_flows::Pair;
 use vsi_image::Verified;
 use vsi_infer::{declared_class, variable_name};
@@ -103,27 +100,21 @@ pub(crate) fn refused_lead(alloc: Global, lead: &Lead<'_>) -> Made<Page>
     Ok(page)
 }
 
-/// Adds the sentence about the pairs of an accepted text.
-fn put_allowed(page: &mut Page, pairs: usize) -> Added
-    ensures { OnOk result
-        (page.new.text.items ≡ page.old.text.items ++ spec.allowed_words pairs) }
-{
-    if pairs == 0 {
-        return page.put(NO_PAIR);
-    }
-    if pairs == 1 {
-        return page.put(b"<p class=\"lead\">The only flow is allowed.</p>\n");
-    }
-    let markup = b"<p class=\"lead\">All %0 flows are allowed.</p>\n";
-    page.fill(markup, &[Number(pairs)])
-}
-
 /// The first sentences about an accepted text.
 pub(crate) fn allowed_lead(alloc: Global, pairs: usize) -> Made<Page>
     ensures { IfOk result (λ page. page.text.items ≡ spec.allowed_words pairs) }
 {
     let mut page = Page::new(alloc);
-    put_allowed(&mut page, pairs)?;
+    if pairs == 0 {
+        page.put(NO_PAIR)?;
+    } else if pairs == 1 {
+        page.put(b"<p class=\"lead\">The only flow is allowed.</p>\n")?;
+    } else {
+        page.fill(
+            b"<p class=\"lead\">All %0 flows are allowed.</p>\n",
+            &[Number(pairs)],
+        )?;
+    }
     Ok(page)
 }
 
@@ -142,37 +133,21 @@ pub(crate) fn count_refused(pairs: &[Pair]) -> usize
     count
 }
 
-/// The last variable of a walk that begins with a step.
-fn last_target(first: &Step, later: &[Step]) -> Var
-    ensures { result ≡ walks.last_target first.now later.now }
+/// The first and the last variable of a walk.
+fn ends_of(walk: &[Step]) -> (Var, Var)
+    ensures first { result.0 ≡ spec.first_of walk.now }
+    ensures last { result.1 ≡ spec.last_of walk.now }
 {
+    let [first, later @ ..] = walk else {
+        return (LOOP, LOOP);
+    };
     let mut step = *first;
     let mut rest = later;
     while let [next, behind @ ..] = rest {
         step = *next;
         rest = behind;
     }
-    step.target
-}
-
-/// The first variable of a walk.
-fn first_of(walk: &[Step]) -> Var
-    ensures { result ≡ spec.first_of walk.now }
-{
-    match walk {
-        [step, ..] => step.source,
-        [] => LOOP,
-    }
-}
-
-/// The last variable of a walk.
-fn last_of(walk: &[Step]) -> Var
-    ensures { result ≡ spec.last_of walk.now }
-{
-    match walk {
-        [step, rest @ ..] => last_target(step, rest),
-        [] => LOOP,
-    }
+    (first.source, step.target)
 }
 
 /// A variable at an end of a walk.
@@ -202,9 +177,10 @@ pub(crate) fn lead_of<'a>(
     requires { texts order.now.names.items ≡ names lattice.now }
     ensures { spec.IsLead lattice.now program.now walk.now pairs.now result }
 {
+    let (first, last) = ends_of(walk);
     Lead {
-        source: end_of(lattice, order, program, first_of(walk)),
-        target: end_of(lattice, order, program, last_of(walk)),
+        source: end_of(lattice, order, program, first),
+        target: end_of(lattice, order, program, last),
         steps: walk.len(),
         refused: count_refused(pairs),
         pairs: pairs.len(),
@@ -213,7 +189,7 @@ pub(crate) fn lead_of<'a>(
 
 /// Adds the line of the source text with the byte at a position, with a link to it. Characters that
 /// aren't visible are replaced, and a long line begins at that byte.
-fn put_quote(page: &mut Page, source: &[u8], at: usize) -> Added {
+pub(crate) fn put_quote(page: &mut Page, source: &[u8], at: usize) -> Added {
     let (line, column) = line_column(source, at);
     let back = column.saturating_sub(1);
     let first = at.saturating_sub(if back < QUOTED { back } else { 0 });
@@ -239,7 +215,7 @@ fn put_quote(page: &mut Page, source: &[u8], at: usize) -> Added {
 }
 
 /// Adds the name of the file, the sentence about the profile, and the end of the banner.
-fn put_judged(page: &mut Page, view: &View<'_>) -> Added {
+pub(crate) fn put_judged(page: &mut Page, view: &View<'_>) -> Added {
     let profile = Markup(profile_text(view.profile));
     page.fill(BY, &[Text(leaf(view.filing.source)), profile])
 }
@@ -274,22 +250,20 @@ pub(crate) fn put_refused(page: &mut Page, view: &View<'_>) -> Added {
     put_judged(page, view)
 }
 
-/// Adds the sentence about the bound of an image.
-fn put_bound(page: &mut Page, bound: Bound) -> Added {
-    let Bound::Halts { least, most } = bound else {
-        return page.put(b"<li>No bound on the number of instructions is known.</li>\n");
-    };
-    let word = number_word(most as usize, b"instruction", b"instructions");
-    let parts = [Markup(word), Number(most as usize), Number(least as usize)];
-    page.put(b"<li>Bound: from every store it halts, after ")?;
-    page.fill(either(least < most, b"%2 to %1 %0", b"%1 %0"), &parts)?;
-    page.put(b".</li>\n")
-}
-
 /// Adds the facts known of the runs of an accepted text's image: its bound and its steadiness.
 pub(crate) fn put_accepted(page: &mut Page, view: &View<'_>, verified: &Verified) -> Added {
     page.put(b"<ul class=\"warrant\">\n")?;
-    put_bound(page, bound_of(view.alloc, verified)?)?;
+    if let Bound::Halts { least, most } = bound_of(view.alloc, verified)? {
+        let word = number_word(most as usize, b"instruction", b"instructions");
+        let parts = [Markup(word), Number(most as usize), Number(least as usize)];
+        page.put(b"<li>Bound: from every store it halts, after ")?;
+        page.fill(
+            either(least < most, b"%2 to %1 %0.</li>\n", b"%1 %0.</li>\n"),
+            &parts,
+        )?;
+    } else {
+        page.put(b"<li>No bound on the number of instructions is known.</li>\n")?;
+    }
     page.put(match steady_in(view.alloc, view.lattice, verified) {
         Ok(()) => {
             b"<li>Steady: the number of instructions depends on nothing above the least \
@@ -302,33 +276,5 @@ the least class.</li>\n"
         }
     })?;
     page.put(b"</ul>\n")?;
-    put_judged(page, view)
-}
-
-/// The sentence about a text whose flows aren't judged, by the number of its refusal.
-fn fault_text(code: usize) -> &'static [u8] {
-    match code {
-        17 => b"A variable is declared twice",
-        18 => b"A variable is declared with a class that the lattice doesn't have",
-        19 => b"A variable isn't declared",
-        20 | 21 => b"The program declares too many variables",
-        22 => b"The program is too large",
-        _ => b"The text can't be read as a program",
-    }
-}
-
-/// Adds the banner of a text whose flows aren't judged, with the line of its fault.
-pub(crate) fn put_faulty(page: &mut Page, view: &View<'_>, error: &CompileError) -> Added {
-    page.put(b"<p class=\"lead\">")?;
-    if let Some(fault) = refusal_diagnostic(view.source, error) {
-        page.put(fault_text(fault.code))?;
-    }
-    if let Some(at) = view.fault {
-        page.fill(b": see %0", &[Position(view.source, at)])?;
-    }
-    page.put(b". Its flows aren't judged.</p>\n")?;
-    if let Some(at) = view.fault {
-        put_quote(page, view.source, at)?;
-    }
     put_judged(page, view)
 }

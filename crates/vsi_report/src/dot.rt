@@ -1,9 +1,8 @@
 //! The lattice in the language of Graphviz, with its classes by number, and parts of graphs.
 
-ghost use Rattle.std.specs.{Prelude.{◌≡◌, ◌⊎◌, ◌+◌, IsTrue, IsFalse, IfOk, OnOk, ◌++◌, length, ◌≤◌}, List.{flat_map}};
-ghost use Rattle.vsi_lattice.specs.{LatticeView.{names, order, order as order_of_lattice}, Order.{IsClass, Below}};
+ghost use Rattle.std.specs.{Prelude.{◌≡◌, ◌⊎◌, ◌+◌, IsTrue, IsFalse, IfOk, OnOk, ◌++◌, ◌≤◌}};
+ghost use Rattle.vsi_lattice.specs.{LatticeView.{names, order}, Order.{IsClass, Below}};
 ghost use Rattle.vsi_report.specs.{Covering.{Covers, StandsBetween, HasJust, IsCoveringPair, IsRowSoFar}, Graph.{name_at, texts}, Drawn.{shown}};
-ghost use Rattle.vsi_types.specs.Security.{count_from, program as program_of};
 ghost use Rattle.vsi_infer.specs.{Flowing.{variable_at as variable_at_of}, StepsBetween.{leads_by}};
 ghost use Rattle.vsi_report.specs.Graph as classes_spec;
 ghost use Rattle.vsi_report.specs.FlowsGraph as spec;
@@ -79,46 +78,9 @@ fn put_covers(lattice: &Lattice, low: usize, pairs: &mut Vec<(usize, usize)>) ->
     Ok(())
 }
 
-/// The covering pairs of a lattice, ordered by the lower class and then by the higher one.
-fn covering_pairs(alloc: Global, lattice: &Lattice) -> Made<Vec<(usize, usize)>>
-    ensures { IfOk result (λ pairs. HasJust (IsCoveringPair (order lattice.now)) pairs.items) }
-{
-    let mut pairs = Vec::new(alloc);
-    for low in 0..lattice.count() {
-        put_covers(lattice, low, &mut pairs)?;
-    }
-    Ok(pairs)
-}
-
-/// The names of the classes.
-fn class_names(alloc: Global, lattice: &Lattice) -> Made<Vec<Vec<u8>>>
-    ensures { IfOk result (λ found. texts found.items ≡ names lattice.now) }
-{
-    let mut names = Vec::new(alloc);
-    for number in 0..lattice.count() {
-        names.push(lattice.name(Class::at(number as u8)).to_vec(alloc)?)?;
-    }
-    Ok(names)
-}
-
 /// The set that has one number below 64.
 fn single(number: usize) -> u64 {
     1u64 << (number % 64)
-}
-
-/// For each class the set of the classes at or above it.
-fn sets_above(alloc: Global, lattice: &Lattice) -> Made<Vec<u64>> {
-    let mut sets = Vec::new(alloc);
-    for low in 0..lattice.count() {
-        let mut set: u64 = 0;
-        for class in 0..lattice.count() {
-            if lattice.leq(Class::at(low as u8), Class::at(class as u8)) {
-                set |= single(class);
-            }
-        }
-        sets.push(set)?;
-    }
-    Ok(sets)
 }
 
 /// Whether a class is at or below another.
@@ -132,9 +94,24 @@ pub(crate) fn order_of(alloc: Global, lattice: &Lattice) -> Made<Order>
         (λ o. HasJust (IsCoveringPair (order lattice.now)) o.covers.items) }
     ensures names { IfOk result (λ o. texts o.names.items ≡ names lattice.now) }
 {
-    let names = class_names(alloc, lattice)?;
-    let covers = covering_pairs(alloc, lattice)?;
-    let above = sets_above(alloc, lattice)?;
+    let mut names = Vec::new(alloc);
+    for number in 0..lattice.count() {
+        names.push(lattice.name(Class::at(number as u8)).to_vec(alloc)?)?;
+    }
+    let mut covers = Vec::new(alloc);
+    for low in 0..lattice.count() {
+        put_covers(lattice, low, &mut covers)?;
+    }
+    let mut above = Vec::new(alloc);
+    for low in 0..lattice.count() {
+        let mut set: u64 = 0;
+        for class in 0..lattice.count() {
+            if lattice.leq(Class::at(low as u8), Class::at(class as u8)) {
+                set |= single(class);
+            }
+        }
+        above.push(set)?;
+    }
     Ok(Order {
         names,
         covers,
@@ -158,6 +135,8 @@ node [shape=box, style=rounded, penwidth=2];\n  \
 edge [color=\"#57606a\", fontcolor=\"#57606a\", fontsize=11];\n%1}\n";
 /// The node of a class.
 const CLASS: &[u8] = b"  \"%0\" [color=\"%1\", fontcolor=\"%1\"];\n";
+/// The edge from a class to one that covers it.
+const COVER: &[u8] = b"  \"%0\" -> \"%1\";\n";
 /// The line that keeps a class above another one.
 const ABOVE: &[u8] = b"  \"above.%0\" -> \"below.%1\" [minlen=0];\n";
 /// The line that keeps a node between the points of a class.
@@ -188,31 +167,6 @@ pub(crate) fn colour(class: usize) -> &'static [u8]
     }
 }
 
-/// Adds the nodes of the classes.
-fn put_classes(text: &mut Vec<u8>, order: &Order) -> Added
-    ensures { OnOk result (text.new.items ≡ text.old.items
-        ++ flat_map (classes_spec.node_line (texts order.now.names.items))
-        (count_from 0 (length (texts order.now.names.items)))) }
-{
-    for class in 0..order.names.len() {
-        let parts = [Bytes(name_of(order, class)), Markup(colour(class))];
-        fill(text, CLASS, &parts)?;
-    }
-    Ok(())
-}
-
-/// Adds the edges of the covering pairs.
-fn put_covering(text: &mut Vec<u8>, order: &Order) -> Added
-    ensures { OnOk result (text.new.items ≡ text.old.items
-        ++ flat_map (classes_spec.edge_line (texts order.now.names.items)) order.now.covers.items) }
-{
-    for pair in &order.covers {
-        let parts = [Bytes(name_of(order, pair.0)), Bytes(name_of(order, pair.1))];
-        fill(text, b"  \"%0\" -> \"%1\";\n", &parts)?;
-    }
-    Ok(())
-}
-
 /// The lines of a lattice: a node for each class, and an edge from each class to each one that
 /// covers it.
 pub(crate) fn lattice_lines(alloc: Global, lattice: &Lattice) -> Made<Vec<u8>>
@@ -220,8 +174,14 @@ pub(crate) fn lattice_lines(alloc: Global, lattice: &Lattice) -> Made<Vec<u8>>
 {
     let order = order_of(alloc, lattice)?;
     let mut lines = Vec::new(alloc);
-    put_classes(&mut lines, &order)?;
-    put_covering(&mut lines, &order)?;
+    for class in 0..order.names.len() {
+        let parts = [Bytes(name_of(&order, class)), Markup(colour(class))];
+        fill(&mut lines, CLASS, &parts)?;
+    }
+    for pair in &order.covers {
+        let (low, high) = (name_of(&order, pair.0), name_of(&order, pair.1));
+        fill(&mut lines, COVER, &[Bytes(low), Bytes(high)])?;
+    }
     Ok(lines)
 }
 
@@ -273,33 +233,17 @@ pub(crate) fn class_shown(drawn: &Drawn<'_>, variable: Var) -> Option<Class>
     }
 }
 
-/// Whether both are classes of the lattice, and the first is at or below the second.
-fn is_ordered(lattice: &Lattice, low: Class, high: Class) -> bool
-    ensures { result ≡ spec.is_ordered (order_of_lattice lattice.now) low high }
-{
-    if low.index() >= lattice.count() || high.index() >= lattice.count() {
-        return false;
-    }
-    lattice.leq(low, high)
-}
-
-/// Whether a flow from one class to another keeps the order, if both are known.
-fn keeps_order(lattice: &Lattice, low: Option<Class>, high: Option<Class>) -> Option<bool>
-    ensures { result ≡ spec.keeps_order (order_of_lattice lattice.now) low high }
-{
-    match (low, high) {
-        (Some(low), Some(high)) => Some(is_ordered(lattice, low, high)),
-        _ => None,
-    }
-}
-
 /// Whether the flow from a number to another keeps the order, if the classes of both are known.
 pub(crate) fn is_upward(drawn: &Drawn<'_>, source: u16, target: u16) -> Option<bool>
     ensures { result ≡ spec.is_upward (shown drawn.now) source target }
 {
-    let low = class_shown(drawn, variable_at(drawn, source));
-    let high = class_shown(drawn, variable_at(drawn, target));
-    keeps_order(drawn.lattice, low, high)
+    let low = class_shown(drawn, variable_at(drawn, source))?;
+    let high = class_shown(drawn, variable_at(drawn, target))?;
+    let lattice = drawn.lattice;
+    if low.index() >= lattice.count() || high.index() >= lattice.count() {
+        return Some(false);
+    }
+    Some(lattice.leq(low, high))
 }
 
 /// Whether a step goes from a variable to another by a rule.
@@ -309,28 +253,21 @@ fn leads(step: &Step, rule: Rule, source: Var, target: Var) -> bool
     same_rule(rule, step.rule) && step.source.0 == source.0 && step.target.0 == target.0
 }
 
-/// The number of the first step of a walk from a variable to another by a rule.
-fn number_in(walk: &[Step], rule: Rule, source: Var, target: Var) -> Option<usize>
-    ensures { result ≡ spec.number_from 1 walk.now rule source target }
+/// The number of the step of the refused walk from a number to another by a rule.
+pub(crate) fn step_number(drawn: &Drawn<'_>, rule: Rule, source: u16, target: u16) -> Option<usize>
+    ensures { result ≡ spec.step_number (shown drawn.now) rule source target }
 {
-    let mut rest = walk;
+    let (from, to) = (variable_at(drawn, source), variable_at(drawn, target));
+    let mut rest = drawn.walk;
     let mut number: usize = 1;
     while let [step, behind @ ..] = rest {
-        if leads(step, rule, source, target) {
+        if leads(step, rule, from, to) {
             return Some(number);
         }
         rest = behind;
         number += 1;
     }
     None
-}
-
-/// The number of the step of the refused walk from a number to another by a rule.
-pub(crate) fn step_number(drawn: &Drawn<'_>, rule: Rule, source: u16, target: u16) -> Option<usize>
-    ensures { result ≡ spec.step_number (shown drawn.now) rule source target }
-{
-    let source = variable_at(drawn, source);
-    number_in(drawn.walk, rule, source, variable_at(drawn, target))
 }
 
 /// The attributes of an edge, by the number of its step and by whether it keeps the order.
@@ -359,29 +296,6 @@ pub(crate) fn nodes_shown(profile: Profile, last: u16) -> u16
     }
 }
 
-/// Adds the lines of the points of all classes, one below and one above the variables of each.
-fn put_points(text: &mut Vec<u8>, order: &Order) -> Added
-    ensures { OnOk result (text.new.items ≡ text.old.items
-        ++ flat_map spec.points_line (count_from 0 (length (texts order.now.names.items)))) }
-{
-    for class in 0..order.names.len() {
-        fill(text, b"  \"below.%0\" -> \"above.%0\";\n", &[Number(class)])?;
-    }
-    Ok(())
-}
-
-/// Adds the lines that keep each class above those that it covers.
-fn put_above(text: &mut Vec<u8>, order: &Order) -> Added
-    ensures { OnOk result (text.new.items ≡ text.old.items
-        ++ flat_map spec.above_line order.now.covers.items) }
-{
-    for pair in &order.covers {
-        let parts = [Number(pair.0), Number(pair.1)];
-        fill(text, ABOVE, &parts)?;
-    }
-    Ok(())
-}
-
 /// Adds the line that keeps a numbered node between the points of a class.
 fn put_between(text: &mut Vec<u8>, class: Option<Class>, number: u16) -> Added
     ensures { OnOk result (text.new.items ≡ text.old.items ++ spec.between_line class number) }
@@ -393,17 +307,6 @@ fn put_between(text: &mut Vec<u8>, class: Option<Class>, number: u16) -> Added
     fill(text, BETWEEN, &parts)
 }
 
-/// Adds the lines that keep the first nodes between the points of their classes.
-fn put_kept(text: &mut Vec<u8>, drawn: &Drawn<'_>, count: u16) -> Added
-    ensures { OnOk result (text.new.items ≡ text.old.items
-        ++ spec.kept_lines (shown drawn.now) count) }
-{
-    for number in 0..count {
-        put_between(text, class_shown(drawn, variable_at(drawn, number)), number)?;
-    }
-    Ok(())
-}
-
 /// Adds the invisible lines that keep the first variables of higher classes above those of lower
 /// ones.
 pub(crate) fn put_frame(text: &mut Vec<u8>, drawn: &Drawn<'_>, count: u16) -> Added
@@ -411,9 +314,15 @@ pub(crate) fn put_frame(text: &mut Vec<u8>, drawn: &Drawn<'_>, count: u16) -> Ad
         ++ spec.frame_lines (shown drawn.now) count drawn.now.order.now.covers.items) }
 {
     text.extend_from_slice(b"  {\n  node [shape=point, style=invis];\n  edge [style=invis];\n")?;
-    put_points(text, drawn.order)?;
-    put_above(text, drawn.order)?;
-    put_kept(text, drawn, count)?;
+    for class in 0..drawn.order.names.len() {
+        fill(text, b"  \"below.%0\" -> \"above.%0\";\n", &[Number(class)])?;
+    }
+    for pair in &drawn.order.covers {
+        fill(text, ABOVE, &[Number(pair.0), Number(pair.1)])?;
+    }
+    for number in 0..count {
+        put_between(text, class_shown(drawn, variable_at(drawn, number)), number)?;
+    }
     text.extend_from_slice(b"  }\n")?;
     Ok(())
 }

@@ -88,27 +88,8 @@ pub(crate) fn judged_classes(
     }
 }
 
-/// The least class at or above the declared classes of all variables with a distance in the row.
-fn joined(lattice: &Lattice, program: &Resolved<'_>, row: &[u16]) -> Class
-    requires globals { All (IsClass (order_of lattice.now)) (program_of program.now).globals }
-    requires declared { AreClasses (order_of lattice.now) (program_of program.now).declared }
-    ensures { IsClass (order_of lattice.now) result }
-{
-    let mut class = lattice.bottom();
-    for number in 0..declarations(program) {
-        let distance = row.get(number as usize).copied().unwrap_or(u16::MAX);
-        if distance == u16::MAX {
-            continue;
-        }
-        if let Some(found) = declared_class(lattice, program, Var(number)) {
-            class = lattice.join(class, found);
-        }
-    }
-    class
-}
-
-/// The classes that reach the letvars: for each the least one at or above those of all variables
-/// that reach it.
+/// The classes that reach the letvars: for each the least one at or above the declared classes of
+/// all variables that reach it.
 pub(crate) fn reached_classes(
     alloc: Global,
     profile: Profile,
@@ -124,7 +105,17 @@ pub(crate) fn reached_classes(
     for variable in 0..count {
         if variable as usize >= program.globals().len() {
             let row = fewest_flows(alloc, &flow, count as usize + 1, variable as usize)?;
-            classes.push(joined(lattice, program, &row))?;
+            let mut class = lattice.bottom();
+            for number in 0..count {
+                let distance = row.get(number as usize).copied().unwrap_or(u16::MAX);
+                if distance == u16::MAX {
+                    continue;
+                }
+                if let Some(found) = declared_class(lattice, program, Var(number)) {
+                    class = lattice.join(class, found);
+                }
+            }
+            classes.push(class)?;
         }
     }
     Ok(classes)
@@ -164,27 +155,6 @@ fn variable_of<'a>(order: &'a Order, name: &'a [u8], class: Class, declared: boo
     }
 }
 
-/// The variables of a program, with their declared or inferred classes, the ending of loops last.
-fn variables_of<'a>(
-    alloc: Global,
-    order: &'a Order,
-    program: &Resolved<'a>,
-    inferred: &[Class],
-    bottom: Class,
-) -> Made<Vec<Variable<'a>>> {
-    let mut variables = Vec::new(alloc);
-    for global in program.globals() {
-        variables.push(variable_of(order, global.name, global.class, true))?;
-    }
-    for (number, entry) in program.letvars().iter().enumerate() {
-        let least = inferred.get(number).copied().unwrap_or(bottom);
-        let class = entry.class.unwrap_or(least);
-        variables.push(variable_of(order, entry.name, class, entry.class.is_some()))?;
-    }
-    variables.push(variable_of(order, b"(loop)", bottom, true))?;
-    Ok(variables)
-}
-
 /// The facts of a program, with these classes of its letvars, and these names in its text.
 pub(crate) fn facts_of<'a>(
     alloc: Global,
@@ -200,7 +170,17 @@ pub(crate) fn facts_of<'a>(
     ensures { IfOk result (λ facts.
         IsTable (order_of lattice.now) profile (program_of program.now) facts.pairs.items) }
 {
-    let variables = variables_of(alloc, order, program, chosen, lattice.bottom())?;
+    let bottom = lattice.bottom();
+    let mut variables = Vec::new(alloc);
+    for global in program.globals() {
+        variables.push(variable_of(order, global.name, global.class, true))?;
+    }
+    for (number, entry) in program.letvars().iter().enumerate() {
+        let least = chosen.get(number).copied().unwrap_or(bottom);
+        let class = entry.class.unwrap_or(least);
+        variables.push(variable_of(order, entry.name, class, entry.class.is_some()))?;
+    }
+    variables.push(variable_of(order, b"(loop)", bottom, true))?;
     let mut flows = None;
     if variables.len() <= MOST_BOXES + 1 {
         flows = Some(flows_of(alloc, profile, program)?);
@@ -213,16 +193,6 @@ pub(crate) fn facts_of<'a>(
             pairs,
         }),
         Err(FlowsError::Memory) => Err(AllocError),
-    }
-}
-
-/// The facts of a text whose flows aren't judged.
-pub(crate) fn no_facts(alloc: Global) -> Facts<'static> {
-    Facts {
-        variables: Vec::new(alloc),
-        mentions: Vec::new(alloc),
-        flows: None,
-        pairs: Vec::new(alloc),
     }
 }
 

@@ -7,11 +7,11 @@ ghost use Rattle.vsi_scope.specs.{Language.{Command}, Resolving.{IsResolution}};
 ghost use Rattle.vsi_types.specs.Security.{program as program_of, count_from};
 ghost use Rattle.vsi_infer.specs.Inference.{AreClasses};
 ghost use Rattle.vsi_compiler.specs.{Source.{Reads}, declared.source.CompileError.TheVariants.{Memory}, Refusal.{RefusesProgram}};
-ghost use Rattle.vsi_report.specs.{ByRule.{flows_in_rows}, Drawn.{shown}, Graph.{texts}};
+ghost use Rattle.vsi_report.specs.{ByRule.{flows_in_rows}, Drawn.{shown}};
 ghost use Rattle.vsi_report.specs.FlowsGraph as spec;
 
 use crate::dot::{
-    Drawn, Order, class_shown, colour, edge_words, graph_text, is_upward, lattice_lines, name_of,
+    Drawn, class_shown, colour, edge_words, graph_text, is_upward, lattice_lines, name_of,
     nodes_shown, order_of, put_frame, step_number, variable_at,
 };
 use crate::facts::{Flows, MOST_DRAWN, flows_of, has_flow, judged_classes};
@@ -44,32 +44,6 @@ fn box_words(declared: Option<Class>) -> &'static [u8]
     }
 }
 
-/// Adds the node of a variable with this number, name, attribute of its box and class.
-fn put_node<'x>(
-    text: &mut Vec<u8>,
-    order: &'x Order,
-    number: u16,
-    name: &'x [u8],
-    dashes: &'x [u8],
-    class: Option<Class>,
-) -> Added
-    ensures { OnOk result (text.new.items ≡ text.old.items
-        ++ spec.node_line (texts order.now.names.items) number name.now dashes.now class) }
-{
-    let Some(class) = class else {
-        let parts = [Number(number as usize), Bytes(name), Bytes(dashes)];
-        return fill(text, b"  \"v.%0\" [label=\"%1\"%2];\n", &parts);
-    };
-    let parts = [
-        Number(number as usize),
-        Bytes(name),
-        Bytes(dashes),
-        Bytes(name_of(order, class.index())),
-        Bytes(colour(class.index())),
-    ];
-    fill(text, NODE, &parts)
-}
-
 /// Adds the node of the variable with a number.
 fn put_variable(text: &mut Vec<u8>, drawn: &Drawn<'_>, number: u16) -> Added
     ensures { OnOk result
@@ -78,8 +52,18 @@ fn put_variable(text: &mut Vec<u8>, drawn: &Drawn<'_>, number: u16) -> Added
     let variable = variable_at(drawn, number);
     let name = variable_name(drawn.program, variable);
     let dashes = box_words(declared_class(drawn.lattice, drawn.program, variable));
-    let class = class_shown(drawn, variable);
-    put_node(text, drawn.order, number, name, dashes, class)
+    let Some(class) = class_shown(drawn, variable) else {
+        let parts = [Number(number as usize), Bytes(name), Bytes(dashes)];
+        return fill(text, b"  \"v.%0\" [label=\"%1\"%2];\n", &parts);
+    };
+    let parts = [
+        Number(number as usize),
+        Bytes(name),
+        Bytes(dashes),
+        Bytes(name_of(drawn.order, class.index())),
+        Bytes(colour(class.index())),
+    ];
+    fill(text, NODE, &parts)
 }
 
 /// Adds the nodes of the first variables.
@@ -106,23 +90,6 @@ fn style(rule: Rule) -> &'static [u8]
     }
 }
 
-/// Adds an edge.
-fn put_edge(text: &mut Vec<u8>, drawn: &Drawn<'_>, source: u16, target: u16, rule: Rule) -> Added
-    ensures { OnOk result (text.new.items ≡ text.old.items
-        ++ spec.flow_line (shown drawn.now) source target rule) }
-{
-    let number = step_number(drawn, rule, source, target);
-    let parts = [
-        Number(source as usize),
-        Number(target as usize),
-        Prefix(number),
-        Bytes(rule_text(rule)),
-        Bytes(style(rule)),
-        Bytes(edge_words(number, is_upward(drawn, source, target))),
-    ];
-    fill(text, EDGE, &parts)
-}
-
 /// Adds the edge from a variable to another by a rule, if there is such a flow.
 fn put_edge_by(
     text: &mut Vec<u8>,
@@ -135,11 +102,19 @@ fn put_edge_by(
     ensures { OnOk result (text.new.items ≡ text.old.items
         ++ spec.line_by (shown drawn.now) (flows_in_rows flows.now) source target rule) }
 {
-    if has_flow(flows, rule, source as usize, target as usize) {
-        put_edge(text, drawn, source, target, rule)
-    } else {
-        Ok(())
+    if !has_flow(flows, rule, source as usize, target as usize) {
+        return Ok(());
     }
+    let number = step_number(drawn, rule, source, target);
+    let parts = [
+        Number(source as usize),
+        Number(target as usize),
+        Prefix(number),
+        Bytes(rule_text(rule)),
+        Bytes(style(rule)),
+        Bytes(edge_words(number, is_upward(drawn, source, target))),
+    ];
+    fill(text, EDGE, &parts)
 }
 
 /// Adds the edges from a variable to another, one for each rule.
@@ -161,31 +136,15 @@ fn put_edges(
     Ok(())
 }
 
-/// Adds the edges from a variable to the first ones.
-fn put_edges_from(
-    text: &mut Vec<u8>,
-    drawn: &Drawn<'_>,
-    flows: &Flows,
-    source: u16,
-    count: u16,
-) -> Added
-    ensures { OnOk result (text.new.items ≡ text.old.items
-        ++ flat_map (spec.lines_between (shown drawn.now) (flows_in_rows flows.now) source)
-        (count_from 0 count)) }
-{
-    for target in 0..count {
-        put_edges(text, drawn, flows, source, target)?;
-    }
-    Ok(())
-}
-
 /// Adds the edges between the first variables.
 fn put_all_edges(text: &mut Vec<u8>, drawn: &Drawn<'_>, flows: &Flows, count: u16) -> Added
     ensures { OnOk result (text.new.items ≡ text.old.items
         ++ spec.edge_lines (shown drawn.now) (flows_in_rows flows.now) count) }
 {
     for source in 0..count {
-        put_edges_from(text, drawn, flows, source, count)?;
+        for target in 0..count {
+            put_edges(text, drawn, flows, source, target)?;
+        }
     }
     Ok(())
 }
@@ -209,20 +168,6 @@ fn put_flows(
     let flows = flows_of(alloc, profile, drawn.program)?;
     put_all_edges(text, drawn, &flows, last + 1)?;
     Ok(())
-}
-
-/// The lines of a graph of flows.
-fn drawn_lines(alloc: Global, profile: Profile, drawn: &Drawn<'_>) -> Made<Vec<u8>>
-    ensures { IfOk result (λ lines. lines.items
-        ≡ spec.flows_lines profile (shown drawn.now) drawn.now.order.now.covers.items) }
-{
-    let last = declarations(drawn.program);
-    let count = nodes_shown(profile, last);
-    let mut lines = Vec::new(alloc);
-    put_variables(&mut lines, drawn, count)?;
-    put_frame(&mut lines, drawn, count)?;
-    put_flows(alloc, &mut lines, profile, drawn, last)?;
-    Ok(lines)
 }
 
 /// The lines of a program: a node for each variable, and an edge for each rule by which one flows
@@ -249,7 +194,13 @@ fn program_lines(
         chosen: &judged.0,
         walk: &judged.1,
     };
-    drawn_lines(alloc, profile, &drawn)
+    let last = declarations(program);
+    let count = nodes_shown(profile, last);
+    let mut lines = Vec::new(alloc);
+    put_variables(&mut lines, &drawn, count)?;
+    put_frame(&mut lines, &drawn, count)?;
+    put_flows(alloc, &mut lines, profile, &drawn, last)?;
+    Ok(lines)
 }
 
 /// The lines of a text's program.
@@ -294,15 +245,6 @@ pub fn flows_dot(
     Ok(graph_text(alloc, b"flows", &lines)?)
 }
 
-/// The graph of a lattice's lines and those of a text's flows.
-fn joined(alloc: Global, classes: &[u8], flows: &[u8]) -> Made<Vec<u8>>
-    ensures { IfOk result (λ text. text.items ≡ spec.joined classes.now flows.now) }
-{
-    let mut both = Vec::new(alloc);
-    fill(&mut both, BOXES, &[Bytes(classes), Bytes(flows)])?;
-    graph_text(alloc, b"policy", &both)
-}
-
 /// A lattice and the flows of a text as one graph, each in a box of its own.
 ///
 /// # Errors
@@ -322,6 +264,8 @@ pub fn policy_dot(
         → IfErr result (λ e. e ≡ Memory) }
 {
     let classes = lattice_lines(alloc, lattice)?;
-    let flows = flows_lines(alloc, profile, lattice, source)?;
-    Ok(joined(alloc, &classes, &flows)?)
+    let lines = (classes, flows_lines(alloc, profile, lattice, source)?);
+    let mut both = Vec::new(alloc);
+    fill(&mut both, BOXES, &[Bytes(&lines.0), Bytes(&lines.1)])?;
+    Ok(graph_text(alloc, b"policy", &both)?)
 }

@@ -1,16 +1,16 @@
 //! The search for a leak of a refused text, and the section of a page that shows a leak or that
 //! none was found.
 
-ghost use Rattle.std.specs.Prelude.{◌≡◌, IfOk, IfSome, All};
+ghost use Rattle.std.specs.Prelude.{IfOk, All};
 ghost use Rattle.vsi_lattice.specs.{LatticeView.{class_named, order}, Order.{IsClass}};
-ghost use Rattle.vsi_leak.specs.Leaks.{IsFinding, IsLeak};
+ghost use Rattle.vsi_leak.specs.Leaks.{IsFinding};
 
 use crate::dot::is_below;
 use crate::page::Part::{Block, Markup, Number, Text, Word};
 use crate::page::{Added, Made, Page};
 use crate::report::View;
 use vsi_compiler::{Source, image_of};
-use vsi_image::{Image, Verified};
+use vsi_image::Verified;
 use vsi_lattice::{Class, Classes, Lattice};
 use vsi_leak::{Effort, Finding, Leak, Sign, check_leak, classes_upwards, find_leak, leak_text};
 use vsi_store::RunEnding;
@@ -60,50 +60,33 @@ struct Search<'a> {
     effort: Effort,
 }
 
-/// The leak that a 1 in the first variable of the refused flow shows next to a store of zeros.
-fn leak_of_source(search: &Search<'_>, sign: Sign, class: Class) -> Made<Option<Leak>>
-    requires { IsClass (order search.now.lattice.now) class }
-    ensures { IfOk result (λ o. IfSome o (IsLeak (class_named search.now.lattice.now)
-        (order search.now.lattice.now) search.now.verified.now search.now.effort.budget)) }
-{
-    let count = search.verified.image().globals.len();
-    let mut first = Vec::new(search.view.alloc);
-    first.resize(count, 0)?;
-    let mut second = first.to_vec(search.view.alloc)?;
-    match second.get_mut(search.source) {
-        Some(word) => *word = 1,
-        None => return Ok(None),
-    }
-    let stores = (first.as_slice(), second.as_slice());
-    let (lattice, verified) = (search.lattice, search.verified);
-    let (alloc, budget) = (search.view.alloc, search.effort.budget);
-    check_leak(alloc, lattice, verified, sign, class, stores, budget)
-}
-
-/// The first leak by a sign at a class. The first variable of the refused flow is changed first.
-fn found_at(search: &Search<'_>, sign: Sign, class: Class) -> Made<Finding>
-    requires { IsClass (order search.now.lattice.now) class }
-    ensures { IfOk result (IsFinding (class_named search.now.lattice.now)
-        (order search.now.lattice.now) search.now.verified.now search.now.effort.budget) }
-{
-    if let Some(leak) = leak_of_source(search, sign, class)? {
-        return Ok(Finding::Leak(leak));
-    }
-    let (alloc, lattice, verified) = (search.view.alloc, search.lattice, search.verified);
-    find_leak(alloc, lattice, verified, sign, class, search.effort)
-}
-
-/// The first leak at one of the classes, by the first sign that shows one.
+/// The first leak at one of the classes, by the first sign that shows one. The first variable of
+/// the refused flow is changed first.
 fn found_in(search: &Search<'_>, classes: &[Class]) -> Made<Finding>
     requires { All (IsClass (order search.now.lattice.now)) classes.now }
     ensures { IfOk result (IsFinding (class_named search.now.lattice.now)
         (order search.now.lattice.now) search.now.verified.now search.now.effort.budget) }
 {
+    let (alloc, lattice, verified) = (search.view.alloc, search.lattice, search.verified);
+    let (effort, signs) = (search.effort, search.signs);
+    // A store of zeros, and one with a 1 in that variable.
+    let mut first = Vec::new(alloc);
+    first.resize(verified.image().globals.len(), 0)?;
+    let mut second = first.to_vec(alloc)?;
+    if let Some(word) = second.get_mut(search.source) {
+        *word = 1;
+    }
     let mut done: u64 = 0;
-    let signs = search.signs;
     for sign in signs {
         for class in classes {
-            match found_at(search, *sign, *class)? {
+            let stores = (first.as_slice(), second.as_slice());
+            let budget = effort.budget;
+            if let Some(leak) = check_leak(
+                alloc, lattice, verified, *sign, *class, stores, budget,
+            )? {
+                return Ok(Finding::Leak(leak));
+            }
+            match find_leak(alloc, lattice, verified, *sign, *class, effort)? {
                 Finding::Leak(leak) => return Ok(Finding::Leak(leak)),
                 Finding::Nothing { pairs } => done = done.saturating_add(pairs),
             }
@@ -112,25 +95,8 @@ fn found_in(search: &Search<'_>, classes: &[Class]) -> Made<Finding>
     Ok(Finding::Nothing { pairs: done })
 }
 
-/// Adds a leak, at the class where the refused flow ends if there is one, or that none was found.
-fn put_search(page: &mut Page, search: &Search<'_>, class: usize) -> Added {
-    let mut done: u64 = 0;
-    if class < search.lattice.count() {
-        match found_in(search, &[Class::at(class as u8)])? {
-            Finding::Leak(leak) => return put_shown(page, search, &leak),
-            Finding::Nothing { pairs } => done = pairs,
-        }
-    }
-    let classes = classes_upwards(search.view.alloc, search.lattice)?;
-    match found_in(search, &classes)? {
-        Finding::Leak(leak) => put_shown(page, search, &leak),
-        Finding::Nothing { pairs } => {
-            page.fill(NO_LEAK, &[Number(done.saturating_add(pairs) as usize)])
-        }
-    }
-}
-
-/// Adds the section about leaks of a refused text.
+/// Adds the section about leaks of a refused text: a leak, at the class where the refused flow ends
+/// if there is one, or that none was found.
 pub(crate) fn put_leak(page: &mut Page, view: &View<'_>, read: &Source<'_>) -> Added {
     let (Some(first), Some(last)) = (view.walk.first(), view.walk.last()) else {
         return Ok(());
@@ -153,37 +119,46 @@ pub(crate) fn put_leak(page: &mut Page, view: &View<'_>, read: &Source<'_>) -> A
             seed: 0,
         },
     };
-    put_search(page, &search, view.facts.of(last.target).class)
+    let class = view.facts.of(last.target).class;
+    let mut done: u64 = 0;
+    if class < lattice.count() {
+        match found_in(&search, &[Class::at(class as u8)])? {
+            Finding::Leak(leak) => return put_shown(page, &search, &leak),
+            Finding::Nothing { pairs } => done = pairs,
+        }
+    }
+    match found_in(&search, &classes_upwards(view.alloc, lattice)?)? {
+        Finding::Leak(leak) => put_shown(page, &search, &leak),
+        Finding::Nothing { pairs } => {
+            page.fill(NO_LEAK, &[Number(done.saturating_add(pairs) as usize)])
+        }
+    }
 }
 
-/// Two stores of an image, with the caption of their table and the class of an observer.
-#[derive(Clone, Copy)]
-struct Stores<'a> {
+/// Adds the table of the stores of two runs with a caption; if there are many variables, those with
+/// equal values are below it.
+fn put_stores(
+    page: &mut Page,
+    search: &Search<'_>,
+    observer: Class,
     caption: &'static [u8],
-    view: &'a View<'a>,
-    class: usize,
-    image: &'a Image,
-    first: &'a [i64],
-    second: &'a [i64],
-}
-
-/// Adds the table of two stores; if there are many variables, those with equal values are below it.
-fn put_stores(page: &mut Page, stores: Stores<'_>) -> Added {
-    let view = stores.view;
+    stores: (&[i64], &[i64]),
+) -> Added {
+    let (view, globals) = (search.view, &search.verified.image().globals);
     let mut alike = Page::new(view.alloc);
-    page.fill(STORES, &[Markup(stores.caption)])?;
-    for (index, global) in stores.image.globals.iter().enumerate() {
-        let one = stores.first.get(index).copied().unwrap_or(0);
-        let other = stores.second.get(index).copied().unwrap_or(0);
+    page.fill(STORES, &[Markup(caption)])?;
+    for (index, global) in globals.iter().enumerate() {
+        let one = stores.0.get(index).copied().unwrap_or(0);
+        let other = stores.1.get(index).copied().unwrap_or(0);
         let name = Text(&global.0);
-        if one == other && stores.image.globals.len() > MOST_ROWS {
+        if one == other && globals.len() > MOST_ROWS {
             alike.fill(b"%0 = %1 ", &[name, Word(one)])?;
             continue;
         }
-        let is_seen = is_below(view.order, view.facts.variable(index).class, stores.class);
+        let class = view.facts.variable(index).class;
         let (tint, difference): (&[u8], &[u8]) = if one == other {
             (b"", b"")
-        } else if is_seen {
+        } else if is_below(view.order, class, observer.index()) {
             (b" class=\"apart\"", b"differs")
         } else {
             (b"", b"differs, not seen")
@@ -198,10 +173,17 @@ fn put_stores(page: &mut Page, stores: Stores<'_>) -> Added {
     page.fill(ALIKE, &[Block(&alike)])
 }
 
-/// Adds the table of the final stores and the numbers of instructions, if both runs halt.
-fn put_endings<'a>(page: &mut Page, before: Stores<'a>, leak: &'a Leak) -> Added {
-    let (one, other) = (&leak.first.ending, &leak.second.ending);
-    match (one, other) {
+/// Adds a leak: its class, its stores before the runs and, if both runs halt, after them, its
+/// endings, and the text of `vsi leak`.
+fn put_shown(page: &mut Page, search: &Search<'_>, leak: &Leak) -> Added
+    requires { IsClass (order search.now.lattice.now) leak.now.class }
+{
+    let (lattice, class) = (search.lattice, leak.class);
+    let text = leak_text(search.view.alloc, lattice, search.verified.image(), leak)?;
+    page.fill(LEAK, &[Text(lattice.name(class))])?;
+    let before = (leak.first.store.as_slice(), leak.second.store.as_slice());
+    put_stores(page, search, class, b"Before the runs", before)?;
+    match (&leak.first.ending, &leak.second.ending) {
         (
             RunEnding::Halted {
                 instructions: count,
@@ -212,36 +194,14 @@ fn put_endings<'a>(page: &mut Page, before: Stores<'a>, leak: &'a Leak) -> Added
                 words: second,
             },
         ) => {
-            let mut stores = before;
-            stores.caption = b"After the runs";
-            stores.first = first;
-            stores.second = second;
-            put_stores(page, stores)?;
-            page.fill(TAKES, &[Number(*count as usize), Number(*more as usize)])
+            let after = (first.as_slice(), second.as_slice());
+            put_stores(page, search, class, b"After the runs", after)?;
+            page.fill(TAKES, &[Number(*count as usize), Number(*more as usize)])?;
         }
         (RunEnding::OutOfBudget, RunEnding::OutOfBudget) => {
-            page.put(b"<p>Both runs are out of budget.</p>\n")
+            page.put(b"<p>Both runs are out of budget.</p>\n")?;
         }
-        _ => page.put(b"<p>One of the runs halts, and the other is out of budget.</p>\n"),
+        _ => page.put(b"<p>One of the runs halts, and the other is out of budget.</p>\n")?,
     }
-}
-
-/// Adds a leak: its class, its stores, its endings, and the text of `vsi leak`.
-fn put_shown(page: &mut Page, search: &Search<'_>, leak: &Leak) -> Added
-    requires { IsClass (order search.now.lattice.now) leak.now.class }
-{
-    let image = search.verified.image();
-    let text = leak_text(search.view.alloc, search.lattice, image, leak)?;
-    page.fill(LEAK, &[Text(search.lattice.name(leak.class))])?;
-    let stores = Stores {
-        caption: b"Before the runs",
-        view: search.view,
-        class: leak.class.index(),
-        image,
-        first: &leak.first.store,
-        second: &leak.second.store,
-    };
-    put_stores(page, stores)?;
-    put_endings(page, stores, leak)?;
     page.fill(TEXT, &[Text(&text)])
 }

@@ -1,11 +1,13 @@
-//! The parts of a page, the writer that fills markup with them, and the first words of a page.
+//! The parts of a page, the writer that fills markup with them, and the first words and the style of
+//! a page.
 
 ghost use Rattle.std.specs.Prelude.{◌≡◌, ◌++◌, ◌∷◌, ◌-◌, OnOk, IfOk, List, ℕ, [], true};
-ghost use Rattle.vsi_report.specs.{Banner.{untagged}, Escape.{escape, escaped}, Filled.{filled, prefix, text_at}, Page.{HasPanel}, Reading.{Shows}, Parts.{are_stated, is_stated, texts_of, words}};
+ghost use Rattle.vsi_report.specs.{Banner.{untagged}, Escape.{escape, escaped}, Filled.{filled}, Page.{HasPanel}, Reading.{Shows}, Parts.{are_stated, is_stated, texts_of, words}};
 ghost use Rattle.vsi_report.specs.Banner as spec;
 ghost use Rattle.vsi_report.specs.Filled as filling;
 
 use crate::facts::{Variable, colour};
+use crate::report::View;
 use itoa::Buffer;
 use std::alloc::{AllocError, Global};
 use vsi_syntax::{line_column, put_number};
@@ -87,28 +89,6 @@ pub(crate) enum Part<'a> {
     Position(&'a [u8], usize),
 }
 
-/// Adds a number and a blank, if there is one.
-fn put_prefix(text: &mut Vec<u8>, number: Option<usize>) -> Added
-    ensures { OnOk result (text.new.items ≡ text.old.items ++ prefix number) }
-{
-    let Some(number) = number else {
-        return Ok(());
-    };
-    put_number(text, number)?;
-    text.extend_from_slice(b" ")
-}
-
-/// Adds a text as shown in a box: one of more than 24 letters keeps its first and last letters.
-fn put_short(page: &mut Vec<u8>, text: &[u8]) -> Added {
-    if text.len() <= 24 {
-        return put_escaped(page, text);
-    }
-    let last = text.len() - 11;
-    put_escaped(page, &text[..12])?;
-    page.extend_from_slice(b"\xe2\x80\xa6")?;
-    put_escaped(page, &text[last..])
-}
-
 /// Adds a text in the colour of a class, after the beginning of a tag.
 fn put_tinted(page: &mut Vec<u8>, begin: &'static [u8], class: usize, text: &[u8]) -> Added {
     page.extend_from_slice(begin)?;
@@ -141,8 +121,20 @@ fn put_part(page: &mut Vec<u8>, part: &Part<'_>) -> Added
         Part::Text(text) => put_escaped(page, text),
         Part::Style(style) => put_style(page, style),
         Part::Number(number) => put_number(page, *number),
-        Part::Prefix(number) => put_prefix(page, *number),
-        Part::Short(text) => put_short(page, text),
+        Part::Prefix(None) => Ok(()),
+        Part::Prefix(Some(number)) => {
+            put_number(page, *number)?;
+            page.extend_from_slice(b" ")
+        }
+        Part::Short(text) => {
+            if text.len() <= 24 {
+                return put_escaped(page, text);
+            }
+            let last = text.len() - 11;
+            put_escaped(page, &text[..12])?;
+            page.extend_from_slice(b"\xe2\x80\xa6")?;
+            put_escaped(page, &text[last..])
+        }
         Part::Word(word) => put_escaped(page, Buffer::new().format(*word).as_bytes()),
         Part::Name(of) => {
             put_tinted(page, b"<b class=\"", of.class, of.name)?;
@@ -157,18 +149,6 @@ fn put_part(page: &mut Vec<u8>, part: &Part<'_>) -> Added
     }
 }
 
-/// Adds the part with the number that a digit names.
-fn put_hole(page: &mut Vec<u8>, parts: &[Part<'_>], digit: u8) -> Added
-    ensures { are_stated parts.now ≡ true
-        → OnOk result (page.new.items
-        ≡ page.old.items ++ text_at (texts_of parts.now) (digit - 48)) }
-{
-    match parts.get(digit.saturating_sub(b'0') as usize) {
-        Some(part) => put_part(page, part),
-        None => Ok(()),
-    }
-}
-
 /// Adds a byte of markup, or the part for a hole, and answers whether the next byte is the digit of
 /// a hole.
 fn put_next(page: &mut Vec<u8>, parts: &[Part<'_>], is_hole: bool, byte: u8) -> Made<bool>
@@ -177,7 +157,9 @@ fn put_next(page: &mut Vec<u8>, parts: &[Part<'_>], is_hole: bool, byte: u8) -> 
         ≡ page.old.items ++ filled (texts_of parts.now) is_hole (byte ∷ rest)) }
 {
     if is_hole {
-        put_hole(page, parts, byte)?;
+        if let Some(part) = parts.get(byte.saturating_sub(b'0') as usize) {
+            put_part(page, part)?;
+        }
         return Ok(false);
     }
     if byte == b'%' {
@@ -280,7 +262,6 @@ content=\"default-src 'none'; style-src 'unsafe-inline'\">\n\
 %0%1</title>\n<style>\n%2</style>\n</head>\n<body>\n<main>\n%3%4%5<div class=\"beside\">\n\
 <section aria-labelledby=\"source\"><h2 id=\"source\">Source</h2>\n\
 <pre class=\"source\"><code>%6</code></pre>%7</div>\n</main>\n</body>\n</html>\n";
-
 /// The page with this verdict, name of its text, style and first sentences of its banner, and with
 /// these parts before and after this panel of its source.
 pub(crate) fn whole_page<'x>(
@@ -310,4 +291,118 @@ pub(crate) fn whole_page<'x>(
     ];
     fill(&mut page, PAGE, &parts)?;
     Ok(page)
+}
+
+/// The style sheet.
+const STYLE: &[u8] = b":root{color-scheme:light dark;--mono:ui-monospace,SFMono-Regular,Menlo,\
+Consolas,\"DejaVu Sans Mono\",monospace;--ink:#1c2128;--soft:#57606a;--paper:#fff;--panel:#f5f7f9;\
+--rule:#d3dae1;--good:#146c2e;--goodp:#e6f4ea;--bad:#b01e1e;--badp:#fdecea;--k0:#2e23a9;--k1:\
+#984a92;--k2:#627039;--k3:#5058de;--k4:#490359;--k5:#10370f;--k6:#763b63;--k7:#1f1821}\n@media \
+screen and (prefers-color-scheme:dark){:root{--ink:#e6edf3;--soft:#9aa5b1;--paper:#0f1419;--panel:\
+#171d24;--rule:#343d48;--good:#62d384;--goodp:#12291a;--bad:#ff8f87;--badp:#331817;--k0:#8672fd;\
+--k1:#fc82f3;--k2:#9eeb50;--k3:#65d18e;--k4:#f6bde1;--k5:#e0f1b5;--k6:#c367a5;--k7:#92ab3b}}\n*{\
+box-sizing:border-box}\nbody{margin:0;background:var(--paper);color:var(--ink);font:17px/1.55 \
+system-ui,-apple-system,\"Segoe UI\",Roboto,\"DejaVu Sans\",sans-serif;-webkit-text-size-adjust:\
+100%}\nmain{max-width:76rem;margin:0 auto;padding:1rem clamp(.9rem,3vw,2.5rem) 3rem}\nheader{\
+border-left:.5rem solid;border-radius:.4rem;padding:.9rem 1.2rem;margin:1rem 0 1.6rem}\nheader h1{\
+margin:0;font-size:1.9rem;line-height:1.2}\nheader p,header ul{margin:.3rem 0 0;color:var(--ink);\
+max-width:none}\n.lead{font-size:1.1rem;overflow-wrap:anywhere}.by{font-size:.9rem}.warrant{\
+padding-left:1.2rem}\n.strip{list-style:none;display:flex;flex-wrap:wrap;gap:.3rem 0;margin:.5rem \
+0 0;padding:0}\n.strip li{max-width:100%;overflow-wrap:anywhere}\n.strip li+li::before{content:\
+\"\\2192\";padding:0 .45rem;color:var(--soft)}\n.good{border-color:var(--good);background:\
+var(--goodp)}.good h1{color:var(--good)}\n.bad{border-color:var(--bad);background:var(--badp)}\
+.bad h1{color:var(--bad)}\nh2{font-size:1.3rem;margin:1.8rem 0 .6rem}h3{font-size:1.05rem;margin:\
+1.4rem 0 .5rem}\np{max-width:46rem;margin:.5rem 0}\na{color:inherit;text-underline-offset:.2em;\
+padding:.3em 0}\n.strip a,.quote a{display:inline-block;min-width:1.5rem;text-align:center}\
+\n.quote{overflow-wrap:anywhere}.quote code{white-space:pre-wrap;unicode-bidi:isolate;direction:\
+ltr}\nsection{min-width:0}\n.beside{display:grid;gap:0 2rem;grid-template-columns:minmax(0,1fr);\
+align-items:start}.beside>*{min-width:0}.wide{grid-column:1/-1}\n@media (min-width:62rem){.beside{\
+grid-template-columns:minmax(0,3fr) minmax(0,2fr);grid-template-rows:min-content 1fr}.side{\
+grid-column:2;grid-row:1/span 2}.picture{max-width:100%;height:auto}}\npre{background:var(--panel)\
+;border:1px solid var(--rule);border-radius:.5rem;padding:.8rem 1rem;margin:.5rem 0;overflow-x:\
+auto;font:.93rem/1.75 var(--mono);tab-size:4}\ncode{font-family:var(--mono)}\npre code{font:\
+inherit}\n.source{padding-left:0;counter-reset:line;white-space:pre-wrap;overflow-wrap:anywhere}\
+\n.line{display:block;position:relative;padding-left:4rem;min-height:1.75em}\n.line::before{\
+counter-increment:line;content:counter(line);position:absolute;left:0;width:3.1rem;text-align:\
+right;color:var(--soft);-webkit-user-select:none;user-select:none}\n.line{unicode-bidi:isolate;\
+direction:ltr}\n.line:target{background:var(--badp)}.line,.walk li{scroll-margin:40vh 0}\n.line b{\
+font-weight:600}\n.line .word{font-weight:700}\n.line .note{color:var(--soft);font-style:italic;\
+font-weight:inherit}\n.line .fault{background:var(--paper);outline:2px solid var(--bad);\
+border-radius:.2rem}\n.line .mark{white-space:nowrap;unicode-bidi:isolate;font-size:0}\n.mark::\
+before{content:attr(data-class);background:var(--ink);color:var(--panel);font:700 .65rem/1 \
+system-ui,sans-serif;border-radius:.2rem;padding:.1em .3em;vertical-align:.12em}\n.line \
+[data-class]:not(.mark)::after{content:attr(data-class);font-size:.68em;font-weight:600;\
+vertical-align:.45em;margin-left:.12em;-webkit-user-select:none;user-select:none}\n.line \
+[data-step]{display:inline-block;max-width:100%;line-height:1.3;background:var(--badp);outline:\
+2px solid var(--bad);border-radius:.2rem;padding:.05em .15em}\n.line [data-step]::before{content:\
+attr(data-step);display:inline-block;white-space:nowrap;background:var(--bad);color:var(--paper);\
+font:700 .72em/1 system-ui,sans-serif;border-radius:.2rem;padding:.15em .35em;margin-right:.3em;\
+vertical-align:.12em}\n.k0{color:var(--k0)}.k1{color:var(--k1)}.k2{color:var(--k2)}.k3{color:\
+var(--k3)}\n.k4{color:var(--k4)}.k5{color:var(--k5)}.k6{color:var(--k6)}.k7{color:var(--k7)}\
+\n.chip{border:1px solid;border-radius:1rem;padding:0 .5em;font-size:.8em;font-weight:600;\
+white-space:nowrap}\n.hint,figcaption,small{color:var(--soft);font-size:.88rem}\n.walk{\
+padding-left:1.6rem;margin:.5rem 0}.walk li{margin:0 0 .9rem}.walk li::marker{font-weight:700;\
+color:var(--bad)}\n.walk p{margin:.15rem 0}.step{font-size:1.02em}\n.turn{font-size:.85rem}.turn \
+a{margin-right:.8em;white-space:nowrap}.walk,.lead,dd,td,th,.end{overflow-wrap:anywhere}\n.walk \
+li:target{outline:2px solid var(--bad);outline-offset:.4rem;border-radius:.2rem}\n.end{\
+border-left:.25rem solid var(--bad);padding-left:.8rem}\nfigure{margin:.5rem 0}figcaption{\
+margin-top:.4rem;max-width:46rem}\n.scroll{overflow-x:auto;max-width:100%}\n.picture{display:\
+block;font:600 15px var(--mono)}\n.cover{fill:none;stroke:var(--soft);stroke-width:2}.wide .cover{\
+stroke-width:1.3}\n.box rect{fill:var(--paper);stroke:currentColor;stroke-width:2}\n.box text{\
+fill:currentColor;text-anchor:middle}\n.inferred .box rect{stroke-dasharray:5 4}\n.band rect{fill:\
+currentColor;fill-opacity:.07;stroke:currentColor;stroke-opacity:.35}\n.band text{fill:\
+currentColor;font-size:13px;stroke:var(--paper);stroke-width:4px;paint-order:stroke}\n.flow{fill:\
+none;stroke:var(--soft);stroke-width:1.6}\n.r2{stroke-dasharray:7 4}.r4{stroke-dasharray:2 4;\
+stroke-width:2.4}.r8{stroke-width:3}.r16{stroke-dasharray:10 3 2 3}\n.tip{fill:var(--soft)}\
+\n.against{stroke:var(--bad)}\n.told{fill:none;stroke:var(--bad);stroke-width:4}.told:target{\
+stroke-width:8}.toldtip{fill:var(--bad)}\n.number circle{fill:var(--bad);stroke:var(--paper);\
+stroke-width:2}\n.number text{fill:var(--paper);text-anchor:middle;font-size:14px}\n.legend{\
+list-style:none;margin:.6rem 0;padding:0;display:flex;flex-wrap:wrap;gap:.1rem 1.4rem;font-size:\
+.88rem}\n.legend svg{vertical-align:middle}\ntable{border-collapse:collapse;font-size:.95rem}\nth,\
+td{text-align:left;padding:.35rem .9rem .35rem .5rem;border-bottom:1px solid var(--rule);\
+vertical-align:baseline}\nth{color:var(--soft);font-size:.85rem}\n.yes{color:var(--good);\
+white-space:nowrap}.no{color:var(--bad);font-weight:700;white-space:nowrap}\n.refused,.apart{\
+background:var(--badp)}\nthead th{overflow-wrap:normal}td ol{margin:.2rem 0;padding-left:1.8rem}\
+\ncaption{text-align:left;font-weight:700;padding:.3rem 0}.runs{margin:.4rem 0}\nth[scope=row]{\
+min-width:5.5em;font-size:inherit;color:inherit;font-weight:600}\n.wrap,.raise{white-space:\
+pre-wrap;overflow-wrap:anywhere}summary{cursor:pointer;padding:.2rem 0}dl{margin:.5rem 0}dt{\
+font-weight:700;margin-top:.4rem}\ndd{margin:0}.sum{font-size:.85em}\n.paper{display:none}\
+\n@media (min-width:40rem){th[scope=row]{overflow-wrap:break-word}}\n@media (max-width:40rem){\
+body{font-size:16px}header h1{font-size:1.6rem}.line{padding-left:2.6rem}.line::before{width:2rem}\
+pre{font-size:.85rem}th,td{padding-right:.5rem}td .chip{white-space:normal}}\n@media print{@page{\
+margin:13mm 12mm}:root{--paper:#fff;--panel:#fff;--ink:#000;-webkit-print-color-adjust:exact;\
+print-color-adjust:exact}body{font-size:10.5pt;line-height:1.45}main{max-width:none;padding:0}\
+.beside{display:block}header{margin-top:0}h2{margin-top:1.3rem}pre{overflow:visible;white-space:\
+pre-wrap;overflow-wrap:anywhere;font-size:9pt;line-height:1.35;-webkit-box-decoration-break:clone;\
+box-decoration-break:clone}.listing{columns:17em;column-rule:1px solid var(--rule)}.scroll{\
+overflow:visible}.picture{max-width:100%;max-height:23cm;height:auto}table{font-size:9pt}.line{\
+min-height:1.35em}th,td{padding-top:.1rem;padding-bottom:.1rem}header,figure,tr,li,.line,.end{\
+break-inside:avoid}.spare{display:none}.paper{display:block}.paper+table tr:nth-child(n+21){\
+display:none}h2,h3,summary{break-after:avoid}.turn{display:none}details::details-content{\
+content-visibility:visible;display:block;height:auto}@page{@bottom-right{content:counter(page) \" \
+of \" counter(pages)}}thead{display:table-header-group}}\n";
+/// The style sheet of a page of a lattice with more classes than colours, which has none.
+const PLAIN: &[u8] = b":root:root{--k0:var(--ink);--k1:var(--ink);--k2:var(--ink);--k3:var(--ink);\
+--k4:var(--ink);--k5:var(--ink);--k6:var(--ink);--k7:var(--ink)}\n";
+/// The most steps of a walk that are marked when a reader has gone to them.
+const MOST_STEPS: usize = 100;
+/// The rule that marks a step of a walk when a reader has gone to it.
+const STEP: &[u8] =
+    b"main:has(#s%0:target) :is([data-step~=\"%0\"],.w%0){outline-width:4px;stroke-width:8}\n";
+
+/// The style sheet of a page. The line of a fault is tinted.
+pub(crate) fn style_of(view: &View<'_>) -> Made<Page> {
+    let mut style = Page::new(view.alloc);
+    style.put(STYLE)?;
+    if view.order.names.len() > 8 {
+        style.put(PLAIN)?;
+    }
+    for step in 0..view.walk.len().min(MOST_STEPS) {
+        style.fill(STEP, &[Part::Number(step.saturating_add(1))])?;
+    }
+    if let Some(at) = view.fault {
+        let (line, _) = line_column(view.source, at);
+        style.fill(b"#L%0{background:var(--badp)}\n", &[Part::Number(line)])?;
+    }
+    Ok(style)
 }

@@ -2,7 +2,7 @@
 //! characters that aren't visible or change the direction of a line, are set apart.
 
 ghost use Rattle.std.specs.Prelude.{◌≡◌, ◌<◌, ◌++◌, ◌∷◌, ℕ, List, [], length, slice_index, OnOk, IfOk};
-ghost use Rattle.vsi_report.specs.{Reading.{Shows}, Panel.{attribute, line_tag, next_tag, open_tag}};
+ghost use Rattle.vsi_report.specs.{Reading.{Shows}, Panel.{attribute, line_tag}};
 
 use crate::facts::colour;
 use crate::page::Part::{Markup, Number};
@@ -20,26 +20,17 @@ const CONTROLS: [&[u8]; 32] = [
     b"CAN", b"EM", b"SUB", b"ESC", b"FS", b"GS", b"RS", b"US",
 ];
 
-/// The characters of several bytes that are invisible or turn a line around, with their labels.
-const UNSEEN: [(&[u8], &[u8]); 18] = [
-    (b"\xd8\x9c", b"U+061C"),
-    (b"\xe2\x80\x8b", b"U+200B"),
-    (b"\xe2\x80\x8c", b"U+200C"),
-    (b"\xe2\x80\x8d", b"U+200D"),
-    (b"\xe2\x80\x8e", b"U+200E"),
-    (b"\xe2\x80\x8f", b"U+200F"),
-    (b"\xe2\x80\xa8", b"U+2028"),
-    (b"\xe2\x80\xa9", b"U+2029"),
-    (b"\xe2\x80\xaa", b"U+202A"),
-    (b"\xe2\x80\xab", b"U+202B"),
-    (b"\xe2\x80\xac", b"U+202C"),
-    (b"\xe2\x80\xad", b"U+202D"),
-    (b"\xe2\x80\xae", b"U+202E"),
-    (b"\xe2\x81\xa6", b"U+2066"),
-    (b"\xe2\x81\xa7", b"U+2067"),
-    (b"\xe2\x81\xa8", b"U+2068"),
-    (b"\xe2\x81\xa9", b"U+2069"),
-    (b"\xef\xbb\xbf", b"U+FEFF"),
+/// The characters of several bytes that are invisible or turn a line around.
+const UNSEEN: [u32; 18] = [
+    0xd89c, 0xe2808b, 0xe2808c, 0xe2808d, 0xe2808e, 0xe2808f, 0xe280a8, 0xe280a9, 0xe280aa,
+    0xe280ab, 0xe280ac, 0xe280ad, 0xe280ae, 0xe281a6, 0xe281a7, 0xe281a8, 0xe281a9, 0xefbbbf,
+];
+
+/// The labels of these characters.
+const LABELS: [&[u8]; 18] = [
+    b"U+061C", b"U+200B", b"U+200C", b"U+200D", b"U+200E", b"U+200F", b"U+2028", b"U+2029",
+    b"U+202A", b"U+202B", b"U+202C", b"U+202D", b"U+202E", b"U+2066", b"U+2067", b"U+2068",
+    b"U+2069", b"U+FEFF",
 ];
 
 /// The byte of a text at a position; a line feed past the end.
@@ -56,43 +47,22 @@ pub(crate) fn ends_at(source: &[u8], at: usize) -> bool {
     }
 }
 
-/// Whether a byte is a control character other than a tab or the end of a line.
-fn is_control(source: &[u8], at: usize) -> bool {
-    let byte = byte_at(source, at);
-    (byte < 32 || byte == 127) && byte != b'\t' && !ends_at(source, at)
-}
-
 /// The character at a position, if it isn't visible: its length and its label.
 pub(crate) fn hidden_at(source: &[u8], at: usize) -> Option<(usize, &'static [u8])> {
     let byte = byte_at(source, at);
-    if 32 <= byte && byte < 127 {
+    if (32 <= byte && byte < 127) || byte == b'\t' || ends_at(source, at) {
         return None;
-    }
-    if is_control(source, at) {
-        return Some((1, CONTROLS.get(byte as usize).copied().unwrap_or(b"DEL")));
     }
     if byte < 128 {
-        return None;
+        return Some((1, CONTROLS.get(byte as usize).copied().unwrap_or(b"DEL")));
     }
-    let rest = source.get(at..)?;
-    for (bytes, label) in UNSEEN {
-        if rest.starts_with(bytes) {
-            return Some((bytes.len(), label));
-        }
+    let length = if byte < 0xe0 { 2 } else { 3 };
+    let mut code: u32 = 0;
+    for part in source.get(at..at.saturating_add(length))? {
+        code = (code << 8) | *part as u32;
     }
-    None
-}
-
-/// The first position from `at` on, and before `stop`, at which a line ends, a comment begins
-/// unless this is one, or a character isn't visible.
-fn end_from(source: &[u8], at: usize, stop: usize, is_comment: bool) -> usize {
-    for place in at..stop {
-        let is_start = byte_at(source, place) == b'#' && !is_comment;
-        if is_start || ends_at(source, place) || hidden_at(source, place).is_some() {
-            return place;
-        }
-    }
-    stop
+    let place = UNSEEN.iter().position(|unseen| *unseen == code)?;
+    Some((length, LABELS.get(place).copied()?))
 }
 
 /// What begins at a position before `stop`: the end of the part, its kind, which is empty if it is
@@ -110,9 +80,16 @@ fn mark_at(
     if ends_at(source, at) {
         return (at.saturating_add(1).min(stop), b"", b"", false);
     }
+    // A part ends where a line ends, a comment begins, or a character isn't visible.
     let is_note = is_comment || byte_at(source, at) == b'#';
-    let end = end_from(source, at, stop, is_note);
-    (end, if is_note { b"note" } else { b"" }, b"", is_note)
+    let kind: &'static [u8] = if is_note { b"note" } else { b"" };
+    for place in at..stop {
+        let is_start = byte_at(source, place) == b'#' && !is_note;
+        if is_start || ends_at(source, place) || hidden_at(source, place).is_some() {
+            return (place, kind, b"", is_note);
+        }
+    }
+    (stop, kind, b"", is_note)
 }
 
 /// A part of a source text: its first byte, the byte after it, its kind, and its two labels.
@@ -134,14 +111,6 @@ fn put_line(page: &mut Vec<u8>, number: usize) -> Added
     page.extend_from_slice(b"\">")
 }
 
-/// Adds the end of a line and the beginning of the next one.
-fn put_next(page: &mut Vec<u8>, number: usize) -> Added
-    ensures { OnOk result (page.new.items ≡ page.old.items ++ next_tag number) }
-{
-    page.extend_from_slice(b"</span>")?;
-    put_line(page, number)
-}
-
 /// Adds an attribute of a part, up to the end of its value, unless that is empty.
 fn put_attribute(page: &mut Vec<u8>, begin: &'static [u8], value: &[u8]) -> Added
     ensures { OnOk result (page.new.items ≡ page.old.items ++ attribute begin.now value.now) }
@@ -153,18 +122,6 @@ fn put_attribute(page: &mut Vec<u8>, begin: &'static [u8], value: &[u8]) -> Adde
             put_escaped(page, value)
         }
     }
-}
-
-/// Adds the beginning of a part.
-fn put_open(page: &mut Vec<u8>, kind: &[u8], class: &[u8], step: &[u8]) -> Added
-    ensures { OnOk result
-        (page.new.items ≡ page.old.items ++ open_tag kind.now class.now step.now) }
-{
-    page.extend_from_slice(b"<b class=\"")?;
-    put_escaped(page, kind)?;
-    put_attribute(page, b"\" data-class=\"", class)?;
-    put_attribute(page, b"\" data-step=\"", step)?;
-    page.extend_from_slice(b"\">")
 }
 
 /// Ends the part with a number, if it ends at a position, and answers which part comes next.
@@ -181,14 +138,6 @@ fn put_end(page: &mut Vec<u8>, parts: &[Tagged], number: usize, at: usize) -> Ma
     Ok(number.saturating_add(1))
 }
 
-/// Adds the beginning of a part.
-fn put_tag(page: &mut Vec<u8>, part: &Tagged) -> Added
-    ensures { (t : List ℕ) → Shows page.old.items t → OnOk result (Shows page.new.items t) }
-{
-    put_open(page, part.kind, &part.label, &part.steps)?;
-    Ok(())
-}
-
 /// Adds the beginning of the part with a number, if it begins at a position.
 fn put_begin(page: &mut Vec<u8>, parts: &[Tagged], number: usize, at: usize) -> Added
     ensures { (t : List ℕ) → Shows page.old.items t → OnOk result (Shows page.new.items t) }
@@ -199,61 +148,37 @@ fn put_begin(page: &mut Vec<u8>, parts: &[Tagged], number: usize, at: usize) -> 
     if part.start != at {
         return Ok(());
     }
-    put_tag(page, part)
-}
-
-/// Adds a byte of a source text and, if it ends a line, the beginning of the line with a number.
-fn put_source_byte(page: &mut Vec<u8>, byte: u8, is_ending: bool, next: usize) -> Added
-    ensures { (t : List ℕ) → Shows page.old.items t
-        → OnOk result (Shows page.new.items (t ++ byte ∷ [])) }
-{
-    put_byte(page, byte)?;
-    if is_ending {
-        put_next(page, next)?;
-    }
+    page.extend_from_slice(b"<b class=\"")?;
+    put_escaped(page, part.kind)?;
+    put_attribute(page, b"\" data-class=\"", &part.label)?;
+    put_attribute(page, b"\" data-step=\"", &part.steps)?;
+    page.extend_from_slice(b"\">")?;
     Ok(())
 }
 
-/// Whether a line that isn't the last one ends with the byte at a position.
-fn ends_line(source: &[u8], at: usize) -> bool
-    requires { at < length source.now }
-{
-    source[at] == b'\n' && at + 1 < source.len()
-}
-
-/// The number of the line after a byte.
-fn line_after(is_ending: bool, line: usize, next: usize) -> usize {
-    if is_ending { next } else { line }
-}
-
-/// A place in a panel: the part that begins or ends next, and the number of the line.
-#[derive(Clone, Copy)]
-struct Place {
-    part: usize,
-    line: usize,
-}
-
-/// Adds the byte of a source text at a position, with the tags before it.
+/// Adds the byte of a source text at a position, with the tags before it. The place is the number
+/// of the part that begins or ends next, and that of the line.
 fn put_at(
     page: &mut Vec<u8>,
     source: &[u8],
     parts: &[Tagged],
     at: usize,
-    place: Place,
-) -> Made<Place>
+    place: (usize, usize),
+) -> Made<(usize, usize)>
     requires { at < length source.now }
     ensures { (t : List ℕ) → Shows page.old.items t
         → OnOk result (Shows page.new.items (t ++ slice_index source.now at ∷ [])) }
 {
-    let part = put_end(page, parts, place.part, at)?;
+    let part = put_end(page, parts, place.0, at)?;
     put_begin(page, parts, part, at)?;
-    let is_ending = ends_line(source, at);
-    let next = place.line.saturating_add(1);
-    put_source_byte(page, source[at], is_ending, next)?;
-    Ok(Place {
-        part,
-        line: line_after(is_ending, place.line, next),
-    })
+    put_byte(page, source[at])?;
+    if source[at] != b'\n' || at + 1 == source.len() {
+        return Ok((part, place.1));
+    }
+    let line = place.1.saturating_add(1);
+    page.extend_from_slice(b"</span>")?;
+    put_line(page, line)?;
+    Ok((part, line))
 }
 
 /// The panel of a text, with these parts set apart, which are in order.
@@ -261,12 +186,12 @@ pub(crate) fn panel_of(alloc: Global, source: &[u8], parts: &[Tagged]) -> Made<V
     ensures { IfOk result (λ page. Shows page.items source.now) }
 {
     let mut page = Vec::new(alloc);
-    let mut place = Place { part: 0, line: 1 };
+    let mut place = (0, 1);
     put_line(&mut page, 1)?;
     for at in 0..source.len() {
         place = put_at(&mut page, source, parts, at, place)?;
     }
-    put_end(&mut page, parts, place.part, source.len())?;
+    put_end(&mut page, parts, place.0, source.len())?;
     page.extend_from_slice(b"</span>")?;
     Ok(page)
 }
@@ -288,32 +213,6 @@ fn plain(
     })
 }
 
-/// The label of the steps of the walk that read or write at a position.
-fn steps_at(view: &View<'_>, start: usize) -> Made<Vec<u8>> {
-    let mut label = Vec::new(view.alloc);
-    for (place, step) in view.walk.iter().enumerate() {
-        if step.read.start == start || step.written.start == start {
-            let comma = Markup(either(label.is_empty(), b"", b", "));
-            let end = Markup(either(step.read.start == start, b" from", b" to"));
-            let parts = [comma, Number(place.saturating_add(1)), end];
-            fill(&mut label, b"%0%1%2", &parts)?;
-        }
-    }
-    Ok(label)
-}
-
-/// The end of what is marked as a fault at a position: a name, or a character.
-fn fault_end(source: &[u8], at: usize) -> usize {
-    for place in at.saturating_add(1)..source.len() {
-        let byte = byte_at(source, place);
-        let is_letter = byte.is_ascii_alphanumeric() || byte == b'_' || byte >= 128;
-        if !is_letter || hidden_at(source, place).is_some() {
-            return place;
-        }
-    }
-    source.len()
-}
-
 /// Adds the comments from a position up to another, characters that aren't visible, and a fault.
 fn put_marks(parts: &mut Vec<Tagged>, view: &View<'_>, from: usize, stop: usize) -> Added {
     let fault = view.fault.unwrap_or(usize::MAX);
@@ -327,8 +226,16 @@ fn put_marks(parts: &mut Vec<Tagged>, view: &View<'_>, from: usize, stop: usize)
         let (mut end, mut kind, label, goes_on) = mark_at(view.source, at, limit, is_comment);
         is_comment = goes_on;
         if at == fault && kind.is_empty() && !ends_at(view.source, at) {
-            end = fault_end(view.source, at).min(stop);
-            kind = b"fault";
+            // A name, or a character.
+            (end, kind) = (stop, b"fault");
+            for place in at.saturating_add(1)..stop {
+                let byte = byte_at(view.source, place);
+                let is_letter = byte.is_ascii_alphanumeric() || byte == b'_' || byte >= 128;
+                if !is_letter || hidden_at(view.source, place).is_some() {
+                    end = place;
+                    break;
+                }
+            }
         }
         if !kind.is_empty() {
             parts.push(plain(view.alloc, at, end, kind, label)?)?;
@@ -336,15 +243,6 @@ fn put_marks(parts: &mut Vec<Tagged>, view: &View<'_>, from: usize, stop: usize)
         at = end;
     }
     Ok(())
-}
-
-/// Whether a token is a keyword.
-fn is_keyword(kind: Kind) -> bool {
-    match kind {
-        Kind::Var | Kind::Letvar | Kind::In | Kind::If => true,
-        Kind::Then | Kind::Else | Kind::While | Kind::Do => true,
-        _ => false,
-    }
 }
 
 /// The most names of a text whose classes and keywords are shown.
@@ -356,7 +254,7 @@ pub(crate) fn is_large(view: &View<'_>) -> bool {
 }
 
 /// The part with the name of a variable, if it is shown; its label is its class, with a star if the
-/// text doesn't declare that.
+/// text doesn't declare that. It also has the steps of the walk that read or write there.
 fn name_part(
     view: &View<'_>,
     variable: usize,
@@ -364,7 +262,16 @@ fn name_part(
     has_label: bool,
 ) -> Made<Option<Tagged>> {
     let found = view.facts.variable(variable);
-    let steps = steps_at(view, token.span.start)?;
+    let start = token.span.start;
+    let mut steps = Vec::new(view.alloc);
+    for (place, step) in view.walk.iter().enumerate() {
+        if step.read.start == start || step.written.start == start {
+            let comma = Markup(either(steps.is_empty(), b"", b", "));
+            let end = Markup(either(step.read.start == start, b" from", b" to"));
+            let parts = [comma, Number(place.saturating_add(1)), end];
+            fill(&mut steps, b"%0%1%2", &parts)?;
+        }
+    }
     if is_large(view) && steps.is_empty() {
         return Ok(None);
     }
@@ -374,7 +281,7 @@ fn name_part(
         label.extend_from_slice(either(found.is_declared, b"", b"*"))?;
     }
     Ok(Some(Tagged {
-        start: token.span.start,
+        start,
         stop: token.span.stop,
         kind: colour(found.class),
         label,
@@ -408,7 +315,12 @@ fn put_parts(parts: &mut Vec<Tagged>, view: &View<'_>, tokens: &[Token<'_>]) -> 
                 parts.push(part)?;
                 labelled.push(variable)?;
             }
-        } else if is_keyword(token.kind) && !is_large(view) && view.fault != Some(start) {
+        } else if byte_at(view.source, start).is_ascii_alphabetic()
+            && token.kind != Kind::Name
+            && !is_large(view)
+            && view.fault != Some(start)
+        {
+            // A keyword.
             at = stop;
             parts.push(plain(view.alloc, start, stop, b"word", b"")?)?;
         }

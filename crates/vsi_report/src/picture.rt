@@ -1,15 +1,17 @@
-//! The pictures of a page: that of a lattice, and that of a program's flows, with the variables in
-//! the boxes of their classes. A picture too large to be read isn't drawn.
+//! The sections of a page with its pictures: that of a lattice, and that of a program's flows, with
+//! the variables in the boxes of their classes. A picture too large to be read isn't drawn.
 
-use crate::dot::{Order, is_below, name_of};
+use crate::dot::{is_below, name_of};
 use crate::facts::{MOST_BOXES, RULES, colour, has_flow};
 use crate::page::Part::{Block, Markup, Name, Number, Short, Text};
 use crate::page::{Added, Made, Page, Part, either};
 use crate::report::View;
+use crate::sections::put_table;
 use std::alloc::Global;
+use vsi_flows::WalkedPair;
 use vsi_infer::rule_text;
 use vsi_layered::{Drawing, Graph, Node, Place, Point, badges_of, drawing_of};
-use vsi_types::{Profile, Rule, Step};
+use vsi_types::{Profile, Rule};
 
 /// The most arrows of a picture.
 const MOST_ARROWS: usize = 100;
@@ -35,7 +37,7 @@ const BADGE: &[u8] =
 const MEANING: &[u8] = b"<li><svg width=\"44\" height=\"12\" aria-hidden=\"true\">\
 <path class=\"flow %0\" d=\"M2 6H42\"/></svg> %1: %2</li>";
 /// The beginning of a picture.
-const PICTURE: &[u8] = b"<div class=\"scroll\"><svg class=\"picture\" role=\"img\" \
+const PICTURE: &[u8] = b"<figure><div class=\"scroll\"><svg class=\"picture\" role=\"img\" \
 aria-label=\"%0\" xmlns=\"http://www.w3.org/2000/svg\" width=\"%1\" height=\"%2\" \
 viewBox=\"0 %3 %1 %2\">";
 /// A box with a name in the colour of a class.
@@ -55,6 +57,39 @@ d=\"M0 0L10 5L0 10z\"/></marker></defs>";
 /// The area of a class.
 const AREA: &[u8] = b"<g class=\"band %0\"><rect rx=\"10\" x=\"%2\" y=\"%3\" width=\"%4\" \
 height=\"%5\"/></g>";
+
+/// The width in pixels above which a picture of a lattice has a row of the page to itself.
+const WIDE: usize = 430;
+/// The beginning of a table of classes.
+const CLASSES: &[u8] = b"<table><thead><tr><th scope=\"col\">Class</th>\
+<th scope=\"col\">Directly above it</th></tr></thead>\n<tbody>\n";
+/// The beginning of the section of the lattice.
+const LATTICE: &[u8] = b"<section%0 aria-labelledby=\"lattice\"><h2 id=\"lattice\">Lattice</h2>\n";
+/// The end of the picture, and the beginning of the table of its arrows.
+const ARROWS: &[u8] =
+    b"</ul>\n</figure>\n<details class=\"spare\"><summary>The arrows as a table</summary>\n<table><thead>\
+<tr><th scope=\"col\">From</th><th scope=\"col\">To</th><th scope=\"col\">By</th></tr></thead>\n\
+<tbody>\n";
+/// The text about the picture of a lattice.
+const POLICY: &[u8] =
+    b"</svg></div>\n<figcaption>Information may flow upwards, along the lines; each line joins \
+a class and one directly above it.</figcaption></figure>\n<details class=\"spare\">\
+<summary>The lattice as a table</summary>\n";
+/// The text about a lattice without a picture.
+const NO_POLICY: &[u8] = b"<p>Information may flow from a class to those above it. No picture is \
+drawn, since it would be too large to be read.</p>\n";
+/// The text about the picture of the flows.
+const FLOWS: &[u8] =
+    b"</svg></div>\n<figcaption>Each arrow is a flow of one step, and each coloured area is a \
+class with its variables. An area right above another one is a class above the other's in the \
+lattice. A flow of a variable into itself isn't drawn. A dashed box is a variable whose class the \
+text doesn't declare.";
+/// The text about the arrows of a walk.
+const THICK: &[u8] = b" The thick arrows with numbers are the chain for which the text is refused; \
+a thin red arrow goes against the order of the classes.";
+/// The text about flows without a picture.
+const NO_FLOWS: &[u8] = b"<p>No picture is drawn, since it would have too many variables or arrows \
+to be read.</p>\n";
 
 /// For each rule the style of its arrows.
 const STYLES: [&[u8]; 5] = [b"r1", b"r2", b"r4", b"r8", b"r16"];
@@ -92,26 +127,8 @@ fn readable(alloc: Global, graph: Graph<'_>) -> Made<Option<Drawing>> {
     }
 }
 
-/// The drawing of a lattice: its classes are one group, and its arrows are the covering pairs.
-pub(crate) fn lattice_drawing(alloc: Global, order: &Order) -> Made<Option<Drawing>> {
-    let mut nodes = Vec::new(alloc);
-    nodes.extend(order.names.iter().map(|name| node_of(name.as_slice(), 0)))?;
-    let graph = Graph {
-        nodes: &nodes,
-        titles: &[0],
-        above: &[1],
-        arrows: &order.covers,
-    };
-    readable(alloc, graph)
-}
-
-/// A flow of one step from a variable to another.
-#[derive(Clone, Copy)]
-pub(crate) struct Arrow {
-    source: usize,
-    target: usize,
-    rule: Rule,
-}
+/// A flow of one step: the numbers of its variables, and its rule.
+type Arrow = (usize, usize, Rule);
 
 /// The picture of a program's flows: an arrow for each flow of one step, the drawing of the
 /// variables and the arrows, and for each step of a refused walk the index of its arrow.
@@ -120,16 +137,6 @@ pub(crate) struct Scene {
     arrows: Vec<Arrow>,
     drawing: Drawing,
     walk: Vec<usize>,
-}
-
-/// The number of variables shown; the ending of loops is shown under the strict profile only.
-fn count_shown(view: &View<'_>) -> usize {
-    let all = view.facts.variables.len();
-    if view.profile == Profile::Strict {
-        all
-    } else {
-        all.saturating_sub(1)
-    }
 }
 
 /// The flows of one step between two variables, in order.
@@ -142,11 +149,7 @@ fn arrows_of(view: &View<'_>) -> Made<Vec<Arrow>> {
         for target in 0..view.facts.variables.len() {
             for rule in RULES {
                 if source != target && has_flow(flows, rule, source, target) {
-                    arrows.push(Arrow {
-                        source,
-                        target,
-                        rule,
-                    })?;
+                    arrows.push((source, target, rule))?;
                 }
             }
         }
@@ -154,48 +157,40 @@ fn arrows_of(view: &View<'_>) -> Made<Vec<Arrow>> {
     Ok(arrows)
 }
 
-/// The drawing of the flows, unless it is too large to be read.
-fn flows_drawing(view: &View<'_>, arrows: &[Arrow]) -> Made<Option<Drawing>> {
+/// The picture of the flows, unless it is too large to be read.
+pub(crate) fn scene_of(view: &View<'_>) -> Made<Option<Scene>> {
+    // The ending of loops, which is the last variable, is shown under the strict profile only.
+    let hidden = (view.profile == Profile::Base) as usize;
+    let facts = view.facts;
+    let count = facts.variables.len().saturating_sub(hidden);
+    if count > MOST_BOXES {
+        return Ok(None);
+    }
     let mut nodes = Vec::new(view.alloc);
-    for number in 0..count_shown(view) {
-        let of = view.facts.variable(number);
+    for number in 0..count {
+        let of = facts.variable(number);
         nodes.push(node_of(of.name, of.class))?;
     }
-    let mut titles = Vec::new(view.alloc);
-    let names = &view.order.names;
+    let (mut titles, names) = (Vec::new(view.alloc), &view.order.names);
     titles.extend(names.iter().map(|name| box_width(name.as_slice())))?;
+    let arrows = arrows_of(view)?;
     let mut ends = Vec::new(view.alloc);
-    ends.extend(arrows.iter().map(|arrow| (arrow.source, arrow.target)))?;
+    ends.extend(arrows.iter().map(|arrow| (arrow.0, arrow.1)))?;
     let graph = Graph {
         nodes: &nodes,
         titles: &titles,
         above: &view.order.above,
         arrows: &ends,
     };
-    readable(view.alloc, graph)
-}
-
-/// The index of the arrow of a step; past the end if there is none.
-fn arrow_of(view: &View<'_>, arrows: &[Arrow], step: &Step) -> usize {
-    let source = view.facts.number(step.source);
-    let target = view.facts.number(step.target);
-    let joins = |arrow: &Arrow| arrow.source == source && arrow.target == target;
-    let is_it = |arrow: &Arrow| joins(arrow) && arrow.rule == step.rule;
-    arrows.iter().position(is_it).unwrap_or(arrows.len())
-}
-
-/// The picture of the flows, unless it is too large to be read.
-pub(crate) fn scene_of(view: &View<'_>) -> Made<Option<Scene>> {
-    if count_shown(view) > MOST_BOXES {
-        return Ok(None);
-    }
-    let arrows = arrows_of(view)?;
-    let Some(drawing) = flows_drawing(view, &arrows)? else {
+    let Some(drawing) = readable(view.alloc, graph)? else {
         return Ok(None);
     };
     let mut walk = Vec::new(view.alloc);
     for step in view.walk {
-        walk.push(arrow_of(view, &arrows, step))?;
+        let (source, target) = (facts.number(step.source), facts.number(step.target));
+        let joins = |arrow: &Arrow| arrow.0 == source && arrow.1 == target;
+        let is_it = |arrow: &Arrow| joins(arrow) && arrow.2 == step.rule;
+        walk.push(arrows.iter().position(is_it).unwrap_or(arrows.len()))?;
     }
     Ok(Some(Scene {
         arrows,
@@ -232,18 +227,6 @@ fn put_box(
     page.fill(markup, &parts)
 }
 
-/// Adds a box with a name in its middle, in the colour of a class.
-fn put_node(page: &mut Page, place: Place, class: usize, name: &[u8]) -> Added {
-    let middle = (place.wide / 2, place.high / 2 + 5);
-    put_box(page, BOX, place, class, name, middle)
-}
-
-/// The point near a corner of a line on the way to another point, at most half the way.
-fn beside(corner: Point, other: Point) -> Point {
-    let whole = corner.distance(other);
-    corner.towards(other, CORNER.min(whole / 2), whole)
-}
-
 /// The line of the arrow with an index, with rounded corners.
 fn line_of(alloc: Global, drawing: &Drawing, index: usize) -> Made<Page> {
     let mut page = Page::new(alloc);
@@ -253,7 +236,12 @@ fn line_of(alloc: Global, drawing: &Drawing, index: usize) -> Made<Page> {
     for (place, corner) in line.iter().enumerate() {
         let before = line.get(place.saturating_sub(1)).unwrap_or(corner);
         let after = line.get(place.saturating_add(1)).unwrap_or(corner);
-        let (from, to) = (beside(*corner, *before), beside(*corner, *after));
+        // A corner is rounded from a point on the way before it to one after it, near to it.
+        let beside = |other: Point| {
+            let whole = corner.distance(other);
+            corner.towards(other, CORNER.min(whole / 2), whole)
+        };
+        let (from, to) = (beside(*before), beside(*after));
         let parts = [
             Number(corner.x),
             Number(corner.y),
@@ -267,19 +255,6 @@ fn line_of(alloc: Global, drawing: &Drawing, index: usize) -> Made<Page> {
         page.fill(either(place == 0, b"M%0 %1", to_corner), &parts)?;
     }
     Ok(page)
-}
-
-/// Adds the picture of a lattice.
-pub(crate) fn put_lattice(page: &mut Page, view: &View<'_>, drawing: &Drawing) -> Added {
-    put_picture(page, Markup(b"The lattice of classes"), drawing, TITLE)?;
-    for index in 0..drawing.ways.len() {
-        let line = line_of(view.alloc, drawing, index)?;
-        page.fill(b"<path class=\"cover\" d=\"%0v-5\"/>", &[Block(&line)])?;
-    }
-    for (class, place) in drawing.places.iter().enumerate() {
-        put_node(page, *place, class, name_of(view.order, class))?;
-    }
-    page.put(b"</svg></div>\n")
 }
 
 /// Adds the areas of the classes that have variables, or their names, over the arrows.
@@ -298,19 +273,19 @@ fn put_arrows(page: &mut Page, view: &View<'_>, scene: &Scene, breaks: bool) -> 
     let class = Markup(either(breaks, b" against", b""));
     let tip = Markup(either(breaks, b"against", b"tip"));
     for (index, arrow) in scene.arrows.iter().enumerate() {
-        let low = view.facts.variable(arrow.source).class;
-        let keeps = is_below(view.order, low, view.facts.variable(arrow.target).class);
+        let low = view.facts.variable(arrow.0).class;
+        let keeps = is_below(view.order, low, view.facts.variable(arrow.1).class);
         if keeps != breaks && !scene.walk.contains(&index) {
             let line = line_of(view.alloc, &scene.drawing, index)?;
-            let style = Markup(STYLES[arrow.rule as usize]);
+            let style = Markup(STYLES[arrow.2 as usize]);
             page.fill(ARROW, &[style, class, tip, Block(&line)])?;
         }
     }
     Ok(())
 }
 
-/// Adds the picture of a program's flows.
-pub(crate) fn put_scene(page: &mut Page, view: &View<'_>, scene: &Scene) -> Added {
+/// Adds the picture of a program's flows, up to its last badge.
+fn put_scene(page: &mut Page, view: &View<'_>, scene: &Scene) -> Added {
     let drawing = &scene.drawing;
     let mut label = Page::new(view.alloc);
     label.put(b"The flows of one step between variables.")?;
@@ -332,7 +307,8 @@ pub(crate) fn put_scene(page: &mut Page, view: &View<'_>, scene: &Scene) -> Adde
     for (number, place) in drawing.places.iter().enumerate() {
         let of = view.facts.variable(number);
         page.put(either(of.is_declared, b"<g>", b"<g class=\"inferred\">"))?;
-        put_node(page, *place, of.class, of.name)?;
+        let middle = (place.wide / 2, place.high / 2 + 5);
+        put_box(page, BOX, *place, of.class, of.name, middle)?;
         page.put(b"</g>")?;
     }
     let badges = badges_of(view.alloc, drawing, &scene.walk)?;
@@ -341,32 +317,98 @@ pub(crate) fn put_scene(page: &mut Page, view: &View<'_>, scene: &Scene) -> Adde
         let number = Number(place.saturating_add(1));
         page.fill(BADGE, &[number, x, Number(point.y), foot])?;
     }
-    page.put(b"</svg></div>\n")
+    Ok(())
 }
 
-/// Adds the meanings of the styles of the arrows that a picture has.
-pub(crate) fn put_legend(page: &mut Page, scene: &Scene) -> Added {
-    page.put(b"<ul class=\"legend\">")?;
-    for rule in RULES {
-        if scene.arrows.iter().any(|arrow| arrow.rule == rule) {
-            let (style, meaning) = (STYLES[rule as usize], MEANINGS[rule as usize]);
-            let parts = [Markup(style), Markup(rule_text(rule)), Markup(meaning)];
-            page.fill(MEANING, &parts)?;
+/// Adds a row for each class, with the classes that cover it.
+fn put_classes(page: &mut Page, view: &View<'_>) -> Added {
+    page.put(CLASSES)?;
+    for class in 0..view.order.names.len() {
+        let name = Text(name_of(view.order, class));
+        page.fill(b"<tr><th scope=\"row\">%0</th><td>", &[name])?;
+        for pair in &view.order.covers {
+            if pair.0 == class {
+                page.fill(b"%0 ", &[Text(name_of(view.order, pair.1))])?;
+            }
+        }
+        page.put(b"</td></tr>\n")?;
+    }
+    page.put(b"</tbody></table>\n")
+}
+
+/// The section of the lattice, and whether it has a row of the page to itself.
+pub(crate) fn lattice_section(view: &View<'_>) -> Made<(Page, bool)> {
+    let (alloc, order) = (view.alloc, view.order);
+    let mut nodes = Vec::new(alloc);
+    nodes.extend(order.names.iter().map(|name| node_of(name.as_slice(), 0)))?;
+    let graph = Graph {
+        nodes: &nodes,
+        titles: &[0],
+        above: &[1],
+        arrows: &order.covers,
+    };
+    let found = readable(alloc, graph)?;
+    let is_wide = !matches!(&found, Some(drawing) if drawing.wide <= WIDE);
+    let mut page = Page::new(alloc);
+    page.fill(LATTICE, &[Markup(either(is_wide, b" class=\"wide\"", b""))])?;
+    if let Some(drawing) = &found {
+        put_picture(&mut page, Markup(b"The lattice of classes"), drawing, TITLE)?;
+        for index in 0..drawing.ways.len() {
+            let line = line_of(alloc, drawing, index)?;
+            page.fill(b"<path class=\"cover\" d=\"%0v-5\"/>", &[Block(&line)])?;
+        }
+        for (class, place) in drawing.places.iter().enumerate() {
+            let middle = (place.wide / 2, place.high / 2 + 5);
+            put_box(&mut page, BOX, *place, class, name_of(order, class), middle)?;
         }
     }
-    page.put(b"</ul>\n")
+    page.put(either(found.is_some(), POLICY, NO_POLICY))?;
+    put_classes(&mut page, view)?;
+    page.put(either(
+        found.is_some(),
+        b"</details>\n</section>\n",
+        b"</section>\n",
+    ))?;
+    Ok((page, is_wide))
 }
 
-/// Adds a row for each arrow, with the names of its ends and its rule, and whether it is a step of
-/// the refused walk.
-pub(crate) fn put_arrow_rows(page: &mut Page, view: &View<'_>, scene: &Scene) -> Added {
-    for (index, arrow) in scene.arrows.iter().enumerate() {
-        let from = Name(view.facts.variable(arrow.source));
-        let to = Name(view.facts.variable(arrow.target));
-        let is_step = scene.walk.contains(&index);
-        let mark = Markup(either(is_step, b", in the refused chain", b""));
-        let parts = [from, to, Markup(rule_text(arrow.rule)), mark];
-        page.fill(b"<tr><td>%0</td><td>%1</td><td>%2%3</td></tr>\n", &parts)?;
+/// Adds the section of the flows, with their picture, the meanings of the styles of its arrows, a
+/// row for each arrow, and the walks of refused pairs.
+pub(crate) fn put_all_flows(
+    page: &mut Page,
+    view: &View<'_>,
+    scene: &Option<Scene>,
+    walks: &[WalkedPair],
+) -> Added {
+    page.put(b"<section class=\"wide\" aria-labelledby=\"flows\"><h2 id=\"flows\">Flows</h2>\n")?;
+    if let Some(scene) = scene {
+        put_scene(page, view, scene)?;
+        page.put(FLOWS)?;
+        page.put(either(view.walk.is_empty(), b"", THICK))?;
+        page.put(b"</figcaption>\n<ul class=\"legend\">")?;
+        for rule in RULES {
+            if scene.arrows.iter().any(|arrow| arrow.2 == rule) {
+                let (style, meaning) = (STYLES[rule as usize], MEANINGS[rule as usize]);
+                let parts = [Markup(style), Markup(rule_text(rule)), Markup(meaning)];
+                page.fill(MEANING, &parts)?;
+            }
+        }
+        page.put(ARROWS)?;
+        for (index, arrow) in scene.arrows.iter().enumerate() {
+            let (from, to) = (view.facts.variable(arrow.0), view.facts.variable(arrow.1));
+            let mark = either(scene.walk.contains(&index), b", in the refused chain", b"");
+            let parts = [
+                Name(from),
+                Name(to),
+                Markup(rule_text(arrow.2)),
+                Markup(mark),
+            ];
+            page.fill(b"<tr><td>%0</td><td>%1</td><td>%2%3</td></tr>\n", &parts)?;
+        }
+        page.put(b"</tbody></table></details>\n")?;
+    } else {
+        page.put(NO_FLOWS)?;
     }
-    Ok(())
+    put_table(page, view, walks)?;
+    page.put(b"</section>\n")
 }

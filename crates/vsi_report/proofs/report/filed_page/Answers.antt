@@ -1,11 +1,11 @@
 use Rattle.vsi_report.proofs.report.filed_page.Goals as goal
 
-pub returns-in-Ok : goal.returns-in-Ok
-returns-in-Ok c =
+pub returns-in-Ok-in-Ok : goal.returns-in-Ok-in-Ok
+returns-in-Ok-in-Ok c =
     let s = c.in-Ok.ensures in
     record {
-      panel = rw (← s.text) c.read_page.ensures.panel;
-      verdict = rw (← s.lattice, ← s.text) c.read_page.ensures.verdict;
+      panel = rw (← s.text) c.accepted_page.ensures.panel;
+      verdict = rw (← s.lattice, ← s.text) c.accepted_page.ensures.verdict;
     }
 
 pub returns-in-Err : goal.returns-in-Err

@@ -1,6 +1,6 @@
 use Rattle.std.proofs.Common.{◌≡◌, length}
 use Rattle.vsi_types.specs.Walks.{last_target}
-use Rattle.vsi_report.proofs.banner.last_target.Given as goal
+use Rattle.vsi_report.proofs.banner.ends_of.Given as goal
 
 -- The walk from the step on ends where the whole walk does.
 abbrev pub invariant-loop-rest : goal.invariant-loop-rest

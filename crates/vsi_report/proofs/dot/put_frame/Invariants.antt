@@ -1,0 +1,31 @@
+use Rattle.std.proofs.Common.{◌≡◌, ◌++◌, length, take}
+use Rattle.std.specs.Prelude.{codes}
+use Rattle.std.specs.List.{flat_map}
+use Rattle.vsi_types.specs.Security.{count_from}
+use Rattle.vsi_report.specs.Drawn.{shown}
+use Rattle.vsi_report.specs.FlowsGraph.{above_line, kept_line, points_line}
+use Rattle.vsi_report.proofs.dot.put_frame.Given as goal
+
+-- The text has the lines of the classes so far.
+abbrev pub invariant-loop-class : goal.invariant-loop-class
+invariant-loop-class l =
+    l.text.items ≡ l.initial.text.items
+    ++ codes "  {\n  node [shape=point, style=invis];\n  edge [style=invis];\n"
+    ++ flat_map points_line (count_from 0 l.class)
+
+-- The text has the lines of all classes, and those of the pairs so far.
+abbrev pub invariant-loop-pair : goal.invariant-loop-pair
+invariant-loop-pair l =
+    l.text.items ≡ l.initial.text.items
+    ++ codes "  {\n  node [shape=point, style=invis];\n  edge [style=invis];\n"
+    ++ flat_map points_line (count_from 0 (length (shown l.drawn).names))
+    ++ flat_map above_line (take l.pair-index l.drawn.order.now.covers.items)
+
+-- The text has the lines of all classes and pairs, and those of the numbers so far.
+abbrev pub invariant-loop-number : goal.invariant-loop-number
+invariant-loop-number l =
+    l.text.items ≡ l.initial.text.items
+    ++ codes "  {\n  node [shape=point, style=invis];\n  edge [style=invis];\n"
+    ++ flat_map points_line (count_from 0 (length (shown l.drawn).names))
+    ++ flat_map above_line l.drawn.order.now.covers.items
+    ++ flat_map (kept_line (shown l.drawn)) (count_from 0 l.number)
