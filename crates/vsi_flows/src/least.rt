@@ -105,48 +105,6 @@ pub(crate) fn floors<C: Classes>(
     Ok(floors)
 }
 
-/// The raise of a declaration that is settled.
-fn raise_of(settled: (Class, Option<Raise>)) -> Option<Raise>
-    ensures { result ≡ settled.1 }
-{
-    settled.1
-}
-
-/// The raises of a program in which only variables at the bottom reach the ending of loops.
-fn all_raises<C: Classes>(
-    alloc: Heap,
-    profile: Profile,
-    lattice: &C,
-    program: &Resolved<'_>,
-    flow: &FlowRows,
-    floors: &[Class],
-) -> Result<Vec<Raise>, AllocError>
-    requires globals { All (IsClass (C.lattice lattice.now)) (program_of program.now).globals }
-    requires declared { AreClasses (C.lattice lattice.now) (program_of program.now).declared }
-    requires flows { AreFlowsOf profile (program_of program.now)
-        (⟦<FlowRows as Flow>⟧.flows flow.now) }
-    requires floors { AreFloors (C.lattice lattice.now) (program_of program.now) floors.now }
-    requires classes { All (IsClass (C.lattice lattice.now)) floors.now }
-    requires quiet { IsQuiet (C.lattice lattice.now) profile (program_of program.now) }
-    ensures { IfOk result (λ r.
-        AreLeastRaises (C.lattice lattice.now) profile (program_of program.now) r.items) }
-{
-    // `body` ensures that the program is resolved, which the proofs need.
-    let _body = program.body();
-    let count = declarations(program);
-    let mut policy = Vec::new(alloc);
-    let mut raises = Vec::new(alloc);
-    for variable in 0..count {
-        let settled = settle(alloc, profile, lattice, program, flow, floors, variable)?;
-        policy.push(settled.0)?;
-        let Some(raise) = raise_of(settled) else {
-            continue;
-        };
-        raises.push(raise)?;
-    }
-    Ok(raises)
-}
-
 /// The raises of declared classes to the least policy at or above the declared one under which a
 /// profile accepts the program, or a walk that no such policy permits.
 pub fn raises_in<C: Classes>(
@@ -160,12 +118,27 @@ pub fn raises_in<C: Classes>(
     ensures answer { IfOk result
         (Answers (C.lattice lattice.now) profile (program_of program.now)) }
 {
+    // `body` ensures that the program is resolved, which the proofs need.
+    let _body = program.body();
     let flow = flow_rows(alloc, profile, program)?;
     let floors = floors(alloc, lattice, program)?;
-    if let Some(walk) = final_walk(alloc, profile, lattice, program, &flow, &floors)? {
+    let found = final_walk(alloc, profile, lattice, program, &flow, &floors)?;
+    if let Some(walk) = found {
         return Ok(Raising::Refused(walk));
     }
-    let raises = all_raises(alloc, profile, lattice, program, &flow, &floors)?;
+    // Only variables at the bottom reach the ending of loops.
+    let count = declarations(program);
+    let mut policy = Vec::new(alloc);
+    let mut raises = Vec::new(alloc);
+    for variable in 0..count {
+        let settled = settle(alloc, profile, lattice, program, &flow, &floors, variable)?;
+        policy.push(settled.0)?;
+        let change = settled.1;
+        let Some(raise) = change else {
+            continue;
+        };
+        raises.push(raise)?;
+    }
     Ok(Raising::Raised(raises))
 }
 

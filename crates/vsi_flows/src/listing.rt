@@ -33,30 +33,18 @@ const MOST_DECLARATIONS: u16 = 128;
 fn is_small(program: &Resolved<'_>, length: usize) -> bool
     ensures { result ≡ spec.is_small (program_of program.now) length }
 {
-    let count = declarations(program);
-    if count <= MOST_DECLARATIONS {
-        length <= MOST_LENGTH
-    } else {
-        false
-    }
-}
-
-/// The most flows that are listed for a text of this many bytes.
-fn most_flows(length: usize) -> usize
-    ensures { result ≡ spec.most_flows length }
-{
-    if length <= SHORT_LENGTH {
-        MOST_FLOWS
-    } else {
-        FEWER_FLOWS
-    }
+    declarations(program) <= MOST_DECLARATIONS && length <= MOST_LENGTH
 }
 
 /// The first pairs of a list, at most as many as are listed for a text of this many bytes.
 fn first_of(pairs: &[Pair], length: usize) -> &[Pair]
     ensures { result.now ≡ spec.first_of length pairs.now }
 {
-    let most = most_flows(length);
+    let most = if length <= SHORT_LENGTH {
+        MOST_FLOWS
+    } else {
+        FEWER_FLOWS
+    };
     &pairs[..pairs.len().min(most)]
 }
 

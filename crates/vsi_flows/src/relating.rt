@@ -6,30 +6,13 @@ ghost use Rattle.vsi_types.specs.{Security.{program as program_of}, Steps.{sink}
 ghost use Rattle.vsi_infer.specs.{Flowing.{size_of, AreFlowsOf, variable_at as variable_at_of}, Shortest.{row_of as row_of_variable}};
 ghost use Rattle.vsi_flows.specs.{Rows.{IsRowTo}, Related.{IsOther, IsSource, IsTarget, AreExactly}};
 
+use crate::rows::{declarations, variable_at};
 use crate::table::Related;
 use std::alloc::{AllocError, Global as Heap};
 use vsi_compiler::Source;
 use vsi_infer::{Flow, FlowRows, declared_class, fewest_flows, flow_rows, row_of};
 use vsi_scope::Var;
 use vsi_types::{LOOP, Profile};
-
-/// The number of declarations.
-fn declarations(source: &Source<'_>) -> u16
-    ensures count { result ≡ size_of (program_of source.now.resolved) }
-    ensures small { result ≤ 1024 }
-{
-    let program = source.resolved();
-    // `body` ensures that the program is resolved, so its number of declarations is limited.
-    let _body = program.body();
-    program.globals().len() as u16 + program.letvars().len() as u16
-}
-
-/// The variable at a position; the last position is the ending of loops.
-fn variable_at(last: u16, place: u16) -> Var
-    ensures { result ≡ variable_at_of last place }
-{
-    if place == last { LOOP } else { Var(place) }
-}
 
 /// Whether a variable is another one, and has a declared class.
 fn is_other(source: &Source<'_>, variable: Var, other: Var) -> bool
@@ -194,8 +177,9 @@ pub fn related(
     ensures to { IfOk result (λ found. AreExactly (IsTarget (order source.now.lattice) profile
         (program_of source.now.resolved) variable) found.to.items) }
 {
-    let flow = flow_rows(alloc, profile, source.resolved())?;
-    let last = declarations(source);
+    let program = source.resolved();
+    let flow = flow_rows(alloc, profile, program)?;
+    let last = declarations(program);
     if !is_known(last, variable) {
         let from = Vec::new(alloc);
         let to = Vec::new(alloc);

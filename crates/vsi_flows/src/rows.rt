@@ -1,8 +1,8 @@
 //! For each declared variable, the fewest steps that lead to it.
 
-ghost use Rattle.std.specs.{Prelude.{◌≡◌, ◌≤◌, ◌<◌, ◌+◌, ℕ, true, [], Some, map, slice_index, slice_index_or, IfOk, List, false, length, IfSome, IfNone}, List.{All, Contains}, Option.{MatchOption}};
-ghost use Rattle.vsi_types.specs.{Security.{program as program_of, steps_of}, Walks.{declared_class as declared_class_of}, declared.rules.Step.{Step}};
-ghost use Rattle.vsi_infer.specs.{Distances.{AreLeast}, Flowing.{size_of, variable_at as variable_at_of}, Inference.{AreClasses}, Shortest.{FindsWalks}};
+ghost use Rattle.std.specs.{Prelude.{◌≡◌, ◌≤◌, ◌<◌, ◌+◌, ℕ, true, [], Some, map, slice_index, slice_index_or, IfOk, List, length, IfSome, IfNone}, List.{All, Contains}, Option.{MatchOption}};
+ghost use Rattle.vsi_types.specs.{Security.{program as program_of, steps_of}, declared.rules.Step.{Step}};
+ghost use Rattle.vsi_infer.specs.{Flowing.{size_of, variable_at as variable_at_of}, Inference.{AreClasses}, Shortest.{FindsWalks}};
 ghost use Rattle.vsi_flows.specs.{Rows.{AreLeastRows, AreRowsOf}, Text.{IsWalkOf}, Walks.{IsUnreached, FindWalks, IsFound}, Reaching.{IsJoined, IsOver, AreUnder}};
 ghost use Rattle.vsi_lattice.specs.Order.{IsClass};
 ghost use Rattle.vsi_syntax.specs.CommandView.{declared};
@@ -23,30 +23,6 @@ pub(crate) fn variable_at(last: u16, place: u16) -> Var
     ensures { result ≡ variable_at_of last place }
 {
     if place == last { LOOP } else { Var(place) }
-}
-
-/// The row of a position whose variable has a declared class, and an empty row for any other.
-fn row_for<C: Classes>(
-    alloc: Heap,
-    lattice: &C,
-    program: &Resolved<'_>,
-    flow: &FlowRows,
-    last: u16,
-    place: u16,
-) -> Result<Vec<u16>, AllocError>
-    requires place { place ≤ last }
-    requires small { last ≤ 1024 }
-    requires within { (a b : ℕ) → ⟦<FlowRows as Flow>⟧.flows flow.now a b ≡ true
-        → (a < last + 1) × (b < last + 1) }
-    ensures { IfOk result (λ row. (c : ℕ) →
-        declared_class_of (C.lattice lattice.now) (program_of program.now)
-        (variable_at_of last place) ≡ Some c →
-        AreLeast (⟦<FlowRows as Flow>⟧.flows flow.now) (last + 1) place row.items) }
-{
-    match declared_class(lattice, program, variable_at(last, place)) {
-        Some(_) => fewest_flows(alloc, flow, last as usize + 1, place as usize),
-        None => Ok(Vec::new(alloc)),
-    }
 }
 
 /// The number of declarations of a program: its globals and its `letvar`s.
@@ -76,7 +52,11 @@ pub(crate) fn rows_of<C: Classes>(
 {
     let mut rows = Vec::new(alloc);
     for place in 0..last + 1 {
-        let row = row_for(alloc, lattice, program, flow, last, place)?;
+        let Some(_class) = declared_class(lattice, program, variable_at(last, place)) else {
+            rows.push(Vec::new(alloc))?;
+            continue;
+        };
+        let row = fewest_flows(alloc, flow, last as usize + 1, place as usize)?;
         rows.push(row)?;
     }
     Ok(rows)
@@ -112,20 +92,8 @@ pub(crate) fn far(rows: &[Vec<u16>], source: u16, target: u16) -> u16
     }
 }
 
-/// Whether steps lead to the row's position from any other.
-fn is_reached(row: &[u16]) -> bool
-    ensures { result ≡ false → IsUnreached row.now }
-{
-    for steps in row {
-        if 0 < *steps && *steps < 65535 {
-            return true;
-        }
-    }
-    false
-}
-
-/// The finder for the walks down a row, if there are any, from steps that lead down the row, which
-/// are in this column.
+/// The finder for the walks down a row, if steps lead to its position from any other, from steps
+/// that lead down the row, which are in this column.
 fn walks_down<'a>(
     known: &'a FirstSteps,
     column: usize,
@@ -135,10 +103,12 @@ fn walks_down<'a>(
     ensures { (ss : List Step) → All (Contains ss) known.now.steps.items
         → MatchOption result (IsUnreached row.now) (FindsWalks ss last row.now) }
 {
-    if !is_reached(row) {
-        return None;
+    for steps in row {
+        if 0 < *steps && *steps < 65535 {
+            return Some(walks_to(known, column, row, last));
+        }
     }
-    Some(walks_to(known, column, row, last))
+    None
 }
 
 /// For each row, the finder for the walks down it, if there are any. The steps that lead down a row

@@ -1,6 +1,6 @@
 //! The table of flows, its pairs, and which of them are listed.
 
-ghost use Rattle.std.specs.{Prelude.{◌≡◌, ◌++◌, [], ◌∷◌, cond, IfOk, OnOk, ◌↔◌, ◌⊎◌, ◌+◌, ◌≤◌, ◌<◌, map, IfSome, IfNone, if◌then◌else◌}, List.{All}};
+ghost use Rattle.std.specs.{Prelude.{◌≡◌, ◌++◌, [], ◌∷◌, IfOk, OnOk, ◌↔◌, ◌⊎◌, ◌+◌, ◌≤◌, ◌<◌, map, IfSome, IfNone, if◌then◌else◌}, List.{All}};
 ghost use Rattle.vsi_flows.specs.{declared.table.FlowsError.TheVariants.{Memory}, Rows.{AreRows, AreRowsOf}, Table.{IsJoined, IsTold, IsTable, AreAllowed, HasChoice, HasBadWalk}, Filling.{IsFilled}, Refused.{AreRefused, refused_of}};
 ghost use Rattle.vsi_lattice.specs.Order.{IsClass};
 ghost use Rattle.vsi_types.specs.{Security.{program as program_of}, declared.rules.Profile.{Profile}};
@@ -78,18 +78,6 @@ fn is_further(from: Var, to: Var, pair: &Pair) -> bool
     pair.steps <= MOST_STEPS
 }
 
-/// Adds a pair that is listed.
-fn put_further(kept: &mut Vec<Pair>, from: Var, to: Var, pair: &Pair) -> Result<(), AllocError>
-    ensures { OnOk result (kept.new.items
-        ≡ kept.old.items ++ cond (spec.is_further from to pair.now) (pair.now ∷ []) []) }
-{
-    if !is_further(from, to, pair) {
-        return Ok(());
-    }
-    kept.push(*pair)?;
-    Ok(())
-}
-
 /// The pairs that are listed, in their order.
 pub(crate) fn further_pairs(
     alloc: Global,
@@ -99,11 +87,8 @@ pub(crate) fn further_pairs(
 ) -> Result<Vec<Pair>, AllocError>
     ensures { IfOk result (λ kept. kept.items ≡ spec.further_of from to pairs.now) }
 {
-    let mut kept = Vec::new(alloc);
-    for pair in pairs {
-        put_further(&mut kept, from, to, pair)?;
-    }
-    Ok(kept)
+    let further = |pair: &&Pair| is_further(from, to, *pair);
+    pairs.iter().filter(further).copied().collect(alloc)
 }
 
 /// The pair of a variable and the one at a position, if a walk joins them.
@@ -206,22 +191,6 @@ pub(crate) fn pairs_of<C: Classes>(
     Ok(pairs)
 }
 
-/// The pairs of a program in their order.
-fn table_of<C: Classes>(
-    alloc: Heap,
-    profile: Profile,
-    lattice: &C,
-    program: &Resolved<'_>,
-) -> Result<Vec<Pair>, AllocError>
-    requires globals { All (IsClass (C.lattice lattice.now)) (program_of program.now).globals }
-    requires declared { AreClasses (C.lattice lattice.now) (program_of program.now).declared }
-    ensures { IfOk result (λ t.
-        IsTable (C.lattice lattice.now) profile (program_of program.now) t.items) }
-{
-    let rows = program_rows(alloc, profile, lattice, program)?;
-    pairs_of(alloc, lattice, program, &rows)
-}
-
 /// Establishes that some choice of classes is typable or some walk is bad.
 pub(crate) fn decide<C: Classes>(
     alloc: Heap,
@@ -263,7 +232,8 @@ pub fn flows_in<C: Classes>(
 {
     // `body` ensures that the program is resolved, which the proofs need.
     let _body = program.body();
-    let pairs = table_of(alloc, profile, lattice, program)?;
+    let rows = program_rows(alloc, profile, lattice, program)?;
+    let pairs = pairs_of(alloc, lattice, program, &rows)?;
     decide(alloc, profile, lattice, program)?;
     Ok(pairs)
 }

@@ -24,20 +24,6 @@ use vsi_scope::{Resolved, Var};
 use vsi_syntax::{put_line_column, put_number};
 use vsi_types::{Profile, Step};
 
-/// Judges the flows of a source text.
-fn judged_source(alloc: Global, profile: Profile, source: &Source<'_>) -> Result<(), CompileError>
-    ensures accepted { OnOk result (IsAccepted
-        (class_named source.now.lattice) (order source.now.lattice) profile source.now.text) }
-    ensures refused { IfErr result (Refuses
-        (class_named source.now.lattice) (order source.now.lattice) profile source.now.text) }
-    ensures exact { IsAccepted
-        (class_named source.now.lattice) (order source.now.lattice) profile source.now.text
-        → IfErr result (λ e. e ≡ Memory) }
-{
-    let _classes = judge(alloc, profile, source)?;
-    Ok(())
-}
-
 /// Reads a text and judges its flows.
 ///
 /// # Errors
@@ -57,7 +43,10 @@ pub(crate) fn judged(
         → IfErr result (λ e. e ≡ Memory) }
 {
     let source = read_source(alloc, lattice, text)?;
-    judged_source(alloc, profile, &source)
+    match judge(alloc, profile, &source) {
+        Ok(_classes) => Ok(()),
+        Err(error) => Err(error),
+    }
 }
 
 /// The message of a step that writes at a line and a column: its two variables, its rule and that
@@ -102,13 +91,6 @@ pub fn ends_text(
     Ok(text)
 }
 
-/// The word of a verdict.
-fn verdict_text(allowed: bool) -> &'static [u8]
-    ensures { result.now ≡ text_spec.verdict_text allowed }
-{
-    if allowed { b" allowed " } else { b" refused " }
-}
-
 /// Adds the line of a pair.
 pub(crate) fn put_pair(
     text: &mut Vec<u8>,
@@ -124,7 +106,11 @@ pub(crate) fn put_pair(
     put_variable(text, lattice, program, pair.source)?;
     text.extend_from_slice(b" flows to ")?;
     put_variable(text, lattice, program, pair.target)?;
-    text.extend_from_slice(verdict_text(pair.allowed))?;
+    text.extend_from_slice(if pair.allowed {
+        b" allowed "
+    } else {
+        b" refused "
+    })?;
     put_number(text, pair.steps as usize)?;
     text.extend_from_slice(b"\n")
 }

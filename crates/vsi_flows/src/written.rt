@@ -2,7 +2,7 @@
 
 ghost use Rattle.std.specs.Prelude.{◌≡◌, IfOk, IfErr, ◌-◌, take, drop, ◌++◌, map, option_map, OnOk};
 ghost use Rattle.vsi_lattice.specs.LatticeView.{class_named, order};
-ghost use Rattle.vsi_syntax.specs.{Tree.{Whole, IsProgram, write_program}, CommandView.{body_of, command, declared}, ProgramView.{whole}, View.{lexemes, named}};
+ghost use Rattle.vsi_syntax.specs.{Tree.{Whole}, CommandView.{body_of, command, declared}, ProgramView.{whole}, View.{named}};
 ghost use Rattle.vsi_types.specs.Security.{program as program_of};
 ghost use Rattle.vsi_compiler.specs.{Acceptance.{IsAccepted}, Source.{Reads}};
 ghost use Rattle.vsi_flows.specs.{Raising.{AreLeastRaises}, Answers.{HasClassesIn, IsRaisedText, RefusesRaisedText, RefusesText}};
@@ -15,7 +15,7 @@ use std::alloc::{AllocError, Global};
 use vsi_compiler::{CompileError, Source, read_source};
 use vsi_lattice::Lattice;
 use vsi_scope::Var;
-use vsi_syntax::{Declaration, Name, Program, Span, Stmt, Token, lex, parse};
+use vsi_syntax::{Declaration, Name, Program, Span, Stmt, lex, parse};
 use vsi_types::Profile;
 
 /// The error for a source text that is refused.
@@ -241,23 +241,15 @@ fn put_globals(places: &mut Vec<Span>, globals: &[Declaration<'_>]) -> Result<()
     Ok(())
 }
 
-/// The tree that writes tokens.
-fn tree_of<'a>(alloc: Global, tokens: &[Token<'a>]) -> Result<Program<'a>, AllocError>
-    ensures { (tree : Whole) → IsProgram tree.body → write_program tree ≡ lexemes tokens.now
-        → IfOk result (λ p. whole p ≡ tree) }
-{
-    match parse(alloc, tokens) {
-        Ok(program) => Ok(program),
-        Err(_) => Err(AllocError),
-    }
-}
-
 /// The tree of a text that has one.
 fn tree_in<'a>(alloc: Global, text: &'a [u8]) -> Result<Program<'a>, AllocError>
     ensures { (tree : Whole) → Reads text.now tree → IfOk result (λ p. whole p ≡ tree) }
 {
-    match lex(alloc, text) {
-        Ok(tokens) => tree_of(alloc, &tokens),
+    let Ok(tokens) = lex(alloc, text) else {
+        return Err(AllocError);
+    };
+    match parse(alloc, &tokens) {
+        Ok(program) => Ok(program),
         Err(_) => Err(AllocError),
     }
 }

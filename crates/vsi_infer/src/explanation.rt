@@ -67,21 +67,6 @@ pub fn marks_of(alloc: Global, text: &[u8]) -> Result<Vec<Mark>, AllocError>
     Ok(marks)
 }
 
-/// The line and the column of a position after a mark.
-fn count_from(text: &[u8], mark: Mark, at: usize) -> (usize, usize)
-    requires mark { IsMarkOf text.now mark }
-    requires behind { mark.at ≤ at }
-    ensures line { result.0 ≡ 1 + spec.breaks (take at text.now) }
-    ensures column { result.1 ≡ 1 + length (spec.last_line (take at text.now)) }
-{
-    let end = at.min(text.len());
-    let mut here = mark;
-    while here.at < end {
-        here = next_mark(text, here);
-    }
-    (here.line, here.column)
-}
-
 /// The line and the column of a position, as `line_column` computes them, if the marks are those of
 /// the text.
 pub(crate) fn place_among(text: &[u8], marks: &[Mark], at: usize) -> (usize, usize)
@@ -92,12 +77,15 @@ pub(crate) fn place_among(text: &[u8], marks: &[Mark], at: usize) -> (usize, usi
     let Some(mark) = marks.get(at / SPACE) else {
         return line_column(text, at);
     };
-    let mark = *mark;
-    if mark.at <= at {
-        count_from(text, mark, at)
-    } else {
-        line_column(text, at)
+    if at < mark.at {
+        return line_column(text, at);
     }
+    let end = at.min(text.len());
+    let mut here = *mark;
+    while here.at < end {
+        here = next_mark(text, here);
+    }
+    (here.line, here.column)
 }
 
 /// The name of the rule by which a step flows.
@@ -162,15 +150,6 @@ fn put_name(text: &mut Vec<u8>, program: &Resolved<'_>, variable: Var) -> Result
     text.extend_from_slice(variable_name(program, variable))
 }
 
-/// Adds the name of a class, or leaves the text unchanged.
-fn put_class(text: &mut Vec<u8>, lattice: &Lattice, class: Option<Class>) -> Result<(), AllocError>
-    requires { IfSome class (IsClass (order lattice.now)) }
-    ensures { text.new.items ≡ (if is_ok result
-        then text.old.items ++ explanation_spec.class_text lattice.now class else text.old.items) }
-{
-    text.extend_from_slice(class_name(lattice, class))
-}
-
 /// Adds ` : ` and the name of a class, or leaves the text unchanged.
 fn put_class_after_colon(
     text: &mut Vec<u8>,
@@ -184,7 +163,7 @@ fn put_class_after_colon(
 {
     let before = text.len();
     text.extend_from_slice(b" : ")?;
-    let added = put_class(text, lattice, class);
+    let added = text.extend_from_slice(class_name(lattice, class));
     if added.is_err() {
         text.truncate(before);
     }
@@ -283,26 +262,6 @@ pub fn put_steps(
     added
 }
 
-/// Adds the last line, which names the first and the last variable of a walk.
-fn put_last(
-    text: &mut Vec<u8>,
-    lattice: &Lattice,
-    program: &Resolved<'_>,
-    first: Var,
-    last: Var,
-) -> Result<(), AllocError>
-    requires globals { All (IsClass (order lattice.now)) (program_of program.now).globals }
-    requires declared { AreClasses (order lattice.now) (program_of program.now).declared }
-    ensures { OnOk result
-        (text.new.items ≡ text.old.items ++ explanation_spec.last_text lattice.now program.now
-        first last) }
-{
-    put_variable(text, lattice, program, first)?;
-    text.extend_from_slice(b" may not flow to ")?;
-    put_variable(text, lattice, program, last)?;
-    text.extend_from_slice(b"\n")
-}
-
 /// The text of a walk that `check_walk_in` calls bad under the strict profile: a line for each
 /// step, and a last line with the classes. A walk that is bad under the base profile is bad under
 /// the strict profile too. The positions are those of the source text.
@@ -329,6 +288,9 @@ pub fn explain(
     let last = steps[steps.len() - 1];
     let marks = marks_of(alloc, source)?;
     put_steps(&mut text, source, &marks, program, steps)?;
-    put_last(&mut text, lattice, program, first.source, last.target)?;
+    put_variable(&mut text, lattice, program, first.source)?;
+    text.extend_from_slice(b" may not flow to ")?;
+    put_variable(&mut text, lattice, program, last.target)?;
+    text.extend_from_slice(b"\n")?;
     Ok(text)
 }

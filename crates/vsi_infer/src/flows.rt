@@ -1,15 +1,14 @@
 //! The flows of a program by the rules of a filter, found in one walk and kept as rows of bits.
 
 ghost use Rattle.std.specs.{Prelude.{◌≡◌, ℕ, ◌+◌, ◌*◌, ◌^◌, ◌<◌, ◌≤◌, ◌&&◌, ◌||◌, ◌==◌, false, length, slice_index, vec_len, IfOk}, List.{All}};
-ghost use Rattle.vsi_infer.specs.{Leading.{takes as takes_of, reads_it, reads_by, row_reads, observes_ending as observes, IsReady, IsNoted, Noted, position_of, AreTaken}, StepsBetween.{same_rule as same_rule_of}, FlowRows.{flow_has}, Flowing.{AreFlowsOf, AreFlowsBy}};
-ghost use Rattle.vsi_scope.specs.{Language.{HasLocations, Assign, If, While, Letvar}, View.{expression, command, sequence}};
+ghost use Rattle.vsi_infer.specs.{Leading.{reads_it, reads_by, row_reads, observes_ending as observes, IsReady, Noted, position_of, AreTaken}, StepsBetween.{same_rule as same_rule_of}, FlowRows.{flow_has}, Flowing.{AreFlowsOf, AreFlowsBy}};
+ghost use Rattle.vsi_scope.specs.{Language.{HasLocations, If, While, Letvar}, View.{expression, command, sequence}};
 ghost use Rattle.vsi_types.specs.Security.{program as program_of};
 ghost use Rattle.vsi_types.specs.declared.rules.Rule.TheVariants as typing;
 
 use crate::inference::Flow;
 use std::alloc::{AllocError, Global as Heap};
 use vsi_scope::{Cmd, Ex, Resolved, Var};
-use vsi_syntax::Span;
 use vsi_types::{Profile, Rule, first_variables};
 
 /// A filter of rules: it takes every rule, or one alone.
@@ -30,16 +29,6 @@ pub fn same_rule(first: Rule, second: Rule) -> bool
         (Rule::Letvar, Rule::Letvar) => true,
         (Rule::Loop, Rule::Loop) => true,
         _ => false,
-    }
-}
-
-/// Whether the filter takes the flows of a rule.
-pub(crate) fn takes(filter: RuleFilter, rule: Rule) -> bool
-    ensures { result ≡ takes_of filter rule }
-{
-    match filter {
-        RuleFilter::Every => true,
-        RuleFilter::Only(one) => same_rule(one, rule),
     }
 }
 
@@ -140,8 +129,9 @@ fn note_reads_by(
     ensures bits { (a b : ℕ) → flow_has rows.new b a ≡ (flow_has rows.old b a ||
         ((b == row) && reads_by filter rule scope.now (expression e.now) a)) }
 {
-    if takes(filter, rule) {
-        note_reads(rows, row, scope, e);
+    match filter {
+        RuleFilter::Only(one) if !same_rule(one, rule) => {}
+        _ => note_reads(rows, row, scope, e),
     }
 }
 
@@ -197,35 +187,6 @@ fn within(
     let mut words = *around;
     note_reads_by(filter, rule, &mut words, 0, scope, guard);
     words
-}
-
-/// Notes an assignment.
-fn note_assign(
-    walk: &mut FlowMatrix,
-    filter: RuleFilter,
-    profile: Profile,
-    sink: u16,
-    around: &[u64; 16],
-    location: u16,
-    span: Span,
-    value: &Ex,
-)
-    requires { IsReady sink (position_of walk.old) (Assign location span (expression value.now)) }
-    ensures { IsNoted filter profile sink (row_reads around.now) (position_of walk.old)
-        (Assign location span (expression value.now))
-        (position_of walk.new) }
-{
-    let target = walk.scope[location as usize];
-    let row = target.0 as usize;
-    note_reads_by(
-        filter,
-        Rule::Assign,
-        &mut walk.rows,
-        row,
-        &walk.scope,
-        value,
-    );
-    note_row(&mut walk.rows, row, around, 0);
 }
 
 /// Notes a choice, and says whether it loops.
@@ -347,8 +308,15 @@ fn note_command(
         (command c.now) (position_of walk.new) result }
 {
     match c {
-        Cmd::Assign { loc, span, value } => {
-            note_assign(walk, filter, profile, sink, around, *loc, *span, value);
+        Cmd::Assign {
+            loc,
+            span: _span,
+            value,
+        } => {
+            let row = walk.scope[*loc as usize].0 as usize;
+            let rows = &mut walk.rows;
+            note_reads_by(filter, Rule::Assign, rows, row, &walk.scope, value);
+            note_row(&mut walk.rows, row, around, 0);
             Ok(false)
         }
         Cmd::If { guard, yes, no } => note_if(walk, filter, profile, sink, around, yes, no, guard),

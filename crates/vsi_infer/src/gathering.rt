@@ -1,9 +1,8 @@
 //! The wanted steps of a program, gathered in one walk over it.
 
-ghost use Rattle.std.specs.{Prelude.{◌≡◌, Bool, ℕ, length, IfOk, IsTrue, [], true, false}, List.{All, Contains}};
+ghost use Rattle.std.specs.{Prelude.{◌≡◌, Bool, length, IfOk, [], true, false}, List.{All, Contains}};
 ghost use Rattle.vsi_types.specs.{declared.rules.Step.{Step}, Security.{name_place, program as program_of, steps_of}, Walker.{walker_place}, declared.rules.Profile.{Profile}};
-ghost use Rattle.vsi_scope.specs.{Language.{HasPlaces, Assign, If, While, Letvar}, View.{expression, command, sequence}};
-ghost use Rattle.vsi_syntax.specs.declared.token.Span.{Span};
+ghost use Rattle.vsi_scope.specs.{Language.{If, While, Letvar}, View.{expression, command, sequence}};
 ghost use Rattle.vsi_infer.specs.FirstSteps.{HasRoom, Gathers, IsFrom, kept_of};
 
 use crate::looking::{
@@ -11,7 +10,6 @@ use crate::looking::{
 };
 use std::alloc::{AllocError, Global as Heap};
 use vsi_scope::{Cmd, Entry, Ex, Resolved, Var};
-use vsi_syntax::Span;
 use vsi_types::{Profile, Rule, Step, Walker, first_variables, put_reads};
 
 /// A test for wanted steps, which are kept in columns: in each column the first from each variable.
@@ -22,41 +20,14 @@ pub(crate) trait Wanted {
         ensures { result ≡ wants self.now step.now };
 
     /// The number of columns.
-    fn columns(&self) -> usize;
+    fn columns(&self) -> usize {
+        1
+    }
 
     /// Whether a wanted step belongs in a column.
-    fn is_in(&self, step: &Step, column: usize) -> bool;
-}
-
-/// Gathers from an assignment, which doesn't loop.
-fn gather_assign<W: Wanted>(
-    wanted: &W,
-    walk: &Walker,
-    log: &mut Gathering,
-    location: u16,
-    written: Span,
-    value: &Ex,
-) -> Result<bool, AllocError>
-    requires { HasPlaces (length walk.now.scope.items)
-        (Assign location written (expression value.now)) }
-    ensures { (P : Profile) (names : ℕ → Span) →
-        Gathers (W.wants wanted.now) P names (walker_place walk.now) (kept_of log.old)
-        (Assign location written (expression value.now)) (walker_place walk.now) (kept_of log.new)
-        result }
-{
-    log.turn = log.turn.wrapping_add(STRIDE);
-    let target = walk.scope[location as usize];
-    look_reads(
-        wanted,
-        log,
-        target,
-        written,
-        &walk.scope,
-        Rule::Assign,
-        value,
-    )?;
-    look_guards(wanted, log, &walk.guards, target, written)?;
-    Ok(false)
+    fn is_in(&self, _step: &Step, _column: usize) -> bool {
+        true
+    }
 }
 
 /// Gathers from a choice, and says whether it loops.
@@ -206,7 +177,14 @@ fn gather_command<W: Wanted>(
         (command c.now) (walker_place walk.new) (kept_of log.new) result }
 {
     match c {
-        Cmd::Assign { loc, span, value } => gather_assign(wanted, walk, log, *loc, *span, value),
+        Cmd::Assign { loc, span, value } => {
+            log.turn = log.turn.wrapping_add(STRIDE);
+            let target = walk.scope[*loc as usize];
+            let scope = &walk.scope;
+            look_reads(wanted, log, target, *span, scope, Rule::Assign, value)?;
+            look_guards(wanted, log, &walk.guards, target, *span)?;
+            Ok(false)
+        }
         Cmd::If { guard, yes, no } => gather_if(
             wanted, profile, entries, first, walk, log, yes, no, guard,
         ),
@@ -220,7 +198,7 @@ fn gather_command<W: Wanted>(
 }
 
 /// Gathers from a program: the first wanted step from each variable, or one of all wanted steps.
-fn gather<W: Wanted>(
+pub(crate) fn gather<W: Wanted>(
     alloc: Heap,
     profile: Profile,
     program: &Resolved<'_>,
@@ -265,21 +243,4 @@ pub(crate) fn first_steps<W: Wanted>(
 {
     let kept = gather(alloc, profile, program, wanted, false)?;
     Ok(kept)
-}
-
-/// A wanted step of a program that has one. Every step is looked at.
-pub(crate) fn wanted_step<W: Wanted>(
-    alloc: Heap,
-    profile: Profile,
-    program: &Resolved<'_>,
-    wanted: &W,
-) -> Result<Step, AllocError>
-    requires { (s : Step) × Contains (steps_of profile (program_of program.now)) s
-        × IsTrue (W.wants wanted.now s) }
-    ensures there { IfOk result (λ s. Contains (steps_of profile (program_of program.now)) s) }
-    ensures wanted { IfOk result (λ s. IsTrue (W.wants wanted.now s)) }
-{
-    let kept = gather(alloc, profile, program, wanted, true)?;
-    let steps = kept.steps.as_slice();
-    Ok(steps[0])
 }

@@ -126,17 +126,6 @@ pub(crate) fn start(
     })
 }
 
-/// The turn of the step that is kept at a place, or the last turn if none is.
-fn turn_at(places: &[usize], turns: &[u64], place: usize) -> u64 {
-    let Some(number) = places.get(place) else {
-        return 0;
-    };
-    match turns.get(*number) {
-        Some(turn) => *turn,
-        None => u64::MAX,
-    }
-}
-
 /// Gives the next step its places: those of its source in its columns where no step is kept, or
 /// only one of a later turn. Says whether there are any.
 fn take_places<W: Wanted>(
@@ -153,10 +142,11 @@ fn take_places<W: Wanted>(
             continue;
         }
         let place = place_of(width, column, step.source);
-        if turn_at(places, turns, place) <= turn {
+        let Some(taken) = places.get_mut(place) else {
             continue;
-        }
-        if let Some(taken) = places.get_mut(place) {
+        };
+        // The turn of the step that is kept there, or the last turn if none is.
+        if turns.get(*taken).copied().unwrap_or(u64::MAX) > turn {
             *taken = turns.len();
             is_first = true;
         }
@@ -215,29 +205,21 @@ fn keep_wanted<W: Wanted>(
     Ok(())
 }
 
-/// Whether a flow was looked at before; it is marked as looked at.
-fn is_seen(seen: &mut [u64], source: Var, target: Var) -> bool {
-    let row = target.0 as usize;
-    let bit = source.0 as usize;
-    if bit >= 1024 || row * 16 + 16 > seen.len() {
-        return false;
-    }
-    if has_bit(seen, row, bit) {
-        return true;
-    }
-    note(seen, row, bit);
-    false
-}
-
-/// Whether a flow is left out because it was looked at before.
+/// Whether a flow is left out because it was looked at before; it is marked as looked at.
 fn is_left_out(log: &mut Gathering, source: Var, target: Var) -> bool
     ensures kept { kept_of log.new ≡ kept_of log.old }
     ensures every { log.old.every ≡ true → result ≡ false }
 {
-    if log.every {
+    let row = target.0 as usize;
+    let bit = source.0 as usize;
+    if log.every || bit >= 1024 || row * 16 + 16 > log.seen.len() {
         return false;
     }
-    is_seen(&mut log.seen, source, target)
+    if has_bit(&log.seen, row, bit) {
+        return true;
+    }
+    note(&mut log.seen, row, bit);
+    false
 }
 
 /// Looks at a step.
@@ -289,18 +271,6 @@ fn look_guard<W: Wanted>(
     Ok(())
 }
 
-/// The variables of a word of the guards in force whose flow to the target hasn't been looked at.
-fn unseen(log: &Gathering, target: Var, word: usize) -> u64 {
-    let around = match log.around.get(word) {
-        Some(bits) => *bits,
-        None => 0,
-    };
-    match log.seen.get(target.0 as usize * 16 + word % 16) {
-        Some(bits) => around & !*bits,
-        None => around,
-    }
-}
-
 /// Looks at the flows of 64 variables that the guards in force may read.
 fn look_word<W: Wanted>(
     wanted: &W,
@@ -313,7 +283,10 @@ fn look_word<W: Wanted>(
     ensures { OnOk result (IsAmong (W.wants wanted.now) (flows target written guards.now)
         (kept_of log.old) (kept_of log.new)) }
 {
-    let bits = unseen(log, target, word);
+    // The variables whose flow to the target hasn't been looked at.
+    let around = log.around.get(word).copied().unwrap_or(0);
+    let seen = log.seen.get(target.0 as usize * 16 + word % 16);
+    let bits = around & !seen.copied().unwrap_or(0);
     if bits == 0 {
         return Ok(());
     }

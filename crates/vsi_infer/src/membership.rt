@@ -1,10 +1,9 @@
 //! Whether a step is one of a program's, found in one walk over its commands without allocation.
 
-ghost use Rattle.std.specs.Prelude.{◌≡◌, ◌+◌, ◌<◌, ◌||◌, ◌&&◌, length, slice_index};
-ghost use Rattle.vsi_scope.specs.{Language.{HasLocations, Assign, If, While, Letvar}, View.{expression, command, sequence}};
+ghost use Rattle.std.specs.Prelude.{◌≡◌, ◌+◌, length};
+ghost use Rattle.vsi_scope.specs.{Language.{HasLocations, If, While, Letvar}, View.{expression, command, sequence}};
 ghost use Rattle.vsi_types.specs.Security.{name_place};
 ghost use Rattle.vsi_infer.specs.Membership.{same_step as same_step_of, same_span as same_span_of, read_is as read_is_of, written_is as written_is_of, reads_pass as reads_pass_of, ends_pass as ends_pass_of, IsFor, IsPast, stand_of};
-ghost use Rattle.vsi_types.specs.declared.rules.Rule.TheVariants as typing;
 
 use crate::flows::{observes_ending, same_rule};
 use arrayvec::ArrayVec;
@@ -76,27 +75,6 @@ fn ends_pass(step: &Step, scope: &[u16], e: &Ex) -> bool
         }
         Ex::Op(_, a, b) => ends_pass(step, scope, a) || ends_pass(step, scope, b),
     }
-}
-
-/// Whether the step is the assignment's.
-fn pass_assign(
-    cursor: &Cursor,
-    step: &Step,
-    around: bool,
-    location: u16,
-    span: Span,
-    value: &Ex,
-) -> bool
-    requires places { HasLocations (length cursor.now.scope.items) (expression value.now) }
-    requires target { location < length cursor.now.scope.items }
-    ensures { result
-        ≡ ((reads_pass_of step.now typing.Assign cursor.now.scope.items (expression value.now) ||
-        around)
-        && written_is_of step.now (slice_index cursor.now.scope.items location) span) }
-{
-    let target = cursor.scope[location as usize];
-    (reads_pass(step, Rule::Assign, &cursor.scope, value) || around)
-        && written_is(step, target, span)
 }
 
 /// Whether the step is one of the choice's.
@@ -218,7 +196,11 @@ fn pass_command(
         (stand_of cursor.new) result }
 {
     match c {
-        Cmd::Assign { loc, span, value } => pass_assign(cursor, step, around, *loc, *span, value),
+        Cmd::Assign { loc, span, value } => {
+            let target = cursor.scope[*loc as usize];
+            (reads_pass(step, Rule::Assign, &cursor.scope, value) || around)
+                && written_is(step, target, *span)
+        }
         Cmd::If { guard, yes, no } => pass_if(
             cursor, step, profile, entries, first, around, yes, no, guard,
         ),

@@ -6,7 +6,7 @@ ghost use Rattle.vsi_types.specs.{Security.{program as program_of, steps_of}, de
 ghost use Rattle.vsi_infer.specs.{Choices.{HasPlacedBadWalk}, Flowing.{AreFlowsOf}, Inference.{table, AreClasses, IsShortest}, Paths.{IsPath}, Shortest.{begins as begins_of, goes_on as goes_on_of, nearer as nearer_of, row_of as row_of_variable, LeadsDown, IsArrived, FindsWalks}};
 
 use crate::distances::{far_at, fewest, level, levels};
-use crate::gathering::{Wanted, first_steps, wanted_step};
+use crate::gathering::{Wanted, first_steps, gather};
 use crate::inference::Flow;
 use crate::looking::FirstSteps;
 use crate::walk::Walk;
@@ -45,14 +45,6 @@ impl<'a> Wanted for Begins<'a> {
         let there = far_at(self.rows, *class, row_of(self.last, step.target) as usize);
         here == self.now && there == self.after
     }
-
-    fn columns(&self) -> usize {
-        1
-    }
-
-    fn is_in(&self, _step: &Step, _column: usize) -> bool {
-        true
-    }
 }
 
 /// The steps that go from a variable to one at distance `after`.
@@ -70,14 +62,6 @@ impl<'a> Wanted for GoesOn<'a> {
     fn is_wanted(&self, step: &Step) -> bool {
         step.source == self.at
             && level(self.row, row_of(self.last, step.target) as usize) == self.after
-    }
-
-    fn columns(&self) -> usize {
-        1
-    }
-
-    fn is_in(&self, _step: &Step, _column: usize) -> bool {
-        true
     }
 }
 
@@ -102,14 +86,6 @@ impl<'a> Wanted for Nearer<'a> {
 
     fn is_wanted(&self, step: &Step) -> bool {
         leads_nearer(self.row, self.last, step)
-    }
-
-    fn columns(&self) -> usize {
-        1
-    }
-
-    fn is_in(&self, _step: &Step, _column: usize) -> bool {
-        true
     }
 }
 
@@ -164,7 +140,9 @@ fn first_wanted<W: Wanted>(
             return Ok(step);
         }
     }
-    wanted_step(alloc, profile, program, wanted)
+    let kept = gather(alloc, profile, program, wanted, true)?;
+    let steps = kept.steps.as_slice();
+    Ok(steps[0])
 }
 
 /// The first wanted step of a program that has one.

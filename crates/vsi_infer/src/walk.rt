@@ -30,26 +30,6 @@ impl Wanted for Along {
         let source = step.source.0 as usize;
         source < self.targets.len() && self.targets[source] == step.target.0
     }
-
-    fn columns(&self) -> usize {
-        1
-    }
-
-    fn is_in(&self, _step: &Step, _column: usize) -> bool {
-        true
-    }
-}
-
-/// The next variable of the walk, for each of `count` variables.
-fn targets_of(alloc: Heap, count: usize, steps: &[Step]) -> Result<Vec<u16>, AllocError> {
-    let mut targets = vec![in alloc; NOWHERE; count]?;
-    for step in steps {
-        let source = step.source.0 as usize;
-        if source < targets.len() {
-            targets[source] = step.target.0;
-        }
-    }
-    Ok(targets)
 }
 
 /// For each step of a walk, the program's first step from its source to the walk's next variable,
@@ -63,7 +43,13 @@ pub(crate) fn steps_along(
     ensures { IfOk result
         (λ v. All (Contains (steps_of profile (program_of program.now))) v.items) }
 {
-    let targets = targets_of(alloc, 1024, walk)?;
+    let mut targets = vec![in alloc; NOWHERE; 1024]?;
+    for known in walk {
+        let source = known.source.0 as usize;
+        if source < targets.len() {
+            targets[source] = known.target.0;
+        }
+    }
     let kept = first_steps(alloc, profile, program, &Along { targets })?;
     let mut known = Vec::new(alloc);
     for step in walk {
@@ -116,24 +102,16 @@ fn is_step(profile: Profile, program: &Resolved<'_>, step: &Step) -> bool
     )
 }
 
-/// Whether a step is the proposed one.
-fn is_proposed(step: &Step, proposed: Option<Step>) -> bool
-    ensures { result ≡ true → (x : Step) × (proposed ≡ Some x) × (same_step_of step.now x ≡ true) }
-{
-    match proposed {
-        Some(other) => same_step(step, &other),
-        None => false,
-    }
-}
-
 /// Whether the step is one of the program's, if the proposed one is.
 fn is_step_or(profile: Profile, program: &Resolved<'_>, proposed: Option<Step>, step: &Step) -> bool
     requires { IfSome proposed (Contains (steps_of profile (program_of program.now))) }
     ensures { result ≡ list_any (same_step_of step.now)
         (steps_of profile (program_of program.now)) }
 {
-    if is_proposed(step, proposed) {
-        return true;
+    if let Some(other) = proposed {
+        if same_step(step, &other) {
+            return true;
+        }
     }
     is_step(profile, program, step)
 }

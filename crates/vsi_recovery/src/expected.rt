@@ -49,14 +49,6 @@ fn step(ahead: &mut Vec<Wanted>, sort: Sort) -> Result<bool, AllocError>
     Ok(false)
 }
 
-/// Whether a token of this sort may come next.
-fn may_stand(alloc: Global, ahead: &[Wanted], sort: Sort) -> Result<bool, AllocError>
-    ensures { IfOk result (λ stands. is_some (spec.step (reverse ahead.now) sort) ≡ stands) }
-{
-    let mut rest = Vec::from_slice(alloc, ahead)?;
-    Ok(step(&mut rest, sort)?)
-}
-
 /// Whether all pending parts may be omitted.
 fn can_end(ahead: Vec<Wanted>) -> bool
     ensures { result ≡ spec.can_end (reverse ahead.items) }
@@ -94,7 +86,8 @@ fn sorts_of(alloc: Global, ahead: &[Wanted]) -> Result<Vec<Sort>, AllocError>
 {
     let mut sorts = Vec::new(alloc);
     for sort in SORTS {
-        if may_stand(alloc, ahead, sort)? {
+        let mut rest = Vec::from_slice(alloc, ahead)?;
+        if step(&mut rest, sort)? {
             sorts.push(sort)?;
         }
     }

@@ -6,22 +6,19 @@ use crate::walk::{Cause, Fault, Stretch, stop_of};
 use std::alloc::{AllocError, Global};
 use vsi_syntax::{LexError, Span, Token, lex};
 
-/// The number of bytes of a comment of C: up to its end, or of its beginning alone.
-fn block(text: &[u8]) -> usize {
-    let is_end = |at: &usize| text.get(*at..).unwrap_or(b"").starts_with(b"*/");
-    let found = (2..text.len()).find(is_end);
-    found.map_or(2, |at| at.saturating_add(2))
-}
-
-/// The number of bytes that are skipped for a byte that begins no token: a comment, a quotation, or a
-/// run of the byte or of bytes outside of ASCII.
+/// The number of bytes that are skipped for a byte that begins no token: a comment, the beginning
+/// alone of one that doesn't end, a quotation, or a run of the byte or of bytes outside of ASCII.
 fn skipped(rest: &[u8]) -> usize {
     match rest {
         [b'/', b'/', ..] => {
             let end = rest.iter().position(|byte| *byte == b'\n');
             end.unwrap_or(rest.len())
         }
-        [b'/', b'*', ..] => block(rest),
+        [b'/', b'*', ..] => {
+            let is_end = |at: &usize| rest.get(*at..).unwrap_or(b"").starts_with(b"*/");
+            let found = (2..rest.len()).find(is_end);
+            found.map_or(2, |at| at.saturating_add(2))
+        }
         [quote, ..] if matches!(*quote, b'"' | b'\'') => {
             let mut line = rest.iter().take_while(|byte| **byte != b'\n').skip(1);
             let found = line.position(|byte| *byte == *quote);
@@ -38,23 +35,6 @@ fn skipped(rest: &[u8]) -> usize {
 /// The span of a part of a text that begins later.
 fn moved(part: Span, by: usize) -> Span {
     span(part.start.saturating_add(by), part.stop.saturating_add(by))
-}
-
-/// The fault of a token in the rest of a text after a byte, at its place in the whole text.
-fn fault_of(text: &[u8], from: usize, error: LexError) -> Option<Fault> {
-    let (span, error) = match error {
-        LexError::BadByte(at) => {
-            let start = at.saturating_add(from);
-            let count = skipped(text.get(start..).unwrap_or(b""));
-            let span = span(start, start.saturating_add(count));
-            (span, LexError::BadByte(start))
-        }
-        LexError::BadWord(part) => (moved(part, from), LexError::BadWord(moved(part, from))),
-        LexError::BadNumber(part) => (moved(part, from), LexError::BadNumber(moved(part, from))),
-        LexError::Memory | LexError::TooLong => return None,
-    };
-    let cause = Cause::Lex(error);
-    Some(Fault { cause, span })
 }
 
 /// What was read of a text up to a byte: the tokens, and the faults of the parts without.
@@ -96,17 +76,33 @@ impl<'a> Pieces<'a> {
     /// Reads the text, and returns whether it has fewer such faults than `most`.
     pub(crate) fn read(&mut self, most: usize) -> Result<bool, AllocError> {
         for _fault in 0..most {
-            match lex(self.alloc, self.text.get(self.from..).unwrap_or(b"")) {
+            let from = self.from;
+            let (span, error) = match lex(self.alloc, self.text.get(from..).unwrap_or(b"")) {
                 Ok(tokens) => {
                     self.put_tokens(&tokens)?;
                     return Ok(true);
                 }
                 Err(LexError::Memory) => return Err(AllocError),
-                Err(error) => match fault_of(self.text, self.from, error) {
-                    Some(fault) => self.put_fault(fault)?,
-                    None => return Ok(true),
-                },
-            }
+                Err(LexError::TooLong) => return Ok(true),
+                Err(LexError::BadByte(at)) => {
+                    let start = at.saturating_add(from);
+                    let count = skipped(self.text.get(start..).unwrap_or(b""));
+                    (
+                        span(start, start.saturating_add(count)),
+                        LexError::BadByte(start),
+                    )
+                }
+                Err(LexError::BadWord(part)) => {
+                    let part = moved(part, from);
+                    (part, LexError::BadWord(part))
+                }
+                Err(LexError::BadNumber(part)) => {
+                    let part = moved(part, from);
+                    (part, LexError::BadNumber(part))
+                }
+            };
+            let cause = Cause::Lex(error);
+            self.put_fault(Fault { cause, span })?;
         }
         Ok(false)
     }

@@ -4,7 +4,7 @@ use crate::open::{number_of, put_numbered, put_text, span, spanned, tokens_of};
 use crate::search::{DECLARATION, NAME};
 use crate::walk::{Cause, Fault, MAX_FAULTS, Walk};
 use indexmap::IndexSet;
-use std::alloc::{AllocError, Global};
+use std::alloc::AllocError;
 use vsi_lattice::{Class, Classes};
 use vsi_scope::{ScopeError, resolve};
 use vsi_syntax::{Kind, Span, Token, parse};
@@ -15,42 +15,6 @@ const MAX_NAMES: usize = 20;
 /// Whether a name after a token of this kind is that of a declaration.
 fn is_declaring(kind: Kind) -> bool {
     kind == Kind::Var || kind == Kind::Letvar
-}
-
-/// The first uses of the names that no declaration of a list has, in their order: those of the
-/// first 20 names. Each of them is out of scope wherever it is used.
-fn undeclared_names<'a>(alloc: Global, list: &[Token<'a>]) -> Result<Vec<Token<'a>>, AllocError> {
-    let mut known = IndexSet::new(alloc);
-    let mut before = Kind::Semicolon;
-    for token in list {
-        if is_declaring(before) {
-            known.insert(token.text)?;
-        }
-        before = token.kind;
-    }
-    let mut found = Vec::new(alloc);
-    before = Kind::Semicolon;
-    for token in list {
-        let is_class = before == Kind::Colon;
-        let is_used = token.kind == Kind::Name && !is_class && !is_declaring(before);
-        before = token.kind;
-        if is_used && found.len() < MAX_NAMES && !known.contains(token.text) {
-            known.insert(token.text)?;
-            found.push(*token)?;
-        }
-    }
-    Ok(found)
-}
-
-/// The fault of a name at its part of the text.
-fn placed(error: ScopeError, span: Span) -> Fault {
-    let error = match error {
-        ScopeError::Duplicate(_) => ScopeError::Duplicate(span),
-        ScopeError::UnknownClass(_) => ScopeError::UnknownClass(span),
-        _ => ScopeError::Unbound(span),
-    };
-    let cause = Cause::Scope(error);
-    Fault { cause, span }
 }
 
 impl<'a> Walk<'_, 'a> {
@@ -148,17 +112,40 @@ impl<'a> Walk<'_, 'a> {
         if matches!(error, ScopeError::Unbound(_)) && self.is_in_doubt(token.text) {
             return Ok(());
         }
-        Ok(self.faults.push(placed(error, token.span))?)
+        let span = token.span;
+        let cause = Cause::Scope(match error {
+            ScopeError::Duplicate(_) => ScopeError::Duplicate(span),
+            ScopeError::UnknownClass(_) => ScopeError::UnknownClass(span),
+            _ => ScopeError::Unbound(span),
+        });
+        Ok(self.faults.push(Fault { cause, span })?)
     }
 
-    /// Adds the fault of a name that isn't in scope, and then those of the names that no declaration
-    /// has, and declares them. So the text is read once for all of these.
+    /// Adds the fault of a name that isn't in scope, and then those of the first 20 names that no
+    /// declaration has, which are out of scope wherever they are used, and declares them. So the
+    /// text is read once for all of these.
     fn put_unbound(&mut self, first: Token<'a>) -> Result<(), AllocError> {
+        let mut known = IndexSet::new(self.alloc);
+        let mut before = Kind::Semicolon;
+        for token in &self.list {
+            if is_declaring(before) {
+                known.insert(token.text)?;
+            }
+            before = token.kind;
+        }
+        let most = known.len().saturating_add(MAX_NAMES);
         let mut names = Vec::new(self.alloc);
         names.push(first)?;
-        for token in &undeclared_names(self.alloc, &self.list)? {
-            if token.text != first.text {
-                names.push(*token)?;
+        before = Kind::Semicolon;
+        for token in &self.list {
+            let is_class = before == Kind::Colon;
+            let is_used = token.kind == Kind::Name && !is_class && !is_declaring(before);
+            before = token.kind;
+            if is_used && known.len() < most && !known.contains(token.text) {
+                known.insert(token.text)?;
+                if token.text != first.text {
+                    names.push(*token)?;
+                }
             }
         }
         for token in &names {

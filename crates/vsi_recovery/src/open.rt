@@ -113,7 +113,8 @@ pub(crate) struct Level {
 pub(crate) struct Open<'a> {
     alloc: Global,
     pub(crate) kept: Vec<Token<'a>>,
-    outer: Vec<Level>,
+    /// The sequences around the innermost one, which are none in the sequence of the program.
+    pub(crate) outer: Vec<Level>,
     /// The innermost sequence.
     pub(crate) now: Level,
 }
@@ -135,16 +136,6 @@ impl<'a> Open<'a> {
                 command: start,
             },
         }
-    }
-
-    /// Whether the token is in the sequence of the program, and not in a block.
-    pub(crate) fn is_outermost(&self) -> bool {
-        self.outer.is_empty()
-    }
-
-    /// Whether no command has ended before the last one.
-    pub(crate) fn is_at_head(&self) -> bool {
-        self.outer.is_empty() && self.now.item.kept == 0
     }
 
     /// Whether the last command is a declaration at the head.

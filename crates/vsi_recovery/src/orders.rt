@@ -87,15 +87,6 @@ fn first_gap(above: &[u64], below: &[u64]) -> Option<(u64, u64)> {
     None
 }
 
-/// A class that an order lacks above two classes, or else below two classes.
-fn any_gap(above: &[u64], below: &[u64]) -> Option<(u64, u64)> {
-    if let Some(gap) = first_gap(above, below) {
-        return Some(gap);
-    }
-    let (highs, lows) = first_gap(below, above)?;
-    Some((lows, highs))
-}
-
 /// Classes and pairs that may complete an order, if few do.
 fn proposed(
     alloc: Global,
@@ -109,11 +100,16 @@ fn proposed(
             return Ok(None);
         }
         let (above, below) = sides(alloc, class, &joined(alloc, pairs, &added)?)?;
-        let Some((lows, highs)) = any_gap(&above, &below) else {
-            return Ok(Some(Addition {
-                count: more,
-                pairs: added,
-            }));
+        // The order lacks a class above two classes, or else below two classes.
+        let (lows, highs) = match (first_gap(&above, &below), first_gap(&below, &above)) {
+            (Some(gap), _) => gap,
+            (None, Some((highs, lows))) => (lows, highs),
+            (None, None) => {
+                return Ok(Some(Addition {
+                    count: more,
+                    pairs: added,
+                }));
+            }
         };
         let lows = ends(alloc, &above, lows)?;
         let highs = ends(alloc, &below, highs)?;
@@ -179,45 +175,6 @@ pub fn nearest(
     Ok(found)
 }
 
-/// Adds a pair, if the order with it is a lattice.
-fn put_link(
-    alloc: Global,
-    found: &mut Vec<(u8, u8)>,
-    count: usize,
-    pairs: &[(u8, u8)],
-    low: u8,
-    high: u8,
-) -> Result<(), AllocError>
-    requires { All (λ pair. IsLatticeWith count pairs.now 0 (pair ∷ [])) found.old.items }
-    ensures { All (λ pair. IsLatticeWith count pairs.now 0 (pair ∷ [])) found.new.items }
-{
-    if is_lattice_with(alloc, count, pairs, 0, &[(low, high)])? {
-        found.push((low, high))?;
-    }
-    Ok(())
-}
-
-/// The two classes of which one may be put below the other, where two classes lack one above both
-/// or, unless `is_up`, below both: the highest or the lowest classes, if there are none above both.
-fn candidates(
-    alloc: Global,
-    count: usize,
-    pairs: &[(u8, u8)],
-    a: u8,
-    b: u8,
-    is_up: bool,
-) -> Result<Vec<u8>, AllocError> {
-    if is_up {
-        let found = nearest(alloc, count, pairs, a, b)?;
-        if !found.is_empty() {
-            return Ok(found);
-        }
-    }
-    let (above, below) = sides(alloc, count, pairs)?;
-    let rows = if is_up { &above } else { &below };
-    ends(alloc, rows, all_bits(rows.len()))
-}
-
 /// The pairs, each of which makes a lattice of an order where two classes lack one above both or,
 /// unless `is_up`, below both. They join the two lowest classes above both, or else the two highest
 /// or lowest classes of all.
@@ -232,13 +189,24 @@ pub fn links(
     ensures { IfOk result (λ found. All
         (λ pair. IsLatticeWith count pairs.now 0 (pair ∷ [])) found.items) }
 {
-    let ends = candidates(alloc, count, pairs, a, b, is_up)?;
-    let [one, other] = ends.as_slice() else {
+    let mut both = Vec::new(alloc);
+    if is_up {
+        both = nearest(alloc, count, pairs, a, b)?;
+    }
+    if both.is_empty() {
+        let (above, below) = sides(alloc, count, pairs)?;
+        let rows = if is_up { &above } else { &below };
+        both = ends(alloc, rows, all_bits(rows.len()))?;
+    }
+    let [one, other] = both.as_slice() else {
         return Ok(Vec::new(alloc));
     };
     let mut found = Vec::new(alloc);
-    put_link(alloc, &mut found, count, pairs, *one, *other)?;
-    put_link(alloc, &mut found, count, pairs, *other, *one)?;
+    for link in [(*one, *other), (*other, *one)] {
+        if is_lattice_with(alloc, count, pairs, 0, &[link])? {
+            found.push(link)?;
+        }
+    }
     Ok(found)
 }
 
@@ -271,26 +239,6 @@ fn placing(
     Ok(found)
 }
 
-/// Adds pairs that place a class, if the order with them is a lattice.
-fn put_placement(
-    alloc: Global,
-    found: &mut Vec<Placement>,
-    count: usize,
-    pairs: &[(u8, u8)],
-    rank: Rank,
-    added: Vec<(u8, u8)>,
-) -> Result<(), AllocError>
-    requires { All (λ placed. IsLatticeWith count pairs.now 0 placed.pairs.items)
-        found.old.items }
-    ensures { All (λ placed. IsLatticeWith count pairs.now 0 placed.pairs.items)
-        found.new.items }
-{
-    if is_lattice_with(alloc, count, pairs, 0, &added)? {
-        found.push(Placement { rank, pairs: added })?;
-    }
-    Ok(())
-}
-
 /// The pairs that place a class so that the order is a lattice.
 pub fn placements(
     alloc: Global,
@@ -304,7 +252,9 @@ pub fn placements(
     let mut found = Vec::new(alloc);
     for rank in RANKS {
         let added = placing(alloc, count, pairs, class, rank)?;
-        put_placement(alloc, &mut found, count, pairs, rank, added)?;
+        if is_lattice_with(alloc, count, pairs, 0, &added)? {
+            found.push(Placement { rank, pairs: added })?;
+        }
     }
     Ok(found)
 }

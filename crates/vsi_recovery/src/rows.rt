@@ -1,6 +1,6 @@
 //! An order as rows of bits, and whether it is a lattice once it has more classes and pairs.
 
-ghost use Rattle.std.specs.Prelude.{◌≡◌, ℕ, ◌<◌, ◌≤◌, ◌&&◌, ◌==◌, nat_lt, length, vec_len, IfOk, IsTrue, true, ◌+◌, ◌++◌, IfSome};
+ghost use Rattle.std.specs.Prelude.{◌≡◌, ℕ, ◌<◌, ◌≤◌, length, vec_len, IfOk, IsTrue, true, ◌+◌, ◌++◌, IfSome};
 ghost use Rattle.vsi_lattice.specs.{Pairs.{Leq, ArePairsBelow, IsDeclared}, Rows.{row_has, widened, AddsPair}, Order.{Below}};
 ghost use Rattle.vsi_recovery.specs.Completed.{IsLatticeWith};
 
@@ -32,49 +32,6 @@ fn add_pair(rows: &mut [u64], low: u8, high: u8)
     }
 }
 
-/// Puts `low` below `high`, with all that follows.
-fn add(rows: &mut Vec<u64>, low: u8, high: u8)
-    requires few { vec_len rows.old ≤ 64 }
-    requires low { low < vec_len rows.old }
-    requires high { high < vec_len rows.old }
-    ensures len { vec_len rows.new ≡ vec_len rows.old }
-    ensures adds { AddsPair (row_has rows.old.items) (row_has rows.new.items) low high }
-{
-    add_pair(rows, low, high);
-}
-
-/// The order in which each class is below itself alone.
-fn own_bits(alloc: Global, count: usize) -> Result<Vec<u64>, AllocError>
-    requires { count ≤ 64 }
-    ensures len { IfOk result (λ rows. vec_len rows ≡ count) }
-    ensures bits { IfOk result
-        (λ rows. (a b : ℕ) → row_has rows.items a b ≡ (nat_lt a count && (a == b))) }
-{
-    let mut rows = Vec::with_capacity(alloc, count)?;
-    for a in 0..count {
-        rows.push(1u64 << a)?;
-    }
-    Ok(rows)
-}
-
-/// Puts a class of a pair below the other one, if both have rows.
-fn put_pair(rows: &mut Vec<u64>, pairs: &[(u8, u8)], number: usize)
-    requires few { vec_len rows.old ≤ 64 }
-    requires number { number < length pairs.now }
-    requires sound { (a b : ℕ) → row_has rows.old.items a b ≡ true → Leq pairs.now a b }
-    ensures len { vec_len rows.new ≡ vec_len rows.old }
-    ensures sound { (a b : ℕ) → row_has rows.new.items a b ≡ true → Leq pairs.now a b }
-{
-    let (low, high) = pairs[number];
-    if usize::from(low) >= rows.len() {
-        return;
-    }
-    if usize::from(high) >= rows.len() {
-        return;
-    }
-    add(rows, low, high);
-}
-
 /// The order that the pairs of the classes declare.
 pub(crate) fn rows_of(
     alloc: Global,
@@ -86,9 +43,20 @@ pub(crate) fn rows_of(
     ensures sound { IfOk result
         (λ rows. (a b : ℕ) → row_has rows.items a b ≡ true → Leq pairs.now a b) }
 {
-    let mut rows = own_bits(alloc, count)?;
+    // At first each class is below itself alone.
+    let mut rows = Vec::with_capacity(alloc, count)?;
+    for a in 0..count {
+        rows.push(1u64 << a)?;
+    }
     for i in 0..pairs.len() {
-        put_pair(&mut rows, pairs, i);
+        let (low, high) = pairs[i];
+        if usize::from(low) >= rows.len() {
+            continue;
+        }
+        if usize::from(high) >= rows.len() {
+            continue;
+        }
+        add_pair(&mut rows, low, high);
     }
     Ok(rows)
 }
@@ -242,30 +210,7 @@ pub(crate) fn is_lattice_with(
 ) -> Result<bool, AllocError>
     ensures { IfOk result (λ is. IsTrue is → IsLatticeWith count pairs.now more added.now) }
 {
-    match lattice_with(alloc, count, pairs, more, added)? {
-        Some(_lattice) => Ok(true),
-        None => Ok(false),
-    }
-}
-
-/// Whether all that a lattice has above a class, of the first ones, is in a row.
-fn keeps_row(lattice: &MaskLattice, rows: &[u64], low: usize) -> bool
-    requires few { length rows.now ≤ 64 }
-    requires count { length rows.now ≤ (⟦<MaskLattice as Classes>⟧.lattice lattice.now).count }
-    requires low { low < length rows.now }
-    ensures { IsTrue result → (high : ℕ) → high < length rows.now →
-        Below (⟦<MaskLattice as Classes>⟧.lattice lattice.now) low high →
-        row_has rows.now low high ≡ true }
-{
-    for high in 0..rows.len() {
-        if !lattice.leq(Class::at(low as u8), Class::at(high as u8)) {
-            continue;
-        }
-        if !is_in(rows, low, high) {
-            return false;
-        }
-    }
-    true
+    Ok(lattice_with(alloc, count, pairs, more, added)?.is_some())
 }
 
 /// Whether the first classes of a lattice are in the order of rows, or in a smaller one.
@@ -277,8 +222,13 @@ pub(crate) fn keeps_rows(lattice: &MaskLattice, rows: &[u64]) -> bool
         row_has rows.now low high ≡ true }
 {
     for low in 0..rows.len() {
-        if !keeps_row(lattice, rows, low) {
-            return false;
+        for high in 0..rows.len() {
+            if !lattice.leq(Class::at(low as u8), Class::at(high as u8)) {
+                continue;
+            }
+            if !is_in(rows, low, high) {
+                return false;
+            }
         }
     }
     true

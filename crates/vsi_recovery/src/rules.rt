@@ -95,18 +95,6 @@ fn put_operand(ahead: &mut Vec<Wanted>, sort: Sort, behind: Wanted) -> Result<bo
     }
 }
 
-/// The parts of the continuation after an operand.
-fn put_operators(ahead: &mut Vec<Wanted>, sort: Sort) -> Result<bool, AllocError>
-    ensures { IfOk result (λ put. Puts (parts_of sort (rules w.Operators)) put
-        (reverse ahead.old.items) (reverse ahead.new.items)) }
-{
-    match sort {
-        Plus | Minus | Star => put(ahead, &[Expression]),
-        Equal | Less => put(ahead, &[Sum]),
-        _ => Ok(false),
-    }
-}
-
 /// Makes the parts of the rule pending after a token of this sort that begins the given part.
 pub(crate) fn put_rule(
     ahead: &mut Vec<Wanted>,
@@ -141,7 +129,11 @@ pub(crate) fn put_rule(
         },
         Expression => put_operand(ahead, sort, Operators),
         Sum => put_operand(ahead, sort, SumOperators),
-        Operators => put_operators(ahead, sort),
+        Operators => match sort {
+            Plus | Minus | Star => put(ahead, &[Expression]),
+            Equal | Less => put(ahead, &[Sum]),
+            _ => Ok(false),
+        },
         SumOperators => match sort {
             Plus | Minus | Star => put(ahead, &[Sum]),
             _ => Ok(false),

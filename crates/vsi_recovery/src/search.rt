@@ -81,6 +81,9 @@ struct Nest {
     open: [usize; 5],
 }
 
+/// The kinds that begin a construct which ends with another kind.
+const OPENINGS: [Kind; 6] = [If, While, Letvar, Var, OpenBrace, Kind::Open];
+
 /// No construct.
 const OUTSIDE: Nest = Nest { open: [0; 5] };
 
@@ -123,11 +126,6 @@ impl Nest {
     }
 }
 
-/// Whether a token of this kind begins a construct that ends with another one.
-fn is_opening(kind: Kind) -> bool {
-    matches!(kind, If | While | Letvar | Var | OpenBrace | Kind::Open)
-}
-
 /// The kinds of tokens that are in no brackets.
 const UNBRACKETED: [Kind; 7] = [OpenBrace, CloseBrace, Then, Do, Else, In, Var];
 
@@ -150,19 +148,6 @@ fn lone_end(list: &[Token<'_>], begin: Kind, end: Kind, stops: &[Kind]) -> Optio
         }
     }
     None
-}
-
-/// Whether a command or a declaration follows a declaration that begins here, if one does.
-fn misplaced(list: &[Token<'_>]) -> Option<bool> {
-    for (number, kind) in DECLARED.iter().enumerate() {
-        if list.get(number)?.kind != *kind {
-            return None;
-        }
-    }
-    let Some(next) = list.get(DECLARATION) else {
-        return Some(false);
-    };
-    Some(matches!(next.kind, Name | If | While | Letvar | OpenBrace | Var))
 }
 
 /// A repair at a fault. A text is put in at a beginning before the fault; the tokens from there up
@@ -209,23 +194,6 @@ struct Search<'s, 'a> {
 }
 
 impl Search<'_, '_> {
-    /// The end of what is read after a repair: after the next landmarks, and after a `var` that
-    /// follows them where declarations may come.
-    fn window_end(&self, stop: usize) -> usize {
-        let last = self.rest.len().min(stop.saturating_add(MAX_AHEAD));
-        let near = self.rest.get(..last).unwrap_or(self.rest);
-        let mut end = stop;
-        for _landmark in 0..self.landmarks {
-            end = landmark_from(near, end).saturating_add(1);
-        }
-        let is_var = near.get(end).is_some_and(|token| token.kind == Var);
-        if is_var && self.open.is_at_head() {
-            end.saturating_add(1)
-        } else {
-            end.min(last)
-        }
-    }
-
     /// How many tokens after the fault the first fault is with a repair, if the tokens up to this
     /// number come after what is kept; none if it is before them.
     fn reached(&mut self, choice: Choice, end: usize) -> Result<Option<usize>, AllocError> {
@@ -253,7 +221,21 @@ impl Search<'_, '_> {
         if self.is_found || self.left == 0 || self.rest.len() < choice.stop {
             return Ok(());
         }
-        let end = self.window_end(choice.stop);
+        // What is read ends after the next landmarks, and after a `var` that follows them where
+        // declarations may come.
+        let last = self.rest.len().min(choice.stop.saturating_add(MAX_AHEAD));
+        let near = self.rest.get(..last).unwrap_or(self.rest);
+        let mut end = choice.stop;
+        for _landmark in 0..self.landmarks {
+            end = landmark_from(near, end).saturating_add(1);
+        }
+        let is_var = near.get(end).is_some_and(|token| token.kind == Var);
+        let is_at_head = self.open.outer.is_empty() && self.open.now.item.kept == 0;
+        end = if is_var && is_at_head {
+            end.saturating_add(1)
+        } else {
+            end.min(last)
+        };
         if let Some(reached) = self.reached(choice, end)? {
             let is_better = self.best.is_none_or(|best| best.reached < reached);
             self.is_found = end <= reached;
@@ -271,11 +253,11 @@ impl Search<'_, '_> {
         self.attempt(choice)
     }
 
-    /// Tries to put each text in place of tokens. A token that begins a construct is left out only
-    /// if reading goes on over two landmarks.
+    /// Tries to put each text in place of tokens. A token that begins a construct which ends with
+    /// another one is left out only if reading goes on over two landmarks.
     fn try_texts(&mut self, here: Start, out: usize, texts: &[&'static str]) -> Tried {
         let left_out = self.rest.get(..out).unwrap_or(&[]);
-        if self.landmarks <= 1 && left_out.iter().any(|token| is_opening(token.kind)) {
+        if self.landmarks <= 1 && left_out.iter().any(|token| OPENINGS.contains(&token.kind)) {
             return Ok(());
         }
         for put in texts {
@@ -331,9 +313,15 @@ impl Search<'_, '_> {
 
     /// Leaves out a declaration that begins where only a command, or a `;` and a command, may come.
     fn leave_declaration(&mut self, here: Start) -> Tried {
-        let Some(is_followed) = misplaced(self.rest) else {
-            return Ok(());
-        };
+        let rest = self.rest;
+        for (number, kind) in DECLARED.iter().enumerate() {
+            if rest.get(number).is_none_or(|token| token.kind != *kind) {
+                return Ok(());
+            }
+        }
+        let is_followed = rest.get(DECLARATION).is_some_and(|next| {
+            matches!(next.kind, Name | If | While | Letvar | OpenBrace | Var)
+        });
         let mut choice = replacing(here, DECLARATION, ";");
         choice.is_misplaced = true;
         let is_begun = self.open.now.item.place == here.place;
@@ -362,7 +350,7 @@ impl Search<'_, '_> {
         };
         self.leave_declaration(here)?;
         let item = self.open.now.item;
-        let is_named = item.place.saturating_add(1) == here.place && self.open.is_outermost();
+        let is_named = item.place.saturating_add(1) == here.place && self.open.outer.is_empty();
         if token.kind == Kind::Colon && is_named {
             self.attempt_before(item, "var")?;
         }

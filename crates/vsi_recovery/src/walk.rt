@@ -110,53 +110,33 @@ impl<'s, 'a> Walk<'s, 'a> {
         self.stretches.iter().any(has)
     }
 
-    /// Goes on over some tokens: none if it goes on after them.
-    fn read_chunk(&mut self) -> Result<Option<Reading>, AllocError> {
-        let rest = self.rest();
-        let count = self.open.kept.len().max(CHUNK).min(rest.len());
-        let chunk = rest.get(..count).unwrap_or(rest);
-        let mut made = Vec::new(self.alloc);
-        put_numbered(&mut made, &self.open.kept)?;
-        let before = made.len();
-        put_numbered(&mut made, chunk)?;
-        let reading = read(self.alloc, &made)?;
-        let passed = match reading {
-            Reading::Unexpected(place) => place.saturating_sub(before).min(count),
-            Reading::Stopped => 0,
-            Reading::Whole => count,
-        };
-        for token in chunk.get(..passed).unwrap_or(chunk) {
-            self.open.note(self.list.len(), *token)?;
-            self.list.push(*token)?;
-        }
-        self.next = self.next.saturating_add(passed);
-        let is_end = passed < count || count == rest.len();
-        Ok(is_end.then_some(reading))
-    }
-
     /// Goes on to the next fault of the tree, or to the end of the text.
-    pub(crate) fn go_on(&mut self) -> Result<Reading, AllocError> {
+    fn go_on(&mut self) -> Result<Reading, AllocError> {
         self.left = self.left.saturating_sub(self.open.kept.len());
         for _chunk in 0..self.source.len().saturating_add(1) {
-            if let Some(reading) = self.read_chunk()? {
+            let rest = self.rest();
+            let count = self.open.kept.len().max(CHUNK).min(rest.len());
+            let chunk = rest.get(..count).unwrap_or(rest);
+            let mut made = Vec::new(self.alloc);
+            put_numbered(&mut made, &self.open.kept)?;
+            let before = made.len();
+            put_numbered(&mut made, chunk)?;
+            let reading = read(self.alloc, &made)?;
+            let passed = match reading {
+                Reading::Unexpected(place) => place.saturating_sub(before).min(count),
+                Reading::Stopped => 0,
+                Reading::Whole => count,
+            };
+            for token in chunk.get(..passed).unwrap_or(chunk) {
+                self.open.note(self.list.len(), *token)?;
+                self.list.push(*token)?;
+            }
+            self.next = self.next.saturating_add(passed);
+            if passed < count || count == rest.len() {
                 return Ok(reading);
             }
         }
         Ok(Reading::Stopped)
-    }
-
-    /// Adds the fault at the next token, unless it may come from a repair.
-    fn put_fault(&mut self) -> Result<(), AllocError> {
-        let at = self.byte_at(self.list.len());
-        let (span, is_end) = match self.rest().first() {
-            Some(token) => (token.span, token.kind == Kind::CloseBrace),
-            None => (span(at, at), true),
-        };
-        if self.is_near(at) || is_end && self.is_unclear {
-            return Ok(());
-        }
-        let cause = Cause::Tree;
-        Ok(self.faults.push(Fault { cause, span })?)
     }
 
     /// The part of the text with a repair: from the innermost command around the fault to the next
@@ -183,19 +163,6 @@ impl<'s, 'a> Walk<'s, 'a> {
         }
     }
 
-    /// Whether a repair changes which braces match, or may do so: it leaves some out, or puts a `;`
-    /// before one.
-    fn is_of_braces(&self, choice: Choice) -> bool {
-        if choice.is_misplaced {
-            return false;
-        }
-        let rest = self.rest();
-        let stop = choice.stop.saturating_add(usize::from(choice.put == ";"));
-        choice.put == "}"
-            || !choice.is_before && has_brace(self.list.get(choice.start.place..).unwrap_or(&[]))
-            || has_brace(rest.get(..stop).unwrap_or(rest))
-    }
-
     /// Repairs the first fault of the tree. The answer is no if it can't be repaired.
     fn mend(&mut self) -> Result<bool, AllocError> {
         let rest = self.rest();
@@ -206,9 +173,15 @@ impl<'s, 'a> Walk<'s, 'a> {
         };
         let stretch = self.stretch_of(choice);
         self.is_mended = true;
-        self.is_unclear = self.is_unclear || self.is_of_braces(choice);
         self.stretches.push(stretch)?;
         let from = choice.start.place;
+        // Whether the repair changes which braces match, or may do so: it leaves some out, or puts
+        // a `;` before one.
+        let stop = choice.stop.saturating_add(usize::from(choice.put == ";"));
+        let is_of_braces = choice.put == "}"
+            || !choice.is_before && has_brace(self.list.get(from..).unwrap_or(&[]))
+            || has_brace(rest.get(..stop).unwrap_or(rest));
+        self.is_unclear = self.is_unclear || !choice.is_misplaced && is_of_braces;
         let start = self.byte_at(from);
         self.open = self.open.with(choice)?;
         self.next = self.next.saturating_add(choice.stop);
@@ -222,7 +195,8 @@ impl<'s, 'a> Walk<'s, 'a> {
         Ok(true)
     }
 
-    /// Adds the faults of the tree. The answer is yes if the repaired tokens are a program.
+    /// Adds the faults of the tree, without those that may come from a repair. The answer is yes if
+    /// the repaired tokens are a program.
     fn put_trees(&mut self) -> Result<bool, AllocError> {
         for _repair in 0..MAX_REPAIRS {
             match self.go_on()? {
@@ -233,50 +207,21 @@ impl<'s, 'a> Walk<'s, 'a> {
             if MAX_FAULTS <= self.faults.len() {
                 return Ok(false);
             }
-            self.put_fault()?;
+            let at = self.byte_at(self.list.len());
+            let (span, is_end) = match self.rest().first() {
+                Some(token) => (token.span, token.kind == Kind::CloseBrace),
+                None => (span(at, at), true),
+            };
+            if !self.is_near(at) && !(is_end && self.is_unclear) {
+                let cause = Cause::Tree;
+                self.faults.push(Fault { cause, span })?;
+            }
             if !self.mend()? {
                 return Ok(false);
             }
         }
         Ok(false)
     }
-}
-
-/// The faults of a text that is refused, in the order of their kinds.
-fn all_faults<'a>(
-    alloc: Global,
-    lattice: &'a Lattice,
-    text: &'a [u8],
-    room: usize,
-) -> Result<Vec<Fault>, AllocError> {
-    let mut pieces = Pieces {
-        alloc,
-        text,
-        list: Vec::new(alloc),
-        faults: Vec::new(alloc),
-        from: 0,
-    };
-    let is_whole = pieces.read(MAX_FAULTS)?;
-    let stretches = pieces.stretches()?;
-    let Pieces { list, faults, .. } = pieces;
-    let mut walk = Walk {
-        alloc,
-        lattice,
-        source: &list,
-        next: 0,
-        list: Vec::new(alloc),
-        open: Open::new(alloc, 0),
-        stretches,
-        faults,
-        is_mended: false,
-        is_unclear: false,
-        left: room,
-    };
-    if is_whole && walk.put_trees()? {
-        walk.put_names()?;
-    }
-    let Walk { faults, .. } = walk;
-    Ok(faults)
 }
 
 /// Whether the faults begin in the text, each after the one before it.
@@ -312,18 +257,6 @@ fn sorted(alloc: Global, text: &[u8], faults: &[Fault]) -> Result<Vec<Fault>, Al
     Ok(kept)
 }
 
-/// The faults after the first one: `sorted` proposes them, and they are examined here.
-fn listed(alloc: Global, text: &[u8], faults: &[Fault]) -> Result<Vec<Fault>, AllocError>
-    ensures few { IfOk result (λ faults. length faults.items ≤ 19) }
-    ensures listed { IfOk result (λ faults. AreListed 0 (length text.now) faults.items) }
-{
-    let kept = sorted(alloc, text, faults)?;
-    if kept.len() <= MAX_FURTHER && are_listed(text, &kept) {
-        return Ok(kept);
-    }
-    Ok(Vec::new(alloc))
-}
-
 /// The faults of a text after the one for which it is refused, in the order of their places; none
 /// of flows, and at most 19.
 ///
@@ -343,6 +276,36 @@ pub fn further_faults(
     // They begin in the text, each after the one before it.
     ensures listed { IfOk result (λ faults. AreListed 0 (length text.now) faults.items) }
 {
-    let faults = all_faults(alloc, lattice, text, room)?;
-    listed(alloc, text, &faults)
+    let mut pieces = Pieces {
+        alloc,
+        text,
+        list: Vec::new(alloc),
+        faults: Vec::new(alloc),
+        from: 0,
+    };
+    let is_whole = pieces.read(MAX_FAULTS)?;
+    let stretches = pieces.stretches()?;
+    let Pieces { list, faults, .. } = pieces;
+    let mut walk = Walk {
+        alloc,
+        lattice,
+        source: &list,
+        next: 0,
+        list: Vec::new(alloc),
+        open: Open::new(alloc, 0),
+        stretches,
+        faults,
+        is_mended: false,
+        is_unclear: false,
+        left: room,
+    };
+    if is_whole && walk.put_trees()? {
+        walk.put_names()?;
+    }
+    // `sorted` proposes the faults, and they are examined here.
+    let kept = sorted(alloc, text, &walk.faults)?;
+    if kept.len() <= MAX_FURTHER && are_listed(text, &kept) {
+        return Ok(kept);
+    }
+    Ok(Vec::new(alloc))
 }

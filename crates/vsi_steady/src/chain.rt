@@ -2,8 +2,8 @@
 
 ghost use Rattle.std.specs.Prelude.{◌≡◌, IfOk, ◌<◌, ◌^◌, IfSome, IsSomeAnd, Some, slice_get, true};
 ghost use Rattle.vsi_lattice.specs.{LatticeView.{class_named, order}, Order.{IsClass}};
-ghost use Rattle.vsi_steady.specs.Telling.{IsChain, IsChainSource, first_source as first_source_of};
-ghost use Rattle.vsi_image.specs.{Fields.{globals}, declared.instr.Instr.TheVariants.{Load}};
+ghost use Rattle.vsi_steady.specs.Telling.{IsChain, IsChainSource};
+ghost use Rattle.vsi_image.specs.Fields.{globals};
 ghost use Rattle.vsi_steady.specs.Telling as spec;
 
 use std::alloc::{AllocError, Global};
@@ -118,16 +118,6 @@ pub(crate) fn chain_to(
     Ok(Vec::new(alloc))
 }
 
-/// The source of the first step.
-fn first_source(steps: &[Step]) -> Option<u16>
-    ensures { result ≡ first_source_of steps.now }
-{
-    match steps.first() {
-        Some(step) => Some(step.source),
-        None => None,
-    }
-}
-
 /// The global at the beginning of the chain that `steady_text` prints for a flow into the STORE or
 /// JZ at a place, if it prints one.
 pub fn chain_source(
@@ -140,7 +130,10 @@ pub fn chain_source(
         place) }
 {
     let steps = chain_to(alloc, lattice, image, place)?;
-    Ok(first_source(&steps))
+    match steps.first() {
+        Some(step) => Ok(Some(step.source)),
+        None => Ok(None),
+    }
 }
 
 /// The steps of that chain, found by a search backwards from the place.
@@ -171,8 +164,10 @@ fn found_chain(
                 if is_bad(lattice, image, step.source, target) {
                     return path(alloc, &steps, &onward, step, place);
                 }
-            } else {
-                reach(&mut rounds, &mut onward, source, round, i);
+            } else if source < rounds.len() && source < onward.len() && rounds[source] == 0 {
+                // The step reaches its slot, which wasn't reached before.
+                rounds[source] = round;
+                onward[source] = Some(i);
             }
         }
     }
@@ -182,36 +177,12 @@ fn found_chain(
 /// Whether a step leads to the place in a round: to the place itself in the first round, otherwise
 /// to a slot that was reached in the previous round.
 fn leads_on(step: &Step, round: usize, rounds: &[usize], globals: usize, place: usize) -> bool {
-    if round == 1 {
-        return step.written == place;
-    }
     match step.target {
-        None => false,
-        Some(slot) => {
-            if (slot as usize) < globals {
-                return false;
-            }
-            match rounds.get(slot as usize) {
-                Some(reached) => reached.saturating_add(1) == round,
-                None => false,
-            }
-        }
-    }
-}
-
-/// Marks a slot as reached in a round by a step, if it wasn't reached before.
-fn reach(
-    rounds: &mut [usize],
-    onward: &mut [Option<usize>],
-    slot: usize,
-    round: usize,
-    step: usize,
-) {
-    if slot < rounds.len() && slot < onward.len() {
-        if rounds[slot] == 0 {
-            rounds[slot] = round;
-            onward[slot] = Some(step);
-        }
+        _ if round == 1 => step.written == place,
+        Some(slot) if globals <= usize::from(slot) => rounds
+            .get(usize::from(slot))
+            .is_some_and(|reached| reached.saturating_add(1) == round),
+        _ => false,
     }
 }
 
@@ -253,16 +224,6 @@ fn is_carried(between: &[Instr]) -> bool
     above == 0
 }
 
-/// Whether the instruction at a place reads this slot.
-fn is_read(code: &[Instr], place: usize, slot: u16) -> bool
-    ensures { result ≡ true → slice_get code.now place ≡ Some (Load slot) }
-{
-    match code.get(place) {
-        Some(Instr::Load(read)) => *read == slot,
-        _ => false,
-    }
-}
-
 /// Whether the instruction at a place takes an operand into this target.
 fn is_taken(code: &[Instr], place: usize, target: Option<u16>) -> bool
     ensures { result ≡ true → IsSomeAnd (slice_get code.now place) (spec.Takes target) }
@@ -282,10 +243,14 @@ fn is_step(code: &[Instr], step: &Step) -> bool
     if !is_behind {
         return false;
     }
+    let Some(Instr::Load(slot)) = code.get(step.read) else {
+        return false;
+    };
+    if *slot != step.source {
+        return false;
+    }
     let between = &code[step.read + 1..step.written];
-    is_read(code, step.read, step.source)
-        && is_taken(code, step.written, step.target)
-        && is_carried(between)
+    is_taken(code, step.written, step.target) && is_carried(between)
 }
 
 /// Whether a step ends in a slot above the globals where the next one begins.

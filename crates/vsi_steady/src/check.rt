@@ -1,7 +1,7 @@
 //! The judgement of an image: the least classes of slots, and the first instruction that fails.
 
-ghost use Rattle.std.specs.{Prelude.{◌≡◌, ◌≤◌, ◌<◌, None, false, true, [], length, reverse, take, ℕ, slice_index, IfOk, IfErr, ◌+◌, ◌-◌, ◌∷◌, OnOk}, List.{All}};
-ghost use Rattle.vsi_steady.specs.{declared.check.SteadyError.TheVariants.{Memory}, Least.{AreLeast, FindsRaised, RisesBy, Rises, Finds, Joins, Leads}, Steady.{GoesThrough, HaveClasses, IsSteady, Operates, Passes}, Refusal.{Refuses}, Laws.{RunsAlike, ViewsAlike}};
+ghost use Rattle.std.specs.{Prelude.{◌≡◌, ◌≤◌, ◌<◌, None, false, true, [], length, reverse, take, ℕ, IfOk, IfErr, ◌+◌, ◌-◌, ◌∷◌, OnOk}, List.{All}};
+ghost use Rattle.vsi_steady.specs.{declared.check.SteadyError.TheVariants.{Memory}, Least.{AreLeast, FindsRaised, RisesBy, Finds, Joins, Leads}, Steady.{GoesThrough, HaveClasses, IsSteady, Operates, Passes}, Refusal.{Refuses}, Laws.{RunsAlike, ViewsAlike}};
 ghost use Rattle.vsi_image.specs.{Valid.{IsFine, IsValid}, Effects.{left}};
 ghost use Rattle.vsi_infer.specs.Ranks.{distance};
 ghost use Rattle.vsi_lattice.specs.{LatticeView.{class_named, order}, Order.{IsClass, Below, IsJoin}};
@@ -66,13 +66,19 @@ fn raise_by(
         → RisesBy (order lattice.now) classes.old instr (reverse (take depth held.now))
         classes.new }
 {
-    match instr {
-        Instr::Store(slot) => {
-            let class = top(lattice, held, depth);
-            raise(lattice, image, classes, slot as usize, class)
-        }
-        _ => false,
+    let Instr::Store(slot) = instr else {
+        return false;
+    };
+    let slot = slot as usize;
+    let class = top(lattice, held, depth);
+    if slot < image.globals.len() {
+        return false;
     }
+    if lattice.leq(class, classes[slot]) {
+        return false;
+    }
+    classes[slot] = joined(lattice, classes[slot], class);
+    true
 }
 
 /// The first instruction up to this one that didn't find the classes that it requires.
@@ -115,7 +121,7 @@ fn sweep(lattice: &Lattice, image: &Image, classes: &mut [Class]) -> Swept
         → distance (order lattice.now).leq (order lattice.now).count classes.new
         < distance (order lattice.now).leq (order lattice.now).count classes.old }
 {
-    let mut held: Held = blank(lattice);
+    let mut held: Held = [lattice.bottom(); CAPACITY];
     let mut depth = 0;
     let mut has_risen = false;
     let mut flow: Option<usize> = None;
@@ -193,48 +199,11 @@ pub(crate) fn joined(lattice: &Lattice, a: Class, b: Class) -> Class
     lattice.join(a, b)
 }
 
-/// Raises the class of a slot above the globals to one at or above this class, and says whether
-/// that changed it.
-pub(crate) fn raise(
-    lattice: &Lattice,
-    image: &Image,
-    classes: &mut [Class],
-    slot: usize,
-    class: Class,
-) -> bool
-    requires classes { HaveClasses (class_named lattice.now) (order lattice.now) image.now
-        classes.old }
-    requires slot { slot < length classes.old }
-    requires class { IsClass (order lattice.now) class }
-    ensures classes { HaveClasses (class_named lattice.now) (order lattice.now) image.now
-        classes.new }
-    ensures found { length image.now.globals.items ≤ slot
-        → Below (order lattice.now) class (slice_index classes.new slot) }
-    ensures same { result ≡ false → classes.new ≡ classes.old }
-    ensures risen { result ≡ true → Rises (order lattice.now) classes.old slot class classes.new }
-{
-    if slot < image.globals.len() {
-        return false;
-    }
-    if lattice.leq(class, classes[slot]) {
-        return false;
-    }
-    classes[slot] = joined(lattice, classes[slot], class);
-    true
-}
-
 /// The largest number of operands of a verified image.
 pub(crate) const CAPACITY: usize = 256;
 
 /// The classes of the operands, with the top one last; entries above the depth have no meaning.
 pub(crate) type Held = [Class; CAPACITY];
-
-/// The bottom class at each index.
-pub(crate) fn blank(lattice: &Lattice) -> Held
-    ensures { All (IsClass (order lattice.now)) result }
-{
-    [lattice.bottom(); CAPACITY]
-}
 
 /// The class of the top operand.
 #[inline(always)]

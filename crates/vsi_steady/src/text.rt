@@ -28,26 +28,8 @@ fn put_name(out: &mut Vec<u8>, image: &Image, end: Option<u16>) -> Result<(), Al
     }
 }
 
-/// Adds the class name of a global, or the name of the bottom class for the jump.
-fn put_class(
-    out: &mut Vec<u8>,
-    bottom: &[u8],
-    image: &Image,
-    end: Option<u16>,
-) -> Result<(), AllocError>
-    ensures { OnOk result (out.new.items
-        ≡ out.old.items ++ spec.end_class bottom.now (globals image.now.globals.items) end) }
-{
-    let Some(slot) = end else {
-        return out.extend_from_slice(bottom);
-    };
-    match image.globals.get(slot as usize) {
-        Some(global) => out.extend_from_slice(&global.1),
-        None => Ok(()),
-    }
-}
-
-/// Adds the name of an end of a chain and the name of its class.
+/// Adds the name of an end of a chain and the name of its class: that of a global, or of the bottom
+/// class for the jump.
 fn put_end(
     out: &mut Vec<u8>,
     bottom: &[u8],
@@ -59,7 +41,13 @@ fn put_end(
 {
     put_name(out, image, end)?;
     out.extend_from_slice(b" : ")?;
-    put_class(out, bottom, image, end)
+    let Some(slot) = end else {
+        return out.extend_from_slice(bottom);
+    };
+    match image.globals.get(slot as usize) {
+        Some(global) => out.extend_from_slice(&global.1),
+        None => Ok(()),
+    }
 }
 
 /// Adds the instruction that takes the operand of a step.
@@ -99,24 +87,6 @@ fn put_steps(out: &mut Vec<u8>, image: &Image, steps: &[Step]) -> Result<(), All
     Ok(())
 }
 
-/// Adds the line of the ends of a chain.
-fn put_ends(
-    out: &mut Vec<u8>,
-    bottom: &[u8],
-    image: &Image,
-    source: u16,
-    target: Option<u16>,
-) -> Result<(), AllocError>
-    ensures { OnOk result (out.new.items ≡ out.old.items
-        ++ spec.ends_line bottom.now (globals image.now.globals.items) source target) }
-{
-    put_end(out, bottom, image, Some(source))?;
-    out.extend_from_slice(b" may not flow to ")?;
-    put_end(out, bottom, image, target)?;
-    out.extend_from_slice(b"\n")?;
-    Ok(())
-}
-
 /// Adds the lines of a chain: one for each step, and a last one with the classes of its ends.
 fn put_chain(
     out: &mut Vec<u8>,
@@ -131,19 +101,13 @@ fn put_chain(
         return Ok(());
     }
     put_steps(out, image, steps)?;
+    let source = steps[0].source;
     let target = steps[steps.len() - 1].target;
-    put_ends(out, bottom, image, steps[0].source, target)?;
+    put_end(out, bottom, image, Some(source))?;
+    out.extend_from_slice(b" may not flow to ")?;
+    put_end(out, bottom, image, target)?;
+    out.extend_from_slice(b"\n")?;
     Ok(())
-}
-
-/// The text for a class name that the lattice lacks.
-fn unknown_text(alloc: Global, n: usize) -> Result<Vec<u8>, AllocError>
-    ensures { IfOk result (λ text. text.items ≡ spec.unknown_text n) }
-{
-    let mut text = Vec::from_slice(alloc, b"refused: 43 ClassNotInLattice ")?;
-    put_number(&mut text, n)?;
-    text.extend_from_slice(b"\n")?;
-    Ok(text)
 }
 
 /// The text for a flow into the instruction at a place.
@@ -177,7 +141,12 @@ pub fn steady_text(
         (λ text. spec.IsUnsteadyText lattice.now image.now error.now text.items) }
 {
     match error {
-        SteadyError::UnknownClass(n) => unknown_text(alloc, *n),
+        SteadyError::UnknownClass(n) => {
+            let mut text = Vec::from_slice(alloc, b"refused: 43 ClassNotInLattice ")?;
+            put_number(&mut text, *n)?;
+            text.extend_from_slice(b"\n")?;
+            Ok(text)
+        }
         SteadyError::Flow(place) => flow_text(alloc, lattice, image, *place),
         SteadyError::Memory => Vec::from_slice(alloc, b"out of memory\n"),
     }

@@ -14,8 +14,9 @@ use Rattle.vsi_infer.proofs.flows.+walk.Goals as goal
 
 pub note_command-note_if-requires : goal.note_command-note_if-requires
 note_command-note_if-requires t c =
-    let e = choice_read c.args.c.now c.in-If.guard c.in-If.yes c.in-If.no c.deref.result.now c.deref-in-If.result.now
-    c.in-If.is c.deref.ensures.value c.deref-in-If.ensures.value in
+    let e = choice_read c.args.c.now c.in-If.guard c.in-If.yes c.in-If.no c.deref-in-If.result.now
+    c.deref-in-If-2.result.now
+    c.in-If.is c.deref-in-If.ensures.value c.deref-in-If-2.ensures.value in
     let r = subst (IsReady c.args.sink (position_of c.args.walk.now)) e c.requires in (
       first_of (search (rules, the_lemmas), grind (arith, the_lemmas, common_steps), omega (arith, c.decreases)),
       search (rules, r),
@@ -41,8 +42,9 @@ note_command-note_letvar-requires t c =
 
 pub note_command-returns-in-If : goal.note_command-returns-in-If
 note_command-returns-in-If t c =
-    let e = choice_read c.args.c.now c.in-If.guard c.in-If.yes c.in-If.no c.deref.result.now c.deref-in-If.result.now
-    c.in-If.is c.deref.ensures.value c.deref-in-If.ensures.value in
+    let e = choice_read c.args.c.now c.in-If.guard c.in-If.yes c.in-If.no c.deref-in-If.result.now
+    c.deref-in-If-2.result.now
+    c.in-If.is c.deref-in-If.ensures.value c.deref-in-If-2.ensures.value in
     subst (λ k. Noted c.args.filter c.args.profile c.args.sink (row_reads c.args.around.now)
     (position_of c.args.walk.now) k
     (position_of c.note_if.new.walk) c.note_if.result) (sym e) c.note_if.ensures

@@ -1,6 +1,7 @@
-use Rattle.std.proofs.Common.{rules, ◌≡◌, ◌∙◌, ◌++◌, ◌∷◌, [], ◌||◌, sym, ap, subst, arith, refl, ◌+◌, ◌≤◌, length, take, true}
+use Rattle.std.proofs.Common.{rules, ◌≡◌, ◌∙◌, ◌++◌, ◌∷◌, [], ◌||◌, sym, ap, subst, arith, refl, ◌+◌, ◌≤◌, length, take, true, false}
 use Rattle.std.proofs.lemmas.Grind.{common_steps}
-use Rattle.std.proofs.lemmas.List.{take_all}
+use Rattle.std.specs.Prelude.{slice_index}
+use Rattle.std.proofs.lemmas.List.{take_all, get_or_read}
 use Rattle.vsi_scope.specs.declared.program.Cmd.{the_lemmas}
 use Rattle.vsi_scope.specs.Language.{Assign, has_loop}
 use Rattle.vsi_scope.specs.View.{expression, command, sequence}
@@ -12,7 +13,7 @@ use Rattle.vsi_types.proofs.Looping.{loop_more}
 use Rattle.vsi_types.proofs.Places.{place}
 use Rattle.vsi_infer.specs.FirstSteps.{HasRoom, IsFrom, IsGathered, Gathers, kept_of}
 use Rattle.vsi_infer.proofs.CommandLemmas.{choice_read, loop_read, letvar_read, name_at, room_next}
-use Rattle.vsi_infer.proofs.KeptLemmas.{gathered_at, gathered_none, gathered_choose, gathered_repeat, gathered_allocate, gathered_more, gathered_all}
+use Rattle.vsi_infer.proofs.KeptLemmas.{gathered_put, put_from, gathered_at, gathered_none, gathered_choose, gathered_repeat, gathered_allocate, gathered_more, gathered_all}
 use Rattle.vsi_infer.proofs.gathering.+walk.Goals as goal
 
 pub gather_command-gather_if-requires : goal.gather_command-gather_if-requires
@@ -21,8 +22,9 @@ gather_command-gather_if-requires g t c κs within = (
   search (
     rules,
     subst (HasRoom c.args.first (length c.args.entries.now) (walker_place c.args.walk.now))
-        (choice_read c.args.c.now c.in-If.guard c.in-If.yes c.in-If.no c.deref.result.now c.deref-in-If.result.now
-        c.in-If.is c.deref.ensures.value c.deref-in-If.ensures.value) c.requires,
+        (choice_read c.args.c.now c.in-If.guard c.in-If.yes c.in-If.no c.deref-in-If.result.now
+        c.deref-in-If-2.result.now
+        c.in-If.is c.deref-in-If.ensures.value c.deref-in-If-2.ensures.value) c.requires,
   ),
 )
 
@@ -50,13 +52,27 @@ gather_command-gather_letvar-requires g t c κs within = (
 
 pub gather_command-returns-in-Assign : goal.gather_command-returns-in-Assign
 gather_command-returns-in-Assign g t c =
+    let P = c.args.profile in
     let N = name_place c.args.entries.now c.args.first in
-    let e : command c.args.c.now ≡ Assign c.in-Assign.loc c.in-Assign.span (expression c.in-Assign.value) =
-    ap command c.in-Assign.is in
-    subst (λ k. Gathers (g.W.Wanted.wants c.args.wanted.now) c.args.profile N (walker_place c.args.walk.now)
-    (kept_of c.args.log.now) k
-    (walker_place c.args.walk.now) (kept_of c.gather_assign.new.log) c.gather_assign.result) (sym e)
-    (c.gather_assign.ensures c.args.profile N)
+    let W = g.W.Wanted.wants c.args.wanted.now in
+    let l = c.in-Assign.loc in
+    let x = expression c.in-Assign.value in
+    let here = walker_place c.args.walk.now in
+    let scope = c.args.walk.now.scope.items in
+    let w = kept_of c.args.log.now in
+    let u = kept_of c.look_reads.new.log in
+    let v = kept_of c.look_guards.new.log in
+    let e : command c.args.c.now ≡ Assign l c.in-Assign.span x = ap command c.in-Assign.is in
+    let room = subst (HasRoom c.args.first (length c.args.entries.now) here) e c.requires in
+    let at : c.index-target.result.now ≡ slice_index scope l =
+    get_or_read scope l c.index-target.result.now room.places.0 c.index-target.ensures 0 in
+    subst (λ k. Gathers W P N here w k here v false) (sym e) (
+      refl,
+      gathered_put W P N here w v l c.in-Assign.span x
+          (put_from W _ _ at c.in-Assign.span _ _
+          (ap (λ s. guarded typing.Assign (reads s x)) c.deref.ensures.value) _ _ c.deref-in-Assign.ensures.value
+          w u v c.in_ok-look_reads.ensures c.in_ok-look_guards.ensures),
+    )
 
 pub gather_command-returns-in-If : goal.gather_command-returns-in-If
 gather_command-returns-in-If g t c =
@@ -64,8 +80,9 @@ gather_command-returns-in-If g t c =
     (name_place c.args.entries.now c.args.first) (walker_place c.args.walk.now)
     (kept_of c.args.log.now) k (walker_place c.gather_if.new.walk) (kept_of c.gather_if.new.log)
     c.gather_if.result)
-    (sym (choice_read c.args.c.now c.in-If.guard c.in-If.yes c.in-If.no c.deref.result.now c.deref-in-If.result.now
-    c.in-If.is c.deref.ensures.value c.deref-in-If.ensures.value)) c.gather_if.ensures
+    (sym (choice_read c.args.c.now c.in-If.guard c.in-If.yes c.in-If.no c.deref-in-If.result.now
+    c.deref-in-If-2.result.now
+    c.in-If.is c.deref-in-If.ensures.value c.deref-in-If-2.ensures.value)) c.gather_if.ensures
 
 pub gather_command-returns-in-While : goal.gather_command-returns-in-While
 gather_command-returns-in-While g t c =

@@ -9,8 +9,9 @@ use Rattle.vsi_infer.proofs.membership.+walk.Goals as goal
 
 pub pass_command-pass_if-requires : goal.pass_command-pass_if-requires
 pass_command-pass_if-requires t c =
-    let e = choice_read c.args.c.now c.in-If.guard c.in-If.yes c.in-If.no c.deref.result.now c.deref-in-If.result.now
-    c.in-If.is c.deref.ensures.value c.deref-in-If.ensures.value in
+    let e = choice_read c.args.c.now c.in-If.guard c.in-If.yes c.in-If.no c.deref-in-If.result.now
+    c.deref-in-If-2.result.now
+    c.in-If.is c.deref-in-If.ensures.value c.deref-in-If-2.ensures.value in
     let r = subst (IsFor c.args.first (length c.args.entries.now) (stand_of c.args.cursor.now)) e c.requires in
     (first_of (search (rules, the_lemmas), grind (arith, the_lemmas, common_steps), omega (arith, c.decreases)), r)
 
@@ -30,8 +31,9 @@ pass_command-pass_letvar-requires t c =
 
 pub pass_command-returns-in-If : goal.pass_command-returns-in-If
 pass_command-returns-in-If t c =
-    let e = choice_read c.args.c.now c.in-If.guard c.in-If.yes c.in-If.no c.deref.result.now c.deref-in-If.result.now
-    c.in-If.is c.deref.ensures.value c.deref-in-If.ensures.value in
+    let e = choice_read c.args.c.now c.in-If.guard c.in-If.yes c.in-If.no c.deref-in-If.result.now
+    c.deref-in-If-2.result.now
+    c.in-If.is c.deref-in-If.ensures.value c.deref-in-If-2.ensures.value in
     subst (λ k. IsPast c.args.step.now c.args.profile (name_place c.args.entries.now c.args.first) c.args.around
     (stand_of c.args.cursor.now) k (stand_of c.pass_if.new.cursor) c.pass_if.result) (sym e) c.pass_if.ensures
 

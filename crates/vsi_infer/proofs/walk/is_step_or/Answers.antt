@@ -1,9 +1,9 @@
-use Rattle.std.proofs.Common.{sym}
+use Rattle.std.proofs.Common.{◌∙◌, sym}
 use Rattle.vsi_types.specs.Security.{program, steps_of}
 use Rattle.vsi_infer.proofs.KeptLemmas.{proposed_there}
 use Rattle.vsi_infer.proofs.walk.is_step_or.Goals as goal
 
-pub returns-then-is_proposed : goal.returns-then-is_proposed
-returns-then-is_proposed c =
+pub returns-then-same_step : goal.returns-then-same_step
+returns-then-same_step c =
     sym (proposed_there (steps_of c.args.profile (program c.args.program.now)) c.args.step.now c.args.proposed
-    c.requires (c.is_proposed.ensures c.if-is_proposed.true))
+    c.requires (c.in-Some.other, c.in-Some.is, sym c.same_step.ensures ∙ c.if-same_step.true))

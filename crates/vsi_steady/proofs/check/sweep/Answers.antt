@@ -1,9 +1,11 @@
 use Rattle.std.proofs.Common.{◌≡◌, ◌+◌, ◌<◌, [], true, false, ◌||◌, length, reverse, take, get_or, Some, refl, sym, ap, subst, arith}
 use Rattle.std.specs.Prelude.{slice_get, pos}
 use Rattle.std.proofs.lemmas.Bool.{both_ways}
+use Rattle.std.proofs.lemmas.List.Elements.{All-replicate}
 use Rattle.vsi_image.specs.declared.instr.Instr.TheVariants.{Push}
 use Rattle.vsi_lattice.specs.LatticeView.{class_named, order}
 use Rattle.vsi_lattice.specs.Laws.{lawful_is_lattice}
+use Rattle.vsi_lattice.specs.Order.{IsClass}
 use Rattle.vsi_machine.proofs.Steps.{read}
 use Rattle.vsi_steady.specs.Least.{Leads}
 use Rattle.vsi_steady.specs.Steady.{Passes}
@@ -13,8 +15,14 @@ use Rattle.vsi_steady.proofs.check.sweep.Goals as goal
 
 pub loop-pc-init : goal.loop-pc-init
 loop-pc-init c =
+    let l = c.args.lattice.now in
     record {
-      standing = record { at_depth = refl; room = omega arith; classes = c.blank-held.ensures };
+      standing = record {
+        at_depth = refl;
+        room = omega arith;
+        classes = All-replicate (IsClass (order l)) 256 c.bottom.result (subst (λ x. IsClass (order l) x) (sym c.bottom.ensures)
+            (lawful_is_lattice (order l) l.order.lawful).bottom_within);
+      };
       have = c.requires.classes;
       through = λ quiet clear on. on;
       below = c.requires.least;

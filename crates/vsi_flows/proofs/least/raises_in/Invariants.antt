@@ -1,6 +1,6 @@
 use Rattle.vsi_types.specs.Security.{program}
 use Rattle.vsi_flows.proofs.ChangeLemmas.{AreSettled}
-use Rattle.vsi_flows.proofs.least.all_raises.Given as goal
+use Rattle.vsi_flows.proofs.least.raises_in.Given as goal
 
 abbrev pub invariant-loop-variable : goal.invariant-loop-variable
 invariant-loop-variable g l =

@@ -1,6 +1,6 @@
 use Rattle.std.proofs.Common.{◌≤◌, ◌-◌}
 use Rattle.vsi_infer.specs.Lines.{IsMarkOf}
-use Rattle.vsi_infer.proofs.explanation.count_from.Given as goal
+use Rattle.vsi_infer.proofs.explanation.place_among.Given as goal
 
 abbrev pub invariant-loop-here : goal.invariant-loop-here
 invariant-loop-here l = record {
