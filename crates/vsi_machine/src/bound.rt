@@ -1,6 +1,6 @@
 //! The bound of an image: the cost of its loops, or why no bound was found.
 
-ghost use Rattle.std.specs.Prelude.{◌≡◌, ◌+◌, ◌*◌, IfOk, min, max, ◌-◌, ◌^◌, ◌<◌, ◌≤◌, IfErr, OnOk, length, Some, slice_get};
+ghost use Rattle.std.specs.Prelude.{◌≡◌, ◌+◌, ◌*◌, IfOk, ◌-◌, ◌^◌, ◌<◌, ◌≤◌, IfErr, OnOk, length, Some, slice_get};
 ghost use Rattle.vsi_machine.specs.{declared.bound.Fault.TheVariants.{Memory}, declared.bound.Stop.TheVariants.{Other}, Loops.{Keeps}, Looping.{Finished, IsCounter}, Stopping.{IsChanged, IsUncounted, OnEndless, Unfinished}, Stretch.{Evaluates, Ends}, Transfer.{IsValue}, Bound.{Answers}, Facts.{AreSame}, Search.{StopsAt}};
 ghost use Rattle.vsi_image.specs.declared.instr.Instr.TheVariants as instr;
 
@@ -101,17 +101,6 @@ pub(crate) fn sum(first: Cost, second: Cost) -> Result<Cost, Fault>
         return Err(Fault::TooLarge);
     };
     Ok(Cost { least, most })
-}
-
-/// The cost of one of two stretches.
-pub(crate) fn either(first: Cost, second: Cost) -> Cost
-    ensures least { result.least ≡ min first.least second.least }
-    ensures most { result.most ≡ max first.most second.most }
-{
-    Cost {
-        least: first.least.min(second.least),
-        most: first.most.max(second.most),
-    }
 }
 
 /// A test that begins a conditional or a loop: the start of its guard, its own position, its

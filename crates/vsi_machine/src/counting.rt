@@ -115,17 +115,6 @@ pub fn counted<'a>(
     })
 }
 
-/// The noun after a number of instructions.
-fn noun(number: u64) -> &'static [u8]
-    ensures { result.now ≡ spec.noun number }
-{
-    if number == 1 {
-        b" instruction"
-    } else {
-        b" instructions"
-    }
-}
-
 /// The line of a number of instructions.
 pub fn count_text(alloc: Global, instructions: u64) -> Result<Vec<u8>, AllocError>
     ensures { IfOk result (λ text. text.items ≡ spec.count_line instructions) }
@@ -142,7 +131,11 @@ fn put_instructions(text: &mut Vec<u8>, number: u64) -> Result<(), AllocError>
     ensures { OnOk result (text.new.items ≡ text.old.items ++ spec.number_of number) }
 {
     put_number(text, number as usize)?;
-    text.extend_from_slice(noun(number))
+    if number == 1 {
+        text.extend_from_slice(b" instruction")
+    } else {
+        text.extend_from_slice(b" instructions")
+    }
 }
 
 /// Reports where a run stopped when its budget was spent: the number of instructions executed, and

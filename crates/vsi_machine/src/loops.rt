@@ -2,7 +2,7 @@
 
 ghost use Rattle.std.specs.Prelude.{◌≡◌, ℤ, List, ◌≢◌, ◌≤◌, ◌⊎◌, [], ◌∷◌, ◌++◌, IfOk, Some, false, length, slice_get, true, ◌<ℤ◌, ◌+ℤ◌, ◌+◌, ◌*◌, ◌^◌, ◌<◌, IfErr, IfNone, IfSome, negsuc, pos, ℕ, Bool};
 ghost use Rattle.vsi_syntax.specs.{Operators.{apply, less_of}, declared.tree.Op.TheVariants.{Add, Sub, Lt}};
-ghost use Rattle.vsi_machine.specs.{Known.{Means}, Transfer.{difference_fact, fact_of, less_fact, sum_fact}, Loops.{Enters, IsEntry, Keeps, Remain, Joined}, declared.loops.Known.TheVariants.{Any, Number}, Counters.{Counts}, Reasons.{Uncounted, HasNoCounter}, Looping.{IsCounter, guard_value}};
+ghost use Rattle.vsi_machine.specs.{Known.{Means}, Transfer.{fact_of}, Loops.{Enters, IsEntry, Keeps, Remain, Joined}, declared.loops.Known.TheVariants.{Any, Number}, Counters.{Counts}, Reasons.{Uncounted, HasNoCounter}, Looping.{IsCounter, guard_value}};
 ghost use Rattle.vsi_image.specs.declared.instr.{Instr.{Instr}, Instr.TheVariants.{Store}};
 ghost use Rattle.vsi_machine.specs.declared.loops.Known.TheVariants as spec;
 ghost use Rattle.vsi_machine.specs.Looping as looping;
@@ -29,50 +29,6 @@ pub(crate) enum Known {
     Any,
 }
 
-/// The fact about a sum.
-fn sum(left: Known, right: Known) -> Known
-    ensures means { (m : List ℤ) (a b : ℤ) → Means m left a → Means m right b
-        → Means m result (apply Add a b) }
-    ensures exact { result ≡ sum_fact left right }
-{
-    match (left, right) {
-        (Known::Same(slot), Known::Number(n)) => Known::Moved(slot, n),
-        (Known::Number(n), Known::Same(slot)) => Known::Moved(slot, n),
-        _ => Known::Any,
-    }
-}
-
-/// The fact about a difference.
-fn difference(left: Known, right: Known) -> Known
-    ensures means { (m : List ℤ) (a b : ℤ) → Means m left a → Means m right b
-        → Means m result (apply Sub a b) }
-    ensures exact { result ≡ difference_fact left right }
-{
-    match (left, right) {
-        (Known::Same(slot), Known::Number(n)) => {
-            if n == i64::MIN {
-                Known::Any
-            } else {
-                Known::Moved(slot, -n)
-            }
-        }
-        _ => Known::Any,
-    }
-}
-
-/// The fact about a comparison.
-fn less(left: Known, right: Known) -> Known
-    ensures means { (m : List ℤ) (a b : ℤ) → Means m left a → Means m right b
-        → Means m result (apply Lt a b) }
-    ensures exact { result ≡ less_fact left right }
-{
-    match (left, right) {
-        (Known::Same(slot), Known::Number(n)) => Known::Below(slot, n),
-        (Known::Number(n), Known::Same(slot)) => Known::Above(slot, n),
-        _ => Known::Any,
-    }
-}
-
 /// The fact about the result of an operator.
 pub(crate) fn applied(op: Op, left: Known, right: Known) -> Known
     ensures means { (m : List ℤ) (a b : ℤ) → Means m left a → Means m right b
@@ -80,9 +36,20 @@ pub(crate) fn applied(op: Op, left: Known, right: Known) -> Known
     ensures exact { result ≡ fact_of op left right }
 {
     match op {
-        Op::Add => sum(left, right),
-        Op::Sub => difference(left, right),
-        Op::Lt => less(left, right),
+        Op::Add => match (left, right) {
+            (Known::Same(slot), Known::Number(n)) => Known::Moved(slot, n),
+            (Known::Number(n), Known::Same(slot)) => Known::Moved(slot, n),
+            _ => Known::Any,
+        },
+        Op::Sub => match (left, right) {
+            (Known::Same(slot), Known::Number(n)) if n != i64::MIN => Known::Moved(slot, -n),
+            _ => Known::Any,
+        },
+        Op::Lt => match (left, right) {
+            (Known::Same(slot), Known::Number(n)) => Known::Below(slot, n),
+            (Known::Number(n), Known::Same(slot)) => Known::Above(slot, n),
+            _ => Known::Any,
+        },
         Op::Mul | Op::Eq => Known::Any,
     }
 }
@@ -108,23 +75,15 @@ fn compare_with(entry: &mut [Known])
     }
 }
 
-/// Forgets the number of a slot that one more instruction stores into.
-fn forget(entry: &mut [Known], slot: u16)
-    ensures { (body : List Instr) (facts : List Known) → IsEntry body facts entry.old
-        → IsEntry (body ++ Store slot ∷ []) facts entry.new }
-{
-    if (slot as usize) < entry.len() {
-        entry[slot as usize] = Known::Same(slot);
-    }
-}
-
 /// Forgets the number of the slot that one more instruction stores into, if it does.
 fn forget_by(entry: &mut [Known], instr: Instr)
     ensures { (body : List Instr) (facts : List Known) → IsEntry body facts entry.old
         → IsEntry (body ++ instr ∷ []) facts entry.new }
 {
     if let Instr::Store(slot) = instr {
-        forget(entry, slot);
+        if (slot as usize) < entry.len() {
+            entry[slot as usize] = Known::Same(slot);
+        }
     }
 }
 

@@ -4,7 +4,7 @@ ghost use Rattle.std.specs.Prelude.{◌≡◌, ◌<◌, ◌≤◌, [], ◌∷◌
 ghost use Rattle.vsi_machine.specs.{declared.loops.Known.{Known}, Stretch.{Evaluates, Leads, IsTest, Stores}, Transfer.{IsValue, Puts, on_two, put as put_fact}, Values.{Acts, IsOperator, Operates}, Search.{Fails, IsChoice, Passes, Reaches, Stuck}, Stopping.{OnEndless}};
 ghost use Rattle.vsi_image.specs.declared.instr.Instr.TheVariants as spec;
 
-use crate::bound::{Cost, Fault, Stop, Test, either, exactly, finish, guard_at, sum};
+use crate::bound::{Cost, Fault, Stop, Test, exactly, finish, guard_at, sum};
 use crate::loops::{Known, applied, entry_of, join};
 use std::alloc::Global;
 use vsi_image::Instr;
@@ -253,7 +253,10 @@ fn branches(
     let more = sum(first, exactly(1))?;
     let second = stretch(alloc, code, &mut other, test.target, test.end, room)?;
     join(facts, &other);
-    Ok(either(more, second))
+    Ok(Cost {
+        least: more.least.min(second.least),
+        most: more.most.max(second.most),
+    })
 }
 
 /// All turns of a loop.

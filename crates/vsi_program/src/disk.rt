@@ -1,6 +1,8 @@
 //! The files of the system and their kinds: what is read is opened, what is replaced is beside.
 
-use crate::replacing::{Claim, Filling, Making, fill_whole, replace_by_new, sweep, sync_folder};
+use crate::replacing::{
+    Claim, Filling, Making, create_beside, fill_whole, replace, sweep, sync_folder,
+};
 use crate::troubles::{NO_FILE, Objection, Trouble, reason_of};
 use std::cell::Cell;
 use std::fs::{File, Metadata};
@@ -84,19 +86,15 @@ fn is_store(mut file: File) -> bool {
     false
 }
 
-/// Whether a file begins as an image does.
-fn begins_as_image(mut file: File) -> bool {
-    let mut bytes = [0; 4];
-    match file.read_exact(&mut bytes) {
-        Ok(()) => bytes.starts_with(IMAGE) && bytes[3] < FIRST_PRINTABLE,
-        Err(_) => false,
-    }
-}
-
 /// Whether a file is of the kind that is written; for a source text any file is.
-pub(crate) fn is_of_kind(file: File, kind: OutputKind) -> bool {
+fn is_of_kind(mut file: File, kind: OutputKind) -> bool {
     match kind {
-        OutputKind::Image => begins_as_image(file),
+        OutputKind::Image => {
+            let mut bytes = [0; 4];
+            file.read_exact(&mut bytes).is_ok()
+                && bytes.starts_with(IMAGE)
+                && bytes[3] < FIRST_PRINTABLE
+        }
         OutputKind::Store | OutputKind::State => is_store(file),
         OutputKind::Source => true,
     }
@@ -214,7 +212,12 @@ impl<'a> Disk<'a> {
     /// is another store than the one with which a drive began. If it is known to be so, there is an
     /// objection.
     fn keeps(&mut self, path: &str) -> bool {
-        if !self.has_bytes(path) {
+        // A link to a file is one only for an image: no other file is written through a link.
+        let found = match self.kind {
+            OutputKind::Image => fs::metadata(self.rt, path),
+            _ => fs::symlink_metadata(self.rt, path),
+        };
+        if !found.is_ok_and(|found| found.is_file() && found.len() > 0) {
             return false;
         }
         let Ok(file) = File::open(self.rt, path) else {
@@ -224,20 +227,12 @@ impl<'a> Disk<'a> {
         if is_alike && self.kind != OutputKind::State {
             return false;
         }
-        self.objection = Some(objection_of(self.kind, is_alike));
+        self.objection = Some(match self.kind {
+            OutputKind::Image => Objection::NoImage,
+            OutputKind::State if is_alike => Objection::OtherStore,
+            _ => Objection::NoStore,
+        });
         true
-    }
-
-    /// Whether the path is that of a file with bytes. A link to one is one only for an image, since
-    /// no other file is written through a link.
-    fn has_bytes(&self, path: &str) -> bool {
-        let found = match self.kind {
-            OutputKind::Image => fs::metadata(self.rt, path),
-            OutputKind::Store | OutputKind::State | OutputKind::Source => {
-                fs::symlink_metadata(self.rt, path)
-            }
-        };
-        found.is_ok_and(|found| found.is_file() && found.len() > 0)
     }
 
     /// Whether the stream of this number, by its link under /proc, is a terminal.
@@ -258,9 +253,9 @@ impl<'a> Disk<'a> {
         None
     }
 
-    /// The new file with these bytes, in the place of the one at the path. Before the first time it
-    /// is known that the folder can be synced, and leftovers are removed.
-    fn replaced(&self, path: &str, fresh: &str, bytes: &[u8]) -> Result<File, Trouble> {
+    /// Puts a new file with these bytes in the place of the one at the path, and keeps it. Before
+    /// the first time it is known that the folder can be synced, and leftovers are removed.
+    fn replace_whole(&mut self, path: &str, fresh: &str, bytes: &[u8]) -> Result<(), Trouble> {
         let is_store = matches!(self.kind, OutputKind::Store | OutputKind::State);
         let making = Making {
             fresh,
@@ -278,27 +273,11 @@ impl<'a> Disk<'a> {
                 sweep(self.rt, making);
             }
         }
-        replace_by_new(self.rt, path, making, filling)
-    }
-
-    /// Puts a new file with these bytes in the place of the one at the path, and keeps it.
-    fn replace_whole(&mut self, path: &str, fresh: &str, bytes: &[u8]) -> Result<(), Trouble> {
-        let file = self.replaced(path, fresh, bytes)?;
+        let made = create_beside(self.rt, making)?;
+        let file = replace(self.rt, path, fresh, made, filling)?;
         self.claim.hold(&file);
         self.has_filled = true;
         Ok(())
-    }
-
-    /// Whether the path leads to a pipe or a device that isn't one of the streams which the system
-    /// gives to the program, nor a device that the path names. The server has only files.
-    fn is_barred(&self, path: &str) -> bool {
-        match fs::metadata(self.rt, path) {
-            Ok(found) if found.is_file() || found.is_dir() => false,
-            Ok(_) if self.is_server => true,
-            Ok(found) if is_pipe(&found) => !is_stream(path),
-            Ok(_) => !is_stream(path) && !is_within(path, "/dev/"),
-            Err(_) => false,
-        }
     }
 }
 
@@ -319,27 +298,6 @@ fn is_stream(path: &str) -> bool {
     path == "/dev/stdin" || is_within(path, "/dev/fd/") || is_within(path, "/proc/self/fd/")
 }
 
-/// Why a file isn't replaced by one of this kind, which it is of or not.
-fn objection_of(kind: OutputKind, is_alike: bool) -> Objection {
-    match kind {
-        OutputKind::Image => Objection::NoImage,
-        OutputKind::State if is_alike => Objection::OtherStore,
-        OutputKind::Store | OutputKind::State | OutputKind::Source => Objection::NoStore,
-    }
-}
-
-/// Why a path leads to nothing, if asking for it is answered by an error of this kind.
-fn reason_without(kind: ErrorKind) -> &'static str {
-    match kind {
-        ErrorKind::NotFound => "there is no file at this path.",
-        ErrorKind::PermissionDenied => "a folder on this path may not be entered.",
-        _ => match reason_of(kind) {
-            Some(reason) => reason,
-            None => "this path doesn't lead to a file.",
-        },
-    }
-}
-
 /// The identity of the file that was found.
 fn identity_of(found: &Metadata) -> Identity {
     let (device, number) = (found.dev(), found.ino());
@@ -350,7 +308,16 @@ impl Files for Disk<'_> {
     type Input = File;
 
     fn open_file(&self, path: &str) -> Option<File> {
-        if self.is_barred(path) {
+        // Pipes and devices are barred, except the streams that the system gives to the program and
+        // devices that the path names. The server has only files.
+        let is_barred = match fs::metadata(self.rt, path) {
+            Ok(found) if found.is_file() || found.is_dir() => false,
+            Ok(_) if self.is_server => true,
+            Ok(found) if is_pipe(&found) => !is_stream(path),
+            Ok(_) => !is_stream(path) && !is_within(path, "/dev/"),
+            Err(_) => false,
+        };
+        if is_barred {
             self.fault.set(Some(NO_FILE));
             return None;
         }
@@ -425,7 +392,11 @@ impl Files for Disk<'_> {
                 Some("the file has more than 1048576 bytes, or may not be read or written.")
             }
             Ok(_) => Some("the file may not be read or written."),
-            Err(error) => Some(reason_without(error.kind())),
+            Err(error) => match error.kind() {
+                ErrorKind::NotFound => Some("there is no file at this path."),
+                ErrorKind::PermissionDenied => Some("a folder on this path may not be entered."),
+                kind => reason_of(kind).or(Some("this path doesn't lead to a file.")),
+            },
         }
     }
 

@@ -49,9 +49,9 @@ impl Claim {
     /// has locked.
     pub(crate) fn put(&self, rt: &HostRuntime, name: &str, path: &str) -> Result<(), Trouble> {
         match self {
-            Claim::Free => put_over(rt, name, path),
+            Claim::Free => Ok(fs::rename(rt, name, path)?),
             Claim::Absent => put_first(rt, name, path),
-            Claim::Locked(file) if is_at(rt, file, path) => put_over(rt, name, path),
+            Claim::Locked(file) if is_at(rt, file, path) => Ok(fs::rename(rt, name, path)?),
             Claim::Locked(_) | Claim::Taken => put_first(rt, name, path),
         }
     }
@@ -74,11 +74,6 @@ impl Claim {
     }
 }
 
-/// Gives a new file the name of the one at the path.
-fn put_over(rt: &HostRuntime, name: &str, path: &str) -> Result<(), Trouble> {
-    Ok(fs::rename(rt, name, path)?)
-}
-
 /// Gives a new file a name that nothing has: as its second name, which the system allows only to
 /// the quickest drive, and then the first one goes. Where files have no second names, it is moved.
 fn put_first(rt: &HostRuntime, name: &str, path: &str) -> Result<(), Trouble> {
@@ -90,7 +85,7 @@ fn put_first(rt: &HostRuntime, name: &str, path: &str) -> Result<(), Trouble> {
         Err(error) if error.kind() == ErrorKind::AlreadyExists => Err(Trouble::Objection(
             Objection::Changed,
         )),
-        Err(_) => put_over(rt, name, path),
+        Err(_) => Ok(fs::rename(rt, name, path)?),
     }
 }
 
@@ -156,25 +151,21 @@ fn take(rt: &HostRuntime, making: Making<'_>, name: &str) -> io::Result<Option<F
 }
 
 /// Makes and locks a file with the name; nothing if the name is taken, or if another instance held
-/// the new file to be a leftover before it was locked.
+/// the new file to be a leftover before it was locked. Where the system locks no files, no instance
+/// removes leftovers.
 fn create_locked(rt: &HostRuntime, name: &str, mode: u32) -> io::Result<Option<File>> {
     let mut options = OpenOptions::new();
     options.write(true).create_new(true).mode(mode);
-    match options.open(rt, name) {
-        Ok(file) if is_kept(rt, &file, name) => Ok(Some(file)),
-        Ok(_) => Ok(None),
-        Err(error) if error.kind() == ErrorKind::AlreadyExists => Ok(None),
-        Err(error) => Err(error),
-    }
-}
-
-/// Whether a new file is locked and still has its name. Where the system locks no files, no
-/// instance removes leftovers.
-fn is_kept(rt: &HostRuntime, file: &File, name: &str) -> bool {
-    match file.try_lock() {
-        Ok(()) => is_at(rt, file, name),
+    let file = match options.open(rt, name) {
+        Ok(file) => file,
+        Err(error) if error.kind() == ErrorKind::AlreadyExists => return Ok(None),
+        Err(error) => return Err(error),
+    };
+    let is_kept = match file.try_lock() {
+        Ok(()) => is_at(rt, &file, name),
         Err(error) => io::Error::from(error).kind() != ErrorKind::WouldBlock,
-    }
+    };
+    Ok(if is_kept { Some(file) } else { None })
 }
 
 /// Whether this is the file with the name, which is no link.
@@ -254,18 +245,14 @@ pub(crate) struct Filling<'a> {
     pub(crate) claim: &'a Claim,
 }
 
-/// The folder of the file at the path.
-fn folder_of(path: &str) -> &str {
-    match path.rsplit_once('/') {
+/// Has the names in the folder of the path on the disk.
+pub(crate) fn sync_folder(rt: &HostRuntime, path: &str) -> Result<(), Trouble> {
+    let folder = match path.rsplit_once('/') {
         Some(("", _)) => "/",
         Some((folder, _)) => folder,
         None => ".",
-    }
-}
-
-/// Has the names in the folder of the path on the disk.
-pub(crate) fn sync_folder(rt: &HostRuntime, path: &str) -> Result<(), Trouble> {
-    let synced = match File::open(rt, folder_of(path)) {
+    };
+    let synced = match File::open(rt, folder) {
         Ok(folder) => folder.sync_all(),
         Err(error) => Err(error),
     };
@@ -274,18 +261,6 @@ pub(crate) fn sync_folder(rt: &HostRuntime, path: &str) -> Result<(), Trouble> {
         Err(error) if error.kind() == ErrorKind::NotFound => Err(Trouble::Fault(None)),
         Err(_) => Err(Trouble::of(UNSYNCED)),
     }
-}
-
-/// Makes a new file beside the one at the path, and puts it in its place once it is filled. It
-/// returns the new file, which is locked.
-pub(crate) fn replace_by_new(
-    rt: &HostRuntime,
-    path: &str,
-    making: Making<'_>,
-    filling: Filling<'_>,
-) -> Result<File, Trouble> {
-    let made = create_beside(rt, making)?;
-    replace(rt, path, making.fresh, made, filling)
 }
 
 /// Fills a new file, whose name is `fresh` unless it has another one, and puts it in the place of
@@ -328,7 +303,12 @@ fn put_in_place(
 /// Gives the file the bytes, and the owner and the rights of the one at the path, if there is one;
 /// all of that is on the disk afterwards.
 fn fill(rt: &HostRuntime, file: &File, path: &str, filling: Filling<'_>) -> Result<(), Trouble> {
-    let old = replaced_at(rt, path)?;
+    let old = match fs::symlink_metadata(rt, path) {
+        Ok(old) if old.is_file() => Some(old),
+        Ok(_) => return Err(Trouble::of(NOT_REGULAR)),
+        Err(error) if error.kind() == ErrorKind::NotFound => None,
+        Err(error) => return Err(Trouble::from(error)),
+    };
     if let Some(old) = &old
         && filling.is_private
     {
@@ -337,19 +317,14 @@ fn fill(rt: &HostRuntime, file: &File, path: &str, filling: Filling<'_>) -> Resu
     let mut writer = file;
     writer.write_all(filling.bytes)?;
     if let Some(old) = &old {
-        give(file, old)?;
+        let made = file.metadata()?;
+        let is_given = made.uid() == old.uid() && made.gid() == old.gid();
+        if !is_given && fchown(file, Some(old.uid()), Some(old.gid())).is_err() {
+            return Err(Trouble::of(NOT_GIVEN));
+        }
+        file.set_permissions(Permissions::from_mode(old.mode() & RIGHTS))?;
     }
     Ok(file.sync_all()?)
-}
-
-/// The metadata of the regular file at the path, if there is a file.
-fn replaced_at(rt: &HostRuntime, path: &str) -> Result<Option<Metadata>, Trouble> {
-    match fs::symlink_metadata(rt, path) {
-        Ok(old) if old.is_file() => Ok(Some(old)),
-        Ok(_) => Err(Trouble::of(NOT_REGULAR)),
-        Err(error) if error.kind() == ErrorKind::NotFound => Ok(None),
-        Err(error) => Err(Trouble::from(error)),
-    }
 }
 
 /// Objects to a file that isn't owned by the owner of the new one, or that others may read or
@@ -363,25 +338,6 @@ fn keep_private(file: &File, old: &Metadata) -> Result<(), Trouble> {
     }
 }
 
-/// Gives the file the owner and the rights of another one.
-fn give(file: &File, old: &Metadata) -> Result<(), Trouble> {
-    let made = file.metadata()?;
-    let is_given = made.uid() == old.uid() && made.gid() == old.gid();
-    if !is_given && fchown(file, Some(old.uid()), Some(old.gid())).is_err() {
-        return Err(Trouble::of(NOT_GIVEN));
-    }
-    Ok(file.set_permissions(Permissions::from_mode(old.mode() & RIGHTS))?)
-}
-
-/// Whether a new file may take the place of what is at the path: nothing, or a file of its own that
-/// this user may write.
-fn may_replace(rt: &HostRuntime, path: &str) -> bool {
-    match fs::symlink_metadata(rt, path) {
-        Ok(found) => found.is_file() && OpenOptions::new().write(true).open(rt, path).is_ok(),
-        Err(error) => error.kind() == ErrorKind::NotFound,
-    }
-}
-
 /// Fills the file at the path as a whole, by a new one beside it with this mode. A device, a pipe,
 /// the target of a link and a file in a folder that can't be written to are filled where they are,
 /// and so is any file if there is no memory for a name.
@@ -391,7 +347,12 @@ pub(crate) fn fill_whole(
     mode: u32,
     filling: Filling<'_>,
 ) -> Result<(), Trouble> {
-    if !may_replace(rt, path) {
+    // A new file may take the place of nothing, or of a file of its own that this user may write.
+    let may_replace = match fs::symlink_metadata(rt, path) {
+        Ok(found) => found.is_file() && OpenOptions::new().write(true).open(rt, path).is_ok(),
+        Err(error) => error.kind() == ErrorKind::NotFound,
+    };
+    if !may_replace {
         return fill_there(rt, path, filling.bytes);
     }
     sync_folder(rt, path)?;
@@ -415,7 +376,9 @@ pub(crate) fn fill_whole(
 /// Empties and fills the file at the path, which is on the disk afterwards unless it is a device or
 /// a pipe.
 fn fill_there(rt: &HostRuntime, path: &str, bytes: &[u8]) -> Result<(), Trouble> {
-    if is_dangling(rt, path) {
+    // A link to nothing would be made where somebody else wants it.
+    let is_link = fs::symlink_metadata(rt, path).is_ok_and(|found| found.is_symlink());
+    if is_link && fs::metadata(rt, path).is_err() {
         return Err(Trouble::of(LEADS_NOWHERE));
     }
     let mut file = File::create(rt, path)?;
@@ -425,14 +388,6 @@ fn fill_there(rt: &HostRuntime, path: &str, bytes: &[u8]) -> Result<(), Trouble>
     }
     file.sync_all()?;
     sync_target(rt, path)
-}
-
-/// Whether the path is that of a link to nothing, which would be made where somebody else wants it.
-fn is_dangling(rt: &HostRuntime, path: &str) -> bool {
-    match fs::symlink_metadata(rt, path) {
-        Ok(found) => found.is_symlink() && fs::metadata(rt, path).is_err(),
-        Err(_) => false,
-    }
 }
 
 /// Has the name of the file at the path on the disk, in the folder of its target if it is a link. A

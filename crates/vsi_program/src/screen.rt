@@ -44,11 +44,6 @@ impl Piece {
         self.put(DIGITS[byte as usize / 16 % 16]);
         self.put(DIGITS[byte as usize % 16]);
     }
-
-    /// Whether there may be no room for another step.
-    fn is_full(&self) -> bool {
-        self.length >= ROOM - STEP
-    }
 }
 
 /// A stream. If it is a terminal, it gets printable ASCII, tabs, line feeds, characters beyond
@@ -62,36 +57,6 @@ pub(crate) struct Screen<W> {
     left: u8,
     /// Whether the last byte begins a character that may be a control character.
     is_doubtful: bool,
-}
-
-/// The sequence for colours at the beginning of bytes, and the bytes after it.
-fn colour(bytes: &[u8]) -> Option<(&'static [u8], &[u8])> {
-    match bytes {
-        [27, b'[', b'1', b';', b'3', b'1', b'm', rest @ ..] => Some((b"\x1b[1;31m", rest)),
-        [27, b'[', b'0', b'm', rest @ ..] => Some((b"\x1b[0m", rest)),
-        _ => None,
-    }
-}
-
-/// The second byte of a control character beyond ASCII at the beginning of bytes, and what follows.
-fn control(bytes: &[u8]) -> Option<(u8, &[u8])> {
-    match bytes {
-        [LEAD, second, rest @ ..] if *second >= 0x80 && *second < 0xA0 => Some((*second, rest)),
-        _ => None,
-    }
-}
-
-/// How many bytes follow this first byte of a character beyond ASCII; 0 if it is none.
-fn following(byte: u8) -> u8 {
-    if byte < 0xC2 || byte > 0xF4 {
-        0
-    } else if byte < 0xE0 {
-        1
-    } else if byte < 0xF0 {
-        2
-    } else {
-        3
-    }
 }
 
 impl<W: IsTerminal> Screen<W> {
@@ -116,22 +81,33 @@ impl<W> Screen<W> {
             self.left -= 1;
             return !(was_doubtful && byte < 0xA0);
         }
-        self.left = following(byte);
+        // How many bytes of a character beyond ASCII follow its first one.
+        self.left = match byte {
+            0xC2..=0xDF => 1,
+            0xE0..=0xEF => 2,
+            0xF0..=0xF4 => 3,
+            _ => 0,
+        };
         self.left > 0 || byte == b'\n' || byte == b'\t' || (byte >= b' ' && byte <= b'~')
     }
 
     /// Adds what is written for the first character or sequence, and returns the bytes after it.
     fn step<'b>(&mut self, bytes: &'b [u8], piece: &mut Piece) -> &'b [u8] {
-        if let Some((sequence, after)) = colour(bytes) {
-            piece.put_all(sequence);
-            return after;
-        }
-        if let Some((second, after)) = control(bytes) {
-            piece.put_code(LEAD);
-            piece.put_code(second);
-            return after;
-        }
         match bytes {
+            [27, b'[', b'1', b';', b'3', b'1', b'm', after @ ..] => {
+                piece.put_all(b"\x1b[1;31m");
+                after
+            }
+            [27, b'[', b'0', b'm', after @ ..] => {
+                piece.put_all(b"\x1b[0m");
+                after
+            }
+            // A control character beyond ASCII.
+            [LEAD, second, after @ ..] if *second >= 0x80 && *second < 0xA0 => {
+                piece.put_code(LEAD);
+                piece.put_code(*second);
+                after
+            }
             [byte, after @ ..] => {
                 if self.shows(*byte) {
                     piece.put(*byte);
@@ -140,25 +116,8 @@ impl<W> Screen<W> {
                 }
                 after
             }
-            _ => bytes,
+            [] => bytes,
         }
-    }
-
-    /// The bytes that are written for the first ones, and the other ones.
-    fn shown<'b>(&mut self, bytes: &'b [u8]) -> (Piece, &'b [u8]) {
-        let room = [0; ROOM];
-        let mut piece = Piece {
-            bytes: room,
-            length: 0,
-        };
-        let mut rest = bytes;
-        for _step in 0..bytes.len() {
-            if piece.is_full() {
-                break;
-            }
-            rest = self.step(rest, &mut piece);
-        }
-        (piece, rest)
     }
 }
 
@@ -167,7 +126,16 @@ impl<W: Write> Write for Screen<W> {
         if !self.is_terminal {
             return self.inner.write(buf);
         }
-        let (piece, rest) = self.shown(buf);
+        let bytes = [0; ROOM];
+        let mut piece = Piece { bytes, length: 0 };
+        let mut rest = buf;
+        for _step in 0..buf.len() {
+            // There may be no room for another step.
+            if piece.length >= ROOM - STEP {
+                break;
+            }
+            rest = self.step(rest, &mut piece);
+        }
         self.inner
             .write_all(&piece.bytes[..piece.length.min(ROOM)])?;
         Ok(buf.len().saturating_sub(rest.len()))

@@ -40,17 +40,6 @@ fn compiled(
     }
 }
 
-/// Adds the first three and the last four lines of a text.
-fn put_ends(row: &mut Row<'_>, text: &str) -> Result<(), Wrong> {
-    let count = text.lines().count();
-    for (at, line) in text.lines().enumerate() {
-        if at < 3 || at.saturating_add(4) >= count {
-            writeln!(row.answer, "{line}")?;
-        }
-    }
-    Ok(())
-}
-
 /// `judge`, `sizes` or `compile`, then `PROFILE LATTICE TEXT`: that the text is accepted, the first
 /// three and the last four lines of the listing, or the listing; or the fault.
 pub(crate) fn image(row: &mut Row<'_>, lattice: &Lattice, call: &str) -> Result<(), Wrong> {
@@ -60,10 +49,17 @@ pub(crate) fn image(row: &mut Row<'_>, lattice: &Lattice, call: &str) -> Result<
         return row.put("accepted\n");
     }
     let listed = listing(row.alloc, verified.image())?;
-    if call == "sizes" {
-        return put_ends(row, from_utf8(&listed).unwrap_or(""));
+    if call != "sizes" {
+        return row.put_bytes(&listed);
     }
-    row.put_bytes(&listed)
+    let text = from_utf8(&listed).unwrap_or("");
+    let count = text.lines().count();
+    for (at, line) in text.lines().enumerate() {
+        if at < 3 || at.saturating_add(4) >= count {
+            writeln!(row.answer, "{line}")?;
+        }
+    }
+    Ok(())
 }
 
 /// `classes PROFILE LATTICE TEXT`: the class lines, by `classes_text` for the base profile, or the
@@ -80,8 +76,9 @@ pub(crate) fn classes(row: &mut Row<'_>, lattice: &Lattice) -> Result<(), Wrong>
 /// `refusal PROFILE LATTICE TEXT | OTHER`: the report of the text's refusal, in terms of the other
 /// text; without another text, in terms of the text itself.
 pub(crate) fn refusal(row: &mut Row<'_>, lattice: &Lattice) -> Result<(), Wrong> {
-    let text = row.first_text()?;
-    let other = row.text()?;
+    let (first, other) = row.rest.split_once(" | ").unwrap_or((row.rest, row.rest));
+    let text = bytes_of(row.alloc, first)?;
+    let other = bytes_of(row.alloc, other)?;
     match compiled(row.alloc, row.profile, lattice, &text) {
         Ok(_) => row.put("accepted\n"),
         Err(error) => {
@@ -229,17 +226,6 @@ pub(crate) fn least_classes(row: &mut Row<'_>, lattice: &Lattice) -> Result<(), 
     }
 }
 
-/// The next field as the name of a rule.
-fn rule(row: &mut Row<'_>) -> Rule {
-    match row.field() {
-        "ASSIGN" => Rule::Assign,
-        "LETVAR" => Rule::Letvar,
-        "IF" => Rule::If,
-        "WHILE" => Rule::While,
-        _ => Rule::Loop,
-    }
-}
-
 /// The next field as the first byte of a name of one byte.
 fn place(row: &mut Row<'_>) -> Result<Span, Wrong> {
     let start = usize::from(row.small()?);
@@ -252,7 +238,13 @@ fn walk(row: &mut Row<'_>) -> Result<Walk, Wrong> {
     let mut steps = Vec::new(row.alloc);
     for _ in 0..row.small()? {
         steps.push(Step {
-            rule: rule(row),
+            rule: match row.field() {
+                "ASSIGN" => Rule::Assign,
+                "LETVAR" => Rule::Letvar,
+                "IF" => Rule::If,
+                "WHILE" => Rule::While,
+                _ => Rule::Loop,
+            },
             source: Var(row.small()?),
             target: Var(row.small()?),
             read: place(row)?,

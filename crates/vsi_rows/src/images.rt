@@ -113,27 +113,9 @@ pub(crate) fn verified(row: &mut Row<'_>) -> Result<(), Wrong> {
     row.put("valid\n")
 }
 
-/// Adds the output of a part of a run: `t` is a step with its trace line, or without one if there
-/// was none, and a number is a run with this budget.
-fn put_part(row: &mut Row<'_>, machine: &mut Machine<'_>, part: &str) -> Result<(), Wrong> {
-    if let Ok(budget) = part.parse::<u64>() {
-        let outcome = machine.run(budget);
-        return Ok(writeln!(row.answer, "{part}: {outcome:?}")?);
-    }
-    match machine.trace_line(row.alloc)? {
-        Some(line) => row.put_bytes(&line)?,
-        None => row.put("no line")?,
-    }
-    row.put(if machine.step() {
-        "\n"
-    } else {
-        " and no step\n"
-    })
-}
-
 /// `machine STORE PARTS IMAGE`: the output of each part of one run, in turn, and then the store
 /// that it leaves. Commas separate the parts: a number is a run with this budget, and `t` is one
-/// step with its trace line.
+/// step with its trace line, or without one if there was none.
 pub(crate) fn machine(row: &mut Row<'_>) -> Result<(), Wrong> {
     let store = row.numbers()?;
     let parts = row.field();
@@ -143,7 +125,20 @@ pub(crate) fn machine(row: &mut Row<'_>) -> Result<(), Wrong> {
         Err(error) => return row.put_line(&error),
     };
     for part in parts.split(',') {
-        put_part(row, &mut machine, part)?;
+        if let Ok(budget) = part.parse::<u64>() {
+            let outcome = machine.run(budget);
+            writeln!(row.answer, "{part}: {outcome:?}")?;
+            continue;
+        }
+        match machine.trace_line(row.alloc)? {
+            Some(line) => row.put_bytes(&line)?,
+            None => row.put("no line")?,
+        }
+        row.put(if machine.step() {
+            "\n"
+        } else {
+            " and no step\n"
+        })?;
     }
     row.put("store")?;
     row.put_words(machine.store())

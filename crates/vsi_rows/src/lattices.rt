@@ -7,37 +7,27 @@ use crate::row::{Row, Wrong};
 use vsi_answers::Fault;
 use vsi_lattice::{Class, Classes, Lattice, MaskLattice, OrderError, PairLattice, read_lattice};
 
-/// Adds, for two classes, whether the first is at or below the second, their join and their meet.
-fn put_pair<C: Classes>(
-    row: &mut Row<'_>,
-    lattice: &C,
-    low: Class,
-    high: Class,
-) -> Result<(), Wrong> {
-    if low.index() >= lattice.count() || high.index() >= lattice.count() {
-        return Ok(());
-    }
-    let sign = if lattice.leq(low, high) { '<' } else { '.' };
-    let (join, meet) = (
-        lattice.join(low, high).index(),
-        lattice.meet(low, high).index(),
-    );
-    Ok(write!(row.answer, " {sign}{join}/{meet}")?)
-}
-
-/// Adds the line of a class, if there is one of this number.
+/// Adds the line of a class, if there is one of this number: for each class, whether the first is at
+/// or below that one, their join and their meet.
 fn put_class<C: Classes>(row: &mut Row<'_>, lattice: &C, number: u8) -> Result<(), Wrong> {
     if usize::from(number) >= lattice.count() {
         return Ok(());
     }
     write!(row.answer, "{number}:")?;
     for other in 0..64u8 {
-        put_pair(row, lattice, Class::at(number), Class::at(other))?;
+        let (low, high) = (Class::at(number), Class::at(other));
+        if low.index() >= lattice.count() || high.index() >= lattice.count() {
+            continue;
+        }
+        let sign = if lattice.leq(low, high) { '<' } else { '.' };
+        let join = lattice.join(low, high).index();
+        let meet = lattice.meet(low, high).index();
+        write!(row.answer, " {sign}{join}/{meet}")?;
     }
     row.put("\n")
 }
 
-/// Adds a line for each class, with the text of `put_pair` for each class as the second.
+/// Adds a line for each class.
 fn put_order<C: Classes>(row: &mut Row<'_>, lattice: &C) -> Result<(), Wrong> {
     let (bottom, top) = (lattice.bottom().index(), lattice.top().index());
     writeln!(row.answer, "bottom {bottom} top {top}")?;

@@ -26,20 +26,16 @@ fn put(out: &mut Vec<u8>, first: u8, rest: &[u8]) -> Result<(), Wrong> {
     Ok(())
 }
 
-/// Adds a number below 676 in two capital letters.
-fn put_letters(out: &mut Vec<u8>, number: u32) -> Result<(), AllocError> {
-    let first = (number / 26 % 26) as u8;
-    let second = (number % 26) as u8;
-    out.extend_from_slice(&[b'A' + first, b'A' + second])
-}
-
 /// Adds a part for a number.
 fn put_turn(out: &mut Vec<u8>, part: &str, number: u32) -> Result<(), Wrong> {
     for byte in part.as_bytes() {
         match byte {
             b'%' => put_number(out, number as usize)?,
             b'~' => put_number(out, number.wrapping_sub(1) as usize)?,
-            b'@' => put_letters(out, number)?,
+            b'@' => {
+                let (first, second) = ((number / 26 % 26) as u8, (number % 26) as u8);
+                out.extend_from_slice(&[b'A' + first, b'A' + second])?;
+            }
             _ => out.push(*byte)?,
         }
     }
@@ -235,17 +231,6 @@ impl<'a> Row<'a> {
             classes.push(Class::at(u8::try_from(*number).unwrap_or(u8::MAX)))?;
         }
         Ok(classes)
-    }
-
-    /// The rest up to ` | `, as the bytes that it denotes; the text after it remains. Without a
-    /// ` | `, the whole text counts as both.
-    pub(crate) fn first_text(&mut self) -> Result<Vec<u8>, Wrong> {
-        let (first, other) = self
-            .rest
-            .split_once(" | ")
-            .unwrap_or((self.rest, self.rest));
-        self.rest = other;
-        bytes_of(self.alloc, first)
     }
 
     /// The rest, as the bytes that it denotes.

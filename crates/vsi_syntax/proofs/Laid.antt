@@ -19,7 +19,7 @@ use Rattle.vsi_syntax.proofs.Unique.{one_cut}
 use Rattle.vsi_syntax.specs.declared.layouts.LayoutError.TheVariants.{Memory}
 use Rattle.vsi_syntax.specs.Errors.{lexical, syntactic}
 use Rattle.vsi_syntax.specs.Same.{is_same}
-use Rattle.vsi_syntax.specs.Writing.{laid, lacks_memory}
+use Rattle.vsi_syntax.specs.Writing.{laid}
 use Rattle.vsi_syntax.specs.Layout.{IsRead, HasProgram, IsSameText, IsGood, IsChosen, IsLayout}
 use Rattle.vsi_syntax.proofs.Sames.{same_texts}
 
@@ -122,12 +122,6 @@ layout_again s t u h i = chosen_again s t u h.tokens i.tokens h.cut i.cut h.chos
 true_false : (b : Bool) → b ≡ true → b ≡ false → ⊥
 true_false true h i = absurd cc
 true_false false h i = absurd cc
-
--- A text that the lexer refuses is no good layout.
-pub bad_lex : (s t : List ℕ) (ps : List Piece) (e : LexError) → lacks_memory e ≡ false →
-    ((qs : List Piece) → length t ≤ max_text_length → IsCut t qs → e ≡ lexer.Memory) → IsGood s ps t → ⊥
-bad_lex s t ps e lacks exact g =
-    true_false (lacks_memory e) (ap lacks_memory (exact g.others g.short g.cut)) lacks
 
 -- A text with other tokens or comments is no good layout.
 pub bad_same : (s t : List ℕ) (ps : List Piece) (again seen : List Token) (b : Bool) → seen ≡ again →

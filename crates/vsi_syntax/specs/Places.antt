@@ -2,7 +2,7 @@
 use Rattle.std.specs.Prelude.{◌≡◌, ◌≤◌, ℕ, suc, ◌+◌, ◌==◌, bytes_eq, List, [], ◌∷◌, ◌++◌, codes, decimal, drop, take, length, if◌then◌else◌}
 use Rattle.vsi_syntax.specs.Cut.{Piece, IsCut}
 use Rattle.vsi_syntax.specs.Lines.{breaks, last_line, place_text}
-use Rattle.vsi_syntax.specs.declared.layouts.Spot.{Spot}
+use Rattle.vsi_syntax.specs.declared.numbers.Spot.{Spot}
 use Rattle.vsi_syntax.specs.Comments.{part}
 
 -- The number of bytes with which both texts begin.

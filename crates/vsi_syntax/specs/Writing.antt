@@ -1,10 +1,8 @@
 -- The layout of a text.
-use Rattle.std.specs.Prelude.{ℕ, Bool, true, false, List, [], ◌∷◌, ◌++◌, drop, Option, Some, None}
+use Rattle.std.specs.Prelude.{ℕ, List, [], ◌∷◌, ◌++◌, drop, Option, Some, None}
 use Rattle.std.specs.Fmt.{signed_decimal}
 use Rattle.vsi_syntax.specs.declared.token.Kind.{Kind}
 use Rattle.vsi_syntax.specs.declared.token.Kind.TheVariants as k
-use Rattle.vsi_syntax.specs.declared.lexer.LexError.{LexError}
-use Rattle.vsi_syntax.specs.declared.lexer.LexError.TheVariants as lexer
 use Rattle.vsi_syntax.specs.Cut.{Piece}
 use Rattle.vsi_syntax.specs.Comments.{part}
 use Rattle.vsi_syntax.specs.Gaps.{fresh, gap_text}
@@ -26,8 +24,3 @@ laid_from at before depth text (p ∷ ps) =
 -- The layout of a text with these tokens.
 abbrev pub laid : List ℕ → List Piece → List ℕ
 laid = laid_from 0 None 0
-
--- The error is lack of memory.
-abbrev pub lacks_memory : LexError → Bool
-lacks_memory lexer.Memory = true
-lacks_memory _ = false

@@ -1,12 +1,13 @@
 //! Lays out a text, checks what was laid out, and tells where a text differs from it.
 
-ghost use Rattle.std.specs.Prelude.{◌≡◌, true, false, bytes_eq, IfOk, IfErr, ◌+◌, ◌++◌, OnOk, length, take};
-ghost use Rattle.vsi_syntax.specs.{Cut.{piece, pieces}, Layout.{IsGood, IsLayout, HasProgram, HasTokens}, declared.layouts.LayoutError.TheVariants.{Memory}, Lines.{breaks, last_line}};
+ghost use Rattle.std.specs.Prelude.{◌≡◌, true, false, IfOk, IfErr, ◌+◌, ◌++◌, OnOk};
+ghost use Rattle.vsi_syntax.specs.{Cut.{piece, pieces}, Layout.{IsGood, IsLayout, HasProgram, HasTokens}, declared.layouts.LayoutError.TheVariants.{Memory}};
 ghost use Rattle.vsi_syntax.specs.Comments as gaps;
 ghost use Rattle.vsi_syntax.specs.Same as sames;
 ghost use Rattle.vsi_syntax.specs.Writing as spec;
 ghost use Rattle.vsi_syntax.specs.Places as places_spec;
 
+use crate::numbers::{START, moved};
 use crate::writing::{laid, part, rest_of};
 use crate::{Kind, LexError, ParseError, Token, lex, parse, put_line_column};
 use std::alloc::{AllocError, Global};
@@ -88,36 +89,18 @@ fn is_good(alloc: Global, text: &[u8], tokens: &[Token<'_>], out: &[u8]) -> Resu
 {
     let again = match lex(alloc, out) {
         Ok(again) => again,
-        Err(error) => {
-            if lacks_memory(&error) {
-                return Err(AllocError);
-            }
-            return Ok(false);
-        }
+        Err(error) => match error {
+            LexError::Memory => return Err(AllocError),
+            _ => return Ok(false),
+        },
     };
     let same = is_same(alloc, text, tokens, out, &again)?;
     if same {
-        let fixed = is_fixed(alloc, out, &again)?;
-        Ok(fixed)
+        let twice = laid(alloc, out, &again)?;
+        Ok(twice.as_slice() == out)
     } else {
         Ok(false)
     }
-}
-
-/// Whether the error is lack of memory.
-fn lacks_memory(error: &LexError) -> bool
-    ensures { result ≡ spec.lacks_memory error.now }
-{
-    matches!(error, LexError::Memory)
-}
-
-/// Whether a text with these tokens is laid out as itself.
-fn is_fixed(alloc: Global, text: &[u8], tokens: &[Token<'_>]) -> Result<bool, AllocError>
-    ensures { IfOk result
-        (λ is. is ≡ bytes_eq (spec.laid text.now (pieces tokens.now)) text.now) }
-{
-    let twice = laid(alloc, text, tokens)?;
-    Ok(twice.as_slice() == text)
 }
 
 /// The comments in a gap, each with a line feed at its end.
@@ -143,40 +126,17 @@ fn comments(alloc: Global, gap: &[u8]) -> Result<Vec<u8>, AllocError>
     Ok(text)
 }
 
-/// Whether two gaps have the same comments.
-fn has_same_comments(alloc: Global, a: &[u8], b: &[u8]) -> Result<bool, AllocError>
-    ensures { IfOk result (λ is. is ≡ sames.has_same_comments a.now b.now) }
-{
-    let first = comments(alloc, a)?;
-    let second = comments(alloc, b)?;
-    Ok(first == second)
-}
-
-/// The value of a number.
-fn number_of(kind: Kind) -> Option<i64>
-    ensures { result ≡ sames.number_of kind }
-{
-    match kind {
-        Kind::Number(number) => Some(number),
-        _ => None,
-    }
-}
-
-/// Whether there are two values that are the same.
-fn is_same_value(a: Option<i64>, b: Option<i64>) -> bool
-    ensures { result ≡ sames.is_same_value a b }
-{
-    match (a, b) {
-        (Some(first), Some(second)) => first == second,
-        _ => false,
-    }
-}
-
 /// Whether two tokens are the same: they have one text, or they are numbers of one value.
 fn is_same_token(a: &Token<'_>, b: &Token<'_>) -> bool
     ensures { result ≡ sames.is_same_token (piece a.now) (piece b.now) }
 {
-    a.text == b.text || is_same_value(number_of(a.kind), number_of(b.kind))
+    if a.text == b.text {
+        return true;
+    }
+    match (a.kind, b.kind) {
+        (Kind::Number(first), Kind::Number(second)) => first == second,
+        _ => false,
+    }
 }
 
 /// Whether two texts have the same tokens and comments in the same order.
@@ -203,7 +163,7 @@ fn is_same(
         }
         let a_gap = part(first, a_at, a.span.start);
         let b_gap = part(second, b_at, b.span.start);
-        if !has_same_comments(alloc, a_gap, b_gap)? {
+        if comments(alloc, a_gap)? != comments(alloc, b_gap)? {
             return Ok(false);
         }
         a_at = a.span.stop;
@@ -214,49 +174,7 @@ fn is_same(
     if !b_rest.is_empty() {
         return Ok(false);
     }
-    has_same_comments(alloc, rest_of(first, a_at), rest_of(second, b_at))
-}
-
-/// A position in a text with its line and column, which are counted from 1.
-#[derive(Clone, Copy)]
-pub(crate) struct Spot {
-    pub(crate) at: usize,
-    pub(crate) line: usize,
-    pub(crate) column: usize,
-}
-
-/// The beginning of a text.
-const START: Spot = Spot {
-    at: 0,
-    line: 1,
-    column: 1,
-};
-
-/// The spot of a position. The text is scanned from another spot on, if that comes first.
-fn moved(text: &[u8], spot: Spot, to: usize) -> Spot
-    requires { places_spec.IsSpot text.now spot }
-    ensures spot { places_spec.IsSpot text.now result }
-    ensures line { result.line ≡ 1 + breaks (take to text.now) }
-    ensures column { result.column ≡ 1 + length (last_line (take to text.now)) }
-{
-    let end = to.min(text.len());
-    let from = if spot.at <= end { spot } else { START };
-    let (mut line, mut column) = (from.line, from.column);
-    let mut i = from.at;
-    while i < end {
-        if text[i] == b'\n' {
-            line += 1;
-            column = 1;
-        } else {
-            column += 1;
-        }
-        i += 1;
-    }
-    Spot {
-        at: i,
-        line,
-        column,
-    }
+    Ok(comments(alloc, rest_of(first, a_at))? == comments(alloc, rest_of(second, b_at))?)
 }
 
 /// The number of bytes with which both texts begin.
@@ -300,21 +218,6 @@ fn put_gap_change(
     Ok(starts.push(place)?)
 }
 
-/// Adds the position of a token if it is spelled otherwise than another one.
-fn put_token_change(
-    starts: &mut Vec<usize>,
-    token: &Token<'_>,
-    other: &Token<'_>,
-) -> Result<(), AllocError>
-    ensures { OnOk result (starts.new.items
-        ≡ starts.old.items ++ places_spec.token_change (piece token.now) (piece other.now)) }
-{
-    if token.text == other.text {
-        return Ok(());
-    }
-    Ok(starts.push(token.span.start)?)
-}
-
 /// The positions at which a text begins to differ from another one.
 fn changes(
     alloc: Global,
@@ -339,7 +242,9 @@ fn changes(
         let gap = part(text, at, token.span.start);
         let other_gap = part(out, other_at, other.span.start);
         put_gap_change(&mut starts, at, gap, other_gap)?;
-        put_token_change(&mut starts, token, other)?;
+        if token.text != other.text {
+            starts.push(token.span.start)?;
+        }
         at = token.span.stop;
         other_at = other.span.stop;
         rest = behind;
@@ -351,14 +256,6 @@ fn changes(
         starts.push(at)?;
     }
     Ok(starts)
-}
-
-/// Adds the line about a place.
-fn put_line(lines: &mut Vec<u8>, spot: Spot) -> Result<(), AllocError>
-    ensures { OnOk result (lines.new.items ≡ lines.old.items ++ places_spec.spot_line spot) }
-{
-    put_line_column(lines, spot.line, spot.column)?;
-    lines.extend_from_slice(b" differs\n")
 }
 
 /// The lines about these positions of a text.
@@ -373,7 +270,8 @@ fn lines_of(alloc: Global, text: &[u8], starts: &[usize]) -> Result<Vec<u8>, All
     while let [at, behind @ ..] = rest {
         spot = moved(text, spot, *at);
         if spot.line != last {
-            put_line(&mut lines, spot)?;
+            put_line_column(&mut lines, spot.line, spot.column)?;
+            lines.extend_from_slice(b" differs\n")?;
         }
         last = spot.line;
         rest = behind;

@@ -1,6 +1,6 @@
 //! Prints a program in its canonical form.
 
-ghost use Rattle.std.specs.Prelude.{◌≡◌, ◌≤◌, ◌+◌, ◌++◌, IfOk, OnOk, option_map, map};
+ghost use Rattle.std.specs.Prelude.{◌≡◌, ◌≤◌, ◌+◌, ◌++◌, IfOk, OnOk, option_map};
 ghost use Rattle.vsi_syntax.specs.{Tree.{command_depth, body_depth}, View.{tree, named}, CommandView.{command, body_of, declared}, ProgramView.{whole}, Limits.{max_depth}};
 ghost use Rattle.vsi_syntax.specs.Canon as spec;
 
@@ -19,7 +19,10 @@ pub fn print(alloc: Global, program: &Program) -> Result<Vec<u8>, AllocError>
     ensures canonical { IfOk result (λ text. text.items ≡ spec.canon (whole program.now)) }
 {
     let mut out = Vec::new(alloc);
-    print_globals(&mut out, program.globals())?;
+    let globals = program.globals();
+    for g in globals {
+        print_global(&mut out, g)?;
+    }
     print_body(&mut out, program.body(), 0)?;
     out.extend_from_slice(b"\n")?;
     Ok(out)
@@ -36,30 +39,6 @@ fn print_global(out: &mut Vec<u8>, g: &Declaration) -> Result<(), AllocError>
     out.extend_from_slice(b";\n")
 }
 
-/// Prints the lines of the globals.
-fn print_globals(out: &mut Vec<u8>, globals: &[Declaration]) -> Result<(), AllocError>
-    ensures { OnOk result
-        (out.new.items ≡ out.old.items ++ spec.canon_globals (map declared globals.now)) }
-{
-    for g in globals {
-        print_global(out, g)?;
-    }
-    Ok(())
-}
-
-/// Prints an operator with a space on each side.
-fn print_op(out: &mut Vec<u8>, op: Op) -> Result<(), AllocError>
-    ensures { OnOk result (out.new.items ≡ out.old.items ++ spec.op_text op) }
-{
-    match op {
-        Op::Add => out.extend_from_slice(b" + "),
-        Op::Sub => out.extend_from_slice(b" - "),
-        Op::Mul => out.extend_from_slice(b" * "),
-        Op::Eq => out.extend_from_slice(b" = "),
-        Op::Lt => out.extend_from_slice(b" < "),
-    }
-}
-
 /// Prints an expression.
 fn print_expression(out: &mut Vec<u8>, e: &Expr) -> Result<(), AllocError>
     ensures { OnOk result (out.new.items ≡ out.old.items ++ spec.canon_tree (tree e.now)) }
@@ -74,7 +53,13 @@ fn print_expression(out: &mut Vec<u8>, e: &Expr) -> Result<(), AllocError>
         }
         Expr::Binary(op, a, b) => {
             print_expression(out, a)?;
-            print_op(out, *op)?;
+            out.extend_from_slice(match op {
+                Op::Add => b" + ",
+                Op::Sub => b" - ",
+                Op::Mul => b" * ",
+                Op::Eq => b" = ",
+                Op::Lt => b" < ",
+            })?;
             print_expression(out, b)
         }
     }
@@ -94,8 +79,8 @@ fn print_class(out: &mut Vec<u8>, class: Option<Name>) -> Result<(), AllocError>
     }
 }
 
-/// Prints two spaces for each level of indentation.
-fn print_spaces(out: &mut Vec<u8>, indent: u16) -> Result<(), AllocError>
+/// Writes two spaces for each level of indentation.
+pub(crate) fn put_spaces(out: &mut Vec<u8>, indent: u16) -> Result<(), AllocError>
     ensures { OnOk result (out.new.items ≡ out.old.items ++ spec.spaces indent) }
 {
     for _ in 0..indent {
@@ -117,7 +102,7 @@ fn print_body(out: &mut Vec<u8>, body: &[Stmt], indent: u16) -> Result<(), Alloc
             out.extend_from_slice(b";\n")?;
         }
         first = false;
-        print_spaces(out, indent)?;
+        put_spaces(out, indent)?;
         print_command(out, c, indent)?;
     }
     Ok(())
@@ -163,7 +148,7 @@ fn print_command(out: &mut Vec<u8>, c: &Stmt, indent: u16) -> Result<(), AllocEr
             out.extend_from_slice(b"{\n")?;
             print_body(out, body, indent + 1)?;
             out.extend_from_slice(b"\n")?;
-            print_spaces(out, indent)?;
+            put_spaces(out, indent)?;
             out.extend_from_slice(b"}")
         }
     }

@@ -1,9 +1,9 @@
 //! The check of a program under a choice of classes: a walk over its flow steps in order.
 
-ghost use Rattle.std.specs.{Prelude.{◌+◌, ◌≤◌, length, ◌≡◌, ◌++◌, Err, IfErr, OnOk}, List.{All}};
+ghost use Rattle.std.specs.{Prelude.{◌+◌, ◌≤◌, length, ◌≡◌, Err, IfErr, OnOk}, List.{All}};
 ghost use Rattle.vsi_lattice.specs.Order.{IsClass};
-ghost use Rattle.vsi_scope.specs.{Language.{letvars, HasPlaces, Assign, If, While, Letvar}, View.{expression, command, sequence}, Limits.{max_declarations}};
-ghost use Rattle.vsi_types.specs.{Security.{class_of, IsChoice, IsTypable, steps_of, program as program_of}, Checking.{Judged, TellsFault, TellsWhy}, Walker.{walker_place}, declared.rules.CheckError.TheVariants.{Memory, WrongChoice}, declared.rules.Profile.TheVariants.{Base}};
+ghost use Rattle.vsi_scope.specs.{Language.{letvars, HasPlaces}, View.{command, sequence}, Limits.{max_declarations}};
+ghost use Rattle.vsi_types.specs.{Security.{class_of, IsChoice, IsTypable, program as program_of}, Checking.{Judged, TellsWhy}, Walker.{walker_place}, declared.rules.CheckError.TheVariants.{Memory, WrongChoice}, declared.rules.Profile.TheVariants.{Base}};
 
 use crate::rules::{CheckError, Profile, Rule, class_table, is_choice};
 use crate::walker::{
@@ -11,128 +11,7 @@ use crate::walker::{
 };
 use std::alloc::Global as Heap;
 use vsi_lattice::{Class, Classes};
-use vsi_scope::{Cmd, Ex, Resolved, Var};
-use vsi_syntax::Span;
-
-/// Checks an assignment.
-fn check_assign<C: Classes>(
-    lattice: &C,
-    profile: Profile,
-    table: &[Class],
-    walk: &mut Walker,
-    location: u16,
-    span: Span,
-    value: &Ex,
-) -> Result<(), CheckError>
-    requires classes { All (IsClass (C.lattice lattice.now)) table.now }
-    requires places { HasPlaces (length walk.old.scope.items)
-        (Assign location span (expression value.now)) }
-    requires limit { walk.old.next
-        + letvars (Assign location span (expression value.now)) ≤ max_declarations }
-    ensures { Judged (C.lattice lattice.now) profile (class_of (C.lattice lattice.now) table.now)
-        (walker_place walk.old)
-        (Assign location span (expression value.now)) (walker_place walk.new) result }
-{
-    let target = walk.scope[location as usize];
-    check_reads(lattice, table, target, &walk.scope, Rule::Assign, value)?;
-    check_guards(lattice, table, target, &walk.guards)?;
-    Ok(())
-}
-
-/// Checks a choice.
-#[cycle(walk)]
-fn check_if<C: Classes>(
-    lattice: &C,
-    profile: Profile,
-    table: &[Class],
-    walk: &mut Walker,
-    then_branch: &[Cmd],
-    else_branch: &[Cmd],
-    guard: &Ex,
-) -> Result<(), CheckError>
-    requires classes { All (IsClass (C.lattice lattice.now)) table.now }
-    requires places { HasPlaces (length walk.old.scope.items)
-        (If (expression guard.now) (sequence then_branch.now) (sequence else_branch.now)) }
-    requires limit { walk.old.next + letvars (If (expression guard.now) (sequence then_branch.now)
-        (sequence else_branch.now))
-        ≤ max_declarations }
-    ensures { Judged (C.lattice lattice.now) profile (class_of (C.lattice lattice.now) table.now)
-        (walker_place walk.old)
-        (If (expression guard.now) (sequence then_branch.now) (sequence else_branch.now))
-        (walker_place walk.new) result }
-{
-    check_choice(
-        lattice,
-        profile,
-        table,
-        &walk.scope,
-        then_branch,
-        else_branch,
-        guard,
-    )?;
-    let outside = walk.guards.len();
-    put_reads(&mut walk.guards, &walk.scope, Rule::If, guard)?;
-    check_commands(lattice, profile, table, walk, then_branch)?;
-    check_commands(lattice, profile, table, walk, else_branch)?;
-    walk.guards.truncate(outside);
-    Ok(())
-}
-
-/// Checks a loop.
-#[cycle(walk)]
-fn check_while<C: Classes>(
-    lattice: &C,
-    profile: Profile,
-    table: &[Class],
-    walk: &mut Walker,
-    body: &[Cmd],
-    guard: &Ex,
-) -> Result<(), CheckError>
-    requires classes { All (IsClass (C.lattice lattice.now)) table.now }
-    requires places { HasPlaces (length walk.old.scope.items)
-        (While (expression guard.now) (sequence body.now)) }
-    requires limit { walk.old.next
-        + letvars (While (expression guard.now) (sequence body.now)) ≤ max_declarations }
-    ensures { Judged (C.lattice lattice.now) profile (class_of (C.lattice lattice.now) table.now)
-        (walker_place walk.old)
-        (While (expression guard.now) (sequence body.now)) (walker_place walk.new) result }
-{
-    check_loop(lattice, profile, table, &walk.scope, guard)?;
-    let outside = walk.guards.len();
-    put_reads(&mut walk.guards, &walk.scope, Rule::While, guard)?;
-    check_commands(lattice, profile, table, walk, body)?;
-    walk.guards.truncate(outside);
-    Ok(())
-}
-
-/// Checks a letvar.
-#[cycle(walk)]
-fn check_letvar<C: Classes>(
-    lattice: &C,
-    profile: Profile,
-    table: &[Class],
-    walk: &mut Walker,
-    body: &[Cmd],
-    value: &Ex,
-) -> Result<(), CheckError>
-    requires classes { All (IsClass (C.lattice lattice.now)) table.now }
-    requires places { HasPlaces (length walk.old.scope.items)
-        (Letvar (expression value.now) (sequence body.now)) }
-    requires limit { walk.old.next
-        + letvars (Letvar (expression value.now) (sequence body.now)) ≤ max_declarations }
-    ensures { Judged (C.lattice lattice.now) profile (class_of (C.lattice lattice.now) table.now)
-        (walker_place walk.old)
-        (Letvar (expression value.now) (sequence body.now)) (walker_place walk.new) result }
-{
-    let variable = Var(walk.next);
-    check_reads(lattice, table, variable, &walk.scope, Rule::Letvar, value)?;
-    let outside = walk.scope.len();
-    walk.scope.push(variable)?;
-    walk.next += 1;
-    check_commands(lattice, profile, table, walk, body)?;
-    walk.scope.truncate(outside);
-    Ok(())
-}
+use vsi_scope::{Cmd, Resolved, Var};
 
 /// Checks the commands of a list, one after another.
 #[cycle(walk)]
@@ -173,45 +52,40 @@ fn check_command<C: Classes>(
         (command c.now) (walker_place walk.new) result }
 {
     match c {
-        Cmd::Assign { loc, span, value } => {
-            check_assign(lattice, profile, table, walk, *loc, *span, value)
+        Cmd::Assign { loc, value, .. } => {
+            let target = walk.scope[*loc as usize];
+            check_reads(lattice, table, target, &walk.scope, Rule::Assign, value)?;
+            check_guards(lattice, table, target, &walk.guards)?;
+            Ok(())
         }
-        Cmd::If { guard, yes, no } => check_if(lattice, profile, table, walk, yes, no, guard),
-        Cmd::While { guard, body } => check_while(lattice, profile, table, walk, body, guard),
-        Cmd::Letvar { value, body } => check_letvar(lattice, profile, table, walk, body, value),
+        Cmd::If { guard, yes, no } => {
+            check_choice(lattice, profile, table, &walk.scope, yes, no, guard)?;
+            let outside = walk.guards.len();
+            put_reads(&mut walk.guards, &walk.scope, Rule::If, guard)?;
+            check_commands(lattice, profile, table, walk, yes)?;
+            check_commands(lattice, profile, table, walk, no)?;
+            walk.guards.truncate(outside);
+            Ok(())
+        }
+        Cmd::While { guard, body } => {
+            check_loop(lattice, profile, table, &walk.scope, guard)?;
+            let outside = walk.guards.len();
+            put_reads(&mut walk.guards, &walk.scope, Rule::While, guard)?;
+            check_commands(lattice, profile, table, walk, body)?;
+            walk.guards.truncate(outside);
+            Ok(())
+        }
+        Cmd::Letvar { value, body } => {
+            let variable = Var(walk.next);
+            check_reads(lattice, table, variable, &walk.scope, Rule::Letvar, value)?;
+            let outside = walk.scope.len();
+            walk.scope.push(variable)?;
+            walk.next += 1;
+            check_commands(lattice, profile, table, walk, body)?;
+            walk.scope.truncate(outside);
+            Ok(())
+        }
     }
-}
-
-/// Checks the flows of a program whose letvars have these classes, which agree with the declared
-/// ones.
-fn check_flows<C: Classes>(
-    alloc: Heap,
-    profile: Profile,
-    lattice: &C,
-    program: &Resolved<'_>,
-    choice: &[Class],
-) -> Result<(), CheckError>
-    requires globals { All (IsClass (C.lattice lattice.now)) (program_of program.now).globals }
-    requires choice { All (IsClass (C.lattice lattice.now)) choice.now }
-    requires kept { IsChoice (program_of program.now) choice.now }
-    ensures typable { OnOk result
-        (IsTypable (C.lattice lattice.now) profile (program_of program.now) choice.now) }
-    ensures complete { let p = program_of program.now in
-        IsTypable (C.lattice lattice.now) profile p choice.now → IfErr result (λ e. e ≡ Memory) }
-    ensures refused { let p = program_of program.now in
-        let classes = class_of (C.lattice lattice.now) (p.globals ++ choice.now) in
-        IfErr result (TellsFault (C.lattice lattice.now) classes (steps_of profile p)) }
-{
-    let body = program.body();
-    let globals = program.globals();
-    let count = globals.len() as u16;
-    let table = class_table(alloc, globals, choice)?;
-    let mut walk = Walker {
-        scope: first_variables(alloc, count)?,
-        guards: Vec::new(alloc),
-        next: count,
-    };
-    check_commands(lattice, profile, &table, &mut walk, body)
 }
 
 /// Checks a program under a profile, with the given classes for its `letvar`s in source order.
@@ -238,7 +112,16 @@ pub fn check_in<C: Classes>(
     if !is_choice(program.letvars(), choice) {
         return Err(CheckError::WrongChoice);
     }
-    check_flows(alloc, profile, lattice, program, choice)
+    let body = program.body();
+    let globals = program.globals();
+    let count = globals.len() as u16;
+    let table = class_table(alloc, globals, choice)?;
+    let mut walk = Walker {
+        scope: first_variables(alloc, count)?,
+        guards: Vec::new(alloc),
+        next: count,
+    };
+    check_commands(lattice, profile, &table, &mut walk, body)
 }
 
 /// Checks a program under the base profile, like `check_in`.

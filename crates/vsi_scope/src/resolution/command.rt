@@ -1,8 +1,8 @@
 //! Resolves commands and expressions in one walk through the text.
 
-ghost use Rattle.std.specs.Prelude.{◌≡◌, ◌+◌, ◌≤◌, length, IfOk, ◌<◌, map, [], option_map, IfErr};
-ghost use Rattle.vsi_syntax.specs.{View.{tree, named}, Tree.{Assign, If, While, Letvar}};
-ghost use Rattle.vsi_scope.specs.{View.{expression}, Places.{expression_of, commands_of}, Faults.{uses, first_fault, Judged, class_marks}, Resolver.{names_of, Walked, WalkedOne, WalkedAll, IsWithin, scope_of, fault_in, fault_in_all}, Limits.{max_declarations}, declared.resolution.ScopeError.TheVariants.{Memory}, Resolving.{class_of}};
+ghost use Rattle.std.specs.Prelude.{◌≡◌, ◌+◌, ◌≤◌, length, IfOk, ◌<◌, option_map};
+ghost use Rattle.vsi_syntax.specs.{View.{tree, named}, Tree.{Letvar}};
+ghost use Rattle.vsi_scope.specs.{View.{expression}, Places.{expression_of}, Faults.{uses, first_fault, Judged, class_marks}, Resolver.{names_of, WalkedOne, WalkedAll, IsWithin, fault_in, fault_in_all}, Limits.{max_declarations}, Resolving.{class_of}};
 ghost use Rattle.vsi_lattice.specs.{Known.{Known}, LatticeView.{class_named}};
 ghost use Rattle.vsi_syntax.specs.CommandView as syntax;
 
@@ -50,52 +50,6 @@ pub(crate) struct Resolver<'a> {
     pub(crate) letvars: Vec<Entry<'a>>,
 }
 
-impl<'a> Resolver<'a> {
-    ghost use Rattle.std.specs.Prelude.{◌++◌, ◌∷◌, OnOk, take, ◌-◌};
-    ghost use Rattle.vsi_scope.specs.{Resolver.{declared}, Resolving.{variable, letvar}};
-
-    /// The number of declarations so far.
-    fn declared(&self) -> usize
-        ensures { result ≡ declared self.now }
-    {
-        self.names.globals.len() + self.letvars.len()
-    }
-
-    /// Brings a letvar's name into scope and appends its entry.
-    fn enter(&mut self, x: Name<'a>, class: Option<Class>) -> Result<(), ScopeError>
-        ensures locals { OnOk result
-            (self.new.names.locals.items ≡ self.old.names.locals.items ++ x.entry.text ∷ []) }
-        ensures globals { OnOk result (self.new.names.globals.keys ≡ self.old.names.globals.keys) }
-        ensures letvars { OnOk result
-            (map variable self.new.letvars.items ≡
-            map variable self.old.letvars.items ++ letvar (named x.entry) class ∷ []) }
-        ensures memory { IfErr result (λ e. e ≡ Memory) }
-    {
-        let entry = Entry {
-            name: x.text,
-            class,
-            span: x.span,
-        };
-        let Ok(()) = self.letvars.push(entry) else {
-            return Err(ScopeError::Memory);
-        };
-        self.names.locals.push(x.text)?;
-        Ok(())
-    }
-
-    /// Takes the innermost letvar's name out of scope.
-    fn leave(&mut self)
-        requires { 0 < length self.old.names.locals.items }
-        ensures locals { self.new.names.locals.items ≡
-            take (length self.old.names.locals.items - 1) self.old.names.locals.items }
-        ensures globals { self.new.names.globals.keys ≡ self.old.names.globals.keys }
-        ensures letvars { self.new.letvars ≡ self.old.letvars }
-    {
-        let before = self.names.locals.len() - 1;
-        self.names.locals.truncate(before);
-    }
-}
-
 /// The class of a declaration, if one is written.
 fn class<'a>(lattice: &Lattice, class: Option<Name<'a>>) -> Result<Option<Class>, ScopeError>
     ensures value { IfOk result
@@ -110,88 +64,6 @@ fn class<'a>(lattice: &Lattice, class: Option<Name<'a>>) -> Result<Option<Class>
         Some(c) => Ok(Some(c)),
         None => Err(ScopeError::UnknownClass(name.span)),
     }
-}
-
-/// Resolves an assignment: the name first, then the value.
-fn assign<'a>(
-    alloc: Global,
-    resolver: &mut Resolver<'a>,
-    out: &mut Vec<Cmd>,
-    x: Name<'a>,
-    e: &Expr<'a>,
-) -> Result<(), ScopeError>
-    requires { IsWithin resolver.old }
-    ensures value { IfOk result
-        (λ _. Walked resolver.old resolver.new out.old.items out.new.items []
-        (commands_of (scope_of resolver.old) (Assign (named x.entry) (tree e.now)))) }
-    ensures fault { (known : Known) → Judged result
-        (fault_in known resolver.old (Assign (named x.entry) (tree e.now))) }
-{
-    let Some(loc) = resolver.names.find(x.text) else {
-        return Err(ScopeError::Unbound(x.span));
-    };
-    let value = expression(alloc, &resolver.names, e)?;
-    out.push(Cmd::Assign {
-        loc,
-        span: x.span,
-        value,
-    })?;
-    Ok(())
-}
-
-/// Resolves a choice: the guard, the first branch, the second.
-#[cycle(resolution)]
-fn choose<'a>(
-    alloc: Global,
-    lattice: &Lattice,
-    resolver: &mut Resolver<'a>,
-    out: &mut Vec<Cmd>,
-    guard: &Expr<'a>,
-    then_branch: &Stmt<'a>,
-    else_branch: &Stmt<'a>,
-) -> Result<(), ScopeError>
-    requires { IsWithin resolver.old }
-    ensures value { IfOk result
-        (λ _. WalkedOne (class_named lattice.now) resolver.old resolver.new out.old.items
-        out.new.items
-        (If (tree guard.now) (syntax.command then_branch.now) (syntax.command else_branch.now))) }
-    ensures fault { Judged result
-        (fault_in (class_named lattice.now) resolver.old
-        (If (tree guard.now) (syntax.command then_branch.now) (syntax.command else_branch.now))) }
-{
-    let guard = expression(alloc, &resolver.names, guard)?;
-    let mut yes = Vec::new(alloc);
-    statement(alloc, lattice, resolver, &mut yes, then_branch)?;
-    let mut no = Vec::new(alloc);
-    statement(alloc, lattice, resolver, &mut no, else_branch)?;
-    out.push(Cmd::If { guard, yes, no })?;
-    Ok(())
-}
-
-/// Resolves a loop: the guard, then the body.
-#[cycle(resolution)]
-fn repeat<'a>(
-    alloc: Global,
-    lattice: &Lattice,
-    resolver: &mut Resolver<'a>,
-    out: &mut Vec<Cmd>,
-    guard: &Expr<'a>,
-    c: &Stmt<'a>,
-) -> Result<(), ScopeError>
-    requires { IsWithin resolver.old }
-    ensures value { IfOk result
-        (λ _. WalkedOne (class_named lattice.now) resolver.old resolver.new out.old.items
-        out.new.items
-        (While (tree guard.now) (syntax.command c.now))) }
-    ensures fault { Judged result
-        (fault_in (class_named lattice.now) resolver.old
-        (While (tree guard.now) (syntax.command c.now))) }
-{
-    let guard = expression(alloc, &resolver.names, guard)?;
-    let mut body = Vec::new(alloc);
-    statement(alloc, lattice, resolver, &mut body, c)?;
-    out.push(Cmd::While { guard, body })?;
-    Ok(())
 }
 
 /// Resolves a letvar: its name, its class, its initial value in the outer scope, and then the body.
@@ -217,15 +89,24 @@ fn local<'a>(
         (Letvar (named x.entry) (option_map named written.entry) (tree e.now)
         (syntax.command c.now))) }
 {
-    if resolver.declared() >= MAX_DECLARATIONS {
+    if resolver.names.globals.len() + resolver.letvars.len() >= MAX_DECLARATIONS {
         return Err(ScopeError::TooManyDeclarations(x.span));
     }
     let class = class(lattice, written)?;
     let value = expression(alloc, &resolver.names, e)?;
-    resolver.enter(x, class)?;
+    let entry = Entry {
+        name: x.text,
+        class,
+        span: x.span,
+    };
+    let Ok(()) = resolver.letvars.push(entry) else {
+        return Err(ScopeError::Memory);
+    };
+    resolver.names.locals.push(x.text)?;
     let mut body = Vec::new(alloc);
     statement(alloc, lattice, resolver, &mut body, c)?;
-    resolver.leave();
+    let outside = resolver.names.locals.len() - 1;
+    resolver.names.locals.truncate(outside);
     out.push(Cmd::Letvar { value, body })?;
     Ok(())
 }
@@ -271,9 +152,31 @@ fn statement<'a>(
         (fault_in (class_named lattice.now) resolver.old (syntax.command c.now)) }
 {
     match c {
-        Stmt::Assign(x, e) => assign(alloc, resolver, out, *x, e),
-        Stmt::If(e, first, second) => choose(alloc, lattice, resolver, out, e, first, second),
-        Stmt::While(e, c) => repeat(alloc, lattice, resolver, out, e, c),
+        Stmt::Assign(x, e) => {
+            let Some(loc) = resolver.names.find(x.text) else {
+                return Err(ScopeError::Unbound(x.span));
+            };
+            let value = expression(alloc, &resolver.names, e)?;
+            let span = x.span;
+            out.push(Cmd::Assign { loc, span, value })?;
+            Ok(())
+        }
+        Stmt::If(e, first, second) => {
+            let guard = expression(alloc, &resolver.names, e)?;
+            let mut yes = Vec::new(alloc);
+            statement(alloc, lattice, resolver, &mut yes, first)?;
+            let mut no = Vec::new(alloc);
+            statement(alloc, lattice, resolver, &mut no, second)?;
+            out.push(Cmd::If { guard, yes, no })?;
+            Ok(())
+        }
+        Stmt::While(e, c) => {
+            let guard = expression(alloc, &resolver.names, e)?;
+            let mut body = Vec::new(alloc);
+            statement(alloc, lattice, resolver, &mut body, c)?;
+            out.push(Cmd::While { guard, body })?;
+            Ok(())
+        }
         Stmt::Letvar(x, class, e, c) => local(alloc, lattice, resolver, out, *x, *class, e, c),
         Stmt::Block(body) => sequence(alloc, lattice, resolver, out, body),
     }

@@ -1,7 +1,7 @@
 //! Resolves a whole program: its names in scope, its globals and its body.
 
-ghost use Rattle.std.specs.Prelude.{◌≡◌, ◌+◌, ◌<◌, ◌≤◌, length, map, IfSome, [], ◌∷◌, Some, None, IfOk, OnOk, ℕ, List, IfErr};
-ghost use Rattle.vsi_scope.specs.{Places.{place_of}, Limits.{max_declarations, max_globals}, Faults.{global_marks, first_fault, Judged}, Resolver.{names_of, HasNone, HasRead}, declared.resolution.ScopeError.TheVariants.{Memory}, Language.{Command, depth}, View.{sequence}, Resolving.{Resolves, AreBelow, HasClassesBelow, IsResolution, ExplainsScope}};
+ghost use Rattle.std.specs.Prelude.{◌≡◌, ◌+◌, ◌<◌, ◌≤◌, length, map, IfSome, [], ◌∷◌, Some, None, IfOk, ℕ, List, IfErr};
+ghost use Rattle.vsi_scope.specs.{Places.{place_of}, Limits.{max_declarations, max_globals}, Faults.{global_marks, first_fault, Judged}, Resolver.{names_of, HasRead}, declared.resolution.ScopeError.TheVariants.{Memory}, Language.{Command, depth}, View.{sequence}, Resolving.{Resolves, AreBelow, HasClassesBelow, IsResolution, ExplainsScope}};
 ghost use Rattle.vsi_lattice.specs.LatticeView.{class_named};
 ghost use Rattle.vsi_syntax.specs.{Limits.{max_depth}, ProgramView.{whole}};
 ghost use Rattle.vsi_syntax.specs.CommandView as syntax;
@@ -27,20 +27,6 @@ pub(crate) struct Names<'a> {
 }
 
 impl<'a> Names<'a> {
-    ghost use Rattle.std.specs.Prelude.{◌++◌, ◌∷◌, [], None, OnOk, IfErr};
-    ghost use Rattle.vsi_scope.specs.{Resolver.{names_of}, declared.resolution.ScopeError.TheVariants.{Memory}};
-
-    /// No names.
-    pub(crate) fn new(alloc: Global) -> Names<'a>
-        ensures globals { result.globals.keys ≡ [] }
-        ensures locals { result.locals.items ≡ [] }
-    {
-        Names {
-            globals: IndexSet::new(alloc),
-            locals: Vec::new(alloc),
-        }
-    }
-
     /// The last position of a name: that of the innermost letvar, counted after the globals, or the
     /// number of the global.
     pub(crate) fn find(&self, name: &[u8]) -> Option<u16>
@@ -55,18 +41,6 @@ impl<'a> Names<'a> {
             Some(at) => Some(at as u16),
             None => None,
         }
-    }
-
-    /// Adds the name of one more global, while no letvar is in scope.
-    pub(crate) fn declare(&mut self, name: &'a [u8]) -> Result<(), ScopeError>
-        requires outer { self.old.locals.items ≡ [] }
-        requires fresh { place_of (names_of self.old) name.now ≡ None }
-        ensures names { OnOk result (names_of self.new ≡ names_of self.old ++ name.now ∷ []) }
-        ensures outer { OnOk result (self.new.locals.items ≡ []) }
-        ensures memory { IfErr result (λ e. e ≡ Memory) }
-    {
-        self.globals.insert(name)?;
-        Ok(())
     }
 }
 
@@ -118,34 +92,6 @@ fn class_below<'a>(
     }
 }
 
-/// Reads the globals in order into an empty list.
-fn read_into<'a>(
-    lattice: &Lattice,
-    globals: &mut Globals<'a>,
-    declarations: &[Declaration<'a>],
-) -> Result<(), ScopeError>
-    requires { HasNone globals.old }
-    ensures read { OnOk result
-        (HasRead (class_named lattice.now) (map syntax.declared declarations.now) globals.new) }
-    ensures fault { Judged result
-        (first_fault (class_named lattice.now)
-        (global_marks [] (map syntax.declared declarations.now))) }
-{
-    for d in declarations {
-        let class = class_below(lattice, &globals.names, d)?;
-        let global = resolved::Global {
-            name: d.name.text,
-            class,
-            class_name: d.class.text,
-        };
-        let Ok(()) = globals.list.push(global) else {
-            return Err(ScopeError::Memory);
-        };
-        globals.names.declare(d.name.text)?;
-    }
-    Ok(())
-}
-
 /// The globals in order.
 pub(crate) fn read_globals<'a>(
     alloc: Global,
@@ -160,9 +106,23 @@ pub(crate) fn read_globals<'a>(
 {
     let mut globals = Globals {
         list: Vec::new(alloc),
-        names: Names::new(alloc),
+        names: Names {
+            globals: IndexSet::new(alloc),
+            locals: Vec::new(alloc),
+        },
     };
-    read_into(lattice, &mut globals, declarations)?;
+    for d in declarations {
+        let class = class_below(lattice, &globals.names, d)?;
+        let global = resolved::Global {
+            name: d.name.text,
+            class,
+            class_name: d.class.text,
+        };
+        let Ok(()) = globals.list.push(global) else {
+            return Err(ScopeError::Memory);
+        };
+        globals.names.globals.insert(d.name.text)?;
+    }
     Ok(globals)
 }
 

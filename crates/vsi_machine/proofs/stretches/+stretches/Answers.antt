@@ -62,12 +62,12 @@ pub branches-returns-clause-first : goal.branches-returns-clause-first
 branches-returns-clause-first t c =
     first_leads _ _ _ _ _ _ _ _ _ _ _ _ c.in_ok-first.ensures.leads c.requires.choice.test.jumps c.join.ensures
     (omega (arith, c.in_ok-more.ensures.least, c.exactly.ensures.least))
-    (omega (arith, c.in_ok-more.ensures.most, c.exactly.ensures.most)) c.either.ensures.least c.either.ensures.most
+    (omega (arith, c.in_ok-more.ensures.most, c.exactly.ensures.most)) c.min.ensures c.max.ensures
 
 pub branches-returns-clause-second : goal.branches-returns-clause-second
 branches-returns-clause-second t c =
-    second_leads_as _ _ _ _ _ _ _ _ _ _ _ _ c.in_ok-second.ensures.leads c.join.ensures c.either.ensures.least
-    c.either.ensures.most (first_of (search rules, grind (arith, common_steps))) (first_of (search rules, grind (arith, common_steps))) (first_of (search rules, grind (arith, common_steps)))
+    second_leads_as _ _ _ _ _ _ _ _ _ _ _ _ c.in_ok-second.ensures.leads c.join.ensures c.min.ensures
+    c.max.ensures (first_of (search rules, grind (arith, common_steps))) (first_of (search rules, grind (arith, common_steps))) (first_of (search rules, grind (arith, common_steps)))
 
 pub branches-returns-clause-passes : goal.branches-returns-clause-passes
 branches-returns-clause-passes t c =

@@ -1,20 +1,18 @@
-use Rattle.std.proofs.Common.{sym, ◌∙◌}
+use Rattle.std.proofs.Common.{rules}
 use Rattle.vsi_syntax.specs.Cut.{pieces}
-use Rattle.vsi_syntax.proofs.Laid.{bad_again, bad_lex, bad_same}
+use Rattle.vsi_syntax.proofs.Laid.{bad_again, bad_same}
 use Rattle.vsi_syntax.proofs.layouts.is_good.Goals as goal
-
-pub returns-in-Err-clause-not_good : goal.returns-in-Err-clause-not_good
-returns-in-Err-clause-not_good c = λ e g.
-    bad_lex c.args.text.now c.args.out.now (pieces c.args.tokens.now) c.in-Err.error
-    (sym c.lacks_memory.ensures ∙ c.if-lacks_memory.false) c.in-Err.ensures.exact g
 
 pub returns-then-same-clause-not_good : goal.returns-then-same-clause-not_good
 returns-then-same-clause-not_good c = λ e g.
     bad_again c.args.text.now c.args.out.now (pieces c.args.tokens.now) c.in-Ok.again.items
-    c.deref-then-same.result.now c.in_ok-fixed.fixed c.deref-then-same.ensures.value c.in-Ok.ensures.cut.1
-    c.in_ok-fixed.ensures e g
+    c.deref-then-same.result.now c.eq.result c.deref-then-same.ensures.value c.in-Ok.ensures.cut.1
+    (search rules) e g
 
 pub returns-clause-not_good : goal.returns-clause-not_good
 returns-clause-not_good c = λ e g.
     bad_same c.args.text.now c.args.out.now (pieces c.args.tokens.now) c.in-Ok.again.items c.deref.result.now
     c.in_ok-same.same c.deref.ensures.value c.in-Ok.ensures.cut.1 c.in_ok-same.ensures c.if-same.false g
+
+pub returns-in_default-clause-not_good : goal.returns-in_default-clause-not_good
+returns-in_default-clause-not_good c = λ e g. c.in_default.not-Memory (c.in-Err.ensures.exact g.others g.short g.cut)

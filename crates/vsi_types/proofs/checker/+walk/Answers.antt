@@ -1,41 +1,18 @@
-use Rattle.std.proofs.Common.{◌∙◌, sym, ap, subst, arith, rules, refl, length}
-use Rattle.std.proofs.lemmas.List.{length_push}
-use Rattle.vsi_scope.specs.View.{sequence}
+use Rattle.std.proofs.Common.{◌≡◌, ◌∙◌, sym, ap, subst, arith, rules, refl, length}
+use Rattle.std.specs.Prelude.{⊤, Ok, Err}
+use Rattle.std.proofs.lemmas.List.{length_push, get_or_read}
+use Rattle.std.proofs.lemmas.List.Elements.{All-nil}
+use Rattle.vsi_scope.specs.View.{command, expression, sequence}
+use Rattle.vsi_scope.specs.Language.{HasPlaces, Assign}
+use Rattle.vsi_scope.specs.declared.program.Cmd.{the_lemmas}
+use Rattle.vsi_types.specs.declared.rules.Rule.TheVariants as typing
+use Rattle.vsi_types.specs.Steps.{reads, guarded}
+use Rattle.vsi_types.specs.Checking.{FlowsJudged}
 use Rattle.vsi_types.specs.Walker.{walker_place}
 use Rattle.vsi_types.specs.Security.{class_of}
-use Rattle.std.proofs.lemmas.List.Elements.{All-nil}
-use Rattle.vsi_scope.specs.Language.{HasPlaces}
-use Rattle.vsi_scope.specs.declared.program.Cmd.{the_lemmas}
-use Rattle.vsi_types.proofs.Places.{reached_more, reached_asks, reached_fault, reached_all}
+use Rattle.vsi_types.proofs.Places.{reached_more, reached_asks, reached_fault, reached_all, assign_reads, assign_guards, assign_ok}
 use Rattle.vsi_types.proofs.Visiting.{seen_if, seen_while, seen_letvar, choice_guard, choice_first, choice_second, choice_judged, loop_guard, loop_body, loop_judged, letvar_value, letvar_inside, letvar_judged}
 use Rattle.vsi_types.proofs.checker.+walk.Goals as goal
-
-pub check_command-check_if-requires : goal.check_command-check_if-requires
-check_command-check_if-requires g t c κs within =
-    let e = seen_if _ _ _ _ _ _ c.in-If.is c.deref.ensures.value c.deref-in-If.ensures.value in
-    (search (rules, the_lemmas), (within, (c.requires.classes, (rw e at c.requires.places, rw e at c.requires.limit))))
-
-pub check_command-check_while-requires : goal.check_command-check_while-requires
-check_command-check_while-requires g t c κs within =
-    let e = seen_while _ _ _ _ c.in-While.is c.deref-in-While.ensures.value in
-    (search (rules, the_lemmas), (within, (c.requires.classes, (rw e at c.requires.places, rw e at c.requires.limit))))
-
-pub check_command-check_letvar-requires : goal.check_command-check_letvar-requires
-check_command-check_letvar-requires g t c κs within =
-    let e = seen_letvar _ _ _ _ c.in-Letvar.is c.deref-in-Letvar.ensures.value in
-    (search (rules, the_lemmas), (within, (c.requires.classes, (rw e at c.requires.places, rw e at c.requires.limit))))
-
-pub check_command-returns-in-If : goal.check_command-returns-in-If
-check_command-returns-in-If g t c =
-    rw (seen_if _ _ _ _ _ _ c.in-If.is c.deref.ensures.value c.deref-in-If.ensures.value) c.check_if.ensures
-
-pub check_command-returns-in-While : goal.check_command-returns-in-While
-check_command-returns-in-While g t c =
-    rw (seen_while _ _ _ _ c.in-While.is c.deref-in-While.ensures.value) c.check_while.ensures
-
-pub check_command-returns-in-Letvar : goal.check_command-returns-in-Letvar
-check_command-returns-in-Letvar g t c =
-    rw (seen_letvar _ _ _ _ c.in-Letvar.is c.deref-in-Letvar.ensures.value) c.check_letvar.ensures
 
 pub check_commands-loop-c-init : goal.check_commands-loop-c-init
 check_commands-loop-c-init g t c = (refl, refl, omega arith, λ names. All-nil _)
@@ -66,94 +43,203 @@ check_commands-returns g t c =
     reached_all L c.args.profile (class_of L c.args.table.now) _ _ c.args.body.now c.loop-c.c-index (omega arith)
     c.loop-c.invariant
 
-pub check_if-returns-in_err-check_choice : goal.check_if-returns-in_err-check_choice
-check_if-returns-in_err-check_choice g t c =
-    choice_guard (g.C.Classes.lattice c.args.lattice.now) c.args.profile c.args.table.now c.args.walk.now
-    c.args.guard.now c.args.then_branch.now c.args.else_branch.now _ c.deref.ensures.value
-    _ _ _ c.from_residual.ensures.1 c.in_err-check_choice.ensures
+pub check_command-returns-in_err-check_reads-in-Assign : goal.check_command-returns-in_err-check_reads-in-Assign
+check_command-returns-in_err-check_reads-in-Assign g t c =
+    let e : command c.args.c.now ≡ Assign c.in-Assign.loc c.in-Assign.span (expression c.in-Assign.value) =
+    search (rules, the_lemmas) in
+    let p = rw e at c.requires.places in
+    let L = g.C.Classes.lattice c.args.lattice.now in
+    let cls = class_of L c.args.table.now in
+    let at = get_or_read c.args.walk.now.scope.items c.in-Assign.loc c.index-target.result.now p.0
+    c.index-target.ensures 0 in
+    let h = subst (λ s. FlowsJudged {U = ⊤} L cls c.index-target.result.now
+    (guarded typing.Assign (reads s (expression c.in-Assign.value))) (Err c.in_err-check_reads-in-Assign.field-0.0))
+    c.deref.ensures.value c.in_err-check_reads-in-Assign.ensures in
+    rw e (assign_reads L c.args.profile cls (walker_place c.args.walk.now) _ c.in-Assign.loc c.in-Assign.span
+    (expression c.in-Assign.value) c.index-target.result.now at c.in_err-check_reads-in-Assign.field-0.0
+    c.from_residual.result c.from_residual.ensures.1 h)
 
-pub check_if-check_commands-requires : goal.check_if-check_commands-requires
-check_if-check_commands-requires g t c κs within = (
-  omega (arith, c.decreases),
-  (within, (c.requires.classes, (c.requires.places.1, omega (arith, c.requires.limit)))),
-)
+pub check_command-returns-in_err-check_guards-in-Assign : goal.check_command-returns-in_err-check_guards-in-Assign
+check_command-returns-in_err-check_guards-in-Assign g t c =
+    let e : command c.args.c.now ≡ Assign c.in-Assign.loc c.in-Assign.span (expression c.in-Assign.value) =
+    search (rules, the_lemmas) in
+    let p = rw e at c.requires.places in
+    let L = g.C.Classes.lattice c.args.lattice.now in
+    let cls = class_of L c.args.table.now in
+    let at = get_or_read c.args.walk.now.scope.items c.in-Assign.loc c.index-target.result.now p.0
+    c.index-target.ensures 0 in
+    let h = subst (λ s. FlowsJudged {U = ⊤} L cls c.index-target.result.now
+    (guarded typing.Assign (reads s (expression c.in-Assign.value))) (Ok tt))
+    c.deref.ensures.value c.in_ok-check_reads-in-Assign.ensures in
+    let k = subst (λ gs. FlowsJudged {U = ⊤} L cls c.index-target.result.now gs
+    (Err c.in_err-check_guards-in-Assign.field-0.0)) c.deref-in-Assign.ensures.value
+    c.in_err-check_guards-in-Assign.ensures in
+    rw e (assign_guards L c.args.profile cls (walker_place c.args.walk.now) _ c.in-Assign.loc c.in-Assign.span
+    (expression c.in-Assign.value) c.index-target.result.now at c.in_err-check_guards-in-Assign.field-0.0
+    c.from_residual-in_err-check_guards-in-Assign.result c.from_residual-in_err-check_guards-in-Assign.ensures.1 h k)
 
-pub check_if-returns-in_err-check_commands : goal.check_if-returns-in_err-check_commands
-check_if-returns-in_err-check_commands g t c =
-    choice_first (g.C.Classes.lattice c.args.lattice.now) c.args.profile c.args.table.now c.args.walk.now
-    c.args.guard.now c.args.then_branch.now c.args.else_branch.now _ c.deref.ensures.value
-    c.in_ok-check_choice.ensures _ c.deref-2.ensures.value _ c.in_ok-put_reads.ensures
-    _ _ _ c.from_residual-in_err-check_commands.ensures.1 c.in_err-check_commands.ensures
+pub check_command-returns-in_ok-check_guards-in-Assign : goal.check_command-returns-in_ok-check_guards-in-Assign
+check_command-returns-in_ok-check_guards-in-Assign g t c =
+    let e : command c.args.c.now ≡ Assign c.in-Assign.loc c.in-Assign.span (expression c.in-Assign.value) =
+    search (rules, the_lemmas) in
+    let p = rw e at c.requires.places in
+    let L = g.C.Classes.lattice c.args.lattice.now in
+    let cls = class_of L c.args.table.now in
+    let at = get_or_read c.args.walk.now.scope.items c.in-Assign.loc c.index-target.result.now p.0
+    c.index-target.ensures 0 in
+    let h = subst (λ s. FlowsJudged {U = ⊤} L cls c.index-target.result.now
+    (guarded typing.Assign (reads s (expression c.in-Assign.value))) (Ok tt))
+    c.deref.ensures.value c.in_ok-check_reads-in-Assign.ensures in
+    let k = subst (λ gs. FlowsJudged {U = ⊤} L cls c.index-target.result.now gs (Ok tt))
+    c.deref-in-Assign.ensures.value c.in_ok-check_guards-in-Assign.ensures in
+    rw e (
+      refl,
+      refl,
+      omega arith,
+      assign_ok L c.args.profile cls (walker_place c.args.walk.now) (walker_place c.args.walk.now)
+          c.in-Assign.loc c.in-Assign.span (expression c.in-Assign.value) c.index-target.result.now at h k,
+    )
 
-pub check_if-check_commands-requires-2 : goal.check_if-check_commands-requires-2
-check_if-check_commands-requires-2 g t c κs within =
-    let p = subst (λ s. HasPlaces (length s) (sequence c.args.else_branch.now)) (sym c.in_ok-check_commands.ensures.0)
-    c.requires.places.2 in
-    let l = c.in_ok-check_commands.ensures.2 in
-    (search (rules, the_lemmas), (within, (c.requires.classes, (p, omega (arith, c.requires.limit, l)))))
+pub check_command-returns-in_err-check_choice-in-If : goal.check_command-returns-in_err-check_choice-in-If
+check_command-returns-in_err-check_choice-in-If g t c =
+    let e = seen_if _ _ _ _ _ _ c.in-If.is refl refl in
+    let yes = c.in-If.yes.items in
+    let no = c.in-If.no.items in
+    let h = rw (c.deref-in-If-2.ensures.value, c.deref-in-If-3.ensures.value) at c.in_err-check_choice-in-If.ensures in
+    rw e (choice_guard (g.C.Classes.lattice c.args.lattice.now) c.args.profile c.args.table.now c.args.walk.now
+    c.in-If.guard yes no _ c.deref-in-If.ensures.value
+    _ _ _ c.from_residual-in_err-check_choice-in-If.ensures.1 h)
 
-pub check_if-returns-in_err-check_commands-2 : goal.check_if-returns-in_err-check_commands-2
-check_if-returns-in_err-check_commands-2 g t c =
-    choice_second (g.C.Classes.lattice c.args.lattice.now) c.args.profile c.args.table.now c.args.walk.now
-    c.args.guard.now c.args.then_branch.now c.args.else_branch.now _ c.deref.ensures.value
-    c.in_ok-check_choice.ensures _ c.deref-2.ensures.value _ c.in_ok-put_reads.ensures
-    _ _ _ _ c.from_residual-in_err-check_commands-2.ensures.1 c.in_ok-check_commands.ensures
-    c.in_err-check_commands-2.ensures
+pub check_command-check_commands-requires : goal.check_command-check_commands-requires
+check_command-check_commands-requires g t c κs within =
+    let e = seen_if _ _ _ _ _ _ c.in-If.is refl refl in
+    let yes = c.in-If.yes.items in
+    let no = c.in-If.no.items in
+    let places = rw e at c.requires.places in
+    let limit = rw e at c.requires.limit in
+    (search (rules, the_lemmas), (within, (c.requires.classes, (rw (c.deref-in-If-5.ensures.value) places.1, rw (c.deref-in-If-5.ensures.value) (omega (arith, limit))))))
 
-pub check_if-returns : goal.check_if-returns
-check_if-returns g t c =
-    choice_judged (g.C.Classes.lattice c.args.lattice.now) c.args.profile c.args.table.now c.args.walk.now
-    c.args.guard.now c.args.then_branch.now c.args.else_branch.now _ c.deref.ensures.value
-    c.in_ok-check_choice.ensures _ c.deref-2.ensures.value _ c.in_ok-put_reads.ensures
-    _ _ _ c.len-outside.result (search rules) c.truncate.ensures.items c.in_ok-check_commands.ensures
-    c.in_ok-check_commands-2.ensures
+pub check_command-returns-in_err-check_commands-in-If : goal.check_command-returns-in_err-check_commands-in-If
+check_command-returns-in_err-check_commands-in-If g t c =
+    let e = seen_if _ _ _ _ _ _ c.in-If.is refl refl in
+    let yes = c.in-If.yes.items in
+    let no = c.in-If.no.items in
+    let up = rw (c.deref-in-If-2.ensures.value, c.deref-in-If-3.ensures.value) at c.in_ok-check_choice-in-If.ensures in
+    let h = rw (c.deref-in-If-5.ensures.value) at c.in_err-check_commands-in-If.ensures in
+    rw e (choice_first (g.C.Classes.lattice c.args.lattice.now) c.args.profile c.args.table.now c.args.walk.now
+    c.in-If.guard yes no _ c.deref-in-If.ensures.value
+    up _ c.deref-in-If-4.ensures.value _ c.in_ok-put_reads-in-If.ensures
+    _ _ _ c.from_residual-in_err-check_commands-in-If.ensures.1 h)
 
-pub check_while-returns-in_err-check_loop : goal.check_while-returns-in_err-check_loop
-check_while-returns-in_err-check_loop g t c =
-    loop_guard (g.C.Classes.lattice c.args.lattice.now) c.args.profile c.args.table.now c.args.walk.now
-    c.args.guard.now c.args.body.now _ c.deref.ensures.value _ _ _ c.from_residual.ensures.1
-    c.in_err-check_loop.ensures
+pub check_command-check_commands-requires-in-If : goal.check_command-check_commands-requires-in-If
+check_command-check_commands-requires-in-If g t c κs within =
+    let e = seen_if _ _ _ _ _ _ c.in-If.is refl refl in
+    let yes = c.in-If.yes.items in
+    let no = c.in-If.no.items in
+    let first = rw (c.deref-in-If-5.ensures.value) at c.in_ok-check_commands-in-If.ensures in
+    let places = rw e at c.requires.places in
+    let limit = rw e at c.requires.limit in
+    let p = subst (λ s. HasPlaces (length s) (sequence no)) (sym first.0) places.2 in
+    let l = first.2 in
+    (search (rules, the_lemmas), (within, (c.requires.classes, (rw (c.deref-in-If-6.ensures.value) p, rw (c.deref-in-If-6.ensures.value) (omega (arith, limit, l))))))
 
-pub check_while-check_commands-requires : goal.check_while-check_commands-requires
-check_while-check_commands-requires g t c κs within =
-    (omega (arith, c.decreases), (within, (c.requires.classes, (c.requires.places.1, c.requires.limit))))
+pub check_command-returns-in_err-check_commands-in-If-2 : goal.check_command-returns-in_err-check_commands-in-If-2
+check_command-returns-in_err-check_commands-in-If-2 g t c =
+    let e = seen_if _ _ _ _ _ _ c.in-If.is refl refl in
+    let yes = c.in-If.yes.items in
+    let no = c.in-If.no.items in
+    let up = rw (c.deref-in-If-2.ensures.value, c.deref-in-If-3.ensures.value) at c.in_ok-check_choice-in-If.ensures in
+    let first = rw (c.deref-in-If-5.ensures.value) at c.in_ok-check_commands-in-If.ensures in
+    let h = rw (c.deref-in-If-6.ensures.value) at c.in_err-check_commands-in-If-2.ensures in
+    rw e (choice_second (g.C.Classes.lattice c.args.lattice.now) c.args.profile c.args.table.now c.args.walk.now
+    c.in-If.guard yes no _ c.deref-in-If.ensures.value
+    up _ c.deref-in-If-4.ensures.value _ c.in_ok-put_reads-in-If.ensures
+    _ _ _ _ c.from_residual-in_err-check_commands-in-If-2.ensures.1 first h)
 
-pub check_while-returns-in_err-check_commands : goal.check_while-returns-in_err-check_commands
-check_while-returns-in_err-check_commands g t c =
-    loop_body (g.C.Classes.lattice c.args.lattice.now) c.args.profile c.args.table.now c.args.walk.now
-    c.args.guard.now c.args.body.now _ c.deref.ensures.value c.in_ok-check_loop.ensures
-    _ c.deref-2.ensures.value _ c.in_ok-put_reads.ensures _ _ _
-    c.from_residual-in_err-check_commands.ensures.1 c.in_err-check_commands.ensures
+pub check_command-returns-in_ok-check_commands-in-If-2 : goal.check_command-returns-in_ok-check_commands-in-If-2
+check_command-returns-in_ok-check_commands-in-If-2 g t c =
+    let e = seen_if _ _ _ _ _ _ c.in-If.is refl refl in
+    let yes = c.in-If.yes.items in
+    let no = c.in-If.no.items in
+    let up = rw (c.deref-in-If-2.ensures.value, c.deref-in-If-3.ensures.value) at c.in_ok-check_choice-in-If.ensures in
+    let first = rw (c.deref-in-If-5.ensures.value) at c.in_ok-check_commands-in-If.ensures in
+    let second = rw (c.deref-in-If-6.ensures.value) at c.in_ok-check_commands-in-If-2.ensures in
+    rw e (choice_judged (g.C.Classes.lattice c.args.lattice.now) c.args.profile c.args.table.now c.args.walk.now
+    c.in-If.guard yes no _ c.deref-in-If.ensures.value
+    up _ c.deref-in-If-4.ensures.value _ c.in_ok-put_reads-in-If.ensures
+    _ _ _ c.len-outside.result (search rules) c.truncate.ensures.items first second)
 
-pub check_while-returns : goal.check_while-returns
-check_while-returns g t c =
-    loop_judged (g.C.Classes.lattice c.args.lattice.now) c.args.profile c.args.table.now c.args.walk.now
-    c.args.guard.now c.args.body.now _ c.deref.ensures.value c.in_ok-check_loop.ensures
-    _ c.deref-2.ensures.value _ c.in_ok-put_reads.ensures _ _
-    c.len-outside.result (search rules) c.truncate.ensures.items c.in_ok-check_commands.ensures
+pub check_command-returns-in_err-check_loop-in-While : goal.check_command-returns-in_err-check_loop-in-While
+check_command-returns-in_err-check_loop-in-While g t c =
+    let e = seen_while _ _ _ _ c.in-While.is refl in
+    let body = c.in-While.body.items in
+    rw e (loop_guard (g.C.Classes.lattice c.args.lattice.now) c.args.profile c.args.table.now c.args.walk.now
+    c.in-While.guard body _ c.deref-in-While.ensures.value _ _ _
+    c.from_residual-in_err-check_loop-in-While.ensures.1 c.in_err-check_loop-in-While.ensures)
 
-pub check_letvar-returns-in_err-check_reads : goal.check_letvar-returns-in_err-check_reads
-check_letvar-returns-in_err-check_reads g t c =
-    letvar_value (g.C.Classes.lattice c.args.lattice.now) c.args.profile c.args.table.now c.args.walk.now
-    c.args.value.now c.args.body.now _ c.deref.ensures.value _ _ _ c.from_residual.ensures.1
-    c.in_err-check_reads.ensures
+pub check_command-check_commands-requires-in-While : goal.check_command-check_commands-requires-in-While
+check_command-check_commands-requires-in-While g t c κs within =
+    let e = seen_while _ _ _ _ c.in-While.is refl in
+    let body = c.in-While.body.items in
+    let places = rw e at c.requires.places in
+    let limit = rw e at c.requires.limit in
+    (search (rules, the_lemmas), (within, (c.requires.classes, (rw (c.deref-in-While-3.ensures.value) places.1, rw (c.deref-in-While-3.ensures.value) limit))))
 
-pub check_letvar-check_commands-requires : goal.check_letvar-check_commands-requires
-check_letvar-check_commands-requires g t c κs within =
-    let n = ap length c.in_ok-push.ensures.items ∙ length_push c.args.walk.now.scope.items c.args.walk.now.next in
-    let p = subst (λ k. HasPlaces k (sequence c.args.body.now)) (sym n) c.requires.places.1 in
-    (omega (arith, c.decreases), (within, (c.requires.classes, (p, omega (arith, c.requires.limit)))))
+pub check_command-returns-in_err-check_commands-in-While : goal.check_command-returns-in_err-check_commands-in-While
+check_command-returns-in_err-check_commands-in-While g t c =
+    let e = seen_while _ _ _ _ c.in-While.is refl in
+    let body = c.in-While.body.items in
+    let h = rw (c.deref-in-While-3.ensures.value) at c.in_err-check_commands-in-While.ensures in
+    rw e (loop_body (g.C.Classes.lattice c.args.lattice.now) c.args.profile c.args.table.now c.args.walk.now
+    c.in-While.guard body _ c.deref-in-While.ensures.value c.in_ok-check_loop-in-While.ensures
+    _ c.deref-in-While-2.ensures.value _ c.in_ok-put_reads-in-While.ensures _ _ _
+    c.from_residual-in_err-check_commands-in-While.ensures.1 h)
 
-pub check_letvar-returns-in_err-check_commands : goal.check_letvar-returns-in_err-check_commands
-check_letvar-returns-in_err-check_commands g t c =
-    letvar_inside (g.C.Classes.lattice c.args.lattice.now) c.args.profile c.args.table.now c.args.walk.now
-    c.args.value.now c.args.body.now _ c.deref.ensures.value c.in_ok-check_reads.ensures
-    _ c.in_ok-push.ensures.items _ _ _ c.from_residual-in_err-check_commands.ensures.1
-    c.in_err-check_commands.ensures
+pub check_command-returns-in_ok-check_commands-in-While : goal.check_command-returns-in_ok-check_commands-in-While
+check_command-returns-in_ok-check_commands-in-While g t c =
+    let e = seen_while _ _ _ _ c.in-While.is refl in
+    let body = c.in-While.body.items in
+    let h = rw (c.deref-in-While-3.ensures.value) at c.in_ok-check_commands-in-While.ensures in
+    rw e (loop_judged (g.C.Classes.lattice c.args.lattice.now) c.args.profile c.args.table.now c.args.walk.now
+    c.in-While.guard body _ c.deref-in-While.ensures.value c.in_ok-check_loop-in-While.ensures
+    _ c.deref-in-While-2.ensures.value _ c.in_ok-put_reads-in-While.ensures _ _
+    c.len-outside-in-While.result (search rules) c.truncate-in-While.ensures.items h)
 
-pub check_letvar-returns : goal.check_letvar-returns
-check_letvar-returns g t c =
-    letvar_judged (g.C.Classes.lattice c.args.lattice.now) c.args.profile c.args.table.now c.args.walk.now
-    c.args.value.now c.args.body.now _ c.deref.ensures.value c.in_ok-check_reads.ensures
-    _ c.in_ok-push.ensures.items _ _ c.len-outside.result (search rules) c.truncate.ensures.items
-    c.in_ok-check_commands.ensures
+pub check_command-returns-in_err-check_reads-in-Letvar : goal.check_command-returns-in_err-check_reads-in-Letvar
+check_command-returns-in_err-check_reads-in-Letvar g t c =
+    let e = seen_letvar _ _ _ _ c.in-Letvar.is refl in
+    let body = c.in-Letvar.body.items in
+    rw e (letvar_value (g.C.Classes.lattice c.args.lattice.now) c.args.profile c.args.table.now c.args.walk.now
+    c.in-Letvar.value body _ c.deref-in-Letvar.ensures.value _ _ _
+    c.from_residual-in_err-check_reads-in-Letvar.ensures.1 c.in_err-check_reads-in-Letvar.ensures)
+
+pub check_command-check_commands-requires-in-Letvar : goal.check_command-check_commands-requires-in-Letvar
+check_command-check_commands-requires-in-Letvar g t c κs within =
+    let e = seen_letvar _ _ _ _ c.in-Letvar.is refl in
+    let body = c.in-Letvar.body.items in
+    let places = rw e at c.requires.places in
+    let limit = rw e at c.requires.limit in
+    let n = ap length c.in_ok-push-in-Letvar.ensures.items ∙ length_push c.args.walk.now.scope.items c.args.walk.now.next in
+    let p = subst (λ k. HasPlaces k (sequence body)) (sym n) places.1 in
+    (search (rules, the_lemmas), (within, (c.requires.classes, (rw (c.deref-in-Letvar-2.ensures.value) p, rw (c.deref-in-Letvar-2.ensures.value) (omega (arith, limit))))))
+
+pub check_command-returns-in_err-check_commands-in-Letvar : goal.check_command-returns-in_err-check_commands-in-Letvar
+check_command-returns-in_err-check_commands-in-Letvar g t c =
+    let e = seen_letvar _ _ _ _ c.in-Letvar.is refl in
+    let body = c.in-Letvar.body.items in
+    let h = rw (c.deref-in-Letvar-2.ensures.value) at c.in_err-check_commands-in-Letvar.ensures in
+    rw e (letvar_inside (g.C.Classes.lattice c.args.lattice.now) c.args.profile c.args.table.now c.args.walk.now
+    c.in-Letvar.value body _ c.deref-in-Letvar.ensures.value
+    c.in_ok-check_reads-in-Letvar.ensures
+    _ c.in_ok-push-in-Letvar.ensures.items _ _ _ c.from_residual-in_err-check_commands-in-Letvar.ensures.1 h)
+
+pub check_command-returns-in_ok-check_commands-in-Letvar : goal.check_command-returns-in_ok-check_commands-in-Letvar
+check_command-returns-in_ok-check_commands-in-Letvar g t c =
+    let e = seen_letvar _ _ _ _ c.in-Letvar.is refl in
+    let body = c.in-Letvar.body.items in
+    let h = rw (c.deref-in-Letvar-2.ensures.value) at c.in_ok-check_commands-in-Letvar.ensures in
+    rw e (letvar_judged (g.C.Classes.lattice c.args.lattice.now) c.args.profile c.args.table.now c.args.walk.now
+    c.in-Letvar.value body _ c.deref-in-Letvar.ensures.value
+    c.in_ok-check_reads-in-Letvar.ensures
+    _ c.in_ok-push-in-Letvar.ensures.items _ _ c.len-outside-in-Letvar.result (search rules)
+    c.truncate-in-Letvar.ensures.items h)

@@ -1,4 +1,4 @@
-use Rattle.std.proofs.Common.{max, ◌+◌, ◌*◌}
+use Rattle.std.proofs.Common.{◌+◌, ◌*◌}
 use denote.Param.Weighed.{most}
 use Rattle.vsi_scope.proofs.program.Cmd.TheLaws.{the_size}
 use Rattle.vsi_types.specs.Security.{class_of}
@@ -11,18 +11,8 @@ invariant-check_commands-loop-c g l =
     let L = g.C.Classes.lattice l.lattice in
     Reached L l.profile (class_of L l.table) (walker_place l.initial.walk) l.body l.c-index (walker_place l.walk)
 
-abbrev pub decreases-check_if : goal.decreases-check_if
-decreases-check_if g l = 3 * max (most (λ x. the_size x) l.then_branch.now)
-    (most (λ x. the_size x) l.else_branch.now) + 2
-
 abbrev pub decreases-check_command : goal.decreases-check_command
 decreases-check_command g l = 3 * the_size l.c.now
 
 abbrev pub decreases-check_commands : goal.decreases-check_commands
 decreases-check_commands g l = 3 * most (λ x. the_size x) l.body.now + 1
-
-abbrev pub decreases-check_while : goal.decreases-check_while
-decreases-check_while g l = 3 * most (λ x. the_size x) l.body.now + 2
-
-abbrev pub decreases-check_letvar : goal.decreases-check_letvar
-decreases-check_letvar g l = 3 * most (λ x. the_size x) l.body.now + 2

@@ -5,14 +5,8 @@ use Rattle.vsi_scope.proofs.Midway.{Midway}
 use Rattle.vsi_scope.proofs.Weights.{weight, all_weight}
 use Rattle.vsi_scope.proofs.resolution.command.+resolution.Given as goal
 
-abbrev pub decreases-choose : goal.decreases-choose
-decreases-choose l = 2 * (1 + weight (syntax.command l.then_branch.now) + weight (syntax.command l.else_branch.now))
-
 abbrev pub decreases-local : goal.decreases-local
 decreases-local l = 2 * (1 + weight (syntax.command l.c.now))
-
-abbrev pub decreases-repeat : goal.decreases-repeat
-decreases-repeat l = 2 * (1 + weight (syntax.command l.c.now))
 
 abbrev pub decreases-sequence : goal.decreases-sequence
 decreases-sequence l = 2 * all_weight (syntax.body_of l.body.now) + 2

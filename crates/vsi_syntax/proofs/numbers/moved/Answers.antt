@@ -1,7 +1,7 @@
 use Rattle.std.proofs.Common.{◌<◌, length, arith, eq-eqb, ne_eqb}
 use Rattle.vsi_syntax.proofs.Places.{stands_break, stands_on}
-use Rattle.vsi_syntax.proofs.numbers.line_column.Goals as goal
-use Rattle.vsi_syntax.proofs.numbers.line_column.Goals.{then-text-i-eq10, else-text-i-eq10}
+use Rattle.vsi_syntax.proofs.numbers.moved.Goals as goal
+use Rattle.vsi_syntax.proofs.numbers.moved.Goals.{then-text-i-eq10, else-text-i-eq10}
 
 pub loop-i-preserved : goal.loop-i-preserved
 loop-i-preserved c =

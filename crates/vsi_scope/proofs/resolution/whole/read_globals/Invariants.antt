@@ -2,7 +2,7 @@ use Rattle.std.proofs.Common.{drop, map}
 use Rattle.vsi_syntax.specs.CommandView as syntax
 use Rattle.vsi_lattice.specs.LatticeView.{class_named}
 use Rattle.vsi_scope.proofs.Declaring.{Halfway}
-use Rattle.vsi_scope.proofs.resolution.whole.read_into.Given as goal
+use Rattle.vsi_scope.proofs.resolution.whole.read_globals.Given as goal
 
 abbrev pub invariant-loop-d : goal.invariant-loop-d
 invariant-loop-d l =

@@ -1,6 +1,6 @@
 use Rattle.std.proofs.Common.{◌≤◌, ◌-◌}
 use Rattle.vsi_syntax.proofs.Places.{Stands}
-use Rattle.vsi_syntax.proofs.numbers.line_column.Given as goal
+use Rattle.vsi_syntax.proofs.numbers.moved.Given as goal
 
 abbrev pub invariant-loop-i : goal.invariant-loop-i
 invariant-loop-i l = record {
