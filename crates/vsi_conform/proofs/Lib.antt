@@ -10,3 +10,4 @@ pub mod Allowed
 pub mod Profiles
 pub mod ImageFitting
 pub mod Released
+pub mod NoOutputs

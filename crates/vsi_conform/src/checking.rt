@@ -82,24 +82,6 @@ pub fn judgement_by(profile: Profile) -> Judgement
     }
 }
 
-/// The line of a source text that was read and is refused.
-fn source_line(
-    alloc: Global,
-    judgement: Judgement,
-    source: &Source<'_>,
-    error: &UnsteadyError,
-) -> Result<Vec<u8>, AllocError>
-    ensures { IfOk result (λ out. spec.WritesRefusal source.now.lattice judgement source.now.text
-        error.now out.items) }
-{
-    let Some(diagnostic) = unsteady_diagnostic(source.text(), error) else {
-        return Err(AllocError);
-    };
-    let lines = refusal_lines_of(alloc, source, error, is_steady(judgement))?;
-    let line = refusal_json_of(alloc, source, &diagnostic, &lines)?;
-    Ok(line)
-}
-
 /// The answer of `check_json` for a source text that was read already.
 pub fn check_json_of(
     alloc: Global,
@@ -116,7 +98,11 @@ pub fn check_json_of(
             Ok(Checked { is_accepted, line })
         }
         Err(error) => {
-            let line = source_line(alloc, judgement, source, &error)?;
+            let Some(diagnostic) = unsteady_diagnostic(source.text(), &error) else {
+                return Err(AllocError);
+            };
+            let lines = refusal_lines_of(alloc, source, &error, is_steady(judgement))?;
+            let line = refusal_json_of(alloc, source, &diagnostic, &lines)?;
             let is_accepted = false;
             Ok(Checked { is_accepted, line })
         }

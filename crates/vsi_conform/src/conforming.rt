@@ -13,6 +13,7 @@ ghost use Rattle.vsi_conform.specs.Conforms as conforms_spec;
 ghost use Rattle.vsi_conform.specs.Bounded as bounded_spec;
 
 use crate::interface::{Answer, Bounded, Interface, Judgement, Point, Trial, put_told};
+use crate::texts::put_counted;
 use std::alloc::{AllocError, Global};
 use vsi_answers::{BoundAnswer, bound_in, enough_budget};
 use vsi_compiler::{CompileError, Source, compile_source, read_source, unjudged_image};
@@ -20,7 +21,7 @@ use vsi_image::Verified;
 use vsi_lattice::Lattice;
 use vsi_machine::{Machine, Outcome};
 use vsi_steady::{UnsteadyError, steady_image_of};
-use vsi_syntax::{Declaration, LexError, ParseError, lex, parse, put_number};
+use vsi_syntax::{Declaration, LexError, ParseError, lex, parse};
 use vsi_types::Profile;
 
 /// Whether a global has this name.
@@ -137,21 +138,13 @@ pub(crate) fn declarations<'a>(
 {
     let tokens = match lex(alloc, text) {
         Ok(tokens) => tokens,
-        Err(error) => {
-            return match error {
-                LexError::Memory => Err(AllocError),
-                _ => Ok(Vec::new(alloc)),
-            };
-        }
+        Err(LexError::Memory) => return Err(AllocError),
+        Err(_error) => return Ok(Vec::new(alloc)),
     };
     let program = match parse(alloc, &tokens) {
         Ok(program) => program,
-        Err(error) => {
-            return match error {
-                ParseError::Memory => Err(AllocError),
-                _ => Ok(Vec::new(alloc)),
-            };
-        }
+        Err(ParseError::Memory) => return Err(AllocError),
+        Err(_error) => return Ok(Vec::new(alloc)),
     };
     let found = program.globals().to_vec(alloc)?;
     Ok(found)
@@ -346,30 +339,6 @@ fn word_of(variables: &[(Vec<u8>, Vec<u8>)], words: &[i64], name: &[u8]) -> Opti
     None
 }
 
-/// The point of the word expected for a name.
-fn expected_point(
-    trial: usize,
-    wanted: usize,
-    entry: &(Vec<u8>, i64),
-    variables: &[(Vec<u8>, Vec<u8>)],
-    words: &[i64],
-) -> Option<Point>
-    ensures { result ≡ spec.expected_point trial wanted (spec.entry entry.now)
-        (globals variables.now) words.now }
-{
-    let Some(word) = word_of(variables, words, entry.0.as_slice()) else {
-        return Some(Point::NoWord { trial, wanted });
-    };
-    if word == entry.1 {
-        return None;
-    }
-    Some(Point::WrongWord {
-        trial,
-        wanted,
-        word,
-    })
-}
-
 /// Adds the points of the expected words.
 fn put_words(
     points: &mut Vec<Point>,
@@ -382,7 +351,15 @@ fn put_words(
         ++ spec.word_points trial 0 (spec.entries expect.now) (globals variables.now) words.now) }
 {
     for (wanted, entry) in expect.iter().enumerate() {
-        let point = expected_point(trial, wanted, entry, variables, words);
+        let point = match word_of(variables, words, entry.0.as_slice()) {
+            None => Some(Point::NoWord { trial, wanted }),
+            Some(word) if word == entry.1 => None,
+            Some(word) => Some(Point::WrongWord {
+                trial,
+                wanted,
+                word,
+            }),
+        };
         put_told(points, point)?;
     }
     Ok(())
@@ -416,19 +393,6 @@ fn put_trial(
     }
 }
 
-/// The line of a bound above a maximum.
-fn excess_line(alloc: Global, most: u64, maximum: u64) -> Result<Vec<u8>, AllocError>
-    ensures { IfOk result (λ line. line.items ≡ bounded_spec.excess_line most maximum) }
-{
-    let mut line = Vec::new(alloc);
-    line.extend_from_slice(b"halts within ")?;
-    put_number(&mut line, most as usize)?;
-    line.extend_from_slice(b" instructions, expected at most ")?;
-    put_number(&mut line, maximum as usize)?;
-    line.extend_from_slice(b"\n")?;
-    Ok(line)
-}
-
 /// The report about a bound where one of at most `maximum` instructions is required.
 #[tactic(auto, using(crate::proofs::BoundLines::within_reported, crate::proofs::BoundLines::excess_reported, crate::proofs::BoundLines::line_reported))]
 fn report_within(
@@ -443,7 +407,14 @@ fn report_within(
             if most <= maximum {
                 return Ok(None);
             }
-            let line = excess_line(alloc, most, maximum)?;
+            let mut line = Vec::new(alloc);
+            put_counted(&mut line, b"halts within ", most as usize)?;
+            put_counted(
+                &mut line,
+                b" instructions, expected at most ",
+                maximum as usize,
+            )?;
+            line.extend_from_slice(b"\n")?;
             Ok(Some(line))
         }
         Err(line) => Ok(Some(line)),

@@ -120,6 +120,7 @@ fn reached(alloc: Global, reaches: &[Reach]) -> Result<Objects, AllocError>
 }
 
 /// An object with the released outputs, if there are any.
+#[tactic(auto, using(crate::proofs::NoOutputs::none_reached, crate::proofs::NoOutputs::some_reached))]
 fn with_reached(alloc: Global, made: Object, reaches: &[Reach]) -> Result<Object, AllocError>
     ensures { IfOk result (λ whole. members_view whole
         ≡ spec.with_reached (map released reaches.now) (members_view made)) }

@@ -3,10 +3,9 @@
 
 ghost use Rattle.std.specs.Prelude.{◌≡◌, IfOk, None, true, map, option_map};
 ghost use Rattle.vsi_lattice.specs.LatticeView.{class_named, order};
-ghost use Rattle.vsi_image.specs.Fields.{globals as globals_of};
 ghost use Rattle.vsi_steady.specs.Steady.{IsSteady};
 ghost use Rattle.vsi_answers.specs.View.{diagnostic_of};
-ghost use Rattle.vsi_conform.specs.{Bounded.{ReportsBound}, Conforms.{Fits}, Reaching.{flowing, released}, Reading.{bytes_of, cycle as cycle_of}, Rows.{row}, declared.interface.Judgement.TheVariants.{Steady}, ImageConforms.{is_conforming}};
+ghost use Rattle.vsi_conform.specs.{Bounded.{ReportsBound}, Conforms.{Fits}, Reaching.{released}, Reading.{cycle as cycle_of}, Rows.{row}, declared.interface.Judgement.TheVariants.{Steady}, ImageConforms.{is_conforming}};
 ghost use Rattle.vsi_conform.specs.ImageConforms as spec;
 ghost use Rattle.vsi_conform.specs.ImageLines as lines_spec;
 ghost use Rattle.vsi_conform.specs.ImageReaching as reaching_spec;
@@ -22,7 +21,6 @@ use crate::texts::{put_counted, put_parts};
 use std::alloc::{AllocError, Global};
 use vsi_answers::{Diagnostic, bound};
 use vsi_audit::{AuditError, audit_in, audit_text, image_flows};
-use vsi_flows::Pair;
 use vsi_image::{Image, Verified};
 use vsi_lattice::Lattice;
 use vsi_steady::{SteadyError, steady_in, steady_text};
@@ -46,24 +44,6 @@ fn audited_in(
     }
 }
 
-/// The refusal of an image that isn't steady.
-fn steadied_in(
-    alloc: Global,
-    lattice: &Lattice,
-    verified: &Verified,
-) -> Result<Option<Refusal>, AllocError>
-    ensures judged { IfOk result (spec.IsSteadied (class_named lattice.now) (order lattice.now)
-        verified.now) }
-    ensures exact { IsSteady (class_named lattice.now) (order lattice.now) verified.now
-        → IfOk result (λ refusal. refusal ≡ None) }
-{
-    match steady_in(alloc, lattice, verified) {
-        Ok(()) => Ok(None),
-        Err(SteadyError::Memory) => Err(AllocError),
-        Err(error) => Ok(Some(Refusal::Steady(error))),
-    }
-}
-
 /// The refusal of an image that isn't as the profile of an interface requires.
 fn refusal_of(
     alloc: Global,
@@ -80,7 +60,11 @@ fn refusal_of(
     match judgement {
         Judgement::Base => audited_in(alloc, Profile::Base, lattice, verified),
         Judgement::Strict => audited_in(alloc, Profile::Strict, lattice, verified),
-        Judgement::Steady => steadied_in(alloc, lattice, verified),
+        Judgement::Steady => match steady_in(alloc, lattice, verified) {
+            Ok(()) => Ok(None),
+            Err(SteadyError::Memory) => Err(AllocError),
+            Err(error) => Ok(Some(Refusal::Steady(error))),
+        },
     }
 }
 
@@ -161,51 +145,6 @@ impl Answer {
     }
 }
 
-/// The names of globals.
-fn names_of(alloc: Global, globals: &[(Vec<u8>, Vec<u8>)]) -> Result<Vec<Vec<u8>>, AllocError>
-    ensures { IfOk result
-        (λ names. bytes_of names.items ≡ map (λ g. g.0) (globals_of globals.now)) }
-{
-    let mut names = Vec::new(alloc);
-    for global in globals {
-        let name = Vec::from_slice(alloc, &global.0)?;
-        names.push(name)?;
-    }
-    Ok(names)
-}
-
-/// The table of flows of an image, if the audit reads its program back.
-fn table_of(
-    alloc: Global,
-    profile: Profile,
-    lattice: &Lattice,
-    verified: &Verified,
-) -> Result<Option<Vec<Pair>>, AllocError>
-    ensures { IfOk result (λ table. reaching_spec.IsTableIn lattice.now profile verified.now
-        (option_map (λ pairs. pairs.items) table)) }
-{
-    match image_flows(alloc, profile, lattice, verified) {
-        Ok(pairs) => Ok(Some(pairs)),
-        Err(AuditError::Memory) => Err(AllocError),
-        Err(_) => Ok(None),
-    }
-}
-
-/// The flows of an image between its globals.
-fn flows_of(
-    alloc: Global,
-    profile: Profile,
-    lattice: &Lattice,
-    verified: &Verified,
-) -> Result<GlobalFlows, AllocError>
-    ensures { IfOk result
-        (λ flows. reaching_spec.AreFlowsOf lattice.now profile verified.now (flowing flows)) }
-{
-    let names = names_of(alloc, &verified.image().globals)?;
-    let table = table_of(alloc, profile, lattice, verified)?;
-    Ok(GlobalFlows { names, table })
-}
-
 /// The released outputs of boundaries, in their order, each with the globals of an image that reach
 /// it. If the audit reads no program back from the image, each global counts as reaching every
 /// other one. An error means that memory ran out.
@@ -222,8 +161,17 @@ pub fn image_reaches(
     if !have_released(cycles) {
         return Ok(Vec::new(alloc));
     }
-    let flows = flows_of(alloc, flows_profile(judgement), lattice, verified)?;
-    reaches_of(alloc, &flows, cycles)
+    let globals = verified.image().globals.as_slice();
+    let mut names = Vec::new(alloc);
+    for global in globals {
+        names.push(Vec::from_slice(alloc, &global.0)?)?;
+    }
+    let table = match image_flows(alloc, flows_profile(judgement), lattice, verified) {
+        Ok(pairs) => Some(pairs),
+        Err(AuditError::Memory) => return Err(AllocError),
+        Err(_error) => None,
+    };
+    reaches_of(alloc, &GlobalFlows { names, table }, cycles)
 }
 
 /// The lines of a refusal.
@@ -242,16 +190,6 @@ fn refusal_lines(
     }
 }
 
-/// The refusal of an image as a value; none if memory ran out.
-fn refusal_diagnostic(refusal: &Refusal) -> Option<Diagnostic<'static>>
-    ensures { option_map diagnostic_of result ≡ lines_spec.diagnostic refusal.now }
-{
-    match refusal {
-        Refusal::Audit(error) => audit_diagnostic(error),
-        Refusal::Steady(error) => steady_diagnostic(error),
-    }
-}
-
 /// The refusal of an image that isn't as a profile requires, as a value and as lines.
 pub fn refused_image(
     alloc: Global,
@@ -265,29 +203,15 @@ pub fn refused_image(
     let Some(refusal) = refusal_of(alloc, judgement, lattice, verified)? else {
         return Ok(None);
     };
-    let Some(diagnostic) = refusal_diagnostic(&refusal) else {
+    let diagnostic = match &refusal {
+        Refusal::Audit(error) => audit_diagnostic(error),
+        Refusal::Steady(error) => steady_diagnostic(error),
+    };
+    let Some(diagnostic) = diagnostic else {
         return Err(AllocError);
     };
     let lines = refusal_lines(alloc, lattice, verified.image(), &refusal)?;
     Ok(Some((diagnostic, lines)))
-}
-
-/// The lines of a refusal, if there is one.
-fn first_lines(
-    alloc: Global,
-    lattice: &Lattice,
-    image: &Image,
-    refusal: &Option<Refusal>,
-) -> Result<Option<Vec<u8>>, AllocError>
-    ensures { IfOk result (λ lines. lines_spec.AreFirst lattice.now image.now refusal.now lines) }
-{
-    match refusal {
-        Some(refusal) => {
-            let lines = refusal_lines(alloc, lattice, image, refusal)?;
-            Ok(Some(lines))
-        }
-        None => Ok(None),
-    }
 }
 
 /// The rows of an answer about an image. The lattice, the image and the interface must be those of
@@ -302,7 +226,10 @@ pub fn image_rows(
     ensures rows { IfOk result (λ found. lines_spec.AreImageRows lattice.now image.now interface.now
         answer.now (map row found.items)) }
 {
-    let lines = first_lines(alloc, lattice, image, &answer.refusal)?;
+    let lines = match &answer.refusal {
+        Some(refusal) => Some(refusal_lines(alloc, lattice, image, refusal)?),
+        None => None,
+    };
     let judged = Judged::Image(image);
     let found = rows_of(
         alloc,
@@ -343,42 +270,6 @@ fn put_contrast(
     }
 }
 
-/// Adds what a trial shows.
-fn put_comparison(
-    text: &mut Vec<u8>,
-    reference: Reference<'_>,
-    comparison: Comparison,
-) -> Result<(), AllocError> {
-    match comparison {
-        Comparison::Alike { runs, cycles } => {
-            put_counted(text, b"no difference in ", runs)?;
-            put_counted(text, b" runs with ", cycles)?;
-            text.extend_from_slice(b" cycles (a test, no proof)")
-        }
-        Comparison::Apart(difference) => {
-            if let Some(cycle) = reference.cycles.get(difference.boundary) {
-                put_parts(text, &[b"class ", &cycle.class])?;
-            }
-            let run = difference.run.saturating_add(1);
-            let cycle = difference.cycle.saturating_add(1);
-            put_counted(text, b" run ", run)?;
-            put_counted(text, b" cycle ", cycle)?;
-            put_contrast(text, reference.interface, difference.contrast)
-        }
-        Comparison::Lacking(number) => {
-            let (name, class) = asked(reference.interface, number);
-            put_parts(text, &[b"missing ", name, b" : ", class])
-        }
-        Comparison::Extra(place) => {
-            let held = numbered(reference.verified.image(), place);
-            put_parts(text, &[b"unexpected ", held.name, b" : ", held.class])
-        }
-        Comparison::Untried => {
-            text.extend_from_slice(b"not compared, no program with the globals of the interface")
-        }
-    }
-}
-
 /// The line of a trial beside the reference at a path.
 pub fn reference_line(
     alloc: Global,
@@ -388,7 +279,35 @@ pub fn reference_line(
 ) -> Result<Vec<u8>, AllocError> {
     let mut text = Vec::new(alloc);
     put_parts(&mut text, &[b"reference ", path, b": "])?;
-    put_comparison(&mut text, reference, comparison)?;
+    match comparison {
+        Comparison::Alike { runs, cycles } => {
+            put_counted(&mut text, b"no difference in ", runs)?;
+            put_counted(&mut text, b" runs with ", cycles)?;
+            text.extend_from_slice(b" cycles (a test, no proof)")?;
+        }
+        Comparison::Apart(difference) => {
+            if let Some(cycle) = reference.cycles.get(difference.boundary) {
+                put_parts(&mut text, &[b"class ", &cycle.class])?;
+            }
+            let run = difference.run.saturating_add(1);
+            let cycle = difference.cycle.saturating_add(1);
+            put_counted(&mut text, b" run ", run)?;
+            put_counted(&mut text, b" cycle ", cycle)?;
+            put_contrast(&mut text, reference.interface, difference.contrast)?;
+        }
+        Comparison::Lacking(number) => {
+            let (name, class) = asked(reference.interface, number);
+            put_parts(&mut text, &[b"missing ", name, b" : ", class])?;
+        }
+        Comparison::Extra(place) => {
+            let held = numbered(reference.verified.image(), place);
+            put_parts(&mut text, &[b"unexpected ", held.name, b" : ", held.class])?;
+        }
+        Comparison::Untried => {
+            let words = b"not compared, no program with the globals of the interface";
+            text.extend_from_slice(words)?;
+        }
+    }
     text.extend_from_slice(b"\n")?;
     Ok(text)
 }

@@ -246,31 +246,23 @@ fn is_parent(path: &[u8]) -> bool
     matches!(path, [b'.', b'.'] | [b'.', b'.', b'/', ..])
 }
 
-/// Whether a part of a path after the first is `..`.
-fn climbs(path: &[u8]) -> bool
-    ensures { result ≡ beside_spec.climbs path.now }
-{
-    let mut rest = path;
-    while let [byte, behind @ ..] = rest {
-        if *byte == b'/' && is_parent(behind) {
-            return true;
-        }
-        rest = behind;
-    }
-    false
-}
-
 /// The path at a key, if it doesn't lead out of the folder that it is taken in.
 pub(crate) fn path_at<'t>(table: &'t Table, key: &str) -> Option<&'t [u8]>
     ensures path { IfSome result (λ p. spec.text_at key.now (table_view table.now) ≡ Some p.now) }
     ensures inside { IfSome result (λ p. beside_spec.leads_out p.now ≡ false) }
 {
     let path = text_at(table, key)?.as_bytes();
-    if path.starts_with(b"/") || is_parent(path) || climbs(path) {
-        None
-    } else {
-        Some(path)
+    if path.starts_with(b"/") || is_parent(path) {
+        return None;
     }
+    let mut rest = path;
+    while let [byte, behind @ ..] = rest {
+        if *byte == b'/' && is_parent(behind) {
+            return None;
+        }
+        rest = behind;
+    }
+    Some(path)
 }
 
 /// The keys of a boundary.

@@ -10,13 +10,13 @@
 //! text conforms to it (`specs/Conforms`). `conform_image` does the same for a verified image,
 //! whoever made it (`specs/ImageConforms`), and `refused_image` says why an image isn't as a
 //! profile requires. `text_rows` and `image_rows` make the points into rows (`specs/Rows`,
-//! `specs/Lines`, `specs/ImageLines`), and `Conformity` writes the whole answer as lines and as JSON
-//! (`specs/Conformity`). `is_within` compares the budgets of all runs with one budget
+//! `specs/Lines`, `specs/ImageLines`), and `Conformity` writes the whole answer as lines and as
+//! JSON (`specs/Conformity`). `is_within` compares the budgets of all runs with one budget
 //! (`specs/Totals`). `text_reaches` and `image_reaches` list the globals that reach each released
 //! output, and `are_within` says whether the interface allows them (`specs/Reaching`,
-//! `specs/ReachedLines`, `specs/ImageReaching`). `compare_reference` runs an image beside that of a
-//! reference from random stores, and `reference_line` reports what it finds. This is a test: nothing
-//! is proved of the differences that it misses (`specs/Reference`).
+//! `specs/ReachedLines`, `specs/ImageReaching`). `compare_reference` runs an image beside that of
+//! a reference from random stores, and `reference_line` reports what it finds. This is a test:
+//! nothing is proved of the differences that it misses (`specs/Reference`).
 //!
 //! To be believed: all files of `specs/`.
 #![tactic(auto)]

@@ -82,18 +82,6 @@ fn put_name(
     Ok(())
 }
 
-/// The names of the globals that reach this one.
-fn sources_of(alloc: Global, flows: &GlobalFlows, target: usize) -> Result<Vec<Vec<u8>>, AllocError>
-    ensures { IfOk result (λ found. bytes_of found.items ≡ spec.sources_of
-        (spec.flowing flows.now).table target (spec.flowing flows.now).names 0) }
-{
-    let mut found = Vec::new(alloc);
-    for (i, name) in flows.names.iter().enumerate() {
-        put_name(alloc, &mut found, name, reaches(&flows.table, i, target))?;
-    }
-    Ok(found)
-}
-
 /// Whether a name is in a list.
 pub fn is_among(listed: &[Vec<u8>], name: &[u8]) -> bool
     ensures among { result ≡ is_among_of (bytes_of listed.now) name.now }
@@ -106,25 +94,6 @@ pub fn is_among(listed: &[Vec<u8>], name: &[u8]) -> bool
     false
 }
 
-/// The names that aren't in a list; without a list there are none.
-fn beyond_of(
-    alloc: Global,
-    listed: &Option<Vec<Vec<u8>>>,
-    names: &[Vec<u8>],
-) -> Result<Vec<Vec<u8>>, AllocError>
-    ensures { IfOk result (λ found. bytes_of found.items ≡ spec.beyond_of
-        (option_map (λ names. bytes_of names.items) listed.now) (bytes_of names.now)) }
-{
-    let mut found = Vec::new(alloc);
-    let Some(allowed) = listed else {
-        return Ok(found);
-    };
-    for name in names {
-        put_name(alloc, &mut found, name, !is_among(allowed, name))?;
-    }
-    Ok(found)
-}
-
 /// A released output of a boundary.
 fn reach_of(
     alloc: Global,
@@ -135,8 +104,17 @@ fn reach_of(
     ensures { IfOk result (λ reach. spec.released reach
         ≡ spec.released_at (spec.flowing flows.now) (cycle_of cycle.now) output.now) }
 {
-    let sources = sources_of(alloc, flows, number_of(&flows.names, output))?;
-    let beyond = beyond_of(alloc, &cycle.from, &sources)?;
+    let target = number_of(&flows.names, output);
+    let mut sources = Vec::new(alloc);
+    for (i, name) in flows.names.iter().enumerate() {
+        put_name(alloc, &mut sources, name, reaches(&flows.table, i, target))?;
+    }
+    let mut beyond = Vec::new(alloc);
+    if let Some(allowed) = &cycle.from {
+        for source in &sources {
+            put_name(alloc, &mut beyond, source, !is_among(allowed, source))?;
+        }
+    }
     Ok(Reach {
         class: Vec::from_slice(alloc, &cycle.class)?,
         output: Vec::from_slice(alloc, output)?,

@@ -2,8 +2,8 @@
 
 ghost use Rattle.std.specs.{Prelude.{◌≡◌, ◌≤◌, length, take, codes, Some, None, false, IfOk, OnOk, option_map, string_bytes}, Str.{IsUtf8}, Str.Lossy.{utf8_lossy}};
 ghost use Rattle.toml.specs.{Data.{get_member}, View.{table_view, view}};
-ghost use Rattle.vsi_image.specs.Fields.{global, globals};
-ghost use Rattle.vsi_conform.specs.{Beside.{IsInside, beside, folder}, Tables.{IsTablesText, with_copy}};
+ghost use Rattle.vsi_image.specs.Fields.{globals};
+ghost use Rattle.vsi_conform.specs.{Beside.{IsInside, beside, folder}, Tables.{with_copy}};
 ghost use Rattle.vsi_lattice.specs.LatticeView.{class_named};
 ghost use Rattle.vsi_store.specs.View.{first_unknown};
 ghost use Rattle.vsi_lattice.specs.Shape as shape;
@@ -90,19 +90,6 @@ fn folder_length(path: &[u8]) -> usize
     0
 }
 
-/// The text of a lattice file with these tables of an interface.
-fn tables_text(alloc: Global, table: &Table) -> Result<Vec<u8>, InterfaceError>
-    ensures { IfOk result (λ text. IsTablesText (table_view table.now) text.items) }
-{
-    let mut tables = Table::new(alloc);
-    put_copy(alloc, &mut tables, table, "classes")?;
-    put_copy(alloc, &mut tables, table, "below")?;
-    match toml::table_to_string(alloc, &tables) {
-        Ok(text) => Ok(text.into_bytes()),
-        Err(_) => Err(InterfaceError::Memory),
-    }
-}
-
 /// Copies the value at a key from one table to another.
 fn put_copy(alloc: Global, tables: &mut Table, table: &Table, key: &str) -> Result<(), AllocError>
     ensures { OnOk result (table_view tables.new
@@ -133,7 +120,15 @@ fn policy_in(alloc: Global, table: &Table) -> Result<Policy, InterfaceError>
             Ok(Policy::File(Vec::from_slice(alloc, path)?))
         }
         (Some(_), _, _) | (None, None, None) => Err(InterfaceError::BadLattice),
-        (None, _, _) => Ok(Policy::Tables(tables_text(alloc, table)?)),
+        (None, _, _) => {
+            let mut tables = Table::new(alloc);
+            put_copy(alloc, &mut tables, table, "classes")?;
+            put_copy(alloc, &mut tables, table, "below")?;
+            match toml::table_to_string(alloc, &tables) {
+                Ok(text) => Ok(Policy::Tables(text.into_bytes())),
+                Err(_) => Err(InterfaceError::Memory),
+            }
+        }
     }
 }
 
@@ -193,27 +188,7 @@ fn pair_of(value: &Value) -> Option<(&str, &str)>
     Some((name, class))
 }
 
-/// A required global, if no earlier global has its name.
-fn global_of(
-    alloc: Global,
-    value: &Value,
-    before: &[(Vec<u8>, Vec<u8>)],
-) -> Result<(Vec<u8>, Vec<u8>), InterfaceError>
-    ensures { IfOk result (λ g. shape.pair_of (view value.now) ≡ Some (global g)) }
-{
-    let (name, class) = pair_of(value).ok_or(InterfaceError::BadGlobals)?;
-    let name = Vec::from_slice(alloc, name.as_bytes())?;
-    if !is_name(&name) {
-        return Err(InterfaceError::BadName(name));
-    }
-    if is_named(before, &name) {
-        return Err(InterfaceError::RepeatedGlobal(name));
-    }
-    let class = Vec::from_slice(alloc, class.as_bytes())?;
-    Ok((name, class))
-}
-
-/// The required globals.
+/// The required globals, each with a name that no earlier one has.
 fn globals_in(alloc: Global, table: &Table) -> Result<Vec<(Vec<u8>, Vec<u8>)>, InterfaceError>
     ensures { IfOk result
         (λ found. spec.globals_at (table_view table.now) ≡ Some (globals found.items)) }
@@ -226,39 +201,18 @@ fn globals_in(alloc: Global, table: &Table) -> Result<Vec<(Vec<u8>, Vec<u8>)>, I
     }
     let mut found = Vec::new(alloc);
     for value in array {
-        let entry = global_of(alloc, value, &found)?;
-        found.push(entry)?;
+        let pair = pair_of(value).ok_or(InterfaceError::BadGlobals)?;
+        let name = Vec::from_slice(alloc, pair.0.as_bytes())?;
+        if !is_name(&name) {
+            return Err(InterfaceError::BadName(name));
+        }
+        if is_named(&found, &name) {
+            return Err(InterfaceError::RepeatedGlobal(name));
+        }
+        let class = Vec::from_slice(alloc, pair.1.as_bytes())?;
+        found.push((name, class))?;
     }
     Ok(found)
-}
-
-/// The requirements of a table on a text.
-fn interface_in(alloc: Global, table: &Table) -> Result<Interface, InterfaceError>
-    ensures { IfOk result (spec.Asks (table_view table.now)) }
-{
-    let judgement = judgement_in(table).ok_or(InterfaceError::BadProfile)?;
-    let is_ordered = order_in(table).ok_or(InterfaceError::BadOrder)?;
-    let bounded = bounded_in(table).ok_or(InterfaceError::BadBounded)?;
-    let globals = globals_in(alloc, table)?;
-    let trials = trials_in(alloc, table, &globals)?;
-    Ok(Interface {
-        judgement,
-        is_ordered,
-        bounded,
-        globals,
-        trials,
-    })
-}
-
-/// The path of the reference, if there is one.
-fn reference_in(alloc: Global, table: &Table) -> Result<Option<Vec<u8>>, InterfaceError>
-    ensures { IfOk result (spec.IsReference (table_view table.now)) }
-{
-    if value_at(table, "reference").is_none() {
-        return Ok(None);
-    }
-    let path = path_at(table, "reference").ok_or(InterfaceError::BadReference)?;
-    Ok(Some(Vec::from_slice(alloc, path)?))
 }
 
 /// The contents of an interface file. Whether its classes are classes of the lattice isn't checked.
@@ -278,9 +232,26 @@ pub fn read_interface(alloc: Global, text: &[u8]) -> Result<InterfaceFile, Inter
         return Err(InterfaceError::UnknownKey(name));
     }
     let policy = policy_in(alloc, &table)?;
-    let interface = interface_in(alloc, &table)?;
-    let cycles = cycles_in(alloc, &table, &interface.globals)?;
-    let reference = reference_in(alloc, &table)?;
+    let judgement = judgement_in(&table).ok_or(InterfaceError::BadProfile)?;
+    let is_ordered = order_in(&table).ok_or(InterfaceError::BadOrder)?;
+    let bounded = bounded_in(&table).ok_or(InterfaceError::BadBounded)?;
+    let globals = globals_in(alloc, &table)?;
+    let trials = trials_in(alloc, &table, &globals)?;
+    let cycles = cycles_in(alloc, &table, &globals)?;
+    let reference = match value_at(&table, "reference") {
+        Some(_value) => {
+            let path = path_at(&table, "reference").ok_or(InterfaceError::BadReference)?;
+            Some(Vec::from_slice(alloc, path)?)
+        }
+        None => None,
+    };
+    let interface = Interface {
+        judgement,
+        is_ordered,
+        bounded,
+        globals,
+        trials,
+    };
     Ok(InterfaceFile {
         policy,
         interface,

@@ -222,7 +222,25 @@ fn contrast_of(image: &Side, reference: &Side, outputs: &[usize]) -> Option<Cont
 impl<'a> Trial<'a> {
     /// Draws a word for a global of the interface, in both stores.
     fn draw(&mut self, number: usize) {
-        let word = drawn(&mut self.random, &self.constants, &self.reference.store);
+        let random = &mut self.random;
+        let constants = &self.constants;
+        let store = &self.reference.store;
+        let word = match below(random, 16) {
+            0 | 1 => 0,
+            2 | 3 => 1,
+            4 | 5 | 6 => (below(random, 11) as u64).cast_signed(),
+            7 | 8 => one_of(random, constants),
+            9 | 10 => {
+                let mut bound: usize = 10;
+                for _ in 0..below(random, MOST_DIGITS) {
+                    bound = bound.saturating_mul(10);
+                }
+                (below(random, bound) as u64).cast_signed()
+            }
+            11 | 12 => near(random, store),
+            13 | 14 => near(random, store).wrapping_add(one_of(random, constants)),
+            _ => random.next_u64().cast_signed(),
+        };
         self.image.set(number, word);
         self.reference.set(number, word);
     }
@@ -255,26 +273,6 @@ impl<'a> Trial<'a> {
         }
         Ok((CYCLES, None))
     }
-
-    /// All runs of a boundary, which has this number.
-    fn runs(&mut self, number: usize, boundary: &Boundary) -> Result<Comparison, AllocError>
-        ensures { IfOk result spec.IsFound }
-    {
-        let mut cycles: usize = 0;
-        for run in 0..RUNS {
-            let (cycle, contrast) = self.run(boundary)?;
-            if let Some(contrast) = contrast {
-                return Ok(Comparison::Apart(Difference {
-                    boundary: number,
-                    run,
-                    cycle,
-                    contrast,
-                }));
-            }
-            cycles = cycles.saturating_add(cycle);
-        }
-        Ok(Comparison::Alike { runs: RUNS, cycles })
-    }
 }
 
 /// The trials of all boundaries that release outputs.
@@ -285,25 +283,28 @@ fn tried(
 ) -> Result<Comparison, AllocError>
     ensures { IfOk result spec.IsFound }
 {
-    let mut all_runs: usize = 0;
-    let mut all_cycles: usize = 0;
+    let mut runs: usize = 0;
+    let mut cycles: usize = 0;
     for (number, cycle) in reference.cycles.iter().enumerate() {
         let boundary = boundary_of(trial.alloc, lattice, reference.interface, cycle)?;
         if boundary.outputs.is_empty() {
             continue;
         }
-        match trial.runs(number, &boundary)? {
-            Comparison::Alike { runs, cycles } => {
-                all_runs = all_runs.saturating_add(runs);
-                all_cycles = all_cycles.saturating_add(cycles);
+        for run in 0..RUNS {
+            let (cycle, contrast) = trial.run(&boundary)?;
+            if let Some(contrast) = contrast {
+                return Ok(Comparison::Apart(Difference {
+                    boundary: number,
+                    run,
+                    cycle,
+                    contrast,
+                }));
             }
-            other => return Ok(other),
+            runs = runs.saturating_add(1);
+            cycles = cycles.saturating_add(cycle);
         }
     }
-    Ok(Comparison::Alike {
-        runs: all_runs,
-        cycles: all_cycles,
-    })
+    Ok(Comparison::Alike { runs, cycles })
 }
 
 /// The numbers in the code of two images, each with its neighbours and none twice, up to so many.
@@ -396,25 +397,5 @@ fn near(random: &mut SplitMix64, words: &[i64]) -> i64 {
         0 => word.wrapping_add(1),
         1 => word.wrapping_sub(1),
         _ => word,
-    }
-}
-
-/// A random word for a global beside a store.
-fn drawn(random: &mut SplitMix64, constants: &[i64], store: &[i64]) -> i64 {
-    match below(random, 16) {
-        0 | 1 => 0,
-        2 | 3 => 1,
-        4 | 5 | 6 => (below(random, 11) as u64).cast_signed(),
-        7 | 8 => one_of(random, constants),
-        9 | 10 => {
-            let mut bound: usize = 10;
-            for _ in 0..below(random, MOST_DIGITS) {
-                bound = bound.saturating_mul(10);
-            }
-            (below(random, bound) as u64).cast_signed()
-        }
-        11 | 12 => near(random, store),
-        13 | 14 => near(random, store).wrapping_add(one_of(random, constants)),
-        _ => random.next_u64().cast_signed(),
     }
 }

@@ -1,8 +1,7 @@
 //! The points of a text or an image beside an interface as rows, which each form of an answer goes
 //! over.
 
-ghost use Rattle.std.specs.Prelude.{◌≡◌, ◌++◌, map, option_map, slice_get, Some, IfOk, OnOk};
-ghost use Rattle.vsi_syntax.specs.CommandView.{declared};
+ghost use Rattle.std.specs.Prelude.{◌≡◌, ◌++◌, map, option_map, Some, IfOk, OnOk};
 ghost use Rattle.vsi_conform.specs.Shown as shown;
 ghost use Rattle.vsi_conform.specs.Rows as spec;
 
@@ -93,31 +92,6 @@ pub(crate) struct Held<'a> {
     pub place: Option<(usize, usize)>,
 }
 
-/// The global of a text at an index, with the position of its name or its class name; one with an
-/// empty name if there is none.
-fn declared_at<'a>(text: &[u8], found: &[Declaration<'a>], place: usize, is_class: bool) -> Held<'a>
-    ensures { spec.held result
-        ≡ spec.declared_at text.now is_class (slice_get (map declared found.now) place) }
-{
-    let Some(declaration) = found.get(place) else {
-        return Held {
-            name: b"",
-            class: b"",
-            place: Some((1, 1)),
-        };
-    };
-    let at = if is_class {
-        declaration.class.span.start
-    } else {
-        declaration.name.span.start
-    };
-    Held {
-        name: declaration.name.text,
-        class: declaration.class.text,
-        place: Some(line_column(text, at)),
-    }
-}
-
 /// The global of an image at an index; one with an empty name if there is none.
 pub(crate) fn numbered(image: &Image, place: usize) -> Held<'_>
     ensures global { spec.held result ≡ spec.image_held image.now place }
@@ -136,13 +110,31 @@ pub(crate) fn numbered(image: &Image, place: usize) -> Held<'_>
     }
 }
 
-/// The global of what is judged at an index, with the position of its name or its class name.
+/// The global of what is judged at an index, with the position of its name or its class name; one
+/// with an empty name if there is none.
 fn held_at<'a>(judged: &Judged<'a>, place: usize, is_class: bool) -> Held<'a>
     ensures { spec.held result ≡ spec.held_of judged.now is_class place }
 {
-    match judged {
-        Judged::Text(text, found) => declared_at(text, found, place, is_class),
-        Judged::Image(image) => numbered(image, place),
+    let (text, found) = match judged {
+        Judged::Text(text, found) => (text, found),
+        Judged::Image(image) => return numbered(image, place),
+    };
+    let Some(declaration) = found.get(place) else {
+        return Held {
+            name: b"",
+            class: b"",
+            place: Some((1, 1)),
+        };
+    };
+    let at = if is_class {
+        declaration.class.span.start
+    } else {
+        declaration.name.span.start
+    };
+    Held {
+        name: declaration.name.text,
+        class: declaration.class.text,
+        place: Some(line_column(text, at)),
     }
 }
 

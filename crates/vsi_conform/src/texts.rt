@@ -76,27 +76,6 @@ pub(crate) fn is_steady(judgement: Judgement) -> bool
     matches!(judgement, Judgement::Steady)
 }
 
-/// The lines of a refusal, if there is one.
-fn first_lines(
-    alloc: Global,
-    lattice: &Lattice,
-    text: &[u8],
-    interface: &Interface,
-    refusal: &Option<UnsteadyError>,
-) -> Result<Option<Vec<u8>>, AllocError>
-    ensures { IfOk result (λ lines. spec.AreFirst lattice.now text.now interface.now
-        refusal.now lines) }
-{
-    match refusal {
-        Some(error) => {
-            let steady = is_steady(interface.judgement);
-            let lines = refusal_lines(alloc, lattice, text, error, steady)?;
-            Ok(Some(lines))
-        }
-        None => Ok(None),
-    }
-}
-
 /// The rows of an answer about a text. Names, lines and columns come from the given lattice, text
 /// and interface, which must be those of the answer.
 pub fn text_rows(
@@ -110,7 +89,11 @@ pub fn text_rows(
         answer.now (map row found.items)) }
 {
     let declared = declarations(alloc, text)?;
-    let lines = first_lines(alloc, lattice, text, interface, &answer.refusal)?;
+    let steady = is_steady(interface.judgement);
+    let lines = match &answer.refusal {
+        Some(error) => Some(refusal_lines(alloc, lattice, text, error, steady)?),
+        None => None,
+    };
     let judged = Judged::Text(text, &declared);
     let found = rows_of(
         alloc,
@@ -165,8 +148,7 @@ fn put_global(
 fn put_run(text: &mut Vec<u8>, run: usize) -> Result<(), AllocError>
     ensures { OnOk result (text.new.items ≡ text.old.items ++ spec.run_text run) }
 {
-    text.extend_from_slice(b"run ")?;
-    put_number(text, run)
+    put_counted(text, b"run ", run)
 }
 
 /// Adds the word of a global after a run, or that there is no such global.

@@ -1,6 +1,7 @@
 use Rattle.std.proofs.Common.{◌≡◌, rules}
 use Rattle.vsi_lattice.specs.LatticeView.{class_named, order}
 use Rattle.vsi_answers.specs.Json.{accepted_line}
+use Rattle.vsi_conform.specs.Checking.{WritesRefusal}
 use Rattle.vsi_conform.specs.Conforms.{IsAcceptedAs, IsRefusedAs}
 use Rattle.vsi_conform.proofs.Profiles.{tells_refused}
 use Rattle.vsi_conform.proofs.checking.check_json_of.Goals as goal
@@ -19,6 +20,7 @@ returns-in_ok-line-in-Err c =
     let j = c.args.judgement in
     let error = c.in-Err.error in
     let is : IsRefusedAs (class_named s.lattice) (order s.lattice) j s.text error = search rules in
+    let writes : WritesRefusal s.lattice j s.text error c.in_ok-line-in-Err.line.items = search rules in
     record {
-      answer = tells_refused s.lattice j s.text error c.in_ok-line-in-Err.line.items is c.in_ok-line-in-Err.ensures;
+      answer = tells_refused s.lattice j s.text error c.in_ok-line-in-Err.line.items is writes;
     }

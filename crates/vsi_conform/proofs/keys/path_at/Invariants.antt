@@ -1,6 +1,6 @@
 use Rattle.std.proofs.Common.{◌≡◌, length}
 use Rattle.vsi_conform.specs.Beside as spec
-use Rattle.vsi_conform.proofs.keys.climbs.Given as goal
+use Rattle.vsi_conform.proofs.keys.path_at.Given as goal
 
 -- A part of the rest is `..` exactly if a part of the path is.
 abbrev pub invariant-loop-rest : goal.invariant-loop-rest

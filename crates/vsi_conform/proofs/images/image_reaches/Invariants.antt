@@ -1,7 +1,7 @@
 use Rattle.std.proofs.Common.{◌≡◌, map, take}
 use Rattle.vsi_image.specs.Fields.{globals}
 use Rattle.vsi_conform.specs.Reading.{bytes_of}
-use Rattle.vsi_conform.proofs.images.names_of.Given as goal
+use Rattle.vsi_conform.proofs.images.image_reaches.Given as goal
 
 -- The names so far are those of the globals so far.
 abbrev pub invariant-loop-global : goal.invariant-loop-global
