@@ -1,6 +1,6 @@
 //! The raises to the least policy under which a program is accepted, and their lines.
 
-ghost use Rattle.std.specs.{Prelude.{◌≡◌, IfOk, ◌<◌, MatchOption, ◌++◌, map, IfErr, OnOk}, List.{All, flat_map}};
+ghost use Rattle.std.specs.{Prelude.{◌≡◌, IfOk, ◌<◌, MatchOption, ◌++◌, map, IfErr, OnOk}, List.{All}};
 ghost use Rattle.vsi_flows.specs.{declared.least.RaisedError.TheVariants.{Memory}, Reaching.{floor, AreFloors, IsQuiet, IsSettled}, Raising.{Answers, AreLeastRaises, IsFinal}, Answers.{HasClassesIn, IsRaiseText, RefusesRaise}};
 ghost use Rattle.vsi_lattice.specs.{Order.{IsClass}, LatticeView.{order}};
 ghost use Rattle.vsi_types.specs.{Security.{program as program_of}, declared.rules.Profile.{Profile}};
@@ -79,10 +79,7 @@ impl<T: Drop> From<AllocFailed<T>> for RaisedError {
 fn floor_of<C: Classes>(lattice: &C, program: &Resolved<'_>, variable: Var) -> Class
     ensures { result ≡ floor (C.lattice lattice.now) (program_of program.now) variable }
 {
-    match declared_class(lattice, program, variable) {
-        Some(class) => class,
-        None => lattice.bottom(),
-    }
+    declared_class(lattice, program, variable).unwrap_or(lattice.bottom())
 }
 
 /// The floors of all declarations, in order.
@@ -265,29 +262,7 @@ fn put_raise(
     text.extend_from_slice(b" reaches it\n")
 }
 
-/// A line for each raise.
-fn raise_lines(
-    alloc: Global,
-    lattice: &Lattice,
-    source: &[u8],
-    declarations: &[Declaration<'_>],
-    program: &Resolved<'_>,
-    raises: &[Raise],
-) -> Result<Vec<u8>, AllocError>
-    requires globals { All (IsClass (order lattice.now)) (program_of program.now).globals }
-    requires declared { AreClasses (order lattice.now) (program_of program.now).declared }
-    requires new { HasClassesIn (order lattice.now) raises.now }
-    ensures { IfOk result (λ out. out.items ≡ flat_map (spec.raise_line lattice.now source.now
-        (map declared declarations.now) program.now) raises.now) }
-{
-    let mut text = Vec::new(alloc);
-    for raise in raises {
-        put_raise(&mut text, lattice, source, declarations, program, raise)?;
-    }
-    Ok(text)
-}
-
-/// The lines of raises of a source text.
+/// A line for each raise of a source text.
 fn lines_of(alloc: Global, source: &Source<'_>, raises: &[Raise]) -> Result<Vec<u8>, AllocError>
     requires { HasClassesIn (order source.now.lattice) raises.now }
     ensures { (P : Profile)
@@ -298,7 +273,11 @@ fn lines_of(alloc: Global, source: &Source<'_>, raises: &[Raise]) -> Result<Vec<
     let text = source.text();
     let program = source.resolved();
     let globals = source.globals();
-    raise_lines(alloc, lattice, text, globals, program, raises)
+    let mut lines = Vec::new(alloc);
+    for raise in raises {
+        put_raise(&mut lines, lattice, text, globals, program, raise)?;
+    }
+    Ok(lines)
 }
 
 /// A line for each raise to the least policy under which a source text is accepted under a profile:

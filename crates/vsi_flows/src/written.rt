@@ -154,10 +154,8 @@ fn part(text: &[u8], from: usize, to: usize) -> &[u8]
 fn place_of(places: &[Span], variable: Var) -> Span
     ensures { result ≡ spec.place_of places.now variable }
 {
-    match places.get(variable.0 as usize) {
-        Some(place) => *place,
-        None => Span { start: 0, stop: 0 },
-    }
+    let place = places.get(variable.0 as usize).copied();
+    place.unwrap_or(Span { start: 0, stop: 0 })
 }
 
 /// The text in which the declaration of each raise writes its new class.

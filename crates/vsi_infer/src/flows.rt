@@ -47,10 +47,7 @@ pub(crate) fn note(rows: &mut [u64], row: usize, bit: usize)
 fn word_at(words: &[u64], place: usize) -> u64
     ensures { result ≡ slice_index words.now place }
 {
-    match words.get(place) {
-        Some(word) => *word,
-        None => 0,
-    }
+    words.get(place).copied().unwrap_or(0)
 }
 
 /// Adds one row of some words to one row.

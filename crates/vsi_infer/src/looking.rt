@@ -84,10 +84,7 @@ impl FirstSteps {
     fn at(&self, place: usize) -> Option<Step>
         ensures { IfSome result (Contains self.now.steps.items) }
     {
-        match self.steps.get(place) {
-            Some(step) => Some(*step),
-            None => None,
-        }
+        self.steps.get(place).copied()
     }
 }
 

@@ -324,10 +324,7 @@ fn follow(
 fn class_at(declared: &[Option<Class>], variable: Var) -> Option<Class>
     ensures { result ≡ slice_index_or declared.now variable None }
 {
-    match declared.get(variable.0 as usize) {
-        Some(class) => *class,
-        None => None,
-    }
+    declared.get(variable.0 as usize).copied().flatten()
 }
 
 /// The row of a class.

@@ -120,10 +120,7 @@ fn is_step_or(profile: Profile, program: &Resolved<'_>, proposed: Option<Step>, 
 fn step_at(steps: &[Step], place: usize) -> Option<Step>
     ensures { IfSome result (Contains steps.now) }
 {
-    match steps.get(place) {
-        Some(step) => Some(*step),
-        None => None,
-    }
+    steps.get(place).copied()
 }
 
 /// The variable to which the steps lead from this one, if each is the program's and continues the

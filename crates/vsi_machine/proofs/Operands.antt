@@ -1,5 +1,5 @@
 -- Facts about the operands of an expression.
-use Rattle.std.proofs.Common.{◌≡◌, ℕ, ◌+◌, ◌<◌, ℤ, pos, List, [], ◌∷◌, ◌++◌, length, reverse, Some, Result, Ok, Err, OnOk, refl, sym, ap, ◌∙◌, subst, arith}
+use Rattle.std.proofs.Common.{◌≡◌, ℕ, ◌+◌, ◌<◌, ℤ, pos, List, [], ◌∷◌, ◌++◌, length, reverse, Some, refl, sym, ap, ◌∙◌, subst, arith}
 use Rattle.std.specs.Prelude.{slice_get}
 use Rattle.std.specs.Option.{option_map}
 use Rattle.std.proofs.lemmas.List.{reverse-append}
@@ -61,14 +61,6 @@ acts_push n given facts held left e g m now s pc h mean = record {
   acts = refl;
   mean = subst (λ fs. AllMean m fs (n ∷ s)) (sym (ap reverse e ∙ last_first held (Number given))) (sym g, mean);
 }
-
--- An instruction that is a push of the same number.
-pub push_as : {E : Type 0} (r : Result (Unit {0}) E) (i : Instr) (n given : ℤ) (facts held left : List Known)
-    → i ≡ Push n → OnOk r ((fs : List Known) → Acts (Push given) fs held left) → given ≡ n
-    → OnOk r (Acts i facts held left)
-push_as (Ok u) i n given facts held left e h g =
-    subst (λ (x : Instr). Acts x facts held left) (ap Push g ∙ sym e) (h facts)
-push_as (Err x) i n given facts held left e h g = tt
 
 -- A word from a slot.
 pub acts_load : (k : ℕ) (f : Known) (facts held left : List Known) → left ≡ held ++ f ∷ [] → slice_get facts k ≡ Some f

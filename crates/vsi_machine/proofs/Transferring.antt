@@ -1,5 +1,5 @@
 -- The facts of an expression, as the search computes them.
-use Rattle.std.proofs.Common.{◌≡◌, ℕ, suc, ◌+◌, ℤ, List, [], ◌∷◌, ◌++◌, reverse, Some, Result, Ok, Err, OnOk, option_and_then, sym, ap, ◌∙◌, subst, arith}
+use Rattle.std.proofs.Common.{◌≡◌, ℕ, suc, ◌+◌, ℤ, List, [], ◌∷◌, ◌++◌, reverse, Some, option_and_then, sym, ap, ◌∙◌, arith}
 use Rattle.std.specs.Prelude.{slice_get}
 use Rattle.std.specs.Option.{option_map}
 use Rattle.vsi_syntax.specs.declared.tree.Op.{Op}
@@ -15,14 +15,6 @@ pub puts_push : (n given : ℤ) (facts held left : List Known) → left ≡ held
     → Puts facts held (Push n) left
 puts_push n given facts held left e g =
     ap Some (sym (ap reverse e ∙ last_first held (Number given) ∙ ap (λ (x : ℤ). Number x ∷ reverse held) g))
-
--- An instruction that is a push of the same number.
-pub puts_as : {E : Type 0} (r : Result (Unit {0}) E) (i : Instr) (n given : ℤ) (facts held left : List Known)
-    → i ≡ Push n → OnOk r ((fs : List Known) → Puts fs held (Push given) left) → given ≡ n
-    → OnOk r (Puts facts held i left)
-puts_as (Ok u) i n given facts held left e h g =
-    subst (λ (x : Instr). Puts facts held x left) (ap Push g ∙ sym e) (h facts)
-puts_as (Err x) i n given facts held left e h g = tt
 
 -- A slot's fact on top.
 pub puts_load : (slot : ℕ) (f : Known) (facts held left : List Known) → left ≡ held ++ f ∷ []

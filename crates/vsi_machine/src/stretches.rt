@@ -1,8 +1,7 @@
 //! Stretches of code: their cost, and the facts about words after them.
 
-ghost use Rattle.std.specs.Prelude.{◌≡◌, ◌<◌, ◌≤◌, [], ◌∷◌, IfOk, IfSome, List, OnOk, Some, length, reverse, ◌+◌, IfErr, slice_get, true};
+ghost use Rattle.std.specs.Prelude.{◌≡◌, ◌<◌, ◌≤◌, [], ◌∷◌, IfOk, IfSome, OnOk, Some, length, reverse, ◌+◌, IfErr, slice_get, true};
 ghost use Rattle.vsi_machine.specs.{declared.loops.Known.{Known}, Stretch.{Evaluates, Leads, IsTest, Stores}, Transfer.{IsValue, Puts, on_two, put as put_fact}, Values.{Acts, IsOperator, Operates}, Search.{Fails, IsChoice, Passes, Reaches, Stuck}, Stopping.{OnEndless}};
-ghost use Rattle.vsi_image.specs.declared.instr.Instr.TheVariants as spec;
 
 use crate::bound::{Cost, Fault, Stop, Test, exactly, finish, guard_at, sum};
 use crate::loops::{Known, applied, entry_of, join};
@@ -26,44 +25,23 @@ fn operate(operands: &mut Vec<Known>, op: Op, place: usize) -> Result<(), Fault>
     Ok(())
 }
 
-/// Puts a number on top.
-fn put_number(operands: &mut Vec<Known>, n: i64) -> Result<(), Fault>
-    ensures acts { OnOk result
-        ((facts : List Known) → Acts (spec.Push n) facts operands.old.items operands.new.items) }
-    ensures puts { OnOk result ((facts : List Known) →
-        Puts facts operands.old.items (spec.Push n) operands.new.items) }
-{
-    operands.push(Known::Number(n))?;
-    Ok(())
-}
-
-/// Puts a slot's word on top.
-fn put_word(
-    operands: &mut Vec<Known>,
-    facts: &[Known],
-    slot: u16,
-    place: usize,
-) -> Result<(), Fault>
-    ensures acts { OnOk result
-        (Acts (spec.Load slot) facts.now operands.old.items operands.new.items) }
-    ensures puts { OnOk result
-        (Puts facts.now operands.old.items (spec.Load slot) operands.new.items) }
-{
-    if slot as usize >= facts.len() {
-        return Err(Fault::Unread(place));
-    }
-    operands.push(facts[slot as usize])?;
-    Ok(())
-}
-
 /// Handles one instruction of an expression.
 fn put(operands: &mut Vec<Known>, facts: &[Known], instr: Instr, place: usize) -> Result<(), Fault>
     ensures acts { OnOk result (Acts instr facts.now operands.old.items operands.new.items) }
     ensures puts { OnOk result (Puts facts.now operands.old.items instr operands.new.items) }
 {
     match instr {
-        Instr::Push(n) => put_number(operands, n),
-        Instr::Load(slot) => put_word(operands, facts, slot, place),
+        Instr::Push(n) => {
+            operands.push(Known::Number(n))?;
+            Ok(())
+        }
+        Instr::Load(slot) => {
+            if slot as usize >= facts.len() {
+                return Err(Fault::Unread(place));
+            }
+            operands.push(facts[slot as usize])?;
+            Ok(())
+        }
         Instr::Add => operate(operands, Op::Add, place),
         Instr::Sub => operate(operands, Op::Sub, place),
         Instr::Mul => operate(operands, Op::Mul, place),

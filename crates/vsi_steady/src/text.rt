@@ -28,8 +28,26 @@ fn put_name(out: &mut Vec<u8>, image: &Image, end: Option<u16>) -> Result<(), Al
     }
 }
 
-/// Adds the name of an end of a chain and the name of its class: that of a global, or of the bottom
-/// class for the jump.
+/// Adds the class name of a global, or the name of the bottom class for the jump.
+fn put_class(
+    out: &mut Vec<u8>,
+    bottom: &[u8],
+    image: &Image,
+    end: Option<u16>,
+) -> Result<(), AllocError>
+    ensures { OnOk result (out.new.items
+        ≡ out.old.items ++ spec.end_class bottom.now (globals image.now.globals.items) end) }
+{
+    let Some(slot) = end else {
+        return out.extend_from_slice(bottom);
+    };
+    match image.globals.get(slot as usize) {
+        Some(global) => out.extend_from_slice(&global.1),
+        None => Ok(()),
+    }
+}
+
+/// Adds the name of an end of a chain and the name of its class.
 fn put_end(
     out: &mut Vec<u8>,
     bottom: &[u8],
@@ -41,13 +59,7 @@ fn put_end(
 {
     put_name(out, image, end)?;
     out.extend_from_slice(b" : ")?;
-    let Some(slot) = end else {
-        return out.extend_from_slice(bottom);
-    };
-    match image.globals.get(slot as usize) {
-        Some(global) => out.extend_from_slice(&global.1),
-        None => Ok(()),
-    }
+    put_class(out, bottom, image, end)
 }
 
 /// Adds the instruction that takes the operand of a step.

@@ -13,13 +13,13 @@ loop-variable-init g c =
     settled_start (g.C.Classes.lattice c.args.lattice.now) c.args.profile (program c.args.program.now) _ _
     c.new-policy.ensures.items c.new-raises.ensures.items
 
-pub loop-variable-preserved-in_default : goal.loop-variable-preserved-in_default
-loop-variable-preserved-in_default g c =
+pub loop-variable-preserved-in_default-change : goal.loop-variable-preserved-in_default-change
+loop-variable-preserved-in_default-change g c =
     let L = g.C.Classes.lattice c.args.lattice.now in
     let p = program c.args.program.now in
     settled_none L c.args.profile p c.loop-variable.variable c.in_ok-settled.settled.0 c.loop-variable.policy.items _
     c.loop-variable.raises.items c.loop-variable.invariant c.in_ok-push.ensures.items
-    (subst (IsSettled L c.args.profile p c.loop-variable.variable c.in_ok-settled.settled.0) c.in_default.is
+    (subst (IsSettled L c.args.profile p c.loop-variable.variable c.in_ok-settled.settled.0) c.in_default-change.is
     c.in_ok-settled.ensures)
 
 pub loop-variable-preserved : goal.loop-variable-preserved
@@ -27,8 +27,8 @@ loop-variable-preserved g c =
     let L = g.C.Classes.lattice c.args.lattice.now in
     let p = program c.args.program.now in
     settled_some L c.args.profile p c.loop-variable.variable c.in_ok-settled.settled.0 c.loop-variable.policy.items _
-    c.loop-variable.raises.items c.loop-variable.invariant c.in_ok-push.ensures.items c.in-Some.raise _
-    (subst (IsSettled L c.args.profile p c.loop-variable.variable c.in_ok-settled.settled.0) c.in-Some.is
+    c.loop-variable.raises.items c.loop-variable.invariant c.in_ok-push.ensures.items c.in-Some-change.raise _
+    (subst (IsSettled L c.args.profile p c.loop-variable.variable c.in_ok-settled.settled.0) c.in-Some-change.is
     c.in_ok-settled.ensures) c.in_ok-push-2.ensures.items
 
 pub returns : goal.returns
@@ -39,6 +39,8 @@ returns g c =
     let res = resolved_program L c.args.program.now c.requires.globals c.body-body.ensures.resolved in
     let e : c.loop-variable.variable ≡ size_of p =
     omega (arith, c.loop-variable-test.false, c.declarations-count.ensures.count) in
-    settled_all L laws c.args.profile p res c.requires.declared (λ a b. flow_has c.in_ok-flow.flow.rows.items b a)
-    c.in_ok-flow.ensures c.loop-variable.variable e c.loop-variable.policy.items c.loop-variable.raises.items
-    c.loop-variable.invariant (rw c.in_default.is at c.in_ok-found.ensures)
+    record {
+      answer = settled_all L laws c.args.profile p res c.requires.declared (λ a b. flow_has c.in_ok-flow.flow.rows.items b a)
+          c.in_ok-flow.ensures c.loop-variable.variable e c.loop-variable.policy.items c.loop-variable.raises.items
+          c.loop-variable.invariant (rw c.in_default.is at c.in_ok-found.ensures);
+    }

@@ -7,5 +7,5 @@ use Rattle.vsi_flows.proofs.written.tree_in.Goals as goal
 pub returns-in-Ok-parse : goal.returns-in-Ok-parse
 returns-in-Ok-parse c = λ tree reads.
     found_is tree (whole c.in-Ok-parse.program) (c.in-Ok-parse.ensures.only tree reads.program
-    (reads_tokens c.args.text.now c.in-Ok-lex.tokens.items tree c.in-Ok-lex.ensures.cut.1 reads
+    (reads_tokens c.args.text.now c.in-Ok.tokens.items tree c.in-Ok.ensures.cut.1 reads
     ∙ ap lexemes (sym c.deref.ensures.value)))

@@ -1,4 +1,4 @@
-use Rattle.std.proofs.Common.{rules, ◌≡◌, ◌∙◌, ◌++◌, ◌∷◌, [], ◌||◌, sym, ap, subst, arith, refl, ◌+◌, ◌≤◌, length, take, true, false}
+use Rattle.std.proofs.Common.{rules, ◌≡◌, ◌∙◌, ◌++◌, ◌∷◌, [], ◌||◌, sym, ap, subst, arith, refl, ◌+◌, ◌≤◌, length, take, true}
 use Rattle.std.proofs.lemmas.Grind.{common_steps}
 use Rattle.std.specs.Prelude.{slice_index}
 use Rattle.std.proofs.lemmas.List.{take_all, get_or_read}
@@ -50,8 +50,8 @@ gather_command-gather_letvar-requires g t c κs within = (
   ),
 )
 
-pub gather_command-returns-in-Assign : goal.gather_command-returns-in-Assign
-gather_command-returns-in-Assign g t c =
+pub gather_command-returns-in_ok-look_guards-in-Assign : goal.gather_command-returns-in_ok-look_guards-in-Assign
+gather_command-returns-in_ok-look_guards-in-Assign g t c =
     let P = c.args.profile in
     let N = name_place c.args.entries.now c.args.first in
     let W = g.W.Wanted.wants c.args.wanted.now in
@@ -65,13 +65,13 @@ gather_command-returns-in-Assign g t c =
     let e : command c.args.c.now ≡ Assign l c.in-Assign.span x = ap command c.in-Assign.is in
     let room = subst (HasRoom c.args.first (length c.args.entries.now) here) e c.requires in
     let at : c.index-target.result.now ≡ slice_index scope l =
-    get_or_read scope l c.index-target.result.now room.places.0 c.index-target.ensures 0 in
-    subst (λ k. Gathers W P N here w k here v false) (sym e) (
-      refl,
-      gathered_put W P N here w v l c.in-Assign.span x
+    get_or_read scope l c.index-target.result.now room.places.0 c.index-target.ensures 0 in (
+      sym (ap has_loop e),
+      subst (λ k. IsGathered W P N here w k here v) (sym e)
+          (gathered_put W P N here w v l c.in-Assign.span x
           (put_from W _ _ at c.in-Assign.span _ _
           (ap (λ s. guarded typing.Assign (reads s x)) c.deref.ensures.value) _ _ c.deref-in-Assign.ensures.value
-          w u v c.in_ok-look_reads.ensures c.in_ok-look_guards.ensures),
+          w u v c.in_ok-look_reads-in-Assign.ensures c.in_ok-look_guards-in-Assign.ensures)),
     )
 
 pub gather_command-returns-in-If : goal.gather_command-returns-in-If

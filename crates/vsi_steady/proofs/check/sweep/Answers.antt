@@ -20,7 +20,7 @@ loop-pc-init c =
       standing = record {
         at_depth = refl;
         room = omega arith;
-        classes = All-replicate (IsClass (order l)) 256 c.bottom.result (subst (λ x. IsClass (order l) x) (sym c.bottom.ensures)
+        classes = All-replicate (IsClass (order l)) 256 c.bottom-held.result (subst (λ x. IsClass (order l) x) (sym c.bottom-held.ensures)
             (lawful_is_lattice (order l) l.order.lawful).bottom_within);
       };
       have = c.requires.classes;

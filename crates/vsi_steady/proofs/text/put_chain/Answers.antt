@@ -1,7 +1,5 @@
-use Rattle.std.proofs.Common.{None, codes, get_or}
-use Rattle.std.specs.Prelude.{Some, ◌-◌, length}
+use Rattle.std.proofs.Common.{None, codes}
 use Rattle.vsi_image.specs.Fields.{globals}
-use Rattle.vsi_steady.specs.Telling.{end_text}
 use Rattle.vsi_steady.proofs.Telling.{chain_added, four_added}
 use Rattle.vsi_steady.proofs.text.put_chain.Goals as goal
 

@@ -2,9 +2,9 @@ use Rattle.std.proofs.Common.{◌≡◌, map, take}
 use Rattle.std.specs.List.{flat_map}
 use Rattle.vsi_syntax.specs.CommandView.{declared}
 use Rattle.vsi_flows.specs.Lines.{raise_line}
-use Rattle.vsi_flows.proofs.least.raise_lines.Given as goal
+use Rattle.vsi_flows.proofs.least.lines_of.Given as goal
 
 abbrev pub invariant-loop-raise : goal.invariant-loop-raise
 invariant-loop-raise l =
-    l.text.items ≡ flat_map (raise_line l.lattice l.source (map declared l.declarations) l.program)
+    l.lines.items ≡ flat_map (raise_line l.lattice l.text (map declared l.globals) l.program)
     (take l.raise-index l.raises)
