@@ -221,8 +221,8 @@ impl Search<'_, '_> {
         if self.is_found || self.left == 0 || self.rest.len() < choice.stop {
             return Ok(());
         }
-        // What is read ends after the next landmarks, and after a `var` that follows them where
-        // declarations may come.
+        // The text that is read ends after the next landmarks, and after a `var` that follows them
+        // where declarations may come.
         let last = self.rest.len().min(choice.stop.saturating_add(MAX_AHEAD));
         let near = self.rest.get(..last).unwrap_or(self.rest);
         let mut end = choice.stop;
