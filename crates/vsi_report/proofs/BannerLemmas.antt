@@ -1,5 +1,5 @@
 -- The beginning of a page.
-use Rattle.std.proofs.Common.{◌≡◌, ◌≢◌, refl, ℕ, List, [], ◌++◌, ap, sym, subst, length, ◌∙◌, append_assoc, append-nil, Result}
+use Rattle.std.proofs.Common.{◌≡◌, ◌≢◌, refl, ℕ, List, [], ◌++◌, ap, sym, subst, length, ◌∙◌, append_assoc, Result}
 use Rattle.std.specs.Prelude.{IfOk, codes}
 use Rattle.std.specs.Global.{Vec}
 use Rattle.std.proofs.lemmas.Result.{IfOk-weaker}

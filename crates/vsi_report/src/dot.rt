@@ -1,8 +1,9 @@
 //! The lattice in the language of Graphviz, with its classes by number, and parts of graphs.
 
-ghost use Rattle.std.specs.{Prelude.{◌≡◌, ◌⊎◌, ◌+◌, IsTrue, IsFalse, IfOk, OnOk, ◌++◌, ◌≤◌}};
+ghost use Rattle.std.specs.{Prelude.{◌≡◌, ◌⊎◌, ◌+◌, IsTrue, IsFalse, IfOk, OnOk, ◌++◌, length, ◌≤◌}, List.{flat_map}};
 ghost use Rattle.vsi_lattice.specs.{LatticeView.{names, order}, Order.{IsClass, Below}};
 ghost use Rattle.vsi_report.specs.{Covering.{Covers, StandsBetween, HasJust, IsCoveringPair, IsRowSoFar}, Graph.{name_at, texts}, Drawn.{shown}};
+ghost use Rattle.vsi_types.specs.Security.{count_from};
 ghost use Rattle.vsi_infer.specs.{Flowing.{variable_at as variable_at_of}, StepsBetween.{leads_by}};
 ghost use Rattle.vsi_report.specs.Graph as classes_spec;
 ghost use Rattle.vsi_report.specs.FlowsGraph as spec;
@@ -135,8 +136,6 @@ node [shape=box, style=rounded, penwidth=2];\n  \
 edge [color=\"#57606a\", fontcolor=\"#57606a\", fontsize=11];\n%1}\n";
 /// The node of a class.
 const CLASS: &[u8] = b"  \"%0\" [color=\"%1\", fontcolor=\"%1\"];\n";
-/// The edge from a class to one that covers it.
-const COVER: &[u8] = b"  \"%0\" -> \"%1\";\n";
 /// The line that keeps a class above another one.
 const ABOVE: &[u8] = b"  \"above.%0\" -> \"below.%1\" [minlen=0];\n";
 /// The line that keeps a node between the points of a class.
@@ -167,6 +166,31 @@ pub(crate) fn colour(class: usize) -> &'static [u8]
     }
 }
 
+/// Adds the nodes of the classes.
+fn put_classes(text: &mut Vec<u8>, order: &Order) -> Added
+    ensures { OnOk result (text.new.items ≡ text.old.items
+        ++ flat_map (classes_spec.node_line (texts order.now.names.items))
+        (count_from 0 (length (texts order.now.names.items)))) }
+{
+    for class in 0..order.names.len() {
+        let parts = [Bytes(name_of(order, class)), Markup(colour(class))];
+        fill(text, CLASS, &parts)?;
+    }
+    Ok(())
+}
+
+/// Adds the edges of the covering pairs.
+fn put_covering(text: &mut Vec<u8>, order: &Order) -> Added
+    ensures { OnOk result (text.new.items ≡ text.old.items
+        ++ flat_map (classes_spec.edge_line (texts order.now.names.items)) order.now.covers.items) }
+{
+    for pair in &order.covers {
+        let parts = [Bytes(name_of(order, pair.0)), Bytes(name_of(order, pair.1))];
+        fill(text, b"  \"%0\" -> \"%1\";\n", &parts)?;
+    }
+    Ok(())
+}
+
 /// The lines of a lattice: a node for each class, and an edge from each class to each one that
 /// covers it.
 pub(crate) fn lattice_lines(alloc: Global, lattice: &Lattice) -> Made<Vec<u8>>
@@ -174,14 +198,8 @@ pub(crate) fn lattice_lines(alloc: Global, lattice: &Lattice) -> Made<Vec<u8>>
 {
     let order = order_of(alloc, lattice)?;
     let mut lines = Vec::new(alloc);
-    for class in 0..order.names.len() {
-        let parts = [Bytes(name_of(&order, class)), Markup(colour(class))];
-        fill(&mut lines, CLASS, &parts)?;
-    }
-    for pair in &order.covers {
-        let (low, high) = (name_of(&order, pair.0), name_of(&order, pair.1));
-        fill(&mut lines, COVER, &[Bytes(low), Bytes(high)])?;
-    }
+    put_classes(&mut lines, &order)?;
+    put_covering(&mut lines, &order)?;
     Ok(lines)
 }
 
@@ -296,6 +314,29 @@ pub(crate) fn nodes_shown(profile: Profile, last: u16) -> u16
     }
 }
 
+/// Adds the lines of the points of all classes, one below and one above the variables of each.
+fn put_points(text: &mut Vec<u8>, order: &Order) -> Added
+    ensures { OnOk result (text.new.items ≡ text.old.items
+        ++ flat_map spec.points_line (count_from 0 (length (texts order.now.names.items)))) }
+{
+    for class in 0..order.names.len() {
+        fill(text, b"  \"below.%0\" -> \"above.%0\";\n", &[Number(class)])?;
+    }
+    Ok(())
+}
+
+/// Adds the lines that keep each class above those that it covers.
+fn put_above(text: &mut Vec<u8>, order: &Order) -> Added
+    ensures { OnOk result (text.new.items ≡ text.old.items
+        ++ flat_map spec.above_line order.now.covers.items) }
+{
+    for pair in &order.covers {
+        let parts = [Number(pair.0), Number(pair.1)];
+        fill(text, ABOVE, &parts)?;
+    }
+    Ok(())
+}
+
 /// Adds the line that keeps a numbered node between the points of a class.
 fn put_between(text: &mut Vec<u8>, class: Option<Class>, number: u16) -> Added
     ensures { OnOk result (text.new.items ≡ text.old.items ++ spec.between_line class number) }
@@ -307,6 +348,17 @@ fn put_between(text: &mut Vec<u8>, class: Option<Class>, number: u16) -> Added
     fill(text, BETWEEN, &parts)
 }
 
+/// Adds the lines that keep the first nodes between the points of their classes.
+fn put_kept(text: &mut Vec<u8>, drawn: &Drawn<'_>, count: u16) -> Added
+    ensures { OnOk result (text.new.items ≡ text.old.items
+        ++ spec.kept_lines (shown drawn.now) count) }
+{
+    for number in 0..count {
+        put_between(text, class_shown(drawn, variable_at(drawn, number)), number)?;
+    }
+    Ok(())
+}
+
 /// Adds the invisible lines that keep the first variables of higher classes above those of lower
 /// ones.
 pub(crate) fn put_frame(text: &mut Vec<u8>, drawn: &Drawn<'_>, count: u16) -> Added
@@ -314,15 +366,9 @@ pub(crate) fn put_frame(text: &mut Vec<u8>, drawn: &Drawn<'_>, count: u16) -> Ad
         ++ spec.frame_lines (shown drawn.now) count drawn.now.order.now.covers.items) }
 {
     text.extend_from_slice(b"  {\n  node [shape=point, style=invis];\n  edge [style=invis];\n")?;
-    for class in 0..drawn.order.names.len() {
-        fill(text, b"  \"below.%0\" -> \"above.%0\";\n", &[Number(class)])?;
-    }
-    for pair in &drawn.order.covers {
-        fill(text, ABOVE, &[Number(pair.0), Number(pair.1)])?;
-    }
-    for number in 0..count {
-        put_between(text, class_shown(drawn, variable_at(drawn, number)), number)?;
-    }
+    put_points(text, drawn.order)?;
+    put_above(text, drawn.order)?;
+    put_kept(text, drawn, count)?;
     text.extend_from_slice(b"  }\n")?;
     Ok(())
 }

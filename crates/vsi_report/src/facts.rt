@@ -196,23 +196,20 @@ pub(crate) fn facts_of<'a>(
     }
 }
 
-/// The variable with a number past the last one.
-const NO_VARIABLE: Variable<'static> = Variable {
-    name: b"",
-    class: 0,
-    class_name: b"",
-    is_declared: true,
-};
-
 impl<'a> Facts<'a> {
     /// The number of a variable; the ending of loops has the last number.
     pub(crate) fn number(&self, variable: Var) -> usize {
         (variable.0 as usize).min(self.variables.len().saturating_sub(1))
     }
 
-    /// The variable with a number.
+    /// The variable with a number; past the last one it has no name.
     pub(crate) fn variable(&self, number: usize) -> Variable<'a> {
-        self.variables.get(number).copied().unwrap_or(NO_VARIABLE)
+        self.variables.get(number).copied().unwrap_or(Variable {
+            name: b"",
+            class: 0,
+            class_name: b"",
+            is_declared: true,
+        })
     }
 
     /// A variable with its class.

@@ -7,11 +7,11 @@ ghost use Rattle.vsi_scope.specs.{Language.{Command}, Resolving.{IsResolution}};
 ghost use Rattle.vsi_types.specs.Security.{program as program_of, count_from};
 ghost use Rattle.vsi_infer.specs.Inference.{AreClasses};
 ghost use Rattle.vsi_compiler.specs.{Source.{Reads}, declared.source.CompileError.TheVariants.{Memory}, Refusal.{RefusesProgram}};
-ghost use Rattle.vsi_report.specs.{ByRule.{flows_in_rows}, Drawn.{shown}};
+ghost use Rattle.vsi_report.specs.{ByRule.{flows_in_rows}, Drawn.{shown}, Graph.{texts}};
 ghost use Rattle.vsi_report.specs.FlowsGraph as spec;
 
 use crate::dot::{
-    Drawn, class_shown, colour, edge_words, graph_text, is_upward, lattice_lines, name_of,
+    Drawn, Order, class_shown, colour, edge_words, graph_text, is_upward, lattice_lines, name_of,
     nodes_shown, order_of, put_frame, step_number, variable_at,
 };
 use crate::facts::{Flows, MOST_DRAWN, flows_of, has_flow, judged_classes};
@@ -44,6 +44,32 @@ fn box_words(declared: Option<Class>) -> &'static [u8]
     }
 }
 
+/// Adds the node of a variable with this number, name, attribute of its box and class.
+fn put_node<'x>(
+    text: &mut Vec<u8>,
+    order: &'x Order,
+    number: u16,
+    name: &'x [u8],
+    dashes: &'x [u8],
+    class: Option<Class>,
+) -> Added
+    ensures { OnOk result (text.new.items ≡ text.old.items
+        ++ spec.node_line (texts order.now.names.items) number name.now dashes.now class) }
+{
+    let Some(class) = class else {
+        let parts = [Number(number as usize), Bytes(name), Bytes(dashes)];
+        return fill(text, b"  \"v.%0\" [label=\"%1\"%2];\n", &parts);
+    };
+    let parts = [
+        Number(number as usize),
+        Bytes(name),
+        Bytes(dashes),
+        Bytes(name_of(order, class.index())),
+        Bytes(colour(class.index())),
+    ];
+    fill(text, NODE, &parts)
+}
+
 /// Adds the node of the variable with a number.
 fn put_variable(text: &mut Vec<u8>, drawn: &Drawn<'_>, number: u16) -> Added
     ensures { OnOk result
@@ -52,18 +78,8 @@ fn put_variable(text: &mut Vec<u8>, drawn: &Drawn<'_>, number: u16) -> Added
     let variable = variable_at(drawn, number);
     let name = variable_name(drawn.program, variable);
     let dashes = box_words(declared_class(drawn.lattice, drawn.program, variable));
-    let Some(class) = class_shown(drawn, variable) else {
-        let parts = [Number(number as usize), Bytes(name), Bytes(dashes)];
-        return fill(text, b"  \"v.%0\" [label=\"%1\"%2];\n", &parts);
-    };
-    let parts = [
-        Number(number as usize),
-        Bytes(name),
-        Bytes(dashes),
-        Bytes(name_of(drawn.order, class.index())),
-        Bytes(colour(class.index())),
-    ];
-    fill(text, NODE, &parts)
+    let class = class_shown(drawn, variable);
+    put_node(text, drawn.order, number, name, dashes, class)
 }
 
 /// Adds the nodes of the first variables.

@@ -157,8 +157,9 @@ fn put_next(page: &mut Vec<u8>, parts: &[Part<'_>], is_hole: bool, byte: u8) -> 
         ≡ page.old.items ++ filled (texts_of parts.now) is_hole (byte ∷ rest)) }
 {
     if is_hole {
-        if let Some(part) = parts.get(byte.saturating_sub(b'0') as usize) {
-            put_part(page, part)?;
+        match parts.get(byte.saturating_sub(b'0') as usize) {
+            Some(part) => put_part(page, part)?,
+            None => {}
         }
         return Ok(false);
     }

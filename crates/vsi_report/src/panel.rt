@@ -302,6 +302,8 @@ fn put_parts(parts: &mut Vec<Tagged>, view: &View<'_>, tokens: &[Token<'_>]) -> 
             labelled.clear();
         }
         at = start;
+        let is_word = byte_at(view.source, start).is_ascii_alphabetic();
+        let is_keyword = is_word && token.kind != Kind::Name;
         if let Some(found) = view.facts.mentions.get(next)
             && found.span.start == start
         {
@@ -315,12 +317,7 @@ fn put_parts(parts: &mut Vec<Tagged>, view: &View<'_>, tokens: &[Token<'_>]) -> 
                 parts.push(part)?;
                 labelled.push(variable)?;
             }
-        } else if byte_at(view.source, start).is_ascii_alphabetic()
-            && token.kind != Kind::Name
-            && !is_large(view)
-            && view.fault != Some(start)
-        {
-            // A keyword.
+        } else if is_keyword && !is_large(view) && view.fault != Some(start) {
             at = stop;
             parts.push(plain(view.alloc, start, stop, b"word", b"")?)?;
         }

@@ -307,7 +307,7 @@ fn put_scene(page: &mut Page, view: &View<'_>, scene: &Scene) -> Added {
     for (number, place) in drawing.places.iter().enumerate() {
         let of = view.facts.variable(number);
         page.put(either(of.is_declared, b"<g>", b"<g class=\"inferred\">"))?;
-        let middle = (place.wide / 2, place.high / 2 + 5);
+        let middle = (place.wide / 2, (place.high / 2).saturating_add(5));
         put_box(page, BOX, *place, of.class, of.name, middle)?;
         page.put(b"</g>")?;
     }
@@ -358,7 +358,7 @@ pub(crate) fn lattice_section(view: &View<'_>) -> Made<(Page, bool)> {
             page.fill(b"<path class=\"cover\" d=\"%0v-5\"/>", &[Block(&line)])?;
         }
         for (class, place) in drawing.places.iter().enumerate() {
-            let middle = (place.wide / 2, place.high / 2 + 5);
+            let middle = (place.wide / 2, (place.high / 2).saturating_add(5));
             put_box(&mut page, BOX, *place, class, name_of(order, class), middle)?;
         }
     }

@@ -180,13 +180,10 @@ fn fault_at(source: &[u8], error: &CompileError) -> Option<usize> {
     let Field::Place(line, column) = refusal_diagnostic(source, error)?.field else {
         return None;
     };
-    let mut number: usize = 1;
     let mut start: usize = 0;
-    for (place, byte) in source.iter().enumerate() {
-        if *byte == b'\n' && number < line {
-            number = number.saturating_add(1);
-            start = place.saturating_add(1);
-        }
+    let lines = source.split(|byte| *byte == b'\n');
+    for text in lines.take(line.saturating_sub(1)) {
+        start = start.saturating_add(text.len()).saturating_add(1);
     }
     let at = start.saturating_add(column.saturating_sub(1));
     Some(at.min(source.len()))

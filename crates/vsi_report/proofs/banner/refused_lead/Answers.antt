@@ -1,4 +1,4 @@
-use Rattle.std.proofs.Common.{◌≡◌, ◌++◌, ◌∙◌, ap, refl}
+use Rattle.std.proofs.Common.{◌++◌, ◌∙◌, ap, refl}
 use Rattle.vsi_report.specs.Lead.{counts_words, ends_words}
 use Rattle.vsi_report.proofs.banner.refused_lead.Goals as goal
 

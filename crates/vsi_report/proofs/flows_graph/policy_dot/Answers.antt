@@ -10,8 +10,8 @@ returns-clause-graph c =
     record {
       classes = c.in_ok-classes.classes.items;
       of_classes = c.in_ok-classes.ensures;
-      flows = c.in_ok-flows.flows.items;
-      of_flows = c.in_ok-flows.ensures.lines;
+      flows = c.in_ok-flows_lines.field-0.items;
+      of_flows = c.in_ok-flows_lines.ensures.lines;
       whole =
           c.in_ok-graph_text.ensures ∙ ap (graph (codes "policy")) (c.deref-3.ensures.value ∙ both)
           ∙ ap (λ x. joined x c.deref-2.result.now) c.deref.ensures.value

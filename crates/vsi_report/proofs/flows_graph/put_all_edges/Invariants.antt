@@ -13,10 +13,8 @@ invariant-loop-source l =
     ++ flat_map (λ a. flat_map (lines_between (shown l.drawn) (flows_in_rows l.flows) a) (count_from 0 l.count))
     (count_from 0 l.source)
 
--- The text has the lines of the sources before this one, and those of the targets so far.
+-- The text also has the lines of the targets so far.
 abbrev pub invariant-loop-target : goal.invariant-loop-target
 invariant-loop-target l =
     l.text.items ≡ l.initial.text.items
-    ++ flat_map (λ a. flat_map (lines_between (shown l.drawn) (flows_in_rows l.flows) a) (count_from 0 l.count))
-    (count_from 0 l.source)
     ++ flat_map (lines_between (shown l.drawn) (flows_in_rows l.flows) l.source) (count_from 0 l.target)

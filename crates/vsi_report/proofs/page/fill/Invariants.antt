@@ -1,4 +1,4 @@
-use Rattle.std.proofs.Common.{◌≡◌, ◌++◌, drop, true, false}
+use Rattle.std.proofs.Common.{◌≡◌, ◌++◌, drop, true}
 use Rattle.vsi_report.specs.Filled.{fill, filled}
 use Rattle.vsi_report.specs.Parts.{are_stated, texts_of}
 use Rattle.vsi_report.proofs.page.fill.Given as goal

@@ -6,6 +6,13 @@ use Rattle.vsi_report.specs.Panel.{line_tag, next_tag}
 use Rattle.vsi_report.proofs.EscapeLemmas.{byte_shows, next_shows, both_show, more_shows}
 use Rattle.vsi_report.proofs.panel.put_at.Goals as goal
 
+pub returns-then-source-at-ne10 : goal.returns-then-source-at-ne10
+returns-then-source-at-ne10 c = λ t h.
+    let q = c.put_begin.new.page.items in
+    let b = slice_index c.args.source.now c.args.at in
+    subst (λ x. Shows x (t ++ b ∷ [])) (sym c.in_ok-put_byte.ensures)
+    (both_show q (escape b) t (b ∷ []) (c.in_ok-put_begin.ensures t (c.in_ok-part.ensures t h)) (byte_shows b))
+
 pub returns : goal.returns
 returns c = λ t h.
     let q = c.put_begin.new.page.items in
