@@ -4,3 +4,4 @@ pub mod Documented
 pub mod Sought
 pub mod Unbounded
 pub mod Looked
+pub mod Evidence

@@ -1,6 +1,6 @@
 -- Why nothing is said of who sees what.
-use Rattle.std.proofs.Common.{ℕ, List, inl, inr}
-use Rattle.std.specs.Prelude.{IsSomeAnd, Option, Some, None}
+use Rattle.std.proofs.Common.{ℕ, List, inl}
+use Rattle.std.specs.Prelude.{Option, Some, None}
 use Rattle.std.specs.Borrow.{Bor}
 use Rattle.vsi_answers.specs.declared.unanswered.Unanswered.{Unanswered}
 use Rattle.vsi_subject.specs.Holding.{Holding}
@@ -14,20 +14,8 @@ pub policy_lattice : (holds : Holding) (lattice : List ℕ) (old : Option (Bor (
 policy_lattice holds lattice None reason is = is
 policy_lattice holds lattice (Some path) reason is = inl is
 
--- An older lattice file that is refused is one too.
-pub policy_old : (holds : Holding) (lattice : List ℕ) (old : Option (Bor (List ℕ))) (reason : Unanswered) →
-    IsSomeAnd old (λ path. RefusesLattice holds path.now reason) → WhyPolicy holds lattice old reason
-policy_old holds lattice None reason is = absurd is
-policy_old holds lattice (Some path) reason is = inr is
-
 -- An interface whose lattice is refused is a reason.
 pub visible_first : (holds : Holding) (interface : List ℕ) (old : Option (Bor (List ℕ))) (reason : Unanswered) →
     RefusesAsked holds interface reason → WhyVisible holds interface old reason
 visible_first holds interface None reason is = is
 visible_first holds interface (Some path) reason is = inl is
-
--- An older interface whose lattice is refused is one too.
-pub visible_old : (holds : Holding) (interface : List ℕ) (old : Option (Bor (List ℕ))) (reason : Unanswered) →
-    IsSomeAnd old (λ path. RefusesAsked holds path.now reason) → WhyVisible holds interface old reason
-visible_old holds interface None reason is = absurd is
-visible_old holds interface (Some path) reason is = inr is

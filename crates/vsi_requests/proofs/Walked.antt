@@ -214,17 +214,14 @@ module _ (holds : Holding) (c : Compilation) (l : Lattice) (P : Profile) (text s
       }) written
 
   -- Why the text has no program is why the files have no answer.
-  pub walks_failed : {T : Type 0} (result : Result T Failure) →
-      IfErr result (FailsBy (λ reason. WalksTo l P source (Err reason)) NoOther) →
-      IfErr result (FailsBy (RefusesFiles holds c (AsksFlows true c.is_strict)) NoOther)
-  walks_failed result failed =
-      IfErr-weaker result (FailsBy (λ reason. WalksTo l P source (Err reason)) NoOther)
-      (FailsBy (RefusesFiles holds c (AsksFlows true c.is_strict)) NoOther)
-      (fails_by (λ reason. WalksTo l P source (Err reason)) (RefusesFiles holds c (AsksFlows true c.is_strict)) NoOther
+  pub walks_fail : (failure : Failure) → FailsBy (λ reason. WalksTo l P source (Err reason)) NoOther failure →
+      FailsBy (RefusesFiles holds c (AsksFlows true c.is_strict)) NoOther failure
+  walks_fail =
+      fails_by (λ reason. WalksTo l P source (Err reason)) (RefusesFiles holds c (AsksFlows true c.is_strict)) NoOther
       (λ reason why. inr (record {
         lattice = l;
         source = text;
         files = files;
         is = subst (λ Q. WalksTo l Q text (Err reason)) of_profile
             (subst (λ s. WalksTo l P s (Err reason)) of_source why);
-      }))) failed
+      }))

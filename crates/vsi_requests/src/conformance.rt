@@ -1,8 +1,7 @@
 //! A source text, or an image, beside an interface that is fixed from outside.
 
-ghost use Rattle.std.specs.Prelude.{◌≡◌, ◌<◌, Err, [], IfErr, IfOk, map};
-ghost use Rattle.vsi_subject.specs.{Holding.{IsReadAt}, Noted.{MayWarn}, Performed.{ConformsFiles, JudgesBytes, JudgesText}, Reached.{written_as}, Refusals.{NoOther, FailsBy}, Reasons.{RefusesBytes, RefusesConform}, Undriven.{IsUnusable}, Failures.{status_of}, Supplied.{JudgesSupplied}};
-ghost use Rattle.vsi_answers.specs.Requests.{ReadsImage};
+ghost use Rattle.std.specs.Prelude.{◌≡◌, [], IfErr, IfOk, map};
+ghost use Rattle.vsi_subject.specs.{Noted.{MayWarn}, Performed.{ConformsFiles, JudgesBytes}, Reached.{written_as}, Refusals.{NoOther, FailsBy}, Reasons.{RefusesBytes, RefusesConform}, Undriven.{IsUnusable}};
 ghost use Rattle.vsi_conform.specs.{Conformity.{said as said_of}, Rows.{row}};
 ghost use Rattle.vsi_subject.specs.Supplied as supplied;
 
@@ -24,22 +23,6 @@ use vsi_types::Profile;
 const IMAGE_WARNING: &[u8] =
     b"warning: `conform` refuses an image of this text, in which variables share slots\n";
 
-/// The bytes of a file that is an image, by its first bytes, or else a source text.
-fn operand_in<'a, F: Files>(subject: &Subject<'_, F>, path: &'a str) -> Fallible<'a, Vec<u8>>
-    ensures read { IfOk result
-        (λ bytes. IsReadAt (F.holds subject.now.files.now) path.now bytes.items) }
-    ensures failed { IfErr result (λ failure. 3 < status_of failure) }
-{
-    let bytes = whole_in(subject.alloc, path, subject.files)?;
-    let kind = if begins_image(bytes.as_slice()) {
-        InputKind::Image
-    } else {
-        InputKind::Source
-    };
-    subject.cache.keep(kind, path, bytes.as_slice())?;
-    Ok(bytes)
-}
-
 /// Whether the source text or the image conforms to the interface, and where it differs. The
 /// note gets the warning about the image of a text.
 pub fn conform<'a, F: Files>(
@@ -55,12 +38,19 @@ pub fn conform<'a, F: Files>(
 {
     let alloc = subject.alloc;
     let read = subject.asked_files(asked.interface, Some(asked.budget))?;
-    let bytes = operand_in(subject, asked.source)?;
-    let is_image = begins_image(&bytes);
+    let bytes = whole_in(alloc, asked.source, subject.files)?;
+    let bytes = bytes.as_slice();
+    let is_image = begins_image(bytes);
+    let kind = if is_image {
+        InputKind::Image
+    } else {
+        InputKind::Source
+    };
+    subject.cache.keep(kind, asked.source, bytes)?;
     let interface = &read.found.interface;
-    let (fits, rows) = judged_rows(alloc, is_image, &read.lattice, &bytes, interface, note)?;
-    let reaches = reaches_in(alloc, is_image, &read.lattice, &bytes, &read.found)?;
-    let tried = tried_beside(subject, asked, &read, &bytes)?;
+    let (fits, rows) = judged_rows(alloc, is_image, &read.lattice, bytes, interface, note)?;
+    let reaches = reaches_in(alloc, is_image, &read.lattice, bytes, &read.found)?;
+    let tried = tried_beside(subject, asked, &read, bytes)?;
     let said = Conformity {
         fits,
         rows,
@@ -69,7 +59,7 @@ pub fn conform<'a, F: Files>(
     };
     let is_good = said.conforms();
     let mut text = written(alloc, asked.form, asked.source, &said)?;
-    let lines = lines_after(alloc, asked, is_good, &read, &bytes)?;
+    let lines = lines_after(alloc, asked, is_good, &read, bytes)?;
     text.extend_from_slice(&lines)?;
     Ok(Reply { text, is_good })
 }
@@ -91,33 +81,8 @@ fn written(
     }
 }
 
-/// Whether an audit refuses the image of a text. A text that is accepted as steady has a steady
-/// image.
-fn is_image_refused(
-    alloc: Global,
-    judgement: Judgement,
-    lattice: &Lattice,
-    text: &[u8],
-) -> Result<bool, AllocError> {
-    let profile = match judgement {
-        Judgement::Base => Profile::Base,
-        Judgement::Strict => Profile::Strict,
-        Judgement::Steady => return Ok(false),
-    };
-    let verified = match unjudged_image(alloc, lattice, text) {
-        Ok(verified) => verified,
-        Err(CompileError::Memory) => return Err(AllocError),
-        Err(_) => return Ok(false),
-    };
-    match audit_in(alloc, profile, lattice, &verified) {
-        Ok(()) => Ok(false),
-        Err(AuditError::Memory) => Err(AllocError),
-        Err(_) => Ok(true),
-    }
-}
-
 /// Adds a warning if a text conforms, but an image built from it doesn't: variables that share a
-/// slot may be taken for one there.
+/// slot may be taken for one there. A text that is accepted as steady has a steady image.
 fn warn_of_image(
     alloc: Global,
     lattice: &Lattice,
@@ -131,29 +96,21 @@ fn warn_of_image(
     if !answer.conforms() {
         return Ok(());
     }
-    if is_image_refused(alloc, interface.judgement, lattice, text)? {
-        note.extend_from_slice(IMAGE_WARNING)?;
+    let profile = match interface.judgement {
+        Judgement::Base => Profile::Base,
+        Judgement::Strict => Profile::Strict,
+        Judgement::Steady => return Ok(()),
+    };
+    let verified = match unjudged_image(alloc, lattice, text) {
+        Ok(verified) => verified,
+        Err(CompileError::Memory) => return Err(AllocError),
+        Err(_) => return Ok(()),
+    };
+    match audit_in(alloc, profile, lattice, &verified) {
+        Ok(()) => Ok(()),
+        Err(AuditError::Memory) => Err(AllocError),
+        Err(_) => note.extend_from_slice(IMAGE_WARNING),
     }
-    Ok(())
-}
-
-/// The points of a text, and whether there are none. The note gets the warning about its image.
-fn rows_of_text<'a>(
-    alloc: Global,
-    lattice: &Lattice,
-    text: &[u8],
-    interface: &Interface,
-    note: &mut Vec<u8>,
-) -> Fallible<'a, (bool, Vec<Row>)>
-    ensures warned { note.old.items ≡ [] → MayWarn note.new.items }
-    ensures told { IfOk result (λ pair.
-        JudgesText lattice.now text.now interface.now pair.0 (map row pair.1.items)) }
-    ensures failed { IfErr result (λ failure. 3 < status_of failure) }
-{
-    let answer = vsi_conform::conform(alloc, lattice, text, interface)?;
-    let rows = text_rows(alloc, lattice, text, interface, &answer)?;
-    warn_of_image(alloc, lattice, text, interface, &answer, note)?;
-    Ok((answer.conforms(), rows))
 }
 
 /// Whether bytes begin as those of an image do, with its magic bytes and a version. No source text
@@ -164,27 +121,8 @@ pub(crate) fn begins_image(bytes: &[u8]) -> bool
     matches!(bytes, [b'V', b'S', b'I', version, ..] if *version < 9)
 }
 
-/// The points of an image, and whether there are none.
-fn rows_of_image<'a>(
-    alloc: Global,
-    lattice: &Lattice,
-    bytes: &[u8],
-    interface: &Interface,
-) -> Fallible<'a, (bool, Vec<Row>)>
-    ensures told { IfOk result (λ pair.
-        JudgesSupplied lattice.now bytes.now interface.now pair.0 (map row pair.1.items)) }
-    ensures failed { IfErr result
-        (FailsBy (λ reason. ReadsImage bytes.now (Err reason)) NoOther) }
-{
-    let verified = judged_image(alloc, bytes)?;
-    let answer = conform_image(alloc, lattice, &verified, interface)?;
-    let rows = image_rows(alloc, lattice, verified.image(), interface, &answer)?;
-    let conforms = answer.conforms();
-    Ok((conforms, rows))
-}
-
 /// The points of the bytes of a file, and whether there are none: those of an image, if they begin
-/// as one, and otherwise of a source text.
+/// as one, and otherwise of a source text. The note gets the warning about the image of a text.
 fn judged_rows<'a>(
     alloc: Global,
     is_image: bool,
@@ -200,8 +138,14 @@ fn judged_rows<'a>(
     ensures failed { IfErr result (FailsBy (RefusesBytes bytes.now) NoOther) }
 {
     if is_image {
-        rows_of_image(alloc, lattice, bytes, interface)
-    } else {
-        rows_of_text(alloc, lattice, bytes, interface, note)
+        let verified = judged_image(alloc, bytes)?;
+        let answer = conform_image(alloc, lattice, &verified, interface)?;
+        let rows = image_rows(alloc, lattice, verified.image(), interface, &answer)?;
+        let conforms = answer.conforms();
+        return Ok((conforms, rows));
     }
+    let answer = vsi_conform::conform(alloc, lattice, bytes, interface)?;
+    let rows = text_rows(alloc, lattice, bytes, interface, &answer)?;
+    warn_of_image(alloc, lattice, bytes, interface, &answer, note)?;
+    Ok((answer.conforms(), rows))
 }

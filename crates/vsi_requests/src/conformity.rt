@@ -1,8 +1,7 @@
 //! The evidence of a judgement by an interface, and the reference beside which a file is run.
 
-ghost use Rattle.std.specs.Prelude.{◌≡◌, IfErr, IfOk, map, option_map, true};
+ghost use Rattle.std.specs.Prelude.{◌≡◌, IfErr, IfOk, map, option_map};
 ghost use Rattle.vsi_subject.specs.{Filed.{Follows, HasBound, IsFiledBound, IsJudged}, Performed.{IsConformity, judged_files, program_version}, Refusals.{FailsBy}, Undriven.{IsUnusable}};
-ghost use Rattle.vsi_answers.specs.Judged.{AreImage};
 ghost use Rattle.vsi_store.specs.Evidence.{conformity_text};
 ghost use Rattle.vsi_conform.specs.{Conformity.{trial}, Reaching.{released}};
 ghost use Rattle.vsi_subject.specs.Filed as spec;
@@ -21,12 +20,11 @@ use vsi_conform::{
 };
 use vsi_image::Verified;
 use vsi_lattice::Lattice;
-use vsi_steady::UnsteadyError;
 use vsi_store::{AuditProfile, Filed, conformity};
-use vsi_subject::{AskedFiles, Fallible, Files, InputKind, Subject, unusable};
+use vsi_subject::{AskedFiles, Failure, Fallible, Files, InputKind, Subject, unusable};
 
 /// How an interface judges, as evidence names it.
-fn filed_profile(judgement: Judgement) -> AuditProfile
+pub(crate) fn filed_profile(judgement: Judgement) -> AuditProfile
     ensures { result ≡ spec.filed_profile judgement }
 {
     match judgement {
@@ -47,15 +45,9 @@ fn image_judged(
     ensures { IfOk result (IsJudged is_image lattice.now bytes.now) }
 {
     if is_image {
-        return match judged_image(alloc, bytes) {
-            Ok(verified) => Ok(verified),
-            Err(_) => Err(AllocError),
-        };
+        return judged_image(alloc, bytes).map_err(|_| AllocError);
     }
-    match unjudged_image(alloc, lattice, bytes) {
-        Ok(verified) => Ok(verified),
-        Err(_) => Err(AllocError),
-    }
+    unjudged_image(alloc, lattice, bytes).map_err(|_| AllocError)
 }
 
 /// A bound of the image that was judged. A file that conforms has one if the interface requires it.
@@ -86,10 +78,7 @@ fn filed_bound(
 {
     match bounded {
         Bounded::No => Ok(None),
-        Bounded::Yes => {
-            let most = bound_judged(alloc, is_image, lattice, bytes)?;
-            Ok(Some(most))
-        }
+        Bounded::Yes => Ok(Some(bound_judged(alloc, is_image, lattice, bytes)?)),
         Bounded::AtMost(maximum) => {
             let most = bound_judged(alloc, is_image, lattice, bytes)?;
             if most > maximum {
@@ -138,24 +127,6 @@ fn evidence_text<'x>(
     }
 }
 
-/// The evidence that a file conforms to an interface.
-fn evidence_of<'x>(
-    alloc: Global,
-    asked: Conformance<'x>,
-    read: &'x AskedFiles,
-    source: &'x [u8],
-) -> Result<Vec<u8>, AllocError>
-    ensures { IfOk result (λ text. IsConformity read.now.found read.now.lattice source.now
-        (judged_files asked.entry read.now.found read.now.bytes.items read.now.policy.items
-        source.now) text.items) }
-{
-    let bounded = read.found.interface.bounded;
-    let is_image = begins_image(source);
-    let most = filed_bound(alloc, bounded, is_image, &read.lattice, source)?;
-    let text = evidence_text(alloc, asked, read, most, source)?;
-    Ok(text)
-}
-
 /// The lines that follow an answer: the evidence, if it is requested and the file conforms.
 pub(crate) fn lines_after<'x>(
     alloc: Global,
@@ -168,34 +139,20 @@ pub(crate) fn lines_after<'x>(
         (IsConformity read.now.found read.now.lattice source.now (judged_files asked.entry
         read.now.found read.now.bytes.items read.now.policy.items source.now)) lines.items) }
 {
-    if asked.has_evidence {
-        if conforms {
-            evidence_of(alloc, asked, read, source)
-        } else {
-            Ok(Vec::new(alloc))
-        }
-    } else {
-        Ok(Vec::new(alloc))
+    if !asked.has_evidence {
+        return Ok(Vec::new(alloc));
     }
-}
-
-/// The fault of an interface whose reference isn't accepted: its path, and the lines of `check`.
-fn refused_reference(
-    alloc: Global,
-    path: &[u8],
-    read: &AskedFiles,
-    text: &[u8],
-    error: &UnsteadyError,
-) -> Result<InterfaceError, AllocError> {
-    let is_steady = matches!(read.found.interface.judgement, Judgement::Steady);
-    let lines = refusal_lines(alloc, &read.lattice, text, error, is_steady)?;
-    let mut told = Vec::from_slice(alloc, path)?;
-    told.extend_from_slice(b"\n")?;
-    told.extend_from_slice(without_end(&lines))?;
-    Ok(InterfaceError::RefusedReference(told))
+    if !conforms {
+        return Ok(Vec::new(alloc));
+    }
+    let bounded = read.found.interface.bounded;
+    let is_image = begins_image(source);
+    let most = filed_bound(alloc, bounded, is_image, &read.lattice, source)?;
+    evidence_text(alloc, asked, read, most, source)
 }
 
 /// The image of the reference at a path, which is accepted as the interface requires of a text.
+/// If it isn't, the failure has its path and the lines of `check`.
 fn reference_image<'a, F: Files>(
     subject: &Subject<'_, F>,
     interface: &str,
@@ -204,48 +161,23 @@ fn reference_image<'a, F: Files>(
 ) -> Fallible<'a, Verified>
     ensures { IfErr result (FailsBy (λ reason. ⊥) IsUnusable) }
 {
+    let alloc = subject.alloc;
+    let judgement = read.found.interface.judgement;
     let text = subject.named_file(InputKind::Reference, interface, path)?;
-    match judged(
-        subject.alloc,
-        read.found.interface.judgement,
-        &read.lattice,
-        &text,
-    )? {
-        Ok(verified) => Ok(verified),
-        Err(error) => {
-            let fault = refused_reference(subject.alloc, path, read, &text, &error)?;
-            Err(unusable(subject.alloc, fault))
-        }
-    }
-}
-
-/// The trial of a source text or an image beside the reference at a path.
-fn tried_at<'a, F: Files>(
-    subject: &Subject<'_, F>,
-    asked: Conformance<'a>,
-    path: &[u8],
-    read: &AskedFiles,
-    bytes: &[u8],
-) -> Fallible<'a, Tried>
-    ensures { IfErr result (FailsBy (λ reason. ⊥) IsUnusable) }
-{
-    let verified = reference_image(subject, asked.interface, path, read)?;
-    let image = image_beside(subject.alloc, &read.lattice, bytes)?;
-    let beside = Reference {
-        interface: &read.found.interface,
-        cycles: &read.found.cycles,
-        verified: &verified,
+    let error = match judged(alloc, judgement, &read.lattice, &text)? {
+        Ok(verified) => return Ok(verified),
+        Err(error) => error,
     };
-    let budget = asked.budget;
-    let found = compare_reference(subject.alloc, &read.lattice, image.as_ref(), beside, budget)?;
-    let line = reference_line(subject.alloc, path, beside, found)?;
-    Ok(Tried {
-        agrees: found.agrees(),
-        line,
-    })
+    let is_steady = matches!(judgement, Judgement::Steady);
+    let lines = refusal_lines(alloc, &read.lattice, &text, &error, is_steady)?;
+    let mut told = Vec::from_slice(alloc, path)?;
+    told.extend_from_slice(b"\n")?;
+    told.extend_from_slice(without_end(&lines))?;
+    Err(unusable(alloc, InterfaceError::RefusedReference(told)))
 }
 
-/// The trial beside the reference that the interface names, if it names one.
+/// The trial of a file beside the reference that the interface names, if it names one. A source
+/// text may have no image, and the bytes of an image were judged before.
 pub(crate) fn tried_beside<'a, F: Files>(
     subject: &Subject<'_, F>,
     asked: Conformance<'a>,
@@ -259,54 +191,28 @@ pub(crate) fn tried_beside<'a, F: Files>(
     let Some(path) = &read.found.reference else {
         return Ok(None);
     };
-    let tried = tried_at(subject, asked, path, read, bytes)?;
-    Ok(Some(tried))
-}
-
-/// The image with these bytes, or that of a source text, if there is one. The bytes of an image
-/// were judged before.
-fn image_beside(
-    alloc: Global,
-    lattice: &Lattice,
-    bytes: &[u8],
-) -> Result<Option<Verified>, AllocError> {
-    if begins_image(bytes) {
-        return match judged_image(alloc, bytes) {
-            Ok(verified) => Ok(Some(verified)),
-            Err(_) => Err(AllocError),
-        };
-    }
-    match unjudged_image(alloc, lattice, bytes) {
-        Ok(verified) => Ok(Some(verified)),
-        Err(CompileError::Memory) => Err(AllocError),
-        Err(_) => Ok(None),
-    }
-}
-
-/// The image with these bytes, which were judged before.
-fn image_of(alloc: Global, bytes: &[u8]) -> Result<Verified, AllocError>
-    ensures { IfOk result (AreImage bytes.now) }
-{
-    match judged_image(alloc, bytes) {
-        Ok(verified) => Ok(verified),
-        Err(_) => Err(AllocError),
-    }
-}
-
-/// The released outputs of an interface, by the flows of the image with these bytes.
-fn image_released(
-    alloc: Global,
-    lattice: &Lattice,
-    bytes: &[u8],
-    asked: &InterfaceFile,
-) -> Result<Vec<Reach>, AllocError>
-    ensures { IfOk result (λ reaches. reached.AreReleasedIn true lattice.now bytes.now asked.now
-        (map released reaches.items)) }
-{
-    let verified = image_of(alloc, bytes)?;
-    let judgement = asked.interface.judgement;
-    let reaches = image_reaches(alloc, lattice, &verified, judgement, &asked.cycles)?;
-    Ok(reaches)
+    let alloc = subject.alloc;
+    let verified = reference_image(subject, asked.interface, path, read)?;
+    let unjudged = if begins_image(bytes) {
+        judged_image(alloc, bytes).map_err(|_| CompileError::Memory)
+    } else {
+        unjudged_image(alloc, &read.lattice, bytes)
+    };
+    let image = match unjudged {
+        Ok(image) => Some(image),
+        Err(CompileError::Memory) => return Err(Failure::Memory),
+        Err(_refusal) => None,
+    };
+    let beside = Reference {
+        interface: &read.found.interface,
+        cycles: &read.found.cycles,
+        verified: &verified,
+    };
+    let budget = asked.budget;
+    let found = compare_reference(alloc, &read.lattice, image.as_ref(), beside, budget)?;
+    let line = reference_line(alloc, path, beside, found)?;
+    let agrees = found.agrees();
+    Ok(Some(Tried { agrees, line }))
 }
 
 /// The released outputs of an interface, by the flows of the image with these bytes or of a source
@@ -318,12 +224,15 @@ pub(crate) fn reaches_in(
     bytes: &[u8],
     asked: &InterfaceFile,
 ) -> Result<Vec<Reach>, AllocError>
-    ensures reaches { IfOk result (λ reaches. reached.AreReleasedIn is_image lattice.now bytes.now asked.now
-        (map released reaches.items)) }
+    ensures reaches { IfOk result (λ reaches. reached.AreReleasedIn is_image lattice.now bytes.now
+        asked.now (map released reaches.items)) }
 {
-    if is_image {
-        return image_released(alloc, lattice, bytes, asked);
-    }
     let judgement = asked.interface.judgement;
-    text_reaches(alloc, lattice, bytes, judgement, asked.cycles.as_slice())
+    if !is_image {
+        return text_reaches(alloc, lattice, bytes, judgement, &asked.cycles);
+    }
+    let Ok(verified) = judged_image(alloc, bytes) else {
+        return Err(AllocError);
+    };
+    Ok(image_reaches(alloc, lattice, &verified, judgement, &asked.cycles)?)
 }

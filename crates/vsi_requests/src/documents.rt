@@ -1,16 +1,15 @@
 //! Answers as lines of JSON and documents of SARIF, pages, graphs, and searches for leaks.
 
-ghost use Rattle.std.specs.Prelude.{◌≡◌, ◌⊎◌, IfErr, IfOk, List, Some, IsSomeAnd, IfSome};
-ghost use Rattle.vsi_subject.specs.{Documents.{AuditsDocument, ToldClassesJson, ToldFlowsJson, ToldSarif, judgement_of}, Files.{OfFiles}, Performed.{profile_of, AreSought, DrawsFiles, DrawsGraph, GraphOf, ToldPage, SearchesFiles, SearchesJson}, Reasons.{LacksSought, OtherLeak, RefusesSearch, WhyDraw}, Refusals.{NoOther, RefusesImage, RefusesLattice, FailsBy, RefusesProgramAt}};
+ghost use Rattle.std.specs.Prelude.{◌≡◌, ◌⊎◌, IfErr, IfOk, List, IfSome};
+ghost use Rattle.vsi_subject.specs.{Documents.{AuditsDocument, ToldClassesJson, ToldFlowsJson, ToldSarif, judgement_of}, Files.{OfFiles}, Performed.{profile_of, AreSought, DrawsFiles, GraphOf, ToldPage, SearchesFiles, SearchesJson}, Reasons.{LacksSought, OtherLeak, RefusesSearch, WhyDraw}, Refusals.{NoOther, RefusesImage, RefusesLattice, FailsBy}};
 ghost use Rattle.vsi_lattice.specs.{LatticeView.{class_named, order}, Order.{IsClass}};
 ghost use Rattle.vsi_syntax.specs.Tree.{Whole};
 ghost use Rattle.vsi_scope.specs.{Language.{Command}, Resolving.{IsResolution}};
 ghost use Rattle.vsi_compiler.specs.{Source.{Reads}, declared.source.CompileError.TheVariants.{Memory}, Refusal.{RefusesProgram}};
-ghost use Rattle.vsi_report.specs.{Page.{HasPanel}, Verdict.{HasVerdict}};
 
 use crate::images::version;
 use crate::texts::{judgement, policy_and_text};
-use std::alloc::{AllocError, Global};
+use std::alloc::Global;
 use vsi_arguments::{Audit, Compilation, Drawing, Judging, Search};
 use vsi_compiler::CompileError;
 use vsi_documents::{
@@ -36,8 +35,7 @@ pub fn checked_sarif<'a, F: Files>(
     let (classes, text) = policy_and_text(subject, asked.compilation)?;
     let path = asked.compilation.source;
     let judged = judgement(asked.is_steady, asked.compilation.is_strict);
-    let told = check_sarif(subject.alloc, judged, &classes, path, text.as_slice())?;
-    Ok(told)
+    Ok(check_sarif(subject.alloc, judged, &classes, path, text.as_slice())?)
 }
 
 /// The line of JSON for a source text with its classes, and whether it is accepted.
@@ -52,8 +50,7 @@ pub fn classes_line<'a, F: Files>(
 {
     let (classes, text) = policy_and_text(subject, compilation)?;
     let profile = profile(compilation.is_strict);
-    let told = classes_json(subject.alloc, profile, &classes, text.as_slice())?;
-    Ok(told)
+    Ok(classes_json(subject.alloc, profile, &classes, text.as_slice())?)
 }
 
 /// The line of JSON for a source text with its flows, and whether it has a program.
@@ -68,8 +65,7 @@ pub fn flows_line<'a, F: Files>(
 {
     let (classes, text) = policy_and_text(subject, compilation)?;
     let profile = profile(compilation.is_strict);
-    let told = flows_json(subject.alloc, profile, &classes, text.as_slice())?;
-    Ok(told)
+    Ok(flows_json(subject.alloc, profile, &classes, text.as_slice())?)
 }
 
 /// The line of JSON for an image, or the document of SARIF, and whether it is accepted.
@@ -88,38 +84,9 @@ pub fn audit_document<'a, F: Files>(
     let verified = subject.image_in(asked.image)?;
     let judged = judgement(asked.is_steady, asked.is_strict);
     if is_sarif {
-        let document = audit_sarif(subject.alloc, judged, &classes, asked.image, &verified)?;
-        return Ok(document);
+        return Ok(audit_sarif(subject.alloc, judged, &classes, asked.image, &verified)?);
     }
-    let told = audit_json(subject.alloc, judged, &classes, &verified)?;
-    Ok(told)
-}
-
-/// The page of a source text over a lattice, with the names of both files.
-fn page_of(
-    alloc: Global,
-    compilation: Compilation<'_>,
-    policy: &[u8],
-    classes: &Lattice,
-    text: &[u8],
-) -> Result<Vec<u8>, AllocError>
-    ensures panel { IfOk result (λ page. HasPanel page.items text.now) }
-    ensures verdict { IfOk result (λ page. HasVerdict classes.now
-        (profile_of compilation.entry.is_strict) text.now page.items) }
-{
-    let filing = Filing {
-        source: compilation.source.as_bytes(),
-        lattice: compilation.lattice.as_bytes(),
-        policy,
-        version: version(),
-    };
-    filed_page(
-        alloc,
-        profile(compilation.is_strict),
-        &filing,
-        classes,
-        text,
-    )
+    Ok(audit_json(subject.alloc, judged, &classes, &verified)?)
 }
 
 /// The page of a source text.
@@ -132,55 +99,16 @@ pub fn report<'a, F: Files>(
     ensures failed { IfErr result (FailsBy (RefusesLattice (F.holds subject.now.files.now)
         compilation.entry.lattice.now) NoOther) }
 {
-    let read = subject.policy_in(compilation.lattice)?;
+    let (policy, classes) = subject.policy_in(compilation.lattice)?;
     let text = subject.bytes_in(InputKind::Source, compilation.source)?;
-    Ok(page_of(
-        subject.alloc,
-        compilation,
-        &read.0,
-        &read.1,
-        text.as_slice(),
-    )?)
-}
-
-/// The graph of the flows of the source text, alone or beside that of the lattice.
-fn flows_graph<'a, F: Files>(
-    subject: &Subject<'_, F>,
-    classes: &Lattice,
-    source: &'a str,
-    is_strict: bool,
-    is_alone: bool,
-) -> Fallible<'a, Vec<u8>>
-    ensures told { IfOk result (λ graph. DrawsGraph (F.holds subject.now.files.now)
-        (Some source.entry) is_strict is_alone classes.now graph.items) }
-    ensures failed { IfErr result (FailsBy (RefusesProgramAt (F.holds subject.now.files.now)
-        classes.now source.now) NoOther) }
-{
-    let text = subject.bytes_in(InputKind::Source, source)?;
-    match graph_of(subject.alloc, is_strict, is_alone, classes, text.as_slice()) {
-        Ok(graph) => Ok(graph),
-        Err(error) => Err(refused(subject.alloc, classes, text.as_slice(), error)),
-    }
-}
-
-/// The graph of the lattice, or with a source text that of its flows, alone or beside the
-/// lattice.
-fn graph_for<'a, F: Files>(
-    subject: &Subject<'_, F>,
-    classes: &Lattice,
-    source: Option<&'a str>,
-    is_strict: bool,
-    is_alone: bool,
-) -> Fallible<'a, Vec<u8>>
-    ensures told { IfOk result (λ graph. DrawsGraph (F.holds subject.now.files.now) source.entry
-        is_strict is_alone classes.now graph.items) }
-    ensures failed { IfErr result (FailsBy (λ reason. IsSomeAnd source.entry (λ path.
-        RefusesProgramAt (F.holds subject.now.files.now) classes.now path.now reason)) NoOther) }
-{
-    match source {
-        Some(source) => flows_graph(subject, classes, source, is_strict, is_alone),
-        None => Ok(lattice_dot(subject.alloc, classes)?),
-    }
+    let filing = Filing {
+        source: compilation.source.as_bytes(),
+        lattice: compilation.lattice.as_bytes(),
+        policy: policy.as_slice(),
+        version: version(),
+    };
+    let profile = profile(compilation.is_strict);
+    Ok(filed_page(subject.alloc, profile, &filing, &classes, text.as_slice())?)
 }
 
 /// The graph that a drawing requests.
@@ -190,42 +118,44 @@ pub fn draw<'a, F: Files>(subject: &Subject<'_, F>, drawing: Drawing<'a>) -> Fal
         drawing.entry.lattice.now drawing.entry.source) NoOther) }
 {
     let classes = subject.lattice_in(drawing.lattice)?;
-    let graph = graph_for(
-        subject,
-        &classes,
-        drawing.source,
-        drawing.is_strict,
-        drawing.is_alone,
-    )?;
-    Ok(graph)
+    let alloc = subject.alloc;
+    let Some(source) = drawing.source else {
+        return Ok(lattice_dot(alloc, &classes)?);
+    };
+    let text = subject.bytes_in(InputKind::Source, source)?;
+    let text = text.as_slice();
+    match graph_of(alloc, drawing.is_strict, drawing.is_alone, &classes, text) {
+        Ok(graph) => Ok(graph),
+        Err(error) => Err(refused(alloc, &classes, text, error)),
+    }
 }
 
 /// Reads the files of a search.
-fn sought_in<'a, F: Files>(subject: &Subject<'_, F>, search: Search<'a>) -> Fallible<'a, Sought>
+fn sought_in<'a, F: Files>(
+    subject: &Subject<'_, F>,
+    search: Search<'a>,
+) -> Fallible<'a, (Lattice, Vec<u8>, Wanted)>
     ensures within { IfOk result
-        (λ sought. IfSome sought.wanted.class (IsClass (order sought.lattice))) }
+        (λ sought. IfSome sought.2.class (IsClass (order sought.0))) }
     ensures told { IfOk result (λ sought. AreSought (F.holds subject.now.files.now) search.entry
-        sought.lattice sought.text.items sought.wanted) }
+        sought.0 sought.1.items sought.2) }
     ensures failed { IfErr result (FailsBy (RefusesSearch (F.holds subject.now.files.now)
         search.entry) (LacksSought (F.holds subject.now.files.now) search.entry)) }
 {
     let lattice = subject.lattice_in(search.lattice)?;
     let class = viewer_of(&lattice, search.class)?;
     let text = subject.bytes_in(InputKind::Source, search.source)?;
-    Ok(Sought {
-        lattice,
-        text,
-        wanted: Wanted {
-            class,
-            endings: search.has_endings,
-            steps: search.has_steps,
-            effort: Effort {
-                budget: search.budget,
-                tries: search.tries,
-                seed: search.seed,
-            },
+    let wanted = Wanted {
+        class,
+        endings: search.has_endings,
+        steps: search.has_steps,
+        effort: Effort {
+            budget: search.budget,
+            tries: search.tries,
+            seed: search.seed,
         },
-    })
+    };
+    Ok((lattice, text, wanted))
 }
 
 /// Searches a source text for a leak, which is reported as a refusal. If none is found the line
@@ -235,16 +165,15 @@ pub fn leak<'a, F: Files>(subject: &Subject<'_, F>, search: Search<'a>) -> Falli
     ensures failed { IfErr result (FailsBy (RefusesSearch (F.holds subject.now.files.now)
         search.entry) (OtherLeak (F.holds subject.now.files.now) search.entry)) }
 {
-    let sought = sought_in(subject, search)?;
-    let lattice = &sought.lattice;
-    let text = sought.text.as_slice();
-    let (verified, finding) = match leak_of_text(subject.alloc, lattice, text, &sought.wanted) {
+    let (lattice, text, wanted) = sought_in(subject, search)?;
+    let text = text.as_slice();
+    let (verified, finding) = match leak_of_text(subject.alloc, &lattice, text, &wanted) {
         Ok(found) => found,
-        Err(error) => return Err(refused(subject.alloc, lattice, text, error)),
+        Err(error) => return Err(refused(subject.alloc, &lattice, text, error)),
     };
     match &finding {
         Finding::Leak(leak) => {
-            let shown = leak_text(subject.alloc, lattice, verified.image(), leak)?;
+            let shown = leak_text(subject.alloc, &lattice, verified.image(), leak)?;
             Err(Failure::Refused(shown, None))
         }
         Finding::Nothing { pairs } => {
@@ -261,12 +190,11 @@ pub fn leak_line<'a, F: Files>(subject: &Subject<'_, F>, search: Search<'a>) -> 
     ensures failed { IfErr result (FailsBy (RefusesSearch (F.holds subject.now.files.now)
         search.entry) (LacksSought (F.holds subject.now.files.now) search.entry)) }
 {
-    let sought = sought_in(subject, search)?;
-    let lattice = &sought.lattice;
-    let text = sought.text.as_slice();
-    match leak_json(subject.alloc, lattice, text, &sought.wanted) {
+    let (lattice, text, wanted) = sought_in(subject, search)?;
+    let text = text.as_slice();
+    match leak_json(subject.alloc, &lattice, text, &wanted) {
         Ok(told) => Ok(told),
-        Err(error) => Err(refused(subject.alloc, lattice, text, error)),
+        Err(error) => Err(refused(subject.alloc, &lattice, text, error)),
     }
 }
 
@@ -291,12 +219,4 @@ fn graph_of(
     } else {
         policy_dot(alloc, judged, classes, text)
     }
-}
-
-/// What a search is about: a source text under a lattice, and what is wanted of it.
-#[derive(Drop)]
-pub(crate) struct Sought {
-    pub(crate) lattice: Lattice,
-    pub(crate) text: Vec<u8>,
-    pub(crate) wanted: Wanted,
 }

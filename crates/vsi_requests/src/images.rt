@@ -1,28 +1,24 @@
 //! Judgements of images and their bounds.
 
-ghost use Rattle.std.specs.{Prelude.{◌≡◌, ◌⊎◌, ◌++◌, ◌∷◌, ℕ, [], IfErr, IfOk, OnOk, codes, false}, Global.{Vec}};
+ghost use Rattle.std.specs.{Prelude.{◌≡◌, ◌⊎◌, ◌++◌, ℕ, IfErr, IfOk, OnOk, codes}, Global.{Vec}};
 ghost use Rattle.vsi_audit.specs.Telling.{IsAuditText};
-ghost use Rattle.vsi_steady.specs.Telling.{IsUnsteadyText};
-ghost use Rattle.vsi_subject.specs.{Holding.{IsReadAt, IsImageAt}, Performed.{AuditsTo, Bounds, Passes, SourceOfFile, TellsBounding, program_version, IsBuiltAt, compilation_of, IsBoundedC}, Refusals.{NoOther, RefusesImage, RefusesLattice, FailsBy, AsksImage, RefusesFiles, IsUnbounded}, Reasons.{HasNoText, IsRefusedImage, RefusesAudit, WhyEmit}};
+ghost use Rattle.vsi_subject.specs.{Holding.{IsReadAt}, Performed.{AuditsTo, Passes, SourceOfFile, TellsBounding, program_version}, Refusals.{NoOther, RefusesImage, RefusesLattice, FailsBy}, Reasons.{HasNoText, IsRefusedImage, RefusesAudit, WhyEmit}};
 ghost use Rattle.vsi_answers.specs.Judged.{AreImage};
-ghost use Rattle.vsi_store.specs.Evidence.{evidence_text};
 ghost use Rattle.vsi_subject.specs.Performed as spec;
 ghost use Rattle.vsi_subject.specs.declared.failure.Failure.TheVariants as fails;
 
-use crate::texts::policy_and_text;
+use crate::conformity::filed_profile;
+use crate::texts::{judgement, policy_and_text};
 use std::alloc::{AllocError, Global};
 use vsi_answers::judged_image;
 use vsi_arguments::{Audit, Bounding, Compilation};
 use vsi_audit::{AuditError, audit_in, audit_text, source_text};
 use vsi_documents::{Reply, bound_json, bound_json_in};
-use vsi_emit::{Origin, emit_bounded, emit_bounded_header};
 use vsi_image::{Image, Verified};
 use vsi_lattice::Lattice;
 use vsi_steady::{SteadyError, steady_in, steady_text};
-use vsi_store::{AuditProfile, Filed, evidence};
-use vsi_subject::{
-    Failure, Fallible, Files, InputKind, Subject, made_image, most_of, profile, two_classes,
-};
+use vsi_store::{Filed, evidence};
+use vsi_subject::{Failure, Fallible, Files, InputKind, Subject, made_image, profile, two_classes};
 
 /// The failure for a refused image.
 fn refused_image<'a>(
@@ -44,26 +40,6 @@ fn refused_image<'a>(
     }
 }
 
-/// The failure for a refused image that isn't steady.
-fn refused_unsteady<'a>(
-    alloc: Global,
-    lattice: &Lattice,
-    image: &Image,
-    error: SteadyError,
-) -> Failure<'a>
-    ensures { FailsBy (λ reason. ⊥)
-        (λ failure. (text : Vec ℕ) × (failure ≡ fails.Unsteady text error)
-        × IsUnsteadyText lattice.now image.now error text.items) result }
-{
-    if let SteadyError::Memory = &error {
-        return Failure::Memory;
-    }
-    match steady_text(alloc, lattice, image, &error) {
-        Ok(text) => Failure::Unsteady(text, error),
-        Err(_) => Failure::Memory,
-    }
-}
-
 /// Judges an image as requested.
 fn judge<'a>(
     alloc: Global,
@@ -77,10 +53,14 @@ fn judge<'a>(
         (IsRefusedImage asked.entry.is_strict classes.now verified.now)) }
 {
     if asked.is_steady {
-        return match steady_in(alloc, classes, verified) {
-            Ok(()) => Ok(()),
-            Err(error) => Err(refused_unsteady(alloc, classes, verified.image(), error)),
+        let Err(error) = steady_in(alloc, classes, verified) else {
+            return Ok(());
         };
+        if let SteadyError::Memory = &error {
+            return Err(Failure::Memory);
+        }
+        let text = steady_text(alloc, classes, verified.image(), &error)?;
+        return Err(Failure::Unsteady(text, error));
     }
     match audit_in(alloc, profile(asked.is_strict), classes, verified) {
         Ok(()) => Ok(()),
@@ -95,43 +75,6 @@ pub(crate) fn version() -> &'static [u8]
     b"0.1.0"
 }
 
-/// How an audit judges.
-fn audit_profile(asked: Audit<'_>) -> AuditProfile
-    ensures { result ≡ spec.audit_profile asked.entry }
-{
-    if asked.is_steady {
-        AuditProfile::Steady
-    } else if asked.is_strict {
-        AuditProfile::Strict
-    } else {
-        AuditProfile::Base
-    }
-}
-
-/// The evidence for the bytes of a lattice file and of an image.
-fn filed_files(
-    alloc: Global,
-    asked: Audit<'_>,
-    lattice: &[u8],
-    image: &[u8],
-) -> Result<Vec<u8>, AllocError>
-    ensures { IfOk result (λ text. text.items ≡ evidence_text program_version
-        (spec.audit_profile asked.entry) ((asked.entry.lattice.now, lattice.now)
-        ∷ (asked.entry.image.now, image.now) ∷ [])) }
-{
-    let files = [
-        Filed {
-            path: asked.lattice.as_bytes(),
-            bytes: lattice,
-        },
-        Filed {
-            path: asked.image.as_bytes(),
-            bytes: image,
-        },
-    ];
-    evidence(alloc, version(), audit_profile(asked), &files)
-}
-
 /// The output of an audit that accepts an image, of the bytes that were read.
 fn accepted_text(
     alloc: Global,
@@ -143,10 +86,22 @@ fn accepted_text(
         ++ spec.filed_text asked.entry lattice.now image.now) }
 {
     let mut text = Vec::from_slice(alloc, b"accepted\n")?;
-    if asked.has_evidence {
-        let filed = filed_files(alloc, asked, lattice, image)?;
-        text.extend_from_slice(&filed)?;
+    if !asked.has_evidence {
+        return Ok(text);
     }
+    let files = [
+        Filed {
+            path: asked.lattice.as_bytes(),
+            bytes: lattice,
+        },
+        Filed {
+            path: asked.image.as_bytes(),
+            bytes: image,
+        },
+    ];
+    let profile = filed_profile(judgement(asked.is_steady, asked.is_strict));
+    let filed = evidence(alloc, version(), profile, &files)?;
+    text.extend_from_slice(&filed)?;
     Ok(text)
 }
 
@@ -177,8 +132,7 @@ pub fn audit<'a, F: Files>(subject: &Subject<'_, F>, asked: Audit<'a>) -> Fallib
     let (policy, classes) = subject.policy_in(asked.lattice)?;
     let (bytes, verified) = verified_in(subject, asked.image)?;
     judge(subject.alloc, asked, &classes, &verified)?;
-    let text = accepted_text(subject.alloc, asked, &policy, &bytes)?;
-    Ok(text)
+    Ok(accepted_text(subject.alloc, asked, &policy, &bytes)?)
 }
 
 /// The source text that is equivalent to the image.
@@ -198,59 +152,6 @@ pub fn source<'a, F: Files>(subject: &Subject<'_, F>, image: &'a str) -> Fallibl
     }
 }
 
-/// The line about the bound of an image file, or the same as a line of JSON.
-fn image_bound<'a, F: Files>(
-    subject: &Subject<'_, F>,
-    image: &'a str,
-    is_json: bool,
-) -> Fallible<'a, Reply>
-    ensures told { IfOk result (λ reply. Bounds (IsImageAt (F.holds subject.now.files.now)
-        image.now) is_json reply.is_good reply.text) }
-    ensures failed { IfErr result
-        (FailsBy (RefusesImage (F.holds subject.now.files.now) image.now) NoOther) }
-{
-    let verified = subject.image_in(image)?;
-    if is_json {
-        let told = bound_json(subject.alloc, &verified)?;
-        return Ok(told);
-    }
-    let found = vsi_answers::bound(subject.alloc, &verified)?;
-    Ok(Reply {
-        text: found.text,
-        is_good: found.is_bounded,
-    })
-}
-
-/// The line about the bound of the image of a source text, or the same as a line of JSON.
-fn text_bound<'a, F: Files>(
-    subject: &Subject<'_, F>,
-    lattice: &'a str,
-    source: &'a str,
-    is_json: bool,
-) -> Fallible<'a, Reply>
-    ensures told { IfOk result (λ reply. Bounds (IsBuiltAt (F.holds subject.now.files.now)
-        (compilation_of lattice.entry source.entry)) is_json reply.is_good reply.text) }
-    ensures failed { IfErr result (FailsBy (RefusesFiles (F.holds subject.now.files.now)
-        (compilation_of lattice.entry source.entry) (AsksImage false)) NoOther) }
-{
-    let compilation = Compilation {
-        lattice,
-        source,
-        is_strict: false,
-    };
-    let (classes, text) = policy_and_text(subject, compilation)?;
-    let verified = made_image(subject.cache, &classes, source, text.as_slice())?;
-    if is_json {
-        let told = bound_json_in(subject.alloc, &classes, text.as_slice(), &verified)?;
-        return Ok(told);
-    }
-    let found = vsi_answers::bound_in(subject.alloc, &classes, text.as_slice(), &verified)?;
-    Ok(Reply {
-        text: found.text,
-        is_good: found.is_bounded,
-    })
-}
-
 /// The line about the bound of the requested image, or the same as a line of JSON.
 pub fn bound<'a, F: Files>(
     subject: &Subject<'_, F>,
@@ -262,33 +163,32 @@ pub fn bound<'a, F: Files>(
     ensures failed { IfErr result (FailsBy
         (WhyEmit (F.holds subject.now.files.now) asked.entry.lattice asked.entry.file) NoOther) }
 {
-    match asked.lattice {
-        Some(lattice) => text_bound(subject, lattice, asked.file, is_json),
-        None => image_bound(subject, asked.file, is_json),
-    }
-}
-
-/// The header of an image's C without a budget, or that C.
-pub(crate) fn bounded_in_c<'a>(
-    alloc: Global,
-    verified: &Verified,
-    origin: Origin<'_>,
-    name: &[u8],
-    is_header: bool,
-) -> Fallible<'a, Vec<u8>>
-    ensures told { IfOk result
-        (λ text. IsBoundedC is_header verified.now origin.entry name.now text.items) }
-    ensures failed { IfErr result (FailsBy (λ reason. ⊥) (IsUnbounded verified.now)) }
-{
-    let most = most_of(alloc, verified)?;
-    let answer = if is_header {
-        emit_bounded_header(alloc, verified, origin, most, name)
-    } else {
-        emit_bounded(alloc, verified, origin, most, name)
+    let alloc = subject.alloc;
+    let Some(lattice) = asked.lattice else {
+        let image = subject.image_in(asked.file)?;
+        if is_json {
+            return Ok(bound_json(alloc, &image)?);
+        }
+        let found = vsi_answers::bound(alloc, &image)?;
+        return Ok(Reply {
+            text: found.text,
+            is_good: found.is_bounded,
+        });
     };
-    match answer {
-        Ok(text) => Ok(text),
-        // The name was judged before: functions may have it.
-        Err(_) => Err(Failure::Memory),
+    let compilation = Compilation {
+        lattice,
+        source: asked.file,
+        is_strict: false,
+    };
+    let (classes, text) = policy_and_text(subject, compilation)?;
+    let text = text.as_slice();
+    let verified = made_image(subject.cache, &classes, asked.file, text)?;
+    if is_json {
+        return Ok(bound_json_in(alloc, &classes, text, &verified)?);
     }
+    let found = vsi_answers::bound_in(alloc, &classes, text, &verified)?;
+    Ok(Reply {
+        text: found.text,
+        is_good: found.is_bounded,
+    })
 }

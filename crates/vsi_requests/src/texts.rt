@@ -1,15 +1,13 @@
 //! The answers of the subcommands that judge, rewrite or lay out a source text.
 
-ghost use Rattle.std.specs.{Prelude.{◌≡◌, IfErr, IfOk, false, ◌<◌, ◌⊎◌, OnOk, Some, ◌≤◌, ◌+◌, ◌^◌, [], ℕ, List, length, true, Err}, Io.KnownBytes.{Keeps, Appends}};
-ghost use Rattle.vsi_subject.specs.{Laying.{ToldCanonical, AnswersLayout, LaysOut, OtherLayout, PerformsLayout, PutsBack, TellsChanges, ToldChanges, written_by}, Files.{AreFiles, OfFile, OfFiles, Writes}, Documents.{judgement_of}, Performed.{TellsCheck, TellsMend, ToldClasses, ToldFlows, ToldImage, ToldListing}, Refusals.{AsksCanonical, AsksCheck, AsksClasses, AsksFlows, AsksImage, AsksMend, NoOther, RefusesFile, RefusesFiles, RefusesLattice, FailsBy}, Reasons.{RefusesCheck, RefusesMend}, declared.failure.Failure.TheVariants.{Memory}, Partly.{Leaves, AnswersFlows, WritesPart}, State.{StaysAt, StaysBeside, Touches}, Failures.{TellsFault, status_of}, Walked.{IsTextOf}};
-ghost use Rattle.vsi_answers.specs.Requests.{ListsTo, WalksTo};
-ghost use Rattle.vsi_conform.specs.Checking.{TellsAnswer};
+ghost use Rattle.std.specs.{Prelude.{◌≡◌, IfErr, IfOk, ◌<◌, OnOk, ◌≤◌, ◌+◌, ◌^◌, [], ℕ, List, length}, Io.KnownBytes.{Appends}};
+ghost use Rattle.vsi_subject.specs.{Laying.{ToldCanonical, AnswersLayout, OtherLayout, PerformsLayout, written_by}, Files.{AreFiles, OfFile, OfFiles, Writes}, Documents.{judgement_of}, Performed.{TellsCheck, TellsMend, ToldClasses, ToldFlows, ToldImage, ToldListing}, Refusals.{AsksCanonical, AsksClasses, AsksFlows, AsksImage, NoOther, RefusesFile, RefusesFiles, RefusesLattice, FailsBy}, Reasons.{RefusesCheck, RefusesMend}, Partly.{Leaves, AnswersFlows, WritesPart}, State.{StaysBeside}, Failures.{TellsFault, status_of}, Walked.{IsTextOf}};
+ghost use Rattle.vsi_answers.specs.Requests.{ListsTo};
 ghost use Rattle.vsi_drive.specs.Counted.{device_of, faults_of};
-ghost use Rattle.vsi_flows.specs.{Text.{IsWalksText}, Walking.{AreWalks}};
+ghost use Rattle.vsi_flows.specs.{Walking.{AreWalks}};
 
 use std::alloc::Global;
 use std::io::Write;
-use vsi_answers::{Observer, Unanswered};
 use vsi_arguments::{Compilation, Judging, Layout, Mending};
 use vsi_compiler::read_source;
 use vsi_conform::{Judgement, check_json_for};
@@ -22,7 +20,6 @@ use vsi_subject::{
     answered, good, profile, refused, replace, two_classes, write, write_answer,
 };
 use vsi_syntax::places_text;
-use vsi_types::Profile;
 
 /// The lattice, which is judged, and the bytes of the source text, which are read after it.
 pub(crate) fn policy_and_text<'a, F: Files>(
@@ -53,16 +50,25 @@ pub fn check<'a, F: Files>(
 {
     let (classes, text) = policy_and_text(subject, asked.compilation)?;
     let alloc = subject.alloc;
-    let has_warnings = asked.has_warnings;
+    let text = text.as_slice();
     let mut observer = CheckObserver {
         cache: subject.cache,
         note,
-        has_warnings,
+        has_warnings: asked.has_warnings,
     };
     if asked.is_json {
-        return checked_line(alloc, asked, &classes, text.as_slice(), &mut observer);
+        let judged = judgement(asked.is_steady, asked.compilation.is_strict);
+        let checked = check_json_for(alloc, judged, &classes, text, &mut observer)?;
+        return Ok(Reply {
+            text: checked.line,
+            is_good: checked.is_accepted,
+        });
     }
-    good(answered(checked(alloc, asked, &classes, text.as_slice(), &mut observer)))
+    if asked.is_steady {
+        return good(answered(vsi_answers::check_steady(alloc, &classes, text, &mut observer)));
+    }
+    let profile = profile(asked.compilation.is_strict);
+    good(answered(vsi_answers::check(alloc, profile, &classes, text, &mut observer)))
 }
 
 /// The class of each declaration of the source text.
@@ -76,32 +82,11 @@ pub fn classes<'a, F: Files>(
         compilation.entry (AsksClasses compilation.entry.is_strict)) NoOther) }
 {
     let (classes, text) = policy_and_text(subject, compilation)?;
+    let text = text.as_slice();
     let profile = profile(compilation.is_strict);
-    let mut observer = FlowObserver {
-        cache: subject.cache,
-    };
-    answered(vsi_answers::classes(
-        subject.alloc,
-        profile,
-        &classes,
-        text.as_slice(),
-        &mut observer,
-    ))
-}
-
-/// The flows between the declared variables of the source text.
-pub(crate) fn flows<'a, F: Files>(
-    subject: &Subject<'_, F>,
-    compilation: Compilation<'a>,
-) -> Fallible<'a, Vec<u8>>
-    ensures told { IfOk result (OfFiles (F.holds subject.now.files.now) compilation.entry
-        (ToldFlows false compilation.entry.is_strict)) }
-    ensures failed { IfErr result (FailsBy (RefusesFiles (F.holds subject.now.files.now)
-        compilation.entry (AsksFlows false compilation.entry.is_strict)) NoOther) }
-{
-    let (classes, text) = policy_and_text(subject, compilation)?;
-    let profile = profile(compilation.is_strict);
-    answered(vsi_answers::flows(subject.alloc, profile, &classes, text.as_slice()))
+    let cache = subject.cache;
+    let mut observer = FlowObserver { cache };
+    answered(vsi_answers::classes(cache.alloc, profile, &classes, text, &mut observer))
 }
 
 /// A line for each class of the source text that has to rise, the text with these classes, or a
@@ -113,13 +98,16 @@ pub fn mend<'a, F: Files>(subject: &Subject<'_, F>, asked: Mending<'a>) -> Falli
         (FailsBy (RefusesMend (F.holds subject.now.files.now) asked.entry) NoOther) }
 {
     let (classes, text) = policy_and_text(subject, asked.compilation)?;
-    let source = text.as_slice();
-    let is_strict = asked.compilation.is_strict;
+    let alloc = subject.alloc;
+    let text = text.as_slice();
+    let profile = profile(asked.compilation.is_strict);
     if asked.is_json {
-        let told = mend_json(subject.alloc, profile(is_strict), &classes, source)?;
-        return Ok(told);
+        return Ok(mend_json(alloc, profile, &classes, text)?);
     }
-    good(answered(raised(subject.alloc, asked.is_applied, is_strict, &classes, source)))
+    if asked.is_applied {
+        return good(answered(vsi_answers::apply(alloc, profile, &classes, text)));
+    }
+    good(answered(vsi_answers::mend(alloc, profile, &classes, text)))
 }
 
 /// The bytes of the image of the source text.
@@ -133,17 +121,11 @@ pub fn built<'a, F: Files>(
         compilation.entry (AsksImage compilation.entry.is_strict)) NoOther) }
 {
     let (classes, text) = policy_and_text(subject, compilation)?;
+    let text = text.as_slice();
     let profile = profile(compilation.is_strict);
-    let mut observer = FlowObserver {
-        cache: subject.cache,
-    };
-    answered(vsi_answers::build(
-        subject.alloc,
-        profile,
-        &classes,
-        text.as_slice(),
-        &mut observer,
-    ))
+    let cache = subject.cache;
+    let mut observer = FlowObserver { cache };
+    answered(vsi_answers::build(cache.alloc, profile, &classes, text, &mut observer))
 }
 
 /// The listing of the image.
@@ -167,24 +149,6 @@ pub fn format<'a, F: Files>(subject: &Subject<'_, F>, source: &'a str) -> Fallib
     answered(vsi_answers::format(subject.alloc, &classes, bytes.as_slice()))
 }
 
-/// `accepted`, if a text is accepted under a lattice as requested.
-fn checked<O: Observer>(
-    alloc: Global,
-    asked: Judging<'_>,
-    classes: &Lattice,
-    text: &[u8],
-    observer: &mut O,
-) -> Result<Vec<u8>, Unanswered>
-    ensures { AsksCheck asked.entry.is_steady asked.entry.compilation.is_strict
-        classes.now text.now result }
-{
-    if asked.is_steady {
-        return vsi_answers::check_steady(alloc, classes, text, observer);
-    }
-    let profile = profile(asked.compilation.is_strict);
-    vsi_answers::check(alloc, profile, classes, text, observer)
-}
-
 /// The judgement with `--steady`, and with `--strict`.
 pub(crate) fn judgement(is_steady: bool, is_strict: bool) -> Judgement
     ensures { result ≡ judgement_of is_steady is_strict }
@@ -194,67 +158,6 @@ pub(crate) fn judgement(is_steady: bool, is_strict: bool) -> Judgement
         (false, true) => Judgement::Strict,
         (false, false) => Judgement::Base,
     }
-}
-
-/// Whether a text is accepted under a lattice as requested, as a line of JSON.
-fn checked_line<'a, O: Observer>(
-    alloc: Global,
-    asked: Judging<'_>,
-    classes: &Lattice,
-    text: &[u8],
-    observer: &mut O,
-) -> Fallible<'a, Reply>
-    ensures told { IfOk result (λ reply. TellsAnswer classes.now (judgement_of
-        asked.entry.is_steady asked.entry.compilation.is_strict) text.now reply.is_good
-        reply.text.items) }
-    ensures failed { IfErr result (λ failure. failure ≡ Memory) }
-{
-    let judged = judgement(asked.is_steady, asked.compilation.is_strict);
-    let checked = check_json_for(alloc, judged, classes, text, observer)?;
-    Ok(Reply {
-        text: checked.line,
-        is_good: checked.is_accepted,
-    })
-}
-
-/// A line for each class of a text that has to rise, or the text with these classes if requested.
-fn raised(
-    alloc: Global,
-    is_applied: bool,
-    is_strict: bool,
-    classes: &Lattice,
-    text: &[u8],
-) -> Result<Vec<u8>, Unanswered>
-    ensures { AsksMend is_applied is_strict classes.now text.now result }
-{
-    let profile = profile(is_strict);
-    if is_applied {
-        return vsi_answers::apply(alloc, profile, classes, text);
-    }
-    vsi_answers::mend(alloc, profile, classes, text)
-}
-
-/// A source text and its layout.
-#[derive(Drop)]
-struct Laying {
-    text: Vec<u8>,
-    layout: Vec<u8>,
-}
-
-/// The text of a file and its layout.
-fn laid<'a, F: Files>(subject: &Subject<'_, F>, source: &'a str) -> Fallible<'a, Laying>
-    ensures laid { IfOk result (λ found.
-        LaysOut (F.holds subject.now.files.now) source.now found.text.items found.layout.items) }
-    ensures failed { IfErr result
-        (FailsBy (RefusesFile (F.holds subject.now.files.now) source.now AsksCanonical) NoOther) }
-{
-    let text = subject.bytes_in(InputKind::Source, source)?;
-    if let Ok(layout) = vsi_syntax::layout(subject.alloc, text.as_slice()) {
-        return Ok(Laying { text, layout });
-    }
-    let classes = two_classes(subject.alloc)?;
-    let _canonical = answered(vsi_answers::format(subject.alloc, &classes, text.as_slice()))?;
-    Err(Failure::Memory)
 }
 
 /// Writes the flows between the declared variables of the source text, each with a walk if
@@ -276,60 +179,21 @@ pub fn put_flows<'a, F: Files, W: Write>(
     ensures failed { IfErr result (FailsBy (RefusesFiles (F.holds subject.now.files.now)
         compilation.entry (AsksFlows has_walks compilation.entry.is_strict)) NoOther) }
 {
-    if has_walks {
-        let (classes, text) = policy_and_text(subject, compilation)?;
-        let profile = profile(compilation.is_strict);
-        return write_text(subject.alloc, profile, &classes, text.as_slice(), output);
+    let (classes, text) = policy_and_text(subject, compilation)?;
+    let alloc = subject.alloc;
+    let text = text.as_slice();
+    let profile = profile(compilation.is_strict);
+    if !has_walks {
+        let lines = answered(vsi_answers::flows(alloc, profile, &classes, text))?;
+        return write(lines.as_slice(), output);
     }
-    let lines = flows(subject, compilation)?;
-    write(lines.as_slice(), output)
-}
-
-/// Writes where a text differs from its layout, and then fails if it does.
-fn compare_layout<'a, W: Write>(
-    alloc: Global,
-    found: &Laying,
-    output: &mut Counted<W>,
-) -> Fallible<'a, ()>
-    requires { faults_of output.old < u64.MAX }
-    ensures fault { TellsFault (faults_of output.old) (faults_of output.new) result }
-    ensures left { IfErr result
-        (Leaves (TellsChanges found.now.text.items found.now.layout.items) 4
-        (W.contents (device_of output.old)) (W.contents (device_of output.new))) }
-    ensures same { OnOk result ((found.now.layout.items ≡ found.now.text.items)
-        × Keeps (W.contents (device_of output.old)) (W.contents (device_of output.new))) }
-    ensures failed { IfErr result (λ failure.
-        ToldChanges (TellsChanges found.now.text.items found.now.layout.items)
-        (W.contents (device_of output.old)) (W.contents (device_of output.new)) failure
-        ⊎ (3 < status_of failure)) }
-{
-    if found.text == found.layout {
-        return Ok(());
-    }
-    let Ok(places) = places_text(alloc, &found.text, &found.layout) else {
-        return Err(Failure::Memory);
+    let source = match read_source(alloc, &classes, text) {
+        Ok(source) => source,
+        Err(error) => return Err(refused(alloc, &classes, text, error)),
     };
-    write_answer(&places, false, output)
-}
-
-/// Puts the layout of a text into its file, unless the text is its own layout.
-fn put_back<'a, F: Files>(
-    alloc: Global,
-    found: &Laying,
-    path: &'a str,
-    files: &mut F,
-) -> Fallible<'a, ()>
-    ensures failure { IfErr result (λ failure. 3 < status_of failure) }
-    ensures put { OnOk result (PutsBack path.now found.now.text.items found.now.layout.items
-        (F.holds files.old) (F.holds files.new)) }
-    ensures touched { Touches (Some path.entry) (F.holds files.old) (F.holds files.new) }
-    ensures stays { IfErr result
-        (λ _. StaysAt (Some path.entry) (F.holds files.old) (F.holds files.new)) }
-{
-    if found.text == found.layout {
-        return Ok(());
-    }
-    replace(alloc, &found.layout, path, files)
+    let table = walk_table(alloc, profile, &source)?;
+    let walks = table_walks(alloc, &table)?;
+    write_walks(alloc, &walks, output)
 }
 
 /// Lays out a source text: prints the layout, puts it into the file, or prints where the text
@@ -365,14 +229,28 @@ pub fn lay_out<'a, F: Files, W: Write>(
         cache,
         files,
     };
-    let found = laid(&subject, asked.source)?;
+    let text = subject.bytes_in(InputKind::Source, asked.source)?;
+    let Ok(layout) = vsi_syntax::layout(cache.alloc, text.as_slice()) else {
+        let classes = two_classes(cache.alloc)?;
+        let _canonical = answered(vsi_answers::format(cache.alloc, &classes, text.as_slice()))?;
+        return Err(Failure::Memory);
+    };
     if asked.is_checked {
-        compare_layout(cache.alloc, &found, output)
-    } else if asked.is_written {
-        put_back(cache.alloc, &found, asked.source, files)
-    } else {
-        write(&found.layout, output)
+        if text == layout {
+            return Ok(());
+        }
+        let Ok(places) = places_text(cache.alloc, &text, &layout) else {
+            return Err(Failure::Memory);
+        };
+        return write_answer(&places, false, output);
     }
+    if !asked.is_written {
+        return write(&layout, output);
+    }
+    if text == layout {
+        return Ok(());
+    }
+    replace(cache.alloc, &layout, asked.source, files)
 }
 
 /// The size of the lines that are collected before they are written, in bytes.
@@ -380,33 +258,6 @@ const ENOUGH: usize = 65_536;
 
 /// The size of the longest text, in bytes.
 const MOST: usize = 4_611_686_018_427_387_904;
-
-/// Writes the table of a text with a walk below each pair.
-fn write_text<'a, W: Write>(
-    alloc: Global,
-    profile: Profile,
-    classes: &Lattice,
-    text: &[u8],
-    output: &mut Counted<W>,
-) -> Fallible<'a, ()>
-    requires { faults_of output.old < u64.MAX }
-    ensures fault { TellsFault (faults_of output.old) (faults_of output.new) result }
-    ensures left { IfErr result (Leaves (IsWalksText classes.now profile text.now) 4
-        (W.contents (device_of output.old)) (W.contents (device_of output.new))) }
-    ensures written { OnOk result ((bytes : List ℕ) × IsWalksText classes.now profile text.now bytes
-        × (length bytes < 2 ^ 63)
-        × Appends (W.contents (device_of output.old)) (W.contents (device_of output.new)) bytes) }
-    ensures failed { IfErr result
-        (FailsBy (λ reason. WalksTo classes.now profile text.now (Err reason)) NoOther) }
-{
-    let source = match read_source(alloc, classes, text) {
-        Ok(source) => source,
-        Err(error) => return Err(refused(alloc, classes, text, error)),
-    };
-    let table = walk_table(alloc, profile, &source)?;
-    let walks = table_walks(alloc, &table)?;
-    write_walks(alloc, &walks, output)
-}
 
 /// Writes the lines of all pairs, a part of them at a time.
 fn write_walks<'a, W: Write>(

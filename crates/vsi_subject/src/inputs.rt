@@ -33,16 +33,6 @@ pub enum InputKind {
     Names,
 }
 
-impl InputKind {
-    /// Whether only a whole file of this kind is useful.
-    pub(crate) fn must_be_whole(self) -> bool {
-        matches!(
-            self,
-            InputKind::Lattice | InputKind::Store | InputKind::Interface
-        )
-    }
-}
-
 /// A file that was read.
 #[derive(Drop)]
 pub struct Kept {
@@ -63,25 +53,6 @@ pub struct Inputs {
 }
 
 impl Inputs {
-    /// Keeps the bytes of a file.
-    fn keep(&mut self, kind: InputKind, path: &str, bytes: &[u8]) -> Result<(), AllocError> {
-        let kept = Kept {
-            kind,
-            path: Vec::from_slice(self.alloc, path.as_bytes())?,
-            bytes: Vec::from_slice(self.alloc, bytes)?,
-        };
-        self.kept.push(kept)?;
-        Ok(())
-    }
-
-    /// Keeps the explanation of a source text that is refused for a flow under a profile.
-    fn explain_flow(&mut self, mode: ColourMode, profile: Profile, source: &Source<'_>) {
-        if let Some(kept) = self.last(InputKind::Source) {
-            let lines = flows_explanation(self.alloc, mode, profile, &kept.path, source);
-            self.flow_lines = Some(lines);
-        }
-    }
-
     /// The explanation of a refused flow, if one was kept.
     pub fn flow_lines(&self) -> Option<Result<Vec<u8>, AllocError>> {
         match &self.flow_lines {
@@ -154,10 +125,16 @@ impl InputCache {
         if !self.keeps_files {
             return Ok(());
         }
-        match self.inputs.try_borrow_mut() {
-            Ok(mut inputs) => inputs.keep(kind, path, bytes),
-            Err(_) => Err(AllocError),
-        }
+        let Ok(mut inputs) = self.inputs.try_borrow_mut() else {
+            return Err(AllocError);
+        };
+        let kept = Kept {
+            kind,
+            path: Vec::from_slice(self.alloc, path.as_bytes())?,
+            bytes: Vec::from_slice(self.alloc, bytes)?,
+        };
+        inputs.kept.push(kept)?;
+        Ok(())
     }
 
     /// Notes that the checksum of a store file isn't that of the rest.
@@ -171,7 +148,10 @@ impl InputCache {
     /// refusals are explained.
     fn explain_flow(&self, profile: Profile, source: &Source<'_>) {
         if let (Some(mode), Ok(mut inputs)) = (self.mode, self.inputs.try_borrow_mut()) {
-            inputs.explain_flow(mode, profile, source);
+            if let Some(kept) = inputs.last(InputKind::Source) {
+                let lines = flows_explanation(self.alloc, mode, profile, &kept.path, source);
+                inputs.flow_lines = Some(lines);
+            }
         }
     }
 

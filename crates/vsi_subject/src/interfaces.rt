@@ -11,8 +11,8 @@ use crate::inputs::InputKind;
 use crate::subject::{Subject, declared_lattice};
 use std::alloc::Global;
 use vsi_conform::{
-    Cycle, Interface, InterfaceError, InterfaceFile, Policy, interface_text, is_within,
-    path_beside, read_interface, unknown_class, unknown_cycle,
+    Interface, InterfaceError, InterfaceFile, Policy, interface_text, is_within, path_beside,
+    read_interface, unknown_class, unknown_cycle,
 };
 use vsi_lattice::Lattice;
 
@@ -96,63 +96,14 @@ impl<F: Files> Subject<'_, F> {
     }
 }
 
-/// The interface with these bytes.
-fn interface_of<'a>(alloc: Global, bytes: &[u8]) -> Fallible<'a, InterfaceFile>
-    ensures read { IfOk result (IsReadAs bytes.now) }
-    ensures inside { IfOk result (λ asked. IsInside asked.policy) }
-    ensures failed { IfErr result (FailsBy (λ reason. ⊥) IsUnusable) }
-{
-    match read_interface(alloc, bytes) {
-        Ok(asked) => Ok(asked),
-        Err(error) => Err(unusable(alloc, error)),
-    }
-}
-
-/// Judges the classes of the boundaries of an interface.
-fn know_cycles<'a>(alloc: Global, lattice: &Lattice, cycles: &[Cycle]) -> Fallible<'a, ()>
-    ensures { IfErr result (FailsBy (λ reason. ⊥) IsUnusable) }
-{
-    let Some(place) = unknown_cycle(lattice, cycles) else {
-        return Ok(());
-    };
-    let mut name = Vec::new(alloc);
-    if let Some(cycle) = cycles.get(place) {
-        name.extend_from_slice(&cycle.class)?;
-    }
-    let number = place.saturating_add(1);
-    Err(unusable(alloc, InterfaceError::UnknownInCycle(number, name)))
-}
-
-/// Judges the classes of an interface's globals.
-fn know_classes<'a>(alloc: Global, lattice: &Lattice, interface: &Interface) -> Fallible<'a, ()>
-    ensures { IfErr result (FailsBy (λ reason. ⊥) IsUnusable) }
-{
-    let Some(number) = unknown_class(lattice, interface) else {
-        return Ok(());
-    };
-    let mut name = Vec::new(alloc);
-    if let Some(entry) = interface.globals.get(number) {
-        name.extend_from_slice(&entry.0)?;
-    }
-    Err(unusable(alloc, InterfaceError::UnknownClass(name)))
-}
-
 /// Judges the budgets of an interface's runs, if one is given for them.
 fn know_budgets<'a>(alloc: Global, interface: &Interface, budget: Option<u64>) -> Fallible<'a, ()>
     ensures within { OnOk result (IfSome budget (λ most. total_of interface.now ≤ most)) }
     ensures failed { IfErr result (FailsBy (λ reason. ⊥) IsUnusable) }
 {
-    match budget {
-        Some(most) => know_total(alloc, interface, most),
-        None => Ok(()),
-    }
-}
-
-/// Judges the budgets of an interface's runs, which take together at most this one.
-fn know_total<'a>(alloc: Global, interface: &Interface, most: u64) -> Fallible<'a, ()>
-    ensures within { OnOk result (total_of interface.now ≤ most) }
-    ensures failed { IfErr result (FailsBy (λ reason. ⊥) IsUnusable) }
-{
+    let Some(most) = budget else {
+        return Ok(());
+    };
     if is_within(interface, most) {
         return Ok(());
     }
@@ -184,13 +135,30 @@ impl<F: Files> Subject<'_, F> {
         ensures failed { IfErr result
             (FailsBy (RefusesAsked (F.holds self.now.files.now) path.now) IsUnusable) }
     {
+        let alloc = self.alloc;
         let bytes = self.bytes_in(InputKind::Interface, path)?;
-        let found = interface_of(self.alloc, &bytes)?;
+        let found = match read_interface(alloc, &bytes) {
+            Ok(found) => found,
+            Err(error) => return Err(unusable(alloc, error)),
+        };
         let policy = self.policy_bytes(path, &found.policy)?;
-        let lattice = declared_lattice(self.alloc, &policy)?;
-        know_classes(self.alloc, &lattice, &found.interface)?;
-        know_budgets(self.alloc, &found.interface, budget)?;
-        know_cycles(self.alloc, &lattice, &found.cycles)?;
+        let lattice = declared_lattice(alloc, &policy)?;
+        if let Some(number) = unknown_class(&lattice, &found.interface) {
+            let mut name = Vec::new(alloc);
+            if let Some(entry) = found.interface.globals.get(number) {
+                name.extend_from_slice(&entry.0)?;
+            }
+            return Err(unusable(alloc, InterfaceError::UnknownClass(name)));
+        }
+        know_budgets(alloc, &found.interface, budget)?;
+        if let Some(place) = unknown_cycle(&lattice, &found.cycles) {
+            let mut name = Vec::new(alloc);
+            if let Some(cycle) = found.cycles.get(place) {
+                name.extend_from_slice(&cycle.class)?;
+            }
+            let number = place.saturating_add(1);
+            return Err(unusable(alloc, InterfaceError::UnknownInCycle(number, name)));
+        }
         Ok(AskedFiles {
             bytes,
             found,

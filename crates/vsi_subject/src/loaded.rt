@@ -11,7 +11,7 @@ use std::io;
 use std::io::{AsBytes, Cursor, Read};
 use std::rc::RcSlice;
 use vsi_arguments::{
-    ArgumentsError, Document, DrivePolicy, Driving, Manner, Request, manner_of, request_of,
+    ArgumentsError, Document, DrivePolicy, Manner, Request, manner_of, request_of,
 };
 
 /// The message of `trouble` about a file that this request would write over.
@@ -86,14 +86,6 @@ fn found<'a>(texts: &'a [Text], path: &[u8]) -> Option<&'a Text>
     None
 }
 
-/// Whether this is the path.
-fn is_path(lost: &Option<Vec<u8>>, path: &[u8]) -> bool {
-    match lost {
-        Some(lost) => lost.as_slice() == path,
-        None => false,
-    }
-}
-
 impl<F> Loaded<F> {
     /// Whether the file at the path was read, so that nothing is written over it.
     fn spares(&mut self, path: &str) -> bool
@@ -107,16 +99,23 @@ impl<F> Loaded<F> {
 }
 
 impl<F: Files> Loaded<F> {
-    /// Reads the file at the path, and returns whether that was possible.
-    fn take(&mut self, path: &str) -> Result<bool, AllocError>
+    /// Reads the file at the path, unless it is one that the request replaces. It returns whether
+    /// nothing is lost.
+    fn take(&mut self, request: &Request<'_>, path: &str) -> Result<bool, AllocError>
         ensures kept { F.holds self.new.system ≡ F.holds self.old.system }
         ensures told { AreRead (F.holds self.old.system) self.old.texts.items
             → AreRead (F.holds self.old.system) self.new.texts.items }
     {
+        if is_state(request, path) {
+            return Ok(true);
+        }
         let bytes = match whole_in(self.alloc, path, &self.system) {
             Ok(bytes) => bytes,
             Err(Failure::Memory) => return Err(AllocError),
-            Err(_) => return Ok(false),
+            Err(_) => {
+                self.lost = Some(Vec::from_slice(self.alloc, path.as_bytes())?);
+                return Ok(false);
+            }
         };
         let path = Vec::from_slice(self.alloc, path.as_bytes())?;
         let shared = RcSlice::from_vec(bytes)?;
@@ -126,30 +125,16 @@ impl<F: Files> Loaded<F> {
         })?;
         Ok(true)
     }
-
-    /// Reads the file at the path, unless it is one that the request replaces. It returns whether
-    /// nothing is lost.
-    fn take_unless_state(&mut self, request: &Request<'_>, path: &str) -> Result<bool, AllocError>
-        ensures kept { F.holds self.new.system ≡ F.holds self.old.system }
-        ensures told { AreRead (F.holds self.old.system) self.old.texts.items
-            → AreRead (F.holds self.old.system) self.new.texts.items }
-    {
-        if is_state(request, path) {
-            return Ok(true);
-        }
-        if self.take(path)? {
-            return Ok(true);
-        }
-        self.lost = Some(Vec::from_slice(self.alloc, path.as_bytes())?);
-        Ok(false)
-    }
 }
 
 /// Lets the files take note of what a drive keeps.
 fn claim_kept<F: Files>(request: &Request<'_>, system: &mut F)
     ensures { F.holds system.new ≡ F.holds system.old }
 {
-    if let Some(path) = kept_path(request) {
+    let Request::Drive(asked) = request else {
+        return;
+    };
+    if let Some(path) = asked.save {
         system.claim(path);
     }
 }
@@ -159,7 +144,25 @@ fn prepare<F: Files>(request: &Request<'_>, manner: Manner, system: &mut F)
     ensures { F.holds system.new ≡ F.holds system.old }
 {
     claim_kept(request, system);
-    system.expect(writing_of(request, manner));
+    let (kind, replaced) = match request {
+        Request::Run { execution, .. } | Request::View { execution, .. } => {
+            (OutputKind::Store, execution.store)
+        }
+        Request::ViewWithin(asked) => (OutputKind::Store, asked.execution.store),
+        // Any store at the path of the one that is read, and else the state alone.
+        Request::Drive(asked) if asked.execution.store == asked.save => {
+            (OutputKind::Store, asked.execution.store)
+        }
+        Request::Drive(asked) => (OutputKind::State, asked.execution.store),
+        Request::Layout(asked) => (OutputKind::Source, Some(asked.source)),
+        _ => (OutputKind::Image, None),
+    };
+    system.expect(Writing {
+        kind,
+        replaced,
+        reads_input: matches!(request, Request::Drive(_)),
+        is_forced: manner.is_forced,
+    });
 }
 
 /// Reads each file that the arguments name and the request reads, in the order in which it does,
@@ -195,7 +198,7 @@ pub fn load<F: Files + Drop>(
         let Some(path) = *path else {
             continue;
         };
-        if !loaded.take_unless_state(&request, path)? {
+        if !loaded.take(&request, path)? {
             return Ok(loaded);
         }
     }
@@ -208,8 +211,10 @@ impl<F: Files> Files for Loaded<F> {
     ghost holds = { λ loaded. held loaded.texts.items };
 
     fn open_file(&self, path: &str) -> Option<Opened<F::Input>> {
-        if is_path(&self.lost, path.as_bytes()) {
-            return None;
+        if let Some(lost) = &self.lost {
+            if lost.as_slice() == path.as_bytes() {
+                return None;
+            }
         }
         match found(self.texts.as_slice(), path.as_bytes()) {
             Some(text) => {
@@ -379,42 +384,6 @@ fn is_state(request: &Request<'_>, path: &str) -> bool {
         Request::Drive(asked) => asked.execution.store == Some(path) && asked.save == Some(path),
         Request::Layout(asked) => asked.is_written && asked.source == path,
         _ => false,
-    }
-}
-
-/// The path of the file whose store a drive keeps.
-fn kept_path<'a>(request: &Request<'a>) -> Option<&'a str> {
-    match request {
-        Request::Drive(asked) => asked.save,
-        _ => None,
-    }
-}
-
-/// The kind of the file that a drive writes: any store at the path of the one that it reads.
-fn kind_of_save(asked: &Driving<'_>) -> OutputKind {
-    if asked.execution.store == asked.save {
-        OutputKind::Store
-    } else {
-        OutputKind::State
-    }
-}
-
-/// The output of a request, and the files that it may replace.
-fn writing_of<'a>(request: &Request<'a>, manner: Manner) -> Writing<'a> {
-    let (kind, replaced) = match request {
-        Request::Run { execution, .. } | Request::View { execution, .. } => {
-            (OutputKind::Store, execution.store)
-        }
-        Request::ViewWithin(asked) => (OutputKind::Store, asked.execution.store),
-        Request::Drive(asked) => (kind_of_save(asked), asked.execution.store),
-        Request::Layout(asked) => (OutputKind::Source, Some(asked.source)),
-        _ => (OutputKind::Image, None),
-    };
-    Writing {
-        kind,
-        replaced,
-        reads_input: matches!(request, Request::Drive(_)),
-        is_forced: manner.is_forced,
     }
 }
 

@@ -178,7 +178,11 @@ impl<F: Files> Subject<'_, F> {
     {
         let bytes = whole_in(self.alloc, path, self.files)?;
         self.cache.keep(kind, path, bytes.as_slice())?;
-        if kind.must_be_whole() && bytes.len() >= READ_LIMIT {
+        let must_end = matches!(
+            kind,
+            InputKind::Lattice | InputKind::Store | InputKind::Interface
+        );
+        if must_end && bytes.len() >= READ_LIMIT {
             return Err(Failure::FileFault(path));
         }
         Ok(bytes)

@@ -1,4 +1,4 @@
-use Rattle.std.proofs.Common.{ℕ, List, Result, Ok, Err, refl}
+use Rattle.std.proofs.Common.{ℕ, List, Result, Ok, Err, Some, refl, subst}
 use Rattle.std.specs.Borrow.{Bor}
 use Rattle.std.specs.Global.{Vec}
 use Rattle.std.specs.Prelude.{IfOk, None}
@@ -6,6 +6,9 @@ use Rattle.vsi_answers.specs.Judged.{AreImage}
 use Rattle.vsi_image.specs.declared.instr.Image.{Image}
 use Rattle.vsi_subject.specs.Holding.{Holding, IsReadAt}
 use Rattle.vsi_subject.specs.Performed.{IsEmittedAs}
+use Rattle.vsi_subject.specs.Refusals.{NoOther, FailsBy}
+use Rattle.vsi_subject.specs.Reasons.{WhyEmit}
+use Rattle.vsi_subject.proofs.Reasons.{handed}
 use Rattle.vsi_requests.proofs.c_code.emitted_image.Goals as goal
 
 -- The bytes of an image file are those of its image.
@@ -16,15 +19,25 @@ filed holds file (Ok pair) read are =
     record { held = record { bytes = pair.0.items; read = read; are = are }; same = refl }
 filed holds file (Err e) read are = tt
 
-pub returns-in-Some-clause-told : goal.returns-in-Some-clause-told
-returns-in-Some-clause-told g c = rw c.in-Some.is c.built_image.ensures.told
+pub returns-in_default-clause-told : goal.returns-in_default-clause-told
+returns-in_default-clause-told g c = rw c.in_default.is
+    (filed _ c.args.source c.verified_in.result c.verified_in.ensures.read c.verified_in.ensures.are)
 
-pub returns-in-Some-clause-failed : goal.returns-in-Some-clause-failed
-returns-in-Some-clause-failed g c = rw c.in-Some.is c.built_image.ensures.failed
+pub returns-in_default-clause-failed : goal.returns-in_default-clause-failed
+returns-in_default-clause-failed g c = rw c.in_default.is c.verified_in.ensures.failed
 
-pub returns-in-None-clause-told : goal.returns-in-None-clause-told
-returns-in-None-clause-told g c = rw c.in-None.is
-    (filed _ c.args.file c.verified_in.result c.verified_in.ensures.read c.verified_in.ensures.are)
+pub returns-in_err-bytes-clause-failed : goal.returns-in_err-bytes-clause-failed
+returns-in_err-bytes-clause-failed g c = rw c.in-Some.is
+    (handed (FailsBy (WhyEmit (g.F.Files.holds c.args.subject.now.files.now) (Some c.in-Some.lattice) c.args.source)
+    NoOther) c.in_err-bytes.field-0.0 c.from_residual.result c.from_residual.ensures.1 c.in_err-bytes.ensures.failed)
 
-pub returns-in-None-clause-failed : goal.returns-in-None-clause-failed
-returns-in-None-clause-failed g c = rw c.in-None.is c.verified_in.ensures.failed
+pub returns-in-Ok-clause-told : goal.returns-in-Ok-clause-told
+returns-in-Ok-clause-told g c = rw c.in-Some.is
+    (record {
+      held = record {
+        bytes = c.in_ok-bytes.bytes;
+        built = c.in_ok-bytes.ensures.told;
+        are = subst (λ b. AreImage b c.in-Ok.verified) c.as_slice.ensures.value c.in-Ok.ensures.image;
+      };
+      same = refl;
+    })

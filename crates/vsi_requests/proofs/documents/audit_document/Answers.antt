@@ -14,8 +14,8 @@ returns-then-is_sarif-clause-told g c = rw c.if-is_sarif.true (record {
   held = c.in_ok-verified.ensures.read;
   is = subst
       (λ j. sarif.TellsJudged c.in_ok-classes.classes j c.args.asked.image.now c.in_ok-verified.verified
-      c.in_ok-document.document.is_good c.in_ok-document.document.text.items)
-      c.judgement-judged.ensures c.in_ok-document.ensures.answer;
+      c.in_ok-audit_sarif.field-0.is_good c.in_ok-audit_sarif.field-0.text.items)
+      c.judgement-judged.ensures c.in_ok-audit_sarif.ensures.answer;
 })
 
 pub returns-clause-told : goal.returns-clause-told
@@ -25,9 +25,9 @@ returns-clause-told g c = rw c.if-is_sarif.false (record {
   image = c.in_ok-verified.verified;
   held = c.in_ok-verified.ensures.read;
   is = subst
-      (λ j. TellsJudged c.in_ok-classes.classes j c.in_ok-verified.verified c.in_ok-told.told.is_good
-      c.in_ok-told.told.text.items)
-      c.judgement-judged.ensures c.in_ok-told.ensures.answer;
+      (λ j. TellsJudged c.in_ok-classes.classes j c.in_ok-verified.verified c.in_ok-audit_json.field-0.is_good
+      c.in_ok-audit_json.field-0.text.items)
+      c.judgement-judged.ensures c.in_ok-audit_json.ensures.answer;
 })
 
 pub returns-in_err-classes-clause-failed : goal.returns-in_err-classes-clause-failed

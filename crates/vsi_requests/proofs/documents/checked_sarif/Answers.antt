@@ -10,6 +10,6 @@ returns-clause-told g c = record {
   is = sarif_so c.in_ok-classes.classes c.judgement-judged.result
       (judgement_of c.args.asked.is_steady c.args.asked.compilation.is_strict)
       c.args.asked.compilation.source.now c.as_slice.result.now c.in_ok-classes.text.items
-      c.in_ok-told.told.is_good c.in_ok-told.told.text.items c.judgement-judged.ensures c.as_slice.ensures.value
-      c.in_ok-told.ensures.answer;
+      c.in_ok-check_sarif.field-0.is_good c.in_ok-check_sarif.field-0.text.items c.judgement-judged.ensures c.as_slice.ensures.value
+      c.in_ok-check_sarif.ensures.answer;
 }

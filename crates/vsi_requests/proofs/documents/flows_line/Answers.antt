@@ -8,6 +8,6 @@ returns-clause-told g c = record {
   source = c.in_ok-classes.text.items;
   files = c.in_ok-classes.ensures.told;
   is = flows_so c.in_ok-classes.classes c.profile-profile.result (profile_of c.args.compilation.is_strict)
-      c.as_slice.result.now c.in_ok-classes.text.items c.in_ok-told.told.is_good c.in_ok-told.told.text.items
-      c.profile-profile.ensures c.as_slice.ensures.value c.in_ok-told.ensures.answer;
+      c.as_slice.result.now c.in_ok-classes.text.items c.in_ok-flows_json.field-0.is_good c.in_ok-flows_json.field-0.text.items
+      c.profile-profile.ensures c.as_slice.ensures.value c.in_ok-flows_json.ensures.answer;
 }

@@ -9,32 +9,31 @@ use Rattle.vsi_requests.proofs.documents.leak_line.Goals as goal
 
 pub returns-in-Ok-clause-told : goal.returns-in-Ok-clause-told
 returns-in-Ok-clause-told g c =
-    let sought = c.in_ok-sought.sought in
-    let read = c.in_ok-sought.ensures.told in
+    let read = c.in_ok-lattice.ensures.told in
     record {
-      lattice = sought.lattice;
+      lattice = c.in_ok-lattice.lattice;
       declared = read.declared;
-      source = sought.text.items;
+      source = c.in_ok-lattice.text.items;
       read = read.read;
       viewer = read.viewer;
       looks = read.looks;
-      is = subst (λ w. TellsSearch sought.lattice sought.text.items w c.in-Ok.told.is_good c.in-Ok.told.text.items)
+      is = subst (λ w. TellsSearch c.in_ok-lattice.lattice c.in_ok-lattice.text.items w c.in-Ok.told.is_good c.in-Ok.told.text.items)
           read.is
-          (subst (λ t. TellsSearch sought.lattice t sought.wanted c.in-Ok.told.is_good c.in-Ok.told.text.items)
+          (subst (λ t. TellsSearch c.in_ok-lattice.lattice t c.in_ok-lattice.wanted c.in-Ok.told.is_good c.in-Ok.told.text.items)
           c.as_slice-text.ensures.value c.in-Ok.ensures.answer);
     }
 
-pub returns-in_err-sought-clause-failed : goal.returns-in_err-sought-clause-failed
-returns-in_err-sought-clause-failed g c =
+pub returns-in_err-lattice-clause-failed : goal.returns-in_err-lattice-clause-failed
+returns-in_err-lattice-clause-failed g c =
     let holds = g.F.Files.holds c.args.subject.now.files.now in
-    handed (FailsBy (RefusesSearch holds c.args.search) (LacksSought holds c.args.search)) c.in_err-sought.field-0.0
-    c.from_residual.result c.from_residual.ensures.1 c.in_err-sought.ensures.failed
+    handed (FailsBy (RefusesSearch holds c.args.search) (LacksSought holds c.args.search)) c.in_err-lattice.field-0.0
+    c.from_residual.result c.from_residual.ensures.1 c.in_err-lattice.ensures.failed
 
 pub returns-clause-failed : goal.returns-clause-failed
 returns-clause-failed g c =
     let holds = g.F.Files.holds c.args.subject.now.files.now in
-    let read = c.in_ok-sought.ensures.told in
-    sought_program holds c.args.search (LacksSought holds c.args.search) c.in_ok-sought.sought.lattice
-    c.in_ok-sought.sought.text.items c.as_slice-text.result.now c.as_slice-text.result.now c.in-Err.error
+    let read = c.in_ok-lattice.ensures.told in
+    sought_program holds c.args.search (LacksSought holds c.args.search) c.in_ok-lattice.lattice
+    c.in_ok-lattice.text.items c.as_slice-text.result.now c.as_slice-text.result.now c.in-Err.error
     c.refused.result read.declared read.read c.as_slice-text.ensures.value c.as_slice-text.ensures.value
     c.in-Err.ensures.refused c.in-Err.ensures.exact c.refused.ensures

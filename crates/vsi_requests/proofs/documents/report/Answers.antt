@@ -6,21 +6,23 @@ use Rattle.vsi_requests.proofs.documents.report.Goals as goal
 
 pub returns-clause-told : goal.returns-clause-told
 returns-clause-told g c =
+    let page = c.in_ok-filed_page.field-0.items in
     record {
-      lattice = c.in_ok-read.read.1;
+      lattice = c.in_ok-policy.classes;
       source = c.in_ok-text.text.items;
       files = record {
         lattice = record {
-          policy = c.in_ok-read.read.0.items;
-          read = c.in_ok-read.ensures.read;
-          declared = c.in_ok-read.ensures.declared;
+          policy = c.in_ok-policy.policy.items;
+          read = c.in_ok-policy.ensures.read;
+          declared = c.in_ok-policy.ensures.declared;
         };
         read = c.in_ok-text.ensures.read;
       };
       is = record {
-        panel = subst (HasPanel c.in_ok-page_of.field-0.items) c.as_slice.ensures.value
-            c.in_ok-page_of.ensures.panel;
-        verdict = subst (λ text. HasVerdict c.in_ok-read.read.1 (profile_of c.args.compilation.is_strict) text
-            c.in_ok-page_of.field-0.items) c.as_slice.ensures.value c.in_ok-page_of.ensures.verdict;
+        panel = subst (HasPanel page) c.as_slice.ensures.value c.in_ok-filed_page.ensures.panel;
+        verdict = subst (λ text. HasVerdict c.in_ok-policy.classes (profile_of c.args.compilation.is_strict) text page)
+            c.as_slice.ensures.value
+            (subst (λ P. HasVerdict c.in_ok-policy.classes P c.as_slice.result.now page) c.profile-profile.ensures
+            c.in_ok-filed_page.ensures.verdict);
       };
     }

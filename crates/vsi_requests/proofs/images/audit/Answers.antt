@@ -23,7 +23,7 @@ returns-clause-told g c =
         };
         passes = c.in_ok-judge.ensures.told;
       };
-      is = rw (c.deref.ensures.value, c.deref-2.ensures.value) at c.in_ok-text.ensures;
+      is = rw (c.deref.ensures.value, c.deref-2.ensures.value) at c.in_ok-accepted_text.ensures;
     }
 
 pub returns-in_err-policy-clause-failed : goal.returns-in_err-policy-clause-failed

@@ -1,8 +1,8 @@
-use Rattle.std.specs.Prelude.{IsSomeAnd}
+use Rattle.std.proofs.Common.{◌⊎◌, inl, inr}
 use Rattle.vsi_subject.specs.Refusals.{NoOther, RefusesLattice}
 use Rattle.vsi_subject.specs.Reasons.{WhyPolicy}
 use Rattle.vsi_subject.proofs.Reasons.{failed_by}
-use Rattle.vsi_requests.proofs.Looked.{policy_lattice, policy_old}
+use Rattle.vsi_requests.proofs.Looked.{policy_lattice}
 use Rattle.vsi_requests.proofs.policies.policy.Goals as goal
 
 pub returns-clause-told : goal.returns-clause-told
@@ -10,7 +10,14 @@ returns-clause-told g c =
     record {
       lattice = c.in_ok-classes.classes;
       declared = c.in_ok-classes.ensures.read;
-      told = c.in_ok-text.ensures.told;
+      told = elim c.match-looking.branch [
+        | inl w ↦ rw (w.in-Some.is, w.text-is) (
+          w.in_ok-before-in-Some.before,
+          w.in_ok-before-in-Some.ensures.read,
+          w.in_ok-text-in-Some.ensures.changes,
+        )
+        | inr w ↦ rw (w.in-None.is, w.text-is) w.in_ok-text-in-None.ensures.table
+      ];
     }
 
 pub returns-in_err-classes-clause-failed : goal.returns-in_err-classes-clause-failed
@@ -21,14 +28,11 @@ returns-in_err-classes-clause-failed g c =
     (policy_lattice holds c.args.looking.lattice.now c.args.looking.old) c.from_residual.result
     c.in_err-classes.field-0.0 c.from_residual.ensures.1 c.in_err-classes.ensures.failed
 
-pub returns-in_err-text-clause-failed : goal.returns-in_err-text-clause-failed
-returns-in_err-text-clause-failed g c =
-    let holds = g.F.Files.holds c.args.subject.now.files.now in
-    failed_by
-    (λ reason. IsSomeAnd c.args.looking.old
-    (λ path. RefusesLattice (g.F.Files.holds c.args.subject.now.files.now) path.now reason))
-    (WhyPolicy holds c.args.looking.lattice.now c.args.looking.old) NoOther
-    (λ reason why. policy_old holds c.args.looking.lattice.now c.args.looking.old reason
-    why)
-    c.from_residual-in_err-text.result c.in_err-text.field-0.0 c.from_residual-in_err-text.ensures.1
-    c.in_err-text.ensures.failed
+pub returns-in_err-before-in-Some-clause-failed : goal.returns-in_err-before-in-Some-clause-failed
+returns-in_err-before-in-Some-clause-failed g c = rw c.in-Some.is
+    (let holds = g.F.Files.holds c.args.subject.now.files.now in
+    failed_by (RefusesLattice holds c.in-Some.old.now)
+    (λ reason. RefusesLattice holds c.args.looking.lattice.now reason ⊎ RefusesLattice holds c.in-Some.old.now reason)
+    NoOther (λ reason why. inr why)
+    c.from_residual-in_err-before-in-Some.result c.in_err-before-in-Some.field-0.0
+    c.from_residual-in_err-before-in-Some.ensures.1 c.in_err-before-in-Some.ensures.failed)

@@ -12,10 +12,10 @@ returns-in_err-classes-clause-failed g c =
 pub returns-clause-told : goal.returns-clause-told
 returns-clause-told g c =
     told_by _ _ ClassesTo _ _ _ _ c.classes.result c.answered.result c.in_ok-classes.ensures.told
-    c.as_slice.ensures.value c.profile-profile.ensures c.answered.ensures c.classes.ensures.classes
+    c.as_slice-text.ensures.value c.profile-profile.ensures c.answered.ensures c.classes.ensures.classes
 
 pub returns-clause-failed : goal.returns-clause-failed
 returns-clause-failed g c =
     refuses_by _ _ (λ l P s a. ClassesTo l P s a) _ _ _ _ c.classes.result c.answered.result
     c.in_ok-classes.ensures.told
-    c.as_slice.ensures.value c.profile-profile.ensures c.answered.ensures c.classes.ensures.classes
+    c.as_slice-text.ensures.value c.profile-profile.ensures c.answered.ensures c.classes.ensures.classes
