@@ -13,5 +13,5 @@ returns-clause-told g c = λ all.
     (read_more holds c.args.self.now.texts.items
     (record { path = c.in_ok-path.path; bytes = c.in_ok-shared.shared }) all
     (subst (λ at. IsReadAt holds at (rc_slice_items c.in_ok-shared.shared))
-    (sym (c.in_ok-path.ensures.items ∙ c.as_bytes.ensures.value))
+    (sym (c.in_ok-path.ensures.items ∙ c.as_bytes-2.ensures.value))
     (subst (IsReadAt holds c.args.path.now) (sym c.in_ok-shared.ensures) c.in-Ok.ensures.read)))
