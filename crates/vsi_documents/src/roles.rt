@@ -188,7 +188,8 @@ fn put_row(text: &mut Vec<u8>, role: Role, side: &Side, class: &[u8]) -> Result<
     ensures { OnOk result
         (text.new.items ≡ text.old.items ++ rows_spec.role_row role (view side.now) class.now) }
 {
-    put_parts(text, &[class, b" ", verb(role)])?;
+    put_parts(text, &[class, b" "])?;
+    text.extend_from_slice(verb(role))?;
     for variable in side.globals {
         if may(role, side, class, variable.0.as_slice()) {
             put_parts(text, &[b" ", variable.0.as_slice()])?;
@@ -297,7 +298,9 @@ impl Change<'_> {
         for variable in self.side.globals {
             let name = variable.0.as_slice();
             if may(role, self.side, class, name) && !may(role, self.other, class, name) {
-                put_parts(text, &[class, self.adverb, verb(role), b" ", name, b"\n"])?;
+                put_parts(text, &[class, self.adverb])?;
+                text.extend_from_slice(verb(role))?;
+                put_parts(text, &[b" ", name, b"\n"])?;
             }
         }
         Ok(())
@@ -339,6 +342,17 @@ impl Change<'_> {
     }
 }
 
+/// The line that says who may drive at all, if only one interface has tables.
+fn who_drives(side: &Side, old: &Side) -> &'static [u8]
+    ensures { result.now ≡ changes_spec.who_drives (view side.now) (view old.now) }
+{
+    match (has_tables(side), has_tables(old)) {
+        (false, _) => b"every class may now drive\n",
+        (true, true) => b"",
+        (true, false) => b"only classes with a table may now drive\n",
+    }
+}
+
 /// The differences of one side from an older one.
 fn changed<'a>(alloc: Global, side: &'a Side<'a>, old: &'a Side<'a>) -> Result<Vec<u8>, AllocError>
     ensures { IfOk result (λ text. text.items ≡ changes_spec.changes (view side.now) (view
@@ -358,11 +372,7 @@ fn changed<'a>(alloc: Global, side: &'a Side<'a>, old: &'a Side<'a>) -> Result<V
     added.put_seen(&mut lines)?;
     removed.put_seen(&mut lines)?;
     if has_tables(side) || has_tables(old) {
-        lines.extend_from_slice(match (has_tables(side), has_tables(old)) {
-            (false, _) => b"every class may now drive\n",
-            (true, true) => b"",
-            (true, false) => b"only classes with a table may now drive\n",
-        })?;
+        lines.extend_from_slice(who_drives(side, old))?;
         added.put_classes(&mut lines)?;
         removed.put_classes(&mut lines)?;
     }

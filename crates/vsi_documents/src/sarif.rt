@@ -93,6 +93,23 @@ pub fn rows_sarif(alloc: Global, path: &str, rows: &[Row]) -> Result<Vec<u8>, Al
     document(alloc, rules(alloc, &KINDS)?, made)
 }
 
+/// The object of a run of the tool, with its rules.
+fn run(alloc: Global, rules: Objects, results: Objects) -> Result<Object, AllocError>
+    ensures { IfOk result
+        (λ made. members_view made
+        ≡ document_spec.run_members (map view rules) (map view results)) }
+{
+    let driver = Object::new(alloc)
+        .text("name", b"vsi")?
+        .array("rules", rules)?
+        .text("version", b"0.1.0")?;
+    let tool = Object::new(alloc).object("driver", driver)?;
+    Object::new(alloc)
+        .text("columnKind", b"unicodeCodePoints")?
+        .array("results", results)?
+        .object("tool", tool)
+}
+
 /// The text of the document of these rules and results, a line. An accepted text or image has no
 /// result.
 pub(crate) fn document(
@@ -103,17 +120,9 @@ pub(crate) fn document(
     ensures { IfOk result (λ line.
         line.items ≡ document_spec.document_text (map view rules) (map view results)) }
 {
-    let driver = Object::new(alloc)
-        .text("name", b"vsi")?
-        .array("rules", rules)?
-        .text("version", b"0.1.0")?;
-    let tool = Object::new(alloc).object("driver", driver)?;
-    let run = Object::new(alloc)
-        .text("columnKind", b"unicodeCodePoints")?
-        .array("results", results)?
-        .object("tool", tool)?;
+    let runs = Objects::of(alloc, run(alloc, rules, results)?)?;
     Object::new(alloc)
-        .array("runs", Objects::of(alloc, run)?)?
+        .array("runs", runs)?
         .text("$schema", b"https://json.schemastore.org/sarif-2.1.0.json")?
         .text("version", b"2.1.0")?
         .line()

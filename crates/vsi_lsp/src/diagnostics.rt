@@ -8,7 +8,7 @@ ghost use Rattle.vsi_lsp.specs.Verdict as spec;
 use crate::document::{DocumentText, Made, joined, text_value};
 use serde_json::{Value, json};
 use std::alloc::AllocError;
-use vsi_answers::{put_message, refusal_diagnostic, warnings_of};
+use vsi_answers::{Warning, put_message, refusal_diagnostic, warnings_of};
 use vsi_compiler::{CompileError, Source, judge, read_source};
 use vsi_flows::{ends_text, further_flows, step_text};
 use vsi_lattice::Lattice;
@@ -135,12 +135,19 @@ pub(crate) fn error_list(
     ensures alone { IfOk result (λ errors. length errors.items ≡ 1) }
     ensures severe { IfOk result (λ errors. All IsError errors.items) }
 {
+    let error = error_object(document, span, code, message)?;
+    Ok(vec![in document.alloc; error]?)
+}
+
+/// The object of an error at a part of a document.
+fn error_object(document: DocumentText<'_>, span: Span, code: usize, message: &[u8]) -> Made<Value>
+    ensures { IfOk result IsError }
+{
     let range = document.range(span)?;
     let message = text_value(document.alloc, message)?;
-    let error = json!(in document.alloc; {
+    json!(in document.alloc; {
         "range": range, "severity": 1, "code": code, "source": "vsi", "message": message
-    })?;
-    Ok(vec![in document.alloc; error]?)
+    })
 }
 
 /// The number of a refusal, and its line without its position.
@@ -184,6 +191,17 @@ fn refused_span(text: &[u8], error: &CompileError) -> Span {
 /// The most warnings that are published for a text.
 const MAX_WARNINGS: usize = 100;
 
+/// The object of a warning: its part and its message.
+fn warning_object(document: DocumentText<'_>, warning: Warning) -> Made<Value>
+    ensures { IfOk result IsWarning }
+{
+    let mut message = Vec::new(document.alloc);
+    put_message(&mut message, document.text, warning)?;
+    let message = text_value(document.alloc, &message)?;
+    let range = document.range(warning.span)?;
+    json!(in document.alloc; {"range": range, "severity": 2, "source": "vsi", "message": message})
+}
+
 /// The warnings about a source text, up to the first 100.
 fn source_warnings(document: DocumentText<'_>, source: &Source<'_>) -> Made<Vec<Value>>
     ensures { IfOk result (λ objects. All IsWarning objects.items) }
@@ -191,14 +209,7 @@ fn source_warnings(document: DocumentText<'_>, source: &Source<'_>) -> Made<Vec<
     let alloc = document.alloc;
     let mut objects = Vec::new(alloc);
     for warning in warnings_of(alloc, source)?.iter().take(MAX_WARNINGS) {
-        let mut message = Vec::new(alloc);
-        put_message(&mut message, document.text, *warning)?;
-        let message = text_value(alloc, &message)?;
-        let range = document.range(warning.span)?;
-        let object = json!(in alloc; {
-            "range": range, "severity": 2, "source": "vsi", "message": message
-        })?;
-        objects.push(object)?;
+        objects.push(warning_object(document, *warning)?)?;
     }
     Ok(objects)
 }
@@ -213,24 +224,35 @@ struct RefusedText<'p, 's, 'a> {
 }
 
 impl RefusedText<'_, '_, '_> {
-    /// The object of a refused flow: the line of the text with the classes of the flow's ends, and
-    /// for each step of its walk where it reads, and its message.
-    fn flow(&self, span: Span, from: Var, to: Var, steps: &[Step]) -> Made<Value>
-        ensures { IfOk result IsError }
-    {
+    /// The objects of the steps of a walk: where each reads, and its message.
+    fn steps(&self, steps: &[Step]) -> Made<Value> {
         let alloc = self.document.alloc;
-        let ends = ends_text(alloc, self.source, from, to)?;
-        let message = text_value(alloc, &joined(alloc, &[&self.line, b"\n", &ends])?)?;
-        let mut related = Vec::new(alloc);
+        let mut objects = Vec::new(alloc);
         for step in steps {
             let location = self.document.location(step.read)?;
             let (line, column) = self.document.marked.line_column(step.written.start);
             let message = step_text(alloc, self.source, step, line, column)?;
             let message = text_value(alloc, &message)?;
-            related.push(json!(in alloc; {"location": location, "message": message})?)?;
+            objects.push(json!(in alloc; {"location": location, "message": message})?)?;
         }
-        let (range, related) = (self.document.range(span)?, Value::Array(related));
-        json!(in alloc; {
+        Ok(Value::Array(objects))
+    }
+
+    /// The message of a refused flow: the line of the text, and the classes of the flow's ends.
+    fn message(&self, from: Var, to: Var) -> Made<Value> {
+        let alloc = self.document.alloc;
+        let ends = ends_text(alloc, self.source, from, to)?;
+        text_value(alloc, &joined(alloc, &[&self.line, b"\n", &ends])?)
+    }
+
+    /// The object of a refused flow: its message, and the steps of its walk.
+    fn flow(&self, span: Span, from: Var, to: Var, steps: &[Step]) -> Made<Value>
+        ensures { IfOk result IsError }
+    {
+        let message = self.message(from, to)?;
+        let related = self.steps(steps)?;
+        let range = self.document.range(span)?;
+        json!(in self.document.alloc; {
             "range": range, "severity": 1, "code": self.code, "source": "vsi", "message": message,
             "relatedInformation": related
         })

@@ -1,6 +1,6 @@
 //! A document, JSON objects about its parts, and messages to the client.
 
-ghost use Rattle.std.specs.Prelude.{IfOk, IfSome};
+ghost use Rattle.std.specs.Prelude.{IfOk, IfSome, ◌≡◌, ◌++◌, OnOk};
 ghost use Rattle.vsi_syntax.specs.Layout.{IsLayout};
 ghost use Rattle.vsi_client.specs.Frames as spec;
 
@@ -204,6 +204,16 @@ impl From<AllocError> for Fault {
     }
 }
 
+/// Adds a message after its header.
+fn put_frame(out: &mut Vec<u8>, body: &[u8]) -> Made<()>
+    ensures { OnOk result (out.new.items ≡ out.old.items ++ spec.frame body.now) }
+{
+    out.extend_from_slice(b"Content-Length: ")?;
+    put_number(out, body.len())?;
+    out.extend_from_slice(b"\r\n\r\n")?;
+    out.extend_from_slice(body)
+}
+
 /// The bytes of messages, each after its header.
 pub fn framed(alloc: Global, messages: &[Value]) -> Result<Vec<u8>, AllocError>
     ensures framed { IfOk result (λ bytes. spec.AreFrames bytes.items) }
@@ -211,10 +221,7 @@ pub fn framed(alloc: Global, messages: &[Value]) -> Result<Vec<u8>, AllocError>
     let mut out = Vec::new(alloc);
     for message in messages {
         let body = message.to_vec(alloc)?;
-        out.extend_from_slice(b"Content-Length: ")?;
-        put_number(&mut out, body.len())?;
-        out.extend_from_slice(b"\r\n\r\n")?;
-        out.extend_from_slice(&body)?;
+        put_frame(&mut out, &body)?;
     }
     Ok(out)
 }

@@ -7,7 +7,7 @@ use crate::document::{
 use crate::repairs::fixes;
 use serde_json::{Value, json};
 use std::alloc::{AllocError, Global};
-use vsi_client::{Mention, Range, mentions_of, rename};
+use vsi_client::{Change, Mention, Range, mentions_of, rename};
 use vsi_compiler::{CompileError, Source, judge};
 use vsi_flows::related;
 use vsi_infer::put_variable;
@@ -230,7 +230,7 @@ impl<'a> Reading<'a> {
                 }
             }
             Err(CompileError::Memory) => return Err(AllocError),
-            Err(_) => {}
+            Err(_error) => {}
         }
         Ok(Reading {
             document,
@@ -359,17 +359,21 @@ impl<'a> Reading<'a> {
         let (alloc, encoding) = (self.document.alloc, self.document.encoding);
         let (source, mentions) = (&self.source, &self.mentions);
         match rename(alloc, encoding, source, mentions, variable, name.as_bytes())? {
-            Some(changes) => {
-                let mut list = Vec::new(alloc);
-                for change in &changes {
-                    if let Some((start, stop)) = change.range {
-                        list.push(edit(alloc, Range { start, stop }, change.text)?)?;
-                    }
-                }
-                Ok(self.document.changes(Value::Array(list))?)
-            }
+            Some(changes) => Ok(self.edits(&changes)?),
             None => Err(RENAME),
         }
+    }
+
+    /// The object of changes at positions.
+    fn edits(&self, changes: &[Change<'_>]) -> Made<Value> {
+        let alloc = self.document.alloc;
+        let mut list = Vec::new(alloc);
+        for change in changes {
+            if let Some((start, stop)) = change.range {
+                list.push(edit(alloc, Range { start, stop }, change.text)?)?;
+            }
+        }
+        self.document.changes(Value::Array(list))
     }
 }
 

@@ -147,7 +147,7 @@ impl Repairs<'_> {
             && let Some(name) = assigned(alloc, ahead)?
         {
             let stop = last.span.stop;
-            let new = joined(alloc, &[b" else ", name, b" := ", name])?;
+            let new = branch(alloc, name)?;
             if is_read(alloc, text, stop, &new, rest)? {
                 let branch = new.trim_ascii_start();
                 let span = Span {
@@ -159,6 +159,11 @@ impl Repairs<'_> {
         }
         Ok(())
     }
+}
+
+/// A branch that assigns to a variable its own value.
+fn branch(alloc: Global, name: &[u8]) -> Made<Vec<u8>> {
+    joined(alloc, &[b" else ", name, b" := ", name])
 }
 
 /// The text with the least raises, which is accepted: nothing if no raise makes the text accepted.

@@ -84,9 +84,9 @@ more_shows a b t ha hb rest =
     ap (seen Between) (append_assoc a b rest) ∙ ha (b ++ rest) ∙ ap (λ x. t ++ x) (hb rest)
 
 -- The beginning of a token, added piece by piece, shows nothing.
-pub tag_shows : (p p₁ p₂ p₃ p₄ p₅ kind class step t : List ℕ) → p₁ ≡ p ++ codes "<b class=\"" → p₂ ≡ p₁ ++ escaped kind →
-    p₃ ≡ p₂ ++ attribute (codes "\" data-class=\"") class → p₄ ≡ p₃ ++ attribute (codes "\" data-step=\"") step →
-    p₅ ≡ p₄ ++ codes "\">" → Shows p t → Shows p₅ t
+pub tag_shows : (p p₁ p₂ p₃ p₄ p₅ kind class step t : List ℕ) → p₁ ≡ p ++ codes "<b class=\"" →
+    p₂ ≡ p₁ ++ escaped kind → p₃ ≡ p₂ ++ attribute (codes "\" data-class=\"") class →
+    p₄ ≡ p₃ ++ attribute (codes "\" data-step=\"") step → p₅ ≡ p₄ ++ codes "\">" → Shows p t → Shows p₅ t
 tag_shows p p₁ p₂ p₃ p₄ p₅ kind class step t e₁ e₂ e₃ e₄ e₅ h =
     let a = codes "<b class=\"" in
     let b = escaped kind in

@@ -100,27 +100,23 @@ pub(crate) fn refused_lead(alloc: Global, lead: &Lead<'_>) -> Made<Page>
     Ok(page)
 }
 
-/// Adds the sentence about the pairs of an accepted text.
-fn put_allowed(page: &mut Page, pairs: usize) -> Added
-    ensures { OnOk result
-        (page.new.text.items ≡ page.old.text.items ++ spec.allowed_words pairs) }
-{
-    if pairs == 0 {
-        return page.put(NO_PAIR);
-    }
-    if pairs == 1 {
-        return page.put(b"<p class=\"lead\">The only flow is allowed.</p>\n");
-    }
-    let markup = b"<p class=\"lead\">All %0 flows are allowed.</p>\n";
-    page.fill(markup, &[Number(pairs)])
-}
-
 /// The first sentences about an accepted text.
 pub(crate) fn allowed_lead(alloc: Global, pairs: usize) -> Made<Page>
     ensures { IfOk result (λ page. page.text.items ≡ spec.allowed_words pairs) }
 {
     let mut page = Page::new(alloc);
-    put_allowed(&mut page, pairs)?;
+    if pairs == 0 {
+        page.put(NO_PAIR)?;
+        return Ok(page);
+    }
+    if pairs == 1 {
+        page.put(b"<p class=\"lead\">The only flow is allowed.</p>\n")?;
+        return Ok(page);
+    }
+    page.fill(
+        b"<p class=\"lead\">All %0 flows are allowed.</p>\n",
+        &[Number(pairs)],
+    )?;
     Ok(page)
 }
 

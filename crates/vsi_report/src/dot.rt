@@ -314,17 +314,6 @@ pub(crate) fn nodes_shown(profile: Profile, last: u16) -> u16
     }
 }
 
-/// Adds the lines of the points of all classes, one below and one above the variables of each.
-fn put_points(text: &mut Vec<u8>, order: &Order) -> Added
-    ensures { OnOk result (text.new.items ≡ text.old.items
-        ++ flat_map spec.points_line (count_from 0 (length (texts order.now.names.items)))) }
-{
-    for class in 0..order.names.len() {
-        fill(text, b"  \"below.%0\" -> \"above.%0\";\n", &[Number(class)])?;
-    }
-    Ok(())
-}
-
 /// Adds the lines that keep each class above those that it covers.
 fn put_above(text: &mut Vec<u8>, order: &Order) -> Added
     ensures { OnOk result (text.new.items ≡ text.old.items
@@ -348,17 +337,6 @@ fn put_between(text: &mut Vec<u8>, class: Option<Class>, number: u16) -> Added
     fill(text, BETWEEN, &parts)
 }
 
-/// Adds the lines that keep the first nodes between the points of their classes.
-fn put_kept(text: &mut Vec<u8>, drawn: &Drawn<'_>, count: u16) -> Added
-    ensures { OnOk result (text.new.items ≡ text.old.items
-        ++ spec.kept_lines (shown drawn.now) count) }
-{
-    for number in 0..count {
-        put_between(text, class_shown(drawn, variable_at(drawn, number)), number)?;
-    }
-    Ok(())
-}
-
 /// Adds the invisible lines that keep the first variables of higher classes above those of lower
 /// ones.
 pub(crate) fn put_frame(text: &mut Vec<u8>, drawn: &Drawn<'_>, count: u16) -> Added
@@ -366,9 +344,13 @@ pub(crate) fn put_frame(text: &mut Vec<u8>, drawn: &Drawn<'_>, count: u16) -> Ad
         ++ spec.frame_lines (shown drawn.now) count drawn.now.order.now.covers.items) }
 {
     text.extend_from_slice(b"  {\n  node [shape=point, style=invis];\n  edge [style=invis];\n")?;
-    put_points(text, drawn.order)?;
+    for class in 0..drawn.order.names.len() {
+        fill(text, b"  \"below.%0\" -> \"above.%0\";\n", &[Number(class)])?;
+    }
     put_above(text, drawn.order)?;
-    put_kept(text, drawn, count)?;
+    for number in 0..count {
+        put_between(text, class_shown(drawn, variable_at(drawn, number)), number)?;
+    }
     text.extend_from_slice(b"  }\n")?;
     Ok(())
 }

@@ -1,5 +1,4 @@
-//! The parts of a page, the writer that fills markup with them, and the first words and the style of
-//! a page.
+//! The parts of a page, the writer that fills markup with them, and a page's first words and style.
 
 ghost use Rattle.std.specs.Prelude.{◌≡◌, ◌++◌, ◌∷◌, ◌-◌, OnOk, IfOk, List, ℕ, [], true};
 ghost use Rattle.vsi_report.specs.{Banner.{untagged}, Escape.{escape, escaped}, Filled.{filled}, Page.{HasPanel}, Reading.{Shows}, Parts.{are_stated, is_stated, texts_of, words}};

@@ -67,9 +67,9 @@ const CLASSES: &[u8] = b"<table><thead><tr><th scope=\"col\">Class</th>\
 const LATTICE: &[u8] = b"<section%0 aria-labelledby=\"lattice\"><h2 id=\"lattice\">Lattice</h2>\n";
 /// The end of the picture, and the beginning of the table of its arrows.
 const ARROWS: &[u8] =
-    b"</ul>\n</figure>\n<details class=\"spare\"><summary>The arrows as a table</summary>\n<table><thead>\
-<tr><th scope=\"col\">From</th><th scope=\"col\">To</th><th scope=\"col\">By</th></tr></thead>\n\
-<tbody>\n";
+    b"</ul>\n</figure>\n<details class=\"spare\"><summary>The arrows as a table</summary>\n<table>\
+<thead><tr><th scope=\"col\">From</th><th scope=\"col\">To</th><th scope=\"col\">By</th></tr>\
+</thead>\n<tbody>\n";
 /// The text about the picture of a lattice.
 const POLICY: &[u8] =
     b"</svg></div>\n<figcaption>Information may flow upwards, along the lines; each line joins \

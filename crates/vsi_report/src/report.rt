@@ -314,8 +314,8 @@ fn verdict_for(error: &CompileError) -> Verdict
 /// The page of a text whose flows aren't judged. The place of its fault is a line and a column.
 fn faulty_page(blank: &View<'_>, error: &CompileError) -> Made<Vec<u8>>
     ensures panel { IfOk result (λ page. HasPanel page.items blank.now.source.now) }
-    ensures verdict { RefusesProgram (class_named blank.now.lattice.now) blank.now.source.now error.now
-        → IfOk result (λ page. HasVerdict blank.now.lattice.now blank.now.profile
+    ensures verdict { RefusesProgram (class_named blank.now.lattice.now) blank.now.source.now
+        error.now → IfOk result (λ page. HasVerdict blank.now.lattice.now blank.now.profile
         blank.now.source.now page.items) }
 {
     if let CompileError::Memory = error {

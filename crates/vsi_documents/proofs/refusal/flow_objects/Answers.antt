@@ -11,6 +11,7 @@ loop-step-preserved c =
     let step = c.step-item.result in
     let next : drop i steps ≡ step ∷ drop (i + 1) steps =
     drop_more steps i step c.loop-step-test.true ∙ ap (λ x. x ∷ drop (i + 1) steps) (sym c.step-item.is) in
-    objects_kept c.args.uri.now c.text.result.now c.resolved.result.now step (drop i steps) (drop (i + 1) steps) steps
-    (map view c.loop-step.found) (map view c.push.new.self) (members_view c.in_ok-made.made) next c.in_ok-push.ensures
+    objects_kept c.args.uri.now c.text-text.result.now c.resolved-program.result.now step (drop i steps)
+    (drop (i + 1) steps) steps (map view c.loop-step.found) (map view c.push.new.self) (members_view c.in_ok-made.made) next
+    c.in_ok-push.ensures
     c.in_ok-made.ensures c.loop-step.invariant

@@ -1,13 +1,14 @@
-use Rattle.std.proofs.Common.{rules}
+use Rattle.std.proofs.Common.{rules, subst}
 use Rattle.std.specs.Prelude.{◌≢◌}
 use Rattle.vsi_compiler.specs.declared.source.CompileError.TheVariants.{Memory}
 use Rattle.vsi_steady.specs.declared.source.UnsteadyError.TheVariants as unsteady
+use Rattle.vsi_conform.specs.Lines.{IsRefusalLines}
 use Rattle.vsi_conform.proofs.Profiles.{unread_refused}
 use Rattle.vsi_answers.specs.View.{diagnostic_of}
 use Rattle.vsi_documents.proofs.sarif.check_sarif.Goals as goal
 
-pub returns-in_ok-text-in-Ok : goal.returns-in_ok-text-in-Ok
-returns-in_ok-text-in-Ok c =
+pub returns-in-Ok-2 : goal.returns-in-Ok-2
+returns-in-Ok-2 c =
     let s = c.in-Ok.ensures in
     record {
       answer = rw (← s.lattice, ← s.text) (record {
@@ -17,19 +18,8 @@ returns-in_ok-text-in-Ok c =
       });
     }
 
-pub returns-in_ok-text-in-Err-2 : goal.returns-in_ok-text-in-Err-2
-returns-in_ok-text-in-Err-2 c =
-    let s = c.in-Ok.ensures in
-    record {
-      answer = rw (← s.lattice, ← s.text) (record {
-        error = c.in-Err.error;
-        refused = search rules;
-        writes = c.in_ok-text-in-Err-2.ensures;
-      });
-    }
-
-pub returns-in_ok-text-in-Err : goal.returns-in_ok-text-in-Err
-returns-in_ok-text-in-Err c =
+pub returns-in-Err : goal.returns-in-Err
+returns-in-Err c =
     let error = c.in-Err.error in
     let e = c.in-Err.ensures in
     let other : error ≢ Memory = search rules in
@@ -40,8 +30,11 @@ returns-in_ok-text-in-Err c =
         writes = record {
           diagnostic = diagnostic_of c.in-Some.diagnostic;
           is = search rules;
-          lines = c.in_ok-lines.lines.items;
-          printed = c.in_ok-lines.ensures.lines;
+          lines = c.in_ok-lines-in-Err.lines.items;
+          printed = subst
+              (λ b. IsRefusalLines c.args.lattice.now c.args.text.now b (unsteady.Compile error)
+              c.in_ok-lines-in-Err.lines.items)
+              c.is_steady.ensures c.in_ok-lines-in-Err.ensures.lines;
           document = search rules;
         };
       };

@@ -26,8 +26,8 @@ pair_objects-requires-clause-declared c =
     declared_at _ c.resolved-resolved.ensures.kept _ _ c.lattice-lattice.ensures
     c.resolved-resolved.ensures.value
 
-pub returns-in_ok-text-in-Ok : goal.returns-in_ok-text-in-Ok
-returns-in_ok-text-in-Ok c =
+pub returns-in-Ok : goal.returns-in-Ok
+returns-in-Ok c =
     let s = c.in-Ok.source in
     let l = c.lattice-lattice.result.now in
     let r = c.resolved-resolved.result.now in
@@ -37,12 +37,13 @@ returns-in_ok-text-in-Ok c =
       answer = rw (← c.in-Ok.ensures.lattice, ← c.in-Ok.ensures.text, ← c.lattice-lattice.ensures) (record {
         resolved = r;
         stands = is.stands;
-        pairs = c.in-Ok-2.pairs.items;
-        table = c.in-Ok-2.ensures.table;
-        objects = map view c.in_ok-objects.objects;
+        pairs = c.in-Ok-flows_in.pairs.items;
+        table = c.in-Ok-flows_in.ensures.table;
+        objects = map view c.in_ok-objects-in-Ok.objects;
         line = c.in_ok-text-in-Ok.ensures
-            ∙ ap (λ b. verdict_line b (codes "flows") (map view c.in_ok-objects.objects))
-            (c.are_allowed.ensures ∙ ap are_allowed c.deref-2.ensures.value);
-        verdict = decides l c.args.profile s.text r is.stands c.in-Ok-2.pairs.items c.in-Ok-2.ensures.verdict;
+            ∙ ap (λ b. verdict_line b (codes "flows") (map view c.in_ok-objects-in-Ok.objects))
+            (c.are_allowed.ensures ∙ ap are_allowed c.deref-in-Ok.ensures.value);
+        verdict = decides l c.args.profile s.text r is.stands c.in-Ok-flows_in.pairs.items
+            c.in-Ok-flows_in.ensures.verdict;
       });
     }

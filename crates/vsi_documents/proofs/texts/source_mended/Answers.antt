@@ -7,6 +7,7 @@ use Rattle.vsi_flows.specs.Raising.{Answers}
 use Rattle.vsi_flows.specs.Answers.{HasClassesIn}
 use Rattle.vsi_flows.proofs.AnswerLemmas.{final_walk}
 use Rattle.vsi_flows.proofs.RaiseLemmas.{classes_in}
+use Rattle.vsi_conform.specs.Checking.{TellsAnswer}
 use Rattle.vsi_documents.specs.Answers.{HasNoRaises}
 use Rattle.vsi_documents.proofs.Lines.{walk_apart}
 use Rattle.vsi_documents.proofs.texts.source_mended.Goals as goal
@@ -25,10 +26,12 @@ returns-in_ok-text-in-Raised c =
     record {
       accepted = c.in_ok-checked.checked.is_accepted;
       checked = c.in_ok-checked.checked.line.items;
-      judged = c.in_ok-checked.ensures.answer;
+      judged = subst
+          (λ j. TellsAnswer s.lattice j s.text c.in_ok-checked.checked.is_accepted c.in_ok-checked.checked.line.items)
+          c.judgement_by.ensures.judgement c.in_ok-checked.ensures.answer;
       raises = record {
         resolved = s.resolved;
-        stands = c.resolved-_program.ensures.kept.stands;
+        stands = c.resolved-program.ensures.kept.stands;
         raises = c.in-Raised.raises.items;
         least = subst (Answers (order s.lattice) c.args.profile (program s.resolved)) c.in-Raised.is
             c.in_ok-raising.ensures.answer;
@@ -44,7 +47,7 @@ returns-in-Refused c =
     record {
       error = Flow c.in-Refused._walk;
       other = walk_apart c.in-Refused._walk;
-      refused = final_walk s c.resolved-_program.ensures.kept c.args.profile c.in-Refused._walk.steps.items
+      refused = final_walk s c.resolved-program.ensures.kept c.args.profile c.in-Refused._walk.steps.items
           (subst (Answers (order s.lattice) c.args.profile (program s.resolved)) c.in-Refused.is
           c.in_ok-raising.ensures.answer);
     } in

@@ -14,5 +14,10 @@ returns c =
     subst (λ h. OnOk c.fill.result (c.fill.new.page.items ≡
     c.args.text.now.items ++ cond h (flow_line (shown c.args.drawn.now) a b c.args.rule) []))
     (sym has)
-    (rw (c.rule_text.ensures, c.style.ensures, c.edge_words.ensures, c.step_number-number.ensures, c.is_upward.ensures) at
-    (c.fill.ensures refl))
+    (rw (
+      c.rule_text.ensures,
+      c.style.ensures,
+      c.edge_words.ensures,
+      c.step_number-number.ensures,
+      c.is_upward.ensures,
+    ) at (c.fill.ensures refl))
