@@ -1,6 +1,6 @@
 -- The verdict on a text, and the objects that are shown for it.
-use Rattle.std.proofs.Common.{◌≡◌, ◌++◌, ◌∷◌, ℕ, List, []}
-use Rattle.std.specs.Prelude.{All, Result, Ok, Err, IfOk}
+use Rattle.std.proofs.Common.{ℕ, List}
+use Rattle.std.specs.Prelude.{Result, Ok, Err, IfOk}
 use Rattle.serde_json.specs.declared.value.Value.{Value}
 use Rattle.vsi_lattice.specs.LatticeView.{class_named}
 use Rattle.vsi_lattice.specs.declared.lattice.Lattice.{Lattice}
