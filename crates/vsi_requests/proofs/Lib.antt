@@ -3,5 +3,3 @@ pub mod Walked
 pub mod Documented
 pub mod Sought
 pub mod Unbounded
-pub mod Looked
-pub mod Evidence

@@ -1,6 +1,5 @@
 -- Why a search has no document.
-use Rattle.std.proofs.Common.{◌≡◌, ℕ, List, Result, Option, Some, None, inl, inr}
-use Rattle.std.specs.Borrow.{Bor}
+use Rattle.std.proofs.Common.{◌≡◌, ℕ, List, Result, inl, inr}
 use Rattle.std.specs.Prelude.{IfErr, IsErrAnd, IsSomeAnd}
 use Rattle.vsi_lattice.specs.LatticeView.{class_named}
 use Rattle.vsi_lattice.specs.declared.lattice.Lattice.{Lattice}

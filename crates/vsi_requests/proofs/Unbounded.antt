@@ -1,5 +1,5 @@
 -- The reason that there is no C without a budget.
-use Rattle.std.proofs.Common.{◌≡◌, Bool, true, false, Some, None, refl, sym}
+use Rattle.std.proofs.Common.{◌≡◌, true, false, Some, None, refl, sym}
 use Rattle.vsi_answers.specs.declared.unanswered.Unanswered.{Unanswered}
 use Rattle.vsi_arguments.specs.declared.request.Emission.{Emission}
 use Rattle.vsi_image.specs.declared.instr.Image.{Image}
@@ -57,11 +57,3 @@ pub lacks_bound : (why : Unanswered → Type 0) (holds : Holding) (asked : Emiss
 lacks_bound why holds asked image failure held =
     FailsBy-weaker (λ reason. ⊥) why (λ s. (asked.is_bounded ≡ true) × IsUnbounded image s) (LacksEmitBound holds asked)
     (λ reason none. absurd none) (λ s is. unbounded_says holds asked image held is.0 s is.1) failure
-
--- An image has no bound, and a function without a budget is requested.
-pub bounded_lacks : (image : Image) (is_bounded : Bool) (failure : Failure) → is_bounded ≡ true →
-    FailsBy (λ reason. ⊥) (IsUnbounded image) failure →
-    FailsBy (λ reason. ⊥) (λ s. (is_bounded ≡ true) × IsUnbounded image s) failure
-bounded_lacks image is_bounded failure bounded =
-    FailsBy-weaker (λ reason. ⊥) (λ reason. ⊥) (IsUnbounded image) (λ s. (is_bounded ≡ true) × IsUnbounded image s)
-    (λ reason none. none) (λ s is. (bounded, is)) failure

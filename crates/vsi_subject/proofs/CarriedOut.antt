@@ -3,13 +3,10 @@ use Rattle.std.proofs.Common.{◌≡◌, ◌<◌, ◌⊎◌, ℕ, List, [], ◌�
 use Rattle.std.specs.Prelude.{IfErr, String}
 use Rattle.std.specs.declared.alloc.Global.{Global}
 use Rattle.vsi_arguments.specs.declared.request.Request.{Request}
-use Rattle.vsi_drive.specs.declared.engine.Counted.{Counted}
 use Rattle.vsi_subject.specs.declared.failure.Failure.{Failure}
 use Rattle.vsi_subject.specs.declared.failure.Failure.TheVariants.{Memory}
 use Rattle.vsi_subject.specs.Done.{IsFailureOf, Failed, FailsAt}
 use Rattle.vsi_subject.specs.Holding.{Holding}
-use Rattle.vsi_subject.specs.Input.{TellsFailure}
-use Rattle.vsi_subject.specs.Noted.{NotesFailure}
 use Rattle.vsi_subject.specs.Partly.{Answers}
 use Rattle.vsi_subject.specs.Reasons.{Why, WhyWork}
 use Rattle.vsi_subject.specs.Works.{Drives, Lays, Lists, Replies, Runs, Talks, Work, work_of}

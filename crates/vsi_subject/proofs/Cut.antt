@@ -1,8 +1,8 @@
 -- A controller that is cut short has written and saved a part of what it does for its whole input.
 use Rattle.std.proofs.Common.{◌≡◌, ◌≢◌, ℕ, ℤ, List, [], ◌∷◌, ◌++◌, ◌+◌, ◌-◌, ◌<◌, ◌≤◌, ◌∙◌, Some, None, inl, inr, length, get_or, take, drop, refl, sym, ap, subst, arith, append_assoc, append-nil, take-append-drop, length-append}
-use Rattle.std.specs.Prelude.{◌⊎◌, ◌==◌, Bool, Option, IfSome, if◌then◌else◌}
+use Rattle.std.specs.Prelude.{Option, IfSome, if◌then◌else◌}
 use Rattle.std.specs.Borrow.{Bor}
-use Rattle.std.specs.Io.KnownBytes.{Appends, Consumes, IsAtEnd}
+use Rattle.std.specs.Io.KnownBytes.{Consumes, IsAtEnd}
 use Rattle.std.proofs.KnownBytes.{Appends-nil, Consumes-all, Consumes-nil, Consumes-trans}
 use Rattle.std.proofs.lemmas.Bool.{eq-eqb, ne_eqb}
 use Rattle.std.proofs.lemmas.List.{take_more}

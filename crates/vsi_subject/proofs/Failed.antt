@@ -5,7 +5,7 @@ use Rattle.std.specs.Global.{Vec}
 use Rattle.std.proofs.KnownBytes.{Appends-trans}
 use Rattle.vsi_answers.specs.declared.unanswered.Unanswered.{Unanswered}
 use Rattle.vsi_answers.specs.declared.unanswered.Unanswered.TheVariants as unanswered
-use Rattle.vsi_drive.specs.Counted.{device_of, faults_of}
+use Rattle.vsi_drive.specs.Counted.{faults_of}
 use Rattle.vsi_drive.specs.declared.engine.Counted.{Counted}
 use Rattle.vsi_subject.specs.declared.failure.Failure.{Failure}
 use Rattle.vsi_subject.specs.declared.failure.Failure.TheVariants.{Refused, Interface, Audit, Unsteady, Differs, Usage, NoClass, OutOfBudget, FileFault, LostFile, Memory}

@@ -1,25 +1,19 @@
 -- The lines on standard error after a request that has been performed.
-use Rattle.std.proofs.Common.{◌≡◌, ◌⊎◌, ◌++◌, ◌∙◌, ℕ, ℤ, ◌+◌, ◌-◌, ◌%◌, ◌^◌, ◌≤◌, ◌<◌, ◌==◌, ◌&&◌, Bool, true, false, List, [], ◌∷◌, Option, Some, None, Result, Ok, Err, inl, inr, refl, sym, ap, subst, codes, arith}
-use Rattle.std.specs.Prelude.{IfErr, IfOk, IsErrAnd, IsTrue, OnOk, String, decimal, if◌then◌else◌}
-use Rattle.std.specs.List.{list_all}
+use Rattle.std.proofs.Common.{◌≡◌, ◌++◌, ◌∙◌, ℕ, ℤ, ◌+◌, ◌-◌, ◌%◌, ◌^◌, ◌<◌, ◌==◌, ◌&&◌, Bool, true, false, List, [], ◌∷◌, Option, Some, None, Result, Ok, Err, inl, inr, refl, sym, ap, subst, codes, arith}
+use Rattle.std.specs.Prelude.{IfErr, IsErrAnd, IsTrue, OnOk, String, decimal, if◌then◌else◌}
 use Rattle.std.specs.declared.alloc.Global.{Global}
 use Rattle.std.proofs.lemmas.Bool.{and_from, and_parts}
 use Rattle.std.proofs.lemmas.Fmt.{decimal_by_steps}
 use Rattle.std.proofs.lemmas.List.Folds.{list_all-append}
 use Rattle.vsi_telling.specs.Safe.{all_plain, is_plain}
 use Rattle.vsi_image.specs.declared.instr.Image.{Image}
-use Rattle.vsi_image.specs.Meaning.{State}
-use Rattle.vsi_machine.specs.Counting.{Halts, HaltsIn}
+use Rattle.vsi_machine.specs.Counting.{Halts}
 use Rattle.vsi_machine.specs.CountTexts.{count_line}
-use Rattle.vsi_machine.specs.Runs.{outcome_of, run_of}
-use Rattle.vsi_machine.specs.declared.interpreter.Outcome.{Outcome}
-use Rattle.vsi_machine.specs.declared.interpreter.Outcome.TheVariants.{Halted, OutOfBudget}
-use Rattle.vsi_drive.specs.Running.{RunsApart, text_at}
+use Rattle.vsi_machine.specs.Runs.{run_of}
+use Rattle.vsi_drive.specs.Running.{RunsApart}
 use Rattle.vsi_drive.specs.declared.engine.Counted.{Counted}
 use Rattle.vsi_subject.specs.Holding.{Holding}
-use Rattle.vsi_arguments.specs.declared.request.Document.{Document}
-use Rattle.vsi_arguments.specs.declared.request.Document.TheVariants as document
-use Rattle.vsi_subject.specs.Noted.{CompareBudget, Count, Counts, DriveBudget, IsNote, IsNoteBefore, Nothing, Notes, NotesCompare, NotesDrive, NotesOf, NotesStop, NotesView, Noting, Sentences, TellsNote, ViewBudget, Warning, document_noting}
+use Rattle.vsi_subject.specs.Noted.{CompareBudget, Count, Counts, DriveBudget, IsNote, IsNoteBefore, Nothing, Notes, NotesOf, Noting, Sentences, TellsNote, ViewBudget, Warning}
 use Rattle.vsi_subject.specs.Screen.{colour_length, is_tame, is_tame_after, tamed}
 use Rattle.vsi_subject.specs.Failures.{Gets, status_of}
 use Rattle.vsi_subject.specs.declared.failure.Failure.{Failure}

@@ -1,13 +1,12 @@
 -- Parts of answers, and what a failure leaves of the output.
-use Rattle.std.proofs.Common.{◌≡◌, ◌<◌, ◌⊎◌, ◌++◌, ℕ, List, [], Bool, true, false, Option, Result, Ok, Err, inl, inr, length, take, refl, sym, subst, arith}
-use Rattle.std.specs.Prelude.{IfOk, IfErr, IsErrAnd, IsOkAnd, OnOk}
-use Rattle.std.specs.Global.{Vec}
-use Rattle.std.specs.Io.KnownBytes.{Appends, Keeps}
+use Rattle.std.proofs.Common.{◌≡◌, ◌<◌, ℕ, List, Option, Result, Ok, Err, inl, inr, length, sym, subst, arith}
+use Rattle.std.specs.Prelude.{IfErr, IsErrAnd, OnOk}
+use Rattle.std.specs.Io.KnownBytes.{Appends}
 use Rattle.std.proofs.KnownBytes.{Appends-nil, Keeps-refl}
 use Rattle.std.proofs.lemmas.List.{take_all}
 use Rattle.vsi_subject.specs.declared.failure.Failure.{Failure}
 use Rattle.vsi_subject.specs.declared.failure.Failure.TheVariants.{Refused, Interface, Audit, Unsteady, Differs, Usage, NoClass, OutOfBudget, FileFault, LostFile, Memory}
-use Rattle.vsi_subject.specs.Partly.{BytesOf, Leaves, Partly, WritesPart}
+use Rattle.vsi_subject.specs.Partly.{Leaves, Partly, WritesPart}
 use Rattle.vsi_subject.specs.Failures.{status_of}
 use Rattle.vsi_subject.proofs.Reasons.{handed}
 

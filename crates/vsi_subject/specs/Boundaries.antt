@@ -1,8 +1,6 @@
 -- The boundary that a request gives a controller or a view.
 use Rattle.std.specs.Prelude.{ℕ, List, [], ◌∷◌, Option, Some, None, if◌then◌else◌, bytes_eq, option_map, unwrap_or}
 use Rattle.std.specs.Borrow.{Bor}
-use Rattle.std.specs.Global.{Vec}
-use Rattle.vsi_lattice.specs.NamePlaces.{texts}
 use Rattle.vsi_conform.specs.Reading.{ClassBoundary, cycle}
 use Rattle.vsi_conform.specs.declared.keys.Cycle.{Cycle}
 use Rattle.vsi_drive.specs.Boundary.{Boundary, names_of, no_boundary}

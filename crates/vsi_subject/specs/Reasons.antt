@@ -5,7 +5,6 @@ use Rattle.std.specs.Borrow.{Bor}
 use Rattle.std.specs.Io.KnownBytes.{Appends}
 use Rattle.vsi_lattice.specs.LatticeView.{class_named, order}
 use Rattle.vsi_lattice.specs.declared.lattice.Lattice.{Lattice}
-use Rattle.vsi_lattice.specs.declared.reader.LatticeError.TheVariants as lattice
 use Rattle.vsi_image.specs.declared.instr.Image.{Image}
 use Rattle.vsi_image.specs.Fields.{globals}
 use Rattle.vsi_compiler.specs.Headline.{IsImageOf}

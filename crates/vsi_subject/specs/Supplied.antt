@@ -1,5 +1,5 @@
 -- An image where a source text may be given, and what is said of it beside an interface.
-use Rattle.std.specs.Prelude.{◌≡◌, ℕ, ◌==◌, nat_lt, Bool, true, false, ◌&&◌, List, [], ◌∷◌}
+use Rattle.std.specs.Prelude.{◌≡◌, ℕ, ◌==◌, nat_lt, Bool, true, false, ◌&&◌, List, ◌∷◌}
 use Rattle.vsi_lattice.specs.declared.lattice.Lattice.{Lattice}
 use Rattle.vsi_image.specs.declared.instr.Image.{Image}
 use Rattle.vsi_answers.specs.Judged.{AreImage}
@@ -13,6 +13,7 @@ use Rattle.vsi_conform.specs.Rows.{Row}
 abbrev pub begins_image : List ℕ → Bool
 begins_image (v ∷ s ∷ i ∷ version ∷ rest) = v == 86 && s == 83 && i == 73 && nat_lt version 9
 begins_image _ = false
+
 -- These rows say where an image differs from an interface, if it does; there are none exactly if nothing differs.
 pub record JudgesImage (l : Lattice) (image : Image) (i : Interface) (fits : Bool) (rows : List Row) : Type 0 where
   pub answer : Answer

@@ -1,5 +1,5 @@
 -- The output of `try`.
-use Rattle.std.specs.Prelude.{◌≡◌, ℕ, ℤ, false, List, [], Option, Some, None, Result, Ok}
+use Rattle.std.specs.Prelude.{ℕ, ℤ, false, List, [], Option, Some, None, Result, Ok}
 use Rattle.std.specs.Borrow.{Bor}
 use Rattle.std.specs.Global.{Vec}
 use Rattle.std.specs.Str.Lossy.{utf8_lossy}

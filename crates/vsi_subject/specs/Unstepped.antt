@@ -1,12 +1,10 @@
 -- Why a run in steps has no answer.
-use Rattle.std.specs.Prelude.{◌≡◌, ◌⊎◌, ℕ, ℤ, true, false, List, Option, Some, Err}
+use Rattle.std.specs.Prelude.{◌≡◌, ◌⊎◌, ℕ, ℤ, false, List, Option, Some, Err}
 use Rattle.std.specs.Borrow.{Bor}
 use Rattle.vsi_lattice.specs.NamePlaces.{texts}
 use Rattle.vsi_lattice.specs.declared.lattice.Lattice.{Lattice}
 use Rattle.vsi_scope.specs.Program.{Resolved}
 use Rattle.vsi_image.specs.declared.instr.Image.{Image}
-use Rattle.vsi_steps.specs.declared.run.Trace.{Trace}
-use Rattle.vsi_steps.specs.Traced.{IsTraced}
 use Rattle.vsi_answers.specs.Answers.{Because}
 use Rattle.vsi_answers.specs.Judged.{IsProgramFault, IsStoreFault, TellsFault, TellsSource}
 use Rattle.vsi_answers.specs.Requests.{BeginsWith}

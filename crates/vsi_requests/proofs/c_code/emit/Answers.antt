@@ -1,5 +1,6 @@
 use Rattle.std.proofs.Common.{◌≡◌, ◌∙◌, ap, false, refl, sym, subst, true}
 use Rattle.std.specs.Prelude.{option_map}
+use Rattle.std.proofs.lemmas.Bool.{not-true}
 use Rattle.std.proofs.lemmas.Result.{IfErr-weaker, IfOk-weaker}
 use Rattle.vsi_subject.specs.Performed.{AreLatticeBytes, EmitsFile, IsEmittedAs, IsRequestedC, TellsBounding}
 use Rattle.vsi_subject.specs.Refusals.{IsUnbounded, FailsBy}
@@ -23,7 +24,7 @@ returns-then-not-found-clause-failed g c =
       unbounded = subst
           (λ b. TellsBounding false (g.F.Files.holds c.args.subject.now.files.now) (bounding_of c.args.asked) b
           c.in_ok-found.found.text)
-          c.if-not-found.true c.in_ok-found.ensures.told;
+          (not-true c.in_ok-found.found.is_good c.if-not-found.true) c.in_ok-found.ensures.told;
       says = refl;
     }
 

@@ -1,5 +1,4 @@
-use Rattle.std.proofs.Common.{subst, sym}
-use Rattle.vsi_subject.specs.Holding.{IsReadAt}
+use Rattle.std.proofs.Common.{subst}
 use Rattle.vsi_subject.specs.Refusals.{FailsBy}
 use Rattle.vsi_subject.specs.Reasons.{LacksSought, RefusesSearch}
 use Rattle.vsi_documents.specs.Leaks.{TellsSearch}

@@ -19,10 +19,10 @@ returns-clause-told g c =
         read = c.in_ok-text.ensures.read;
       };
       is = record {
-        panel = subst (HasPanel page) c.as_slice.ensures.value c.in_ok-filed_page.ensures.panel;
+        panel = subst (HasPanel page) c.as_slice-2.ensures.value c.in_ok-filed_page.ensures.panel;
         verdict = subst (λ text. HasVerdict c.in_ok-policy.classes (profile_of c.args.compilation.is_strict) text page)
-            c.as_slice.ensures.value
-            (subst (λ P. HasVerdict c.in_ok-policy.classes P c.as_slice.result.now page) c.profile-profile.ensures
+            c.as_slice-2.ensures.value
+            (subst (λ P. HasVerdict c.in_ok-policy.classes P c.as_slice-2.result.now page) c.profile-profile.ensures
             c.in_ok-filed_page.ensures.verdict);
       };
     }

@@ -1,4 +1,4 @@
-use Rattle.std.proofs.Common.{◌≡◌, ℕ, List, Ok, Err, Some, None, false, inr, refl, subst}
+use Rattle.std.proofs.Common.{◌≡◌, ℕ, List, Ok, Err, false, inr, refl, subst}
 use Rattle.std.specs.Borrow.{Bor}
 use Rattle.vsi_image.specs.declared.instr.Image.{Image}
 use Rattle.vsi_lattice.specs.declared.lattice.Lattice.{Lattice}

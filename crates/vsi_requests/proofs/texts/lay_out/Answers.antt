@@ -4,6 +4,7 @@ use Rattle.std.specs.Global.{Vec}
 use Rattle.vsi_drive.specs.Counted.{device_of}
 use Rattle.vsi_subject.specs.Laying.{OtherLayout}
 use Rattle.vsi_subject.specs.Refusals.{AsksCanonical, NoOther, RefusesFile, FailsBy}
+use Rattle.vsi_subject.proofs.Partly.{kept_leaf}
 use Rattle.vsi_subject.proofs.Reasons.{fails_by, handed}
 use Rattle.vsi_subject.proofs.RefusalLemmas.{refuses_tree}
 use Rattle.vsi_requests.proofs.texts.lay_out.Goals as goal
@@ -21,3 +22,6 @@ returns-in_err-_canonical-clause-failed g c =
     (refuses_tree holds c.args.asked.source.now c.in_ok-text.text.items c.as_slice-in_default.result.now
     c.in_ok-classes.classes c.format.result c.answered.result c.in_ok-text.ensures.read c.as_slice-in_default.ensures.value
     c.in_ok-classes.ensures.declared c.answered.ensures c.format.ensures.formats)))
+
+pub returns-in_default-clause-left : goal.returns-in_default-clause-left
+returns-in_default-clause-left g c = kept_leaf _ 4 _ _

@@ -1,4 +1,4 @@
-use Rattle.std.proofs.Common.{◌≡◌, ◌∙◌, subst, sym}
+use Rattle.std.proofs.Common.{◌∙◌, subst, sym}
 use Rattle.std.specs.Rc.{rc_slice_items}
 use Rattle.vsi_subject.specs.Holding.{IsReadAt}
 use Rattle.vsi_subject.specs.Loading.{AreRead}
