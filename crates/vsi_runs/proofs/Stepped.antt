@@ -198,6 +198,12 @@ module _ (s : Source) (l : Lattice) (r : Resolved) (table seen : List ℕ) (unde
   monitors R words answer false ended passes so stops =
       let stop = stops refl in is_stopped R words answer stop.0 stop.1 ended passes
 
+-- Two facts about an answer give a third one.
+pub both_ok : {A E : Type 0} (told : Result A E) (P Q S : A → Type 0) → ((a : A) → P a → Q a → S a) → IfOk told P →
+    IfOk told Q → IfOk told S
+both_ok (Ok a) P Q S f p q = f a p q
+both_ok (Err e) P Q S f p q = tt
+
 -- The comparison of two runs of a program is that of the source's program under its lattice.
 pub compared : (l m : Lattice) (r p : Resolved) (class : ℕ) (gs hs : List Global) (first second ones others : List ℤ)
     (budget : ℕ) (one other : Trace) (same : Bool) → m ≡ l → p ≡ r → hs ≡ gs → ones ≡ one.words.items →

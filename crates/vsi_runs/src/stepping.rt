@@ -1,11 +1,14 @@
 //! Runs of a source text in steps, accepted or not, under a monitor or without one.
 
-ghost use Rattle.std.specs.Prelude.{◌≡◌, length, IfOk, IfErr};
+ghost use Rattle.std.specs.Prelude.{◌≡◌, true, false, length, Ok, Err, IfOk, IfErr};
 ghost use Rattle.vsi_answers.specs.{Answers.{Because}, Judged.{IsProgramFault, TellsSource}};
 ghost use Rattle.vsi_compiler.specs.SourceView.{IsSource};
 ghost use Rattle.vsi_image.specs.Fields.{global, globals};
 ghost use Rattle.vsi_lattice.specs.{LatticeView.{class_named, order}, Order.{IsClass}};
-ghost use Rattle.vsi_subject.specs.{Refusals.{FailsBy, LacksClassAt, NoOther, RefusesLattice}, Stepping.{AreStepFiles, AreWritten, Compared, ComparesSteps, IsMonitored, IsStarted, IsStepped, OfStepFiles}, Unstepped.{RefusesWords, Spends, WhyCompareSteps, WhyMonitor, WhySteps}};
+ghost use Rattle.vsi_steps.specs.declared.watch.{Stop.{Stop}, Watched.{Watched}};
+ghost use Rattle.vsi_subject.specs.{Refusals.{FailsBy, LacksClassAt, NoOther, RefusesLattice}, Stepping.{AreStepFiles, AreWritten, Compared, ComparesSteps, EndsMonitored, EndsTraced, IsMonitored, IsStarted, IsStepped, OfStepFiles}, Unstepped.{RefusesWords, Spends, WhyCompareSteps, WhyMonitor, WhySteps}};
+ghost use Rattle.vsi_answers.specs.declared.unanswered.Unanswered.TheVariants as unanswered;
+ghost use Rattle.vsi_steps.specs.declared.watch.Unfinished.TheVariants as ends;
 ghost use Rattle.vsi_store.specs.Compare as views;
 ghost use Rattle.vsi_subject.specs.Stepping as spec;
 ghost use Rattle.vsi_subject.specs.declared.failure.Failure.TheVariants as fails;
@@ -23,8 +26,8 @@ use vsi_image::{Verified, encode};
 use vsi_lattice::{Class, Lattice};
 use vsi_machine::word_cell;
 use vsi_steps::{
-    Listing, Naming, Rule, Trace, Unfinished, listing_of, monitor_json, monitor_text, monitored,
-    steps_json, steps_text, together_json, together_text, trace_of,
+    Listing, Naming, Rule, Trace, Unfinished, Watched, listing_of, monitor_json, monitor_text,
+    monitored, steps_json, steps_text, together_json, together_text, trace_of,
 };
 use vsi_store::sees;
 use vsi_subject::{Failure, Fallible, Files, InputCache, InputKind, Subject, class_in, refused};
@@ -71,20 +74,8 @@ pub fn steps<'a, F: Files>(
     let read = step_files(subject, asked)?;
     let source = source_in(subject.alloc, &read.lattice, &read.text)?;
     let words = first_words(subject.cache, asked, &source, &read.file)?;
-    let alloc = subject.alloc;
-    let trace = trace_of(alloc, source.resolved(), &words, asked.budget as usize)?;
-    let classes = class_table(alloc, &source)?;
-    let (lattice, text, program) = (source.lattice(), source.text(), source.resolved());
-    let listing = listing_of(alloc, lattice, text, program, &classes)?;
-    let text = if is_json {
-        line_of(alloc, &steps_json(alloc, &listing, &trace)?)?
-    } else {
-        steps_text(alloc, &listing, &trace)?
-    };
-    Ok(Reply {
-        text,
-        is_good: trace.halted,
-    })
+    let reply = steps_reply(subject.alloc, &source, &words, asked.budget, is_json)?;
+    Ok(reply)
 }
 
 /// A monitored run of a source text, as lines or as a line of JSON, and whether the run has
@@ -103,34 +94,14 @@ pub fn monitor<'a, F: Files>(
     let read = step_files(subject, asked)?;
     let source = source_in(subject.alloc, &read.lattice, &read.text)?;
     let words = first_words(subject.cache, asked, &source, &read.file)?;
-    let (alloc, budget) = (subject.alloc, asked.budget);
-    let (lattice, program) = (source.lattice(), source.resolved());
-    let classes = class_table(alloc, &source)?;
-    let rule = rule_of(rule);
-    let run = monitored(alloc, rule, lattice, program, &classes, &words, budget);
-    let naming = Naming {
-        lattice,
-        text: source.text(),
-        globals: program.globals(),
-    };
-    let text = if is_json {
-        line_of(alloc, &monitor_json(alloc, &naming, &run)?)?
-    } else {
-        monitor_text(alloc, &naming, &run)?
-    };
-    // A run that isn't stopped and comes to no end has no answer.
-    match run {
-        Ok(_) => Ok(Reply {
-            text,
-            is_good: true,
-        }),
-        Err(Unfinished::Stopped(_)) => Ok(Reply {
-            text,
-            is_good: false,
-        }),
-        Err(Unfinished::Limit) => Err(Failure::OutOfBudget),
-        Err(Unfinished::Memory) => Err(Failure::Memory),
-    }
+    monitor_reply(
+        subject.alloc,
+        &source,
+        &words,
+        rule_of(rule),
+        asked.budget,
+        is_json,
+    )
 }
 
 /// The comparison that a class makes of two runs of a source text in step, from two store
@@ -231,6 +202,55 @@ fn line_of(alloc: Global, value: &Value) -> Result<Vec<u8>, AllocError> {
     Ok(line)
 }
 
+/// The steps as lines, or as a line of JSON.
+fn steps_bytes(
+    alloc: Global,
+    listing: &Listing<'_>,
+    trace: &Trace,
+    is_json: bool,
+) -> Result<Vec<u8>, AllocError> {
+    if is_json {
+        return line_of(alloc, &steps_json(alloc, listing, trace)?);
+    }
+    steps_text(alloc, listing, trace)
+}
+
+/// The steps of a program from these words, and whether the run has ended.
+fn steps_reply(
+    alloc: Global,
+    source: &Source<'_>,
+    words: &[i64],
+    budget: u64,
+    is_json: bool,
+) -> Result<Reply, AllocError>
+    requires { length words.now ≡ length source.now.resolved.globals }
+    ensures { IfOk result
+        (λ reply. EndsTraced source.now.resolved words.now budget reply.is_good) }
+{
+    let trace = trace_of(alloc, source.resolved(), words, budget as usize)?;
+    let classes = class_table(alloc, source)?;
+    let (lattice, text, program) = (source.lattice(), source.text(), source.resolved());
+    let listing = listing_of(alloc, lattice, text, program, &classes)?;
+    let text = steps_bytes(alloc, &listing, &trace, is_json)?;
+    Ok(Reply {
+        text,
+        is_good: trace.halted,
+    })
+}
+
+/// A monitored run as lines, or as a line of JSON.
+fn monitor_bytes(
+    alloc: Global,
+    naming: &Naming<'_>,
+    run: &Result<Watched, Unfinished>,
+    is_json: bool,
+) -> Result<Vec<u8>, AllocError> {
+    if is_json {
+        return line_of(alloc, &monitor_json(alloc, naming, run)?);
+    }
+    monitor_text(alloc, naming, run)
+}
+
 /// The rule of a monitor.
 fn rule_of(rule: MonitorRule) -> Rule
     ensures { result ≡ spec.rule_of rule }
@@ -239,6 +259,55 @@ fn rule_of(rule: MonitorRule) -> Rule
         MonitorRule::NoSensitiveUpgrade => Rule::NoSensitiveUpgrade,
         MonitorRule::PermissiveUpgrade => Rule::PermissiveUpgrade,
     }
+}
+
+/// The answer of a monitored run, and whether it has ended. One that isn't stopped and comes to no
+/// end has no answer.
+fn ended_reply<'a>(text: Vec<u8>, run: Result<Watched, Unfinished>) -> Fallible<'a, Reply>
+    ensures ended { IfOk result (λ reply. reply.is_good ≡ true
+        → (last : Watched) × (run ≡ Ok last)) }
+    ensures stopped { IfOk result (λ reply. reply.is_good ≡ false
+        → (stop : Stop) × (run ≡ Err (ends.Stopped stop))) }
+    ensures failed { IfErr result (FailsBy (λ reason. reason ≡ unanswered.OutOfBudget) NoOther) }
+{
+    match run {
+        Ok(_last) => {
+            let is_good = true;
+            Ok(Reply { is_good, text })
+        }
+        Err(Unfinished::Stopped(_)) => {
+            let is_good = false;
+            Ok(Reply { is_good, text })
+        }
+        Err(Unfinished::Limit) => Err(Failure::OutOfBudget),
+        Err(Unfinished::Memory) => Err(Failure::Memory),
+    }
+}
+
+/// A monitored run of a program from these words, and whether the run has ended.
+fn monitor_reply<'a>(
+    alloc: Global,
+    source: &Source<'_>,
+    words: &[i64],
+    rule: Rule,
+    budget: u64,
+    is_json: bool,
+) -> Fallible<'a, Reply>
+    requires { length words.now ≡ length source.now.resolved.globals }
+    ensures told { IfOk result (λ reply. EndsMonitored rule reply.is_good
+        (order source.now.lattice) source.now.resolved words.now) }
+    ensures failed { IfErr result (FailsBy (λ reason. reason ≡ unanswered.OutOfBudget) NoOther) }
+{
+    let (lattice, program) = (source.lattice(), source.resolved());
+    let classes = class_table(alloc, source)?;
+    let run = monitored(alloc, rule, lattice, program, &classes, words, budget);
+    let naming = Naming {
+        lattice,
+        text: source.text(),
+        globals: program.globals(),
+    };
+    let text = monitor_bytes(alloc, &naming, &run, is_json)?;
+    ended_reply(text, run)
 }
 
 /// Whether a class sees no difference between two words of a global.

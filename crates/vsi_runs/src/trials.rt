@@ -216,7 +216,7 @@ fn serve_message<'a, F: Files, W: Write>(
         let bytes = match whole_in(alloc, wanted.path.as_str(), files) {
             Ok(bytes) => Some(bytes),
             Err(Failure::Memory) => return Err(Failure::Memory),
-            Err(_) => None,
+            Err(_failure) => None,
         };
         server.judge(wanted, bytes)?;
     }

@@ -23,8 +23,8 @@ pub returns-in-Ok-Ok-clause-sound : goal.returns-in-Ok-Ok-clause-sound
 returns-in-Ok-Ok-clause-sound c =
     rw c.in-Ok-Ok.field-0-is at c.in-Ok-Ok.ensures.sound
 
-pub returns-in-Ok-Err-clause-failed : goal.returns-in-Ok-Err-clause-failed
-returns-in-Ok-Err-clause-failed c =
+pub returns-else-is_err-clause-failed : goal.returns-else-is_err-clause-failed
+returns-else-is_err-clause-failed c =
     let s = c.args.steering.now in
     let made = controlled s.lattice s.driver s.verified c.args.budget in
     let got : boundary_fault (made (boundary_of c.boundary.result)) ≡ Some c.in-Ok-Err.fault =

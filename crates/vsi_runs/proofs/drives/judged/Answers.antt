@@ -5,26 +5,26 @@ pub returns-then-most-budget : goal.returns-then-most-budget
 returns-then-most-budget c =
     record {
       most = c.in-Ok.most;
-      halts = rw c.in-Ok.is at c.in_ok-enough_budget.ensures.budget;
+      halts = rw c.in-Ok.is at c.in_ok-most.ensures.budget;
       covers = inl c.if-most-budget.true;
     }
 
-pub returns-in-Ok-2 : goal.returns-in-Ok-2
-returns-in-Ok-2 c =
+pub returns-in-Ok-steady_in : goal.returns-in-Ok-steady_in
+returns-in-Ok-steady_in c =
     record {
       most = c.in-Ok.most;
-      halts = rw c.in-Ok.is at c.in_ok-enough_budget.ensures.budget;
-      covers = inr c.in-Ok-2.ensures.steady;
+      halts = rw c.in-Ok.is at c.in_ok-most.ensures.budget;
+      covers = inr c.in-Ok-steady_in.ensures.steady;
     }
 
 pub returns-in_ok-line-in_default : goal.returns-in_ok-line-in_default
 returns-in_ok-line-in_default c =
     inr (record {
       most = c.in-Ok.most;
-      halts = rw c.in-Ok.is at c.in_ok-enough_budget.ensures.budget;
+      halts = rw c.in-Ok.is at c.in_ok-most.ensures.budget;
       below = c.if-most-budget.false;
-      error = c.in-Err-2.error;
+      error = c.in-Err-steady_in.error;
       known = λ same. c.in_default.not-Memory same;
-      refused = c.in-Err-2.ensures.refused;
+      refused = c.in-Err-steady_in.ensures.refused;
       says = c.in_ok-line-in_default.ensures;
     })

@@ -1,5 +1,4 @@
-use Rattle.std.proofs.Common.{◌≡◌, ◌∙◌, ap, inl, length, refl, subst, sym}
-use Rattle.vsi_steps.specs.Traced.{IsTraced}
+use Rattle.std.proofs.Common.{inl}
 use Rattle.vsi_subject.specs.Refusals.{FailsBy, NoOther, RefusesLattice}
 use Rattle.vsi_subject.specs.Unstepped.{WhySteps}
 use Rattle.vsi_subject.proofs.Reasons.{failed_by, handed}
@@ -12,19 +11,8 @@ returns-clause-told g c =
     stepped (g.F.Files.holds c.args.subject.now.files.now) c.args.asked.now read.lattice read.text.items read.file.items
     c.in_ok-read.ensures.read c.in_ok-source.source c.deref.result.now c.deref-2.result.now
     c.in_ok-source.ensures.lattice c.in_ok-source.ensures.text c.deref.ensures.value c.deref-2.ensures.value
-    c.in_ok-words.words.items c.deref-3.result.now c.in_ok-trace.trace.halted c.in_ok-words.ensures.started
-    c.deref-3.ensures.value
-    (record {
-      trace = c.in_ok-trace.trace;
-      traced = subst (λ r. IsTraced r c.deref-3.result.now c.args.asked.now.budget c.in_ok-trace.trace)
-          c.resolved.ensures.value c.in_ok-trace.ensures;
-      is = refl;
-    })
-
-pub trace_of-requires : goal.trace_of-requires
-trace_of-requires g c =
-    subst (λ r. length c.deref-3.result.now ≡ length r.globals) (sym c.resolved.ensures.value)
-    (ap length c.deref-3.ensures.value ∙ c.in_ok-words.ensures.len)
+    c.in_ok-words.words.items c.deref-3.result.now c.in_ok-reply.reply.is_good c.in_ok-words.ensures.started
+    c.deref-3.ensures.value c.in_ok-reply.ensures
 
 pub returns-in_err-read-clause-failed : goal.returns-in_err-read-clause-failed
 returns-in_err-read-clause-failed g c =

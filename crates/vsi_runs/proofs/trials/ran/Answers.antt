@@ -35,8 +35,8 @@ returns-in-Some-clause-runs c =
     })
     shows
 
-pub returns-in-None-clause-runs : goal.returns-in-None-clause-runs
-returns-in-None-clause-runs c =
+pub returns-clause-runs : goal.returns-clause-runs
+returns-clause-runs c =
     let shows : IfOk c.answered-in-None.result (λ lines. ShowsTo c.args.lattice.now c.args.viewer
     c.in_ok-verified.verified c.as_slice-words.result.now c.args.attempt.now.budget (Ok lines)) = rw c.in-None.is
     (answered_told (RunsTo c.in_ok-verified.verified c.as_slice-words.result.now c.args.attempt.now.budget)
@@ -81,8 +81,8 @@ returns-in-Some-clause-failed c =
     }))))
     failed
 
-pub returns-in-None-clause-failed : goal.returns-in-None-clause-failed
-returns-in-None-clause-failed c =
+pub returns-clause-failed : goal.returns-clause-failed
+returns-clause-failed c =
     let Shows : Unanswered → Type 0 = λ reason. ShowsTo c.args.lattice.now c.args.viewer c.in_ok-verified.verified
     c.as_slice-words.result.now c.args.attempt.now.budget (Err reason) in
     let refuses = RefusesRun c.args.lattice.now c.args.viewer c.args.attempt.now c.args.text.now in
