@@ -264,8 +264,19 @@ impl Explaining {
             ),
             None => None,
         };
-        let reason = vsi_advice::Reason::Interface(lattice.as_ref(), error);
-        self.advice_on(inputs.alloc, kept, reason)
+        self.interface_advice(inputs.alloc, kept, lattice.as_ref(), error)
+    }
+
+    /// The explanation of a refused interface with this lattice.
+    fn interface_advice<'d>(
+        self,
+        alloc: Global,
+        kept: &'d Kept,
+        lattice: Option<&'d Lattice>,
+        error: &'d InterfaceError,
+    ) -> Result<Vec<u8>, AllocError> {
+        let reason = vsi_advice::Reason::Interface(lattice, error);
+        self.advice_on(alloc, kept, reason)
     }
 
     /// The explanation of an image that an audit refuses.
