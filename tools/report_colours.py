@@ -3,7 +3,7 @@
 
 usage: tools/report_colours.py
 
-It reads the colours of crates/vsi_report/src/report.rt, for light and for dark pages. Every two of the eight must be
+It reads the colours of crates/vsi_report/src/page.rt, for light and for dark pages. Every two of the eight must be
 at least 0.09 apart in OKLab, as everybody sees them and as people see them who lack one of the three kinds of cones
 (the matrices of Machado, Oliveira and Fernandes, 2009, at full severity); each must have a contrast of at least 4.5 to
 its paper; and none may be red, orange or brown. It prints the least distances, and ends with status 1 if one is too
@@ -85,7 +85,7 @@ def judge(name, colours, paper):
 
 
 def main():
-    with open(os.path.join(ROOT, "crates/vsi_report/src/report.rt"), encoding="utf-8") as file:
+    with open(os.path.join(ROOT, "crates/vsi_report/src/page.rt"), encoding="utf-8") as file:
         text = file.read().replace("\\\n", "")
     colours = [linear(c) for c in re.findall(r"--k\d:(#[0-9a-f]{6})", text)]
     papers = [linear(c) for c in re.findall(r"--panel:(#[0-9a-f]{6})", text)]
