@@ -2,8 +2,8 @@
 //!
 //! `compile` and `compile_in` give the image of a source text and promise what it keeps of the
 //! text; `run_source` runs it. `read_lattice` gives the lattice that they need. `read_all`,
-//! `write_out` and `Counted` move texts through devices, and `refusal_text` and `fault_text` say why
-//! a text or a file is refused. `command` carries out the arguments of a command line. The types
+//! `write_out` and `Counted` move texts through devices. `refusal_text` and `fault_text` say why a
+//! text or a file is refused. `command` carries out the arguments of a command line. The types
 //! inside errors, such as `LexError` or a `Walk` of `Step`s, are exported here too. Whoever judges
 //! images, interfaces or flows uses the crate that does: `vsi_audit`, `vsi_conform`, `vsi_flows`.
 //!

@@ -15,9 +15,9 @@
 //! message the lines that `check` prints, its place that of the refusal, and for a refused flow it
 //! has a location for each step of the walk. `audit_sarif` judges an image as `vsi audit` does, and
 //! its document has the same form; a refusal of an image has no position. `rows_sarif` writes the
-//! points of a text or an image beside an interface: a result for each, whose rule is its kind. `specs/Checking`, `specs/Auditing` and
-//! `specs/Findings` say which answers are written, `specs/Refusals` and `specs/Document` define
-//! their text.
+//! points of a text or an image beside an interface: a result for each, whose rule is its kind.
+//! `specs/Checking`, `specs/Auditing` and `specs/Findings` say which answers are written,
+//! `specs/Refusals` and `specs/Document` define their text.
 //!
 //! `named_policy` returns the path in the first comment of a text, `# policy: FILE`. `lattice_text`
 //! returns a lattice file for a shape and names. `read_lattice` has read the file, and it declares

@@ -1,4 +1,4 @@
-//! The parts of a page, the writer that fills markup with them, and a page's first words and style.
+//! The parts of a page, and the writer that puts them into its markup. The style sheet of a page.
 
 ghost use Rattle.std.specs.Prelude.{◌≡◌, ◌++◌, ◌∷◌, ◌-◌, OnOk, IfOk, List, ℕ, [], true};
 ghost use Rattle.vsi_report.specs.{Banner.{untagged}, Escape.{escape, escaped}, Filled.{filled}, Page.{HasPanel}, Reading.{Shows}, Parts.{are_stated, is_stated, texts_of, words}};

@@ -7,8 +7,8 @@ use crate::row::{Row, Wrong};
 use vsi_answers::Fault;
 use vsi_lattice::{Class, Classes, Lattice, MaskLattice, OrderError, PairLattice, read_lattice};
 
-/// Adds the line of a class, if there is one of this number: for each class, whether the first is at
-/// or below that one, their join and their meet.
+/// Adds the line of a class, if there is one of this number: for each class, whether the first is
+/// at or below that one, their join and their meet.
 fn put_class<C: Classes>(row: &mut Row<'_>, lattice: &C, number: u8) -> Result<(), Wrong> {
     if usize::from(number) >= lattice.count() {
         return Ok(());

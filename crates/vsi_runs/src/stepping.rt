@@ -356,8 +356,8 @@ struct Seen<'s> {
     is_same: bool,
 }
 
-/// Two runs in step as a class compares them, as a line of JSON, or as lines that end with a row
-/// for each global that the class sees, with its words in both last stores.
+/// The comparison that a class makes of two runs in step: a line of JSON, or lines. After the lines
+/// comes a row for each global that the class sees. The row has the last words of both runs.
 fn together_bytes(
     alloc: Global,
     listing: &Listing<'_>,
