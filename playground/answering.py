@@ -54,7 +54,8 @@ def check(room: Room, body: Body) -> Body:
     """The verdict as JSON and, where it is a refusal, with its explanation; and the warnings."""
     profile = PROFILES[body["profile"]]
     ran = room.run("check", "lattice.toml", "text.vsi", "--json", "--warnings", *profile)
-    explained = room.run("check", "lattice.toml", "text.vsi", "--explain", *profile) if ran.status == 1 else None
+    whole = ["--explain", "--all", *profile]
+    explained = room.run("check", "lattice.toml", "text.vsi", *whole) if ran.status == 1 else None
     lines = ran.errors.decode("utf-8", "replace").split("\n")
     return ran.answer(explained=explained.errors.decode("utf-8", "replace") if explained else "",
                       warnings=[line for line in lines if WARNING.match(line)][:MOST_WARNINGS])

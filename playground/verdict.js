@@ -28,7 +28,7 @@ export function fixes(text, explained) {
     found.push({ label: `Declare ${raise[1]} as ${raise[2]}`,
       apply: () => replaced(text, target.classPlace, target.class, raise[2]) });
   }
-  const add = /by `(var \w+ : \w+;)`/.exec(prose);
+  const add = /with `(var \w+ : \w+;)`/.exec(prose);
   if (add) found.push({ label: `Add ${add[1]}`, apply: () => `${add[1]}\n${text}` });
   return found;
 }

@@ -6,8 +6,9 @@ usage: tools/browsed_pages.py PROGRAM [EXAMPLE ..]
 PROGRAM is the built program; without EXAMPLE all folders of examples/ are gone through, each lattice file with each
 source text. Chromium opens each page, headless, in a frame that is 360, 800 and 1,600 wide, since its windows aren't as
 narrow as a phone; it is installed first where it is missing. The text of the source panel as the browser has it must be
-the source, byte for byte; nothing may stick out of the frame to the right; and the console may show no error.
-Silent where all is well; it needs some three minutes.
+the source, byte for byte; nothing may stick out of the frame to the right; and the console may show no error. Texts with
+120 variables, where each flows to each, need at most 12 sheets of A4. Silent where all is well; it needs some three
+minutes.
 """
 
 import glob
@@ -81,6 +82,27 @@ def look(name, page, source, scratch):
             complain(name, f"an error at {width}: {error}")
 
 
+def printed(program, scratch):
+    """Prints the pages of texts of 120 variables, in a chain upwards or downwards that ends where it begins."""
+    leaves = ("lattice", "source", "page.html", "sheets")
+    lattice, source, page, sheets = (os.path.join(scratch, leaf) for leaf in leaves)
+    with open(lattice, "w") as file:
+        file.write('classes = ["L", "H"]\nbelow = [["L", "H"]]\n')
+    for step in (1, -1):
+        lines = [f"var v{n} : {'LH'[n % 2]};" for n in range(120)]
+        lines += [f"v{n} := v{(n + step) % 120} + 1{';' * (n < 119)}" for n in range(120)]
+        with open(source, "w") as file:
+            file.write("\n".join(lines) + "\n")
+        with open(page, "wb") as file:
+            subprocess.run([program, "report", lattice, source], check=True, stdout=file)
+        subprocess.run([browser(), "--headless=new", "--no-sandbox", "--disable-gpu", "--no-pdf-header-footer",
+                        f"--print-to-pdf={sheets}", f"file://{page}"], capture_output=True, timeout=120)
+        with open(sheets, "rb") as file:
+            count = len(re.findall(rb"/Type /Page\b", file.read()))
+        if not 0 < count <= 12:
+            complain(f"a chain by {step}", f"{count} sheets")
+
+
 def main():
     if len(sys.argv) < 2:
         sys.exit(__doc__)
@@ -99,6 +121,7 @@ def main():
                             name = os.path.relpath(source, ROOT)
                             look(name, made.stdout, file.read(), scratch)
                         pages += 1
+        printed(program, scratch)
     if pages == 0:
         complain("examples", "no page")
     sys.exit(1 if faults else 0)

@@ -6,8 +6,8 @@ usage: tools/report_colours.py
 It reads the colours of crates/vsi_report/src/page.rt, for light and for dark pages. Every two of the eight must be
 at least 0.09 apart in OKLab, as everybody sees them and as people see them who lack one of the three kinds of cones
 (the matrices of Machado, Oliveira and Fernandes, 2009, at full severity); each must have a contrast of at least 4.5 to
-its paper; and none may be red, orange or brown. It prints the least distances, and ends with status 1 if one is too
-small.
+the panel of the source and to the red one of a refusal; and none may be red, orange or brown. It prints the least
+distances, and ends with status 1 if one is too small.
 """
 
 import itertools
@@ -69,11 +69,11 @@ def distance(one, other, matrix):
     return math.dist(oklab(seen(one, matrix)), oklab(seen(other, matrix)))
 
 
-def judge(name, colours, paper):
+def judge(name, colours, papers):
     """Prints the least distance for each sight, and answers whether the colours are good."""
     good = True
     for number, colour in enumerate(colours):
-        if contrast(colour, paper) < CONTRAST or is_forbidden(colour):
+        if min(contrast(colour, paper) for paper in papers) < CONTRAST or is_forbidden(colour):
             print(f"{name}: colour {number} has too little contrast, or is red, orange or brown")
             good = False
     for sight, matrix in SIGHTS.items():
@@ -88,10 +88,10 @@ def main():
     with open(os.path.join(ROOT, "crates/vsi_report/src/page.rt"), encoding="utf-8") as file:
         text = file.read().replace("\\\n", "")
     colours = [linear(c) for c in re.findall(r"--k\d:(#[0-9a-f]{6})", text)]
-    papers = [linear(c) for c in re.findall(r"--panel:(#[0-9a-f]{6})", text)]
-    good = len(colours) == 16 and len(papers) == 2
-    good = judge("light", colours[:8], papers[0]) and good
-    good = judge("dark", colours[8:16], papers[1]) and good
+    papers = [linear(c) for c in re.findall(r"--(?:panel|badp):(#[0-9a-f]{6})", text)]
+    good = len(colours) == 16 and len(papers) == 4
+    good = judge("light", colours[:8], papers[:2]) and good
+    good = judge("dark", colours[8:16], papers[2:]) and good
     sys.exit(0 if good else 1)
 
 

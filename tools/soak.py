@@ -79,7 +79,7 @@ MESSAGES = rb"(?:Content-Length: \d+\r\n\r\n\{.*\})*"
 # The notes of an answer on standard error at status 0, or 1 for `lsp`, and refusals that no number has.
 BUDGET = re.compile(rb"(?:" + NO_BOUND + rb"|budget below the bound: \d+ of \d+ instructions\n)?")
 NOTES = {"drive": BUDGET, "compare": BUDGET,
-         "policy": re.compile(rb"(?:warning: .*\n)*"), "lsp": re.compile(rb"(?:[ -~]+\n){0,2}")}
+         "policy": re.compile(rb"(?:warning: .*\n)*"), "lsp": re.compile(rb"(?:[ -~]+\n){0,3}")}
 UNNUMBERED = {"drive": BUDGET, "compare": BUDGET, "emit-c": re.compile(NO_BOUND), "lsp": NOTES["lsp"]}
 TRACE = rb"(?:\d+: [A-Z]+(?: -?\d+)? \|(?: -?\d+)*\n)*"
 DONE = {command: re.compile(form) for command, form in {

@@ -70,6 +70,9 @@ cut_some false = omega arith
 json_silent : (asked : Request) → answers_json asked ≡ true → 1 < cut_from asked
 json_silent (request.Try attempt) json = omega arith
 json_silent (request.Check asked) json = omega arith
+json_silent (request.Survey asked) json = omega arith
+json_silent (request.Project asked) json = omega arith
+json_silent (request.New folder) json = omega arith
 json_silent (request.Document asked) json = cut_some (document_spends asked)
 json_silent (request.Conform asked) json = omega arith
 json_silent (request.Classes c) json = omega arith
@@ -148,6 +151,9 @@ pub told_state : (asked : Request) (holds : Holding) (given : Option (List ℕ))
     TellsRefusal (has_line (answers_json asked) first) first mid new failure → KeepsState holds given asked left old new
 told_state (request.Try attempt) holds given left old mid new first failure so told = so
 told_state (request.Check asked) holds given left old mid new first failure so told = so
+told_state (request.Survey asked) holds given left old mid new first failure so told = so
+told_state (request.Project asked) holds given left old mid new first failure so told = so
+told_state (request.New folder) holds given left old mid new first failure so told = so
 told_state (request.Document asked) holds given left old mid new first failure so told = so
 told_state (request.Conform asked) holds given left old mid new first failure so told = so
 told_state (request.Classes c) holds given left old mid new first failure so told = so

@@ -108,6 +108,10 @@ before_document (document.Bound bounding) holds first told note so = so
 before_document (document.Run execution initial_store) holds first told note so = so
 before_document (document.Compare comparison) holds first told note so = so
 before_document (document.Leak sought) holds first told note so = so
+before_document (document.List image) holds first told note so = so
+before_document (document.Policy looking) holds first told note so = so
+before_document (document.Visible visibility) holds first told note so = so
+before_document (document.Layout source) holds first told note so = so
 
 -- A request that answers with JSON has the same lines before every failure.
 before_json : (asked : Request) (holds : Holding) (first told : Failure) (note : List ℕ) →
@@ -115,6 +119,9 @@ before_json : (asked : Request) (holds : Holding) (first told : Failure) (note :
     IsNoteBefore holds (noting asked) told note
 before_json (request.Try attempt) holds first told note json so = so
 before_json (request.Check asked) holds first told note json so = so
+before_json (request.Survey asked) holds first told note json so = so
+before_json (request.Project asked) holds first told note json so = so
+before_json (request.New folder) holds first told note json so = so
 before_json (request.Document asked) holds first told note json so = before_document asked holds first told note so
 before_json (request.Conform asked) holds first told note json so = so
 before_json (request.Classes c) holds first told note json so = so

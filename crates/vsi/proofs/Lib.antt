@@ -6,3 +6,4 @@ pub mod Once
 pub mod Left
 pub mod Faulted
 pub mod Hushed
+pub mod Lines

@@ -10,9 +10,11 @@ use Rattle.vsi_arguments.specs.declared.request.Execution.{Execution}
 use Rattle.vsi_arguments.specs.declared.request.InitialStore.{InitialStore}
 use Rattle.vsi_arguments.specs.declared.request.Request.{Request}
 use Rattle.vsi_arguments.specs.declared.request.Viewing.{Viewing}
+use Rattle.vsi_arguments.specs.declared.request.Document.{Document as Answered}
 use Rattle.vsi_arguments.specs.declared.request.Document.TheVariants as document
-use Rattle.vsi_arguments.specs.declared.request.Request.TheVariants.{Build, Document, Drive, Explain, Layout, Mend, Monitor, View, ViewWithin}
+use Rattle.vsi_arguments.specs.declared.request.Request.TheVariants.{Build, Document, View, ViewWithin}
 use Rattle.vsi_arguments.specs.Asked.{AsksFor, Spells, given, interface_of, is_bounding, lists_of, name_of}
+use Rattle.vsi_arguments.proofs.Plain.{is_named}
 use Rattle.vsi_arguments.specs.Words.{has_flag, operands_in, shown, texts, values_in}
 
 -- The arguments after the same first one are the same.
@@ -27,6 +29,23 @@ other_name words name other xs ys first second apart same =
     let names : other ≡ name = cc in
     let turned : true ≡ false = sym same ∙ subst (λ n. bytes_eq name n ≡ false) names apart in
     absurd cc
+
+-- No request for a document has the name of `build` or of `view`.
+apart_documents : (asked : Answered) → (bytes_eq (codes "build") (name_of (Document asked)) ≡ false)
+    × (bytes_eq (codes "view") (name_of (Document asked)) ≡ false)
+apart_documents (document.Sarif judging) = (refl, refl)
+apart_documents (document.Classes compilation) = (refl, refl)
+apart_documents (document.Flows compilation) = (refl, refl)
+apart_documents (document.Audit audit) = (refl, refl)
+apart_documents (document.AuditSarif audit) = (refl, refl)
+apart_documents (document.Bound bounding) = (refl, refl)
+apart_documents (document.Run execution initial_store) = (refl, refl)
+apart_documents (document.Compare comparison) = (refl, refl)
+apart_documents (document.Leak search) = (refl, refl)
+apart_documents (document.List image) = (refl, refl)
+apart_documents (document.Policy looking) = (refl, refl)
+apart_documents (document.Visible visibility) = (refl, refl)
+apart_documents (document.Layout source) = (refl, refl)
 
 -- The paths and the profile of two builds.
 pub record SameBuild (c d : Compilation) (i j : Bor (List ℕ)) : Type 0 where
@@ -67,54 +86,14 @@ pub one_build : (words : List (String Global)) (c : Compilation) (i : Bor (List 
     (request : Request) → AsksFor words request → OneBuild c i request
 one_build words c i asks (Build d j) asked =
     record { compilation = d; image = j; is = refl; same = same_build words c d i j asks.spelled asked.spelled }
-one_build words c i asks (Document (document.Sarif judging)) asked =
-    absurd (other_name (texts words) (codes "build") (codes "check") asks.spelled.rest asked.spelled.rest
-    asks.spelled.named asked.spelled.named refl refl)
-one_build words c i asks (Document (document.Classes compilation)) asked =
-    absurd (other_name (texts words) (codes "build") (codes "classes") asks.spelled.rest asked.spelled.rest
-    asks.spelled.named asked.spelled.named refl refl)
-one_build words c i asks (Document (document.Flows compilation)) asked =
-    absurd (other_name (texts words) (codes "build") (codes "flows") asks.spelled.rest asked.spelled.rest
-    asks.spelled.named asked.spelled.named refl refl)
-one_build words c i asks (Document (document.Audit audit)) asked =
-    absurd (other_name (texts words) (codes "build") (codes "audit") asks.spelled.rest asked.spelled.rest
-    asks.spelled.named asked.spelled.named refl refl)
-one_build words c i asks (Document (document.AuditSarif audit)) asked =
-    absurd (other_name (texts words) (codes "build") (codes "audit") asks.spelled.rest asked.spelled.rest
-    asks.spelled.named asked.spelled.named refl refl)
-one_build words c i asks (Document (document.Bound bounding)) asked =
-    absurd (other_name (texts words) (codes "build") (codes "bound") asks.spelled.rest asked.spelled.rest
-    asks.spelled.named asked.spelled.named refl refl)
-one_build words c i asks (Document (document.Run execution initial_store)) asked =
-    absurd (other_name (texts words) (codes "build") (codes "run") asks.spelled.rest asked.spelled.rest
-    asks.spelled.named asked.spelled.named refl refl)
-one_build words c i asks (Document (document.Compare comparison)) asked =
-    absurd (other_name (texts words) (codes "build") (codes "compare") asks.spelled.rest asked.spelled.rest
-    asks.spelled.named asked.spelled.named refl refl)
-one_build words c i asks (Document (document.Leak search)) asked =
-    absurd (other_name (texts words) (codes "build") (codes "leak") asks.spelled.rest asked.spelled.rest
-    asks.spelled.named asked.spelled.named refl refl)
-one_build words c i asks (Explain page) asked =
-    absurd (other_name (texts words) (codes "build") (codes "explain") asks.spelled.rest asked.spelled.asks.rest
-    asks.spelled.named asked.spelled.asks.named refl refl)
-one_build words c i asks (Layout laid) asked =
-    absurd (other_name (texts words) (codes "build") (codes "fmt") asks.spelled.rest asked.spelled.asks.rest
-    asks.spelled.named asked.spelled.asks.named refl refl)
-one_build words c i asks (ViewWithin viewing) asked =
-    absurd (other_name (texts words) (codes "build") (codes "view") asks.spelled.rest asked.spelled.asks.rest
-    asks.spelled.named asked.spelled.asks.named refl refl)
-one_build words c i asks (Mend mending) asked =
-    absurd (other_name (texts words) (codes "build") (codes "mend") asks.spelled.rest asked.spelled.asks.rest
-    asks.spelled.named asked.spelled.asks.named refl refl)
-one_build words c i asks (Drive driving) asked =
-    absurd (other_name (texts words) (codes "build") (codes "drive") asks.spelled.rest asked.spelled.asks.rest
-    asks.spelled.named asked.spelled.asks.named refl refl)
-one_build words c i asks (Monitor stepping rule is_json) asked =
-    absurd (other_name (texts words) (codes "build") (codes "monitor") asks.spelled.rest asked.spelled.asks.rest
-    asks.spelled.named asked.spelled.asks.named refl refl)
+one_build words c i asks (Document found) asked =
+    let named = is_named words (Document found) asked.spelled in
+    absurd (other_name (texts words) (codes "build") (name_of (Document found)) asks.spelled.rest named.0
+    asks.spelled.named named.1 (apart_documents found).0 refl)
 one_build words c i asks request asked =
-    absurd (other_name (texts words) (codes "build") (name_of request) asks.spelled.rest asked.spelled.rest
-    asks.spelled.named asked.spelled.named refl refl)
+    let named = is_named words request asked.spelled in
+    absurd (other_name (texts words) (codes "build") (name_of request) asks.spelled.rest named.0 asks.spelled.named
+    named.1 refl refl)
 
 -- The paths, the class and the settings of two views.
 pub record SameView (l m x y : Bor (List ℕ)) (e f : Execution) (o p : InitialStore) : Type 0 where
@@ -199,50 +178,13 @@ one_view words l x e o asks (View m y f p) asked =
       is = refl;
       same = same_view words l m x y e f o p asks.spelled asked.spelled;
     }
-one_view words l x e o asks (Document (document.Sarif judging)) asked =
-    absurd (other_name (texts words) (codes "view") (codes "check") asks.spelled.rest asked.spelled.rest
-    asks.spelled.named asked.spelled.named refl refl)
-one_view words l x e o asks (Document (document.Classes compilation)) asked =
-    absurd (other_name (texts words) (codes "view") (codes "classes") asks.spelled.rest asked.spelled.rest
-    asks.spelled.named asked.spelled.named refl refl)
-one_view words l x e o asks (Document (document.Flows compilation)) asked =
-    absurd (other_name (texts words) (codes "view") (codes "flows") asks.spelled.rest asked.spelled.rest
-    asks.spelled.named asked.spelled.named refl refl)
-one_view words l x e o asks (Document (document.Audit audit)) asked =
-    absurd (other_name (texts words) (codes "view") (codes "audit") asks.spelled.rest asked.spelled.rest
-    asks.spelled.named asked.spelled.named refl refl)
-one_view words l x e o asks (Document (document.AuditSarif audit)) asked =
-    absurd (other_name (texts words) (codes "view") (codes "audit") asks.spelled.rest asked.spelled.rest
-    asks.spelled.named asked.spelled.named refl refl)
-one_view words l x e o asks (Document (document.Bound bounding)) asked =
-    absurd (other_name (texts words) (codes "view") (codes "bound") asks.spelled.rest asked.spelled.rest
-    asks.spelled.named asked.spelled.named refl refl)
-one_view words l x e o asks (Document (document.Run execution initial_store)) asked =
-    absurd (other_name (texts words) (codes "view") (codes "run") asks.spelled.rest asked.spelled.rest
-    asks.spelled.named asked.spelled.named refl refl)
-one_view words l x e o asks (Document (document.Compare comparison)) asked =
-    absurd (other_name (texts words) (codes "view") (codes "compare") asks.spelled.rest asked.spelled.rest
-    asks.spelled.named asked.spelled.named refl refl)
-one_view words l x e o asks (Document (document.Leak search)) asked =
-    absurd (other_name (texts words) (codes "view") (codes "leak") asks.spelled.rest asked.spelled.rest
-    asks.spelled.named asked.spelled.named refl refl)
-one_view words l x e o asks (Explain page) asked =
-    absurd (other_name (texts words) (codes "view") (codes "explain") asks.spelled.rest asked.spelled.asks.rest
-    asks.spelled.named asked.spelled.asks.named refl refl)
-one_view words l x e o asks (Layout laid) asked =
-    absurd (other_name (texts words) (codes "view") (codes "fmt") asks.spelled.rest asked.spelled.asks.rest
-    asks.spelled.named asked.spelled.asks.named refl refl)
 one_view words l x e o asks (ViewWithin viewing) asked =
     absurd (apart_lists words l x e o viewing asks.spelled asked.spelled)
-one_view words l x e o asks (Mend mending) asked =
-    absurd (other_name (texts words) (codes "view") (codes "mend") asks.spelled.rest asked.spelled.asks.rest
-    asks.spelled.named asked.spelled.asks.named refl refl)
-one_view words l x e o asks (Drive driving) asked =
-    absurd (other_name (texts words) (codes "view") (codes "drive") asks.spelled.rest asked.spelled.asks.rest
-    asks.spelled.named asked.spelled.asks.named refl refl)
-one_view words l x e o asks (Monitor stepping rule is_json) asked =
-    absurd (other_name (texts words) (codes "view") (codes "monitor") asks.spelled.rest asked.spelled.asks.rest
-    asks.spelled.named asked.spelled.asks.named refl refl)
+one_view words l x e o asks (Document found) asked =
+    let named = is_named words (Document found) asked.spelled in
+    absurd (other_name (texts words) (codes "view") (name_of (Document found)) asks.spelled.rest named.0
+    asks.spelled.named named.1 (apart_documents found).1 refl)
 one_view words l x e o asks request asked =
-    absurd (other_name (texts words) (codes "view") (name_of request) asks.spelled.rest asked.spelled.rest
-    asks.spelled.named asked.spelled.named refl refl)
+    let named = is_named words request asked.spelled in
+    absurd (other_name (texts words) (codes "view") (name_of request) asks.spelled.rest named.0 asks.spelled.named
+    named.1 refl refl)

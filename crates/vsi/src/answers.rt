@@ -12,17 +12,20 @@ use vsi_documents::Reply;
 use vsi_drive::Counted;
 use vsi_lattice::Lattice;
 use vsi_requests::{
-    audit, audit_document, bound, built, check, checked_sarif, classes, classes_line, conform,
-    draw, emit, flows_line, format, lattice, leak, leak_line, list, mend, policy, report, source,
-    visible,
+    audit, audit_document, bound, built, check, checked_sarif, classes, classes_line, compare,
+    compare_steps, conform, draw, emit, flows_line, format, lattice, layout_line, leak, leak_line,
+    list, list_line, mend, monitor, policy, project, report, run_line, source, steps, survey,
+    try_source, view, view_within, visible,
 };
-use vsi_runs::{compare, compare_steps, monitor, run_line, steps, try_source, view, view_within};
 use vsi_subject::{
     Failure, Fallible, Files, InputCache, Place, Subject, deliver, fill, good, write,
 };
 
-/// The document that answers a request. The note gets a line if the budget of a comparison
-/// isn't enough and is taken all the same.
+/// The message for a request that isn't carried out here.
+const APART: &str = "error: only the program itself carries this out\n";
+
+/// The document that answers a request. The note gets a line if the budget of a comparison isn't
+/// enough and is taken all the same, and the warnings about a lattice or an interface.
 fn document<'a, F: Files>(
     subject: &Subject<'_, F>,
     asked: Document<'a>,
@@ -51,6 +54,10 @@ fn document<'a, F: Files>(
         } => run_line(subject, execution, &initial_store),
         Document::Compare(comparison) => compare(subject, comparison, true, note),
         Document::Leak(search) => leak_line(subject, search),
+        Document::List(image) => good(list_line(subject, image)),
+        Document::Policy(looking) => policy(subject, looking, true, note),
+        Document::Visible(visibility) => visible(subject, visibility, true, note),
+        Document::Layout(source) => layout_line(subject, source),
     }
 }
 
@@ -108,6 +115,8 @@ fn place_of<'a>(asked: &Request<'a>) -> Place<'a>
         Request::Build(_, image) => Place::Image(*image),
         Request::View { initial_store, .. } => Place::Out(initial_store.out),
         Request::ViewWithin(asked) => Place::Out(asked.initial_store.out),
+        Request::EmitC(asked) => Place::Out(asked.out),
+        Request::Report(page) => Place::Out(page.out),
         _ => Place::Out(None),
     }
 }
@@ -119,6 +128,16 @@ fn copied<'a>(alloc: Global, page: &str) -> Fallible<'a, Vec<u8>>
 {
     let text = Vec::from_slice(alloc, page.as_bytes())?;
     Ok(text)
+}
+
+/// The failure of a request that isn't carried out here.
+fn apart<'a>(alloc: Global) -> Failure<'a>
+    ensures { FailsBy (λ reason. ⊥) NoOther result }
+{
+    match String::from_str(alloc, APART) {
+        Ok(text) => Failure::Usage(text),
+        Err(_) => Failure::Memory,
+    }
 }
 
 /// The answer of a request. The note gets the lines about it.
@@ -138,6 +157,7 @@ fn answer<'a, F: Files>(
     match request {
         Request::Try(attempt) => good(try_source(subject, &attempt)),
         Request::Check(asked) => check(subject, asked, note),
+        Request::Survey(asked) => survey(subject, &asked),
         Request::Document(asked) => document(subject, asked, note),
         Request::Conform(asked) => conform(subject, asked, note),
         Request::Classes(compilation) => good(classes(subject, compilation)),
@@ -167,13 +187,16 @@ fn answer<'a, F: Files>(
             is_json,
         } => monitor(subject, &stepping, rule, is_json),
         Request::Leak(search) => good(leak(subject, search)),
-        Request::Report(compilation) => good(report(subject, compilation)),
+        Request::Report(page) => good(report(subject, page.compilation)),
         Request::Draw(drawing) => good(draw(subject, drawing)),
-        Request::Policy(looking) => good(policy(subject, looking, note)),
-        Request::Visible(visibility) => good(visible(subject, visibility, note)),
+        Request::Policy(looking) => policy(subject, looking, false, note),
+        Request::Visible(visibility) => visible(subject, visibility, false, note),
         Request::Format(source) => good(format(subject, source)),
         Request::Lattice(arguments) => good(lattice(subject.alloc, arguments.as_slice())),
         Request::Explain(page) => good(copied(subject.alloc, page)),
+        // The program makes a project before a request is carried out.
+        Request::New(_) => Err(apart(subject.alloc)),
+        Request::Project(asked) => project(subject, asked),
         // These write while they work.
         Request::Flows { .. } => Err(Failure::Memory),
         Request::Run { .. } => Err(Failure::Memory),

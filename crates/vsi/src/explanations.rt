@@ -1,14 +1,16 @@
 //! Explanations of failures, made from the files that were read, and why a file can't be used.
 
-ghost use Rattle.std.specs.Prelude.{◌≡◌, ◌⊎◌, Contains, IfOk, IfSome};
+ghost use Rattle.std.specs.Prelude.{◌≡◌, ◌⊎◌, ◌≤◌, Contains, IfOk, IfSome, false};
+ghost use Rattle.vsi_syntax.specs.Lines.{breaks};
 ghost use Rattle.vsi_subject.specs.Objections.{MayObject, OBJECTIONS, objection_line};
 ghost use Rattle.vsi_subject.specs.Objections as spec;
 
+use crate::advice::{Refusal, advice};
 use crate::refusals::cause_diagnostic;
+use crate::shortening::{Explained, shortened};
 use std::alloc::{AllocError, Global};
-use vsi_advice::advice;
-use vsi_answers::{Cause, Diagnostic, Fault};
-use vsi_arguments::{Colour, Document, Request};
+use vsi_answers::{Cause, Fault};
+use vsi_arguments::{Colour, Manner};
 use vsi_compiler::{CompileError, read_source};
 use vsi_conform::{
     InterfaceError, Judgement, Policy, audit_diagnostic, flows_profile, judged, read_interface,
@@ -21,7 +23,6 @@ use vsi_steady::{SteadyError, UnsteadyError};
 use vsi_subject::{
     Failure, Files, InputKind, Inputs, Kept, STREAM, TWO_CLASSES, profile, source_of,
 };
-use vsi_syntax::put_number;
 use vsi_telling::{ColourMode, Reason, class_list, explanation, flows_explanation, put_safe};
 use vsi_types::Profile;
 
@@ -44,38 +45,27 @@ have the least class. Compute both results and select one by arithmetic, as in
 `out := g * a + (1 - g) * b` for a guard g that is 0 or 1.
 ";
 
-/// The settings of an explanation: its colours, and the profile that judges a source text.
+/// The settings of an explanation: its colours, the profile that judges a source text, and whether
+/// all lines are requested.
 #[derive(Clone, Copy)]
 pub(crate) struct Explaining {
     pub(crate) mode: ColourMode,
     pub(crate) profile: Profile,
+    pub(crate) is_whole: bool,
 }
 
 impl Explaining {
-    /// The settings for explaining a request's refusal.
-    pub(crate) fn new<F: Files>(request: &Request<'_>, colour: Colour, files: &F) -> Self {
+    /// The settings for explaining the refusal of a request that is carried out in this manner.
+    pub(crate) fn new<F: Files>(manner: Manner, colour: Colour, files: &F) -> Self {
         let mode = match colour {
             Colour::Never => ColourMode::Plain,
             Colour::Auto if !files.wants_colour() => ColourMode::Plain,
             Colour::Always | Colour::Auto => ColourMode::Coloured,
         };
-        let is_strict = match request {
-            Request::Check(asked) | Request::Document(Document::Sarif(asked)) => {
-                asked.compilation.is_strict || asked.is_steady
-            }
-            Request::Classes(compilation)
-            | Request::Document(Document::Classes(compilation))
-            | Request::Document(Document::Flows(compilation))
-            | Request::Build(compilation, _)
-            | Request::Report(compilation)
-            | Request::Flows { compilation, .. } => compilation.is_strict,
-            Request::Mend(asked) => asked.compilation.is_strict,
-            Request::Draw(drawing) => drawing.is_strict,
-            _ => false,
-        };
         Explaining {
             mode,
-            profile: profile(is_strict),
+            profile: profile(manner.is_strict),
+            is_whole: manner.is_whole,
         }
     }
 
@@ -86,8 +76,10 @@ impl Explaining {
         inputs: &Inputs,
         files: &F,
         failure: &Failure<'_>,
-    ) -> Result<Vec<u8>, AllocError> {
-        let mut lines = match failure {
+    ) -> Explained
+        ensures short { self.is_whole ≡ false → IfOk result (λ text. breaks text.items ≤ 40) }
+    {
+        let lines = match failure {
             Failure::Refused(_, Some(cause)) => self.of_cause(inputs, cause)?,
             Failure::Interface(_, error) => self.of_interface(inputs, error)?,
             Failure::Audit(_, _) | Failure::Unsteady(_, _) => self.of_audit(inputs, failure)?,
@@ -109,25 +101,19 @@ impl Explaining {
             Failure::Unsteady(_, error) => steady_diagnostic(error),
             _ => None,
         };
-        if let Some(diagnostic) = diagnostic {
-            put_page(&mut lines, &diagnostic)?;
-        }
-        Ok(lines)
+        let code = diagnostic.map(|diagnostic| diagnostic.code);
+        shortened(inputs.alloc, &lines, code, self.is_whole)
     }
 
     /// The explanation of a source text that isn't accepted as its interface requires, with the
     /// page that says more. There is none if no text was read beside an interface, or if it is
     /// accepted.
-    fn of_difference(self, inputs: &Inputs) -> Result<Vec<u8>, AllocError> {
-        let (Some(kept), Some(asked)) = (
-            inputs.last(InputKind::Source),
-            inputs.last(InputKind::Interface),
-        ) else {
+    fn of_difference(self, inputs: &Inputs) -> Explained {
+        let interface = inputs.last(InputKind::Interface);
+        let (Some(kept), Some(asked)) = (inputs.last(InputKind::Source), interface) else {
             return Ok(Vec::new(inputs.alloc));
         };
-        let asked = read_interface(inputs.alloc, &asked.bytes)
-            .ok()
-            .ok_or(AllocError)?;
+        let asked = read_interface(inputs.alloc, &asked.bytes).map_err(|_| AllocError)?;
         let lattice = policy(inputs).ok_or(AllocError)?;
         let judgement = asked.interface.judgement;
         let Err(error) = judged(inputs.alloc, judgement, &lattice, &kept.bytes)? else {
@@ -135,23 +121,21 @@ impl Explaining {
         };
         let is_flow = matches!(&error, UnsteadyError::Compile(CompileError::Flow(_)));
         let explaining = Explaining {
-            mode: self.mode,
             profile: flows_profile(judgement),
+            ..self
         };
         let cause = Cause::Steady(error);
-        let mut lines = if is_flow && !matches!(judgement, Judgement::Steady) {
+        let lines = if is_flow && !matches!(judgement, Judgement::Steady) {
             explaining.of_flow(inputs.alloc, &lattice, kept)?
         } else {
             explaining.of_cause(inputs, &cause)?
         };
-        if let Some(diagnostic) = cause_diagnostic(&kept.bytes, &cause) {
-            put_page(&mut lines, &diagnostic)?;
-        }
-        Ok(lines)
+        let code = cause_diagnostic(&kept.bytes, &cause).map(|diagnostic| diagnostic.code);
+        shortened(inputs.alloc, &lines, code, self.is_whole)
     }
 
     /// The explanation of a refusal with this cause.
-    fn of_cause(self, inputs: &Inputs, cause: &Cause) -> Result<Vec<u8>, AllocError> {
+    fn of_cause(self, inputs: &Inputs, cause: &Cause) -> Explained {
         match cause {
             Cause::Source(error) => self.of_source(inputs, error),
             Cause::Steady(UnsteadyError::Compile(CompileError::Flow(_))) => {
@@ -164,7 +148,8 @@ impl Explaining {
                     return Ok(Vec::new(inputs.alloc));
                 };
                 let image = read_image(inputs).ok_or(AllocError)?;
-                self.refusal_of(inputs.alloc, kept, Reason::Store(&image, error))
+                let reason = Reason::Store(&image, error);
+                explanation(inputs.alloc, self.mode, &kept.path, &kept.bytes, reason)
             }
             Cause::File(fault) => self.of_file(inputs, fault),
             Cause::Start(fault) => {
@@ -172,8 +157,8 @@ impl Explaining {
                     return Ok(Vec::new(inputs.alloc));
                 };
                 let image = read_image(inputs).ok_or(AllocError)?;
-                let reason = vsi_advice::Reason::Start(&image, *fault);
-                self.advice_on(inputs.alloc, kept, reason)
+                let reason = Refusal::Start(&image, *fault);
+                advice(inputs.alloc, self.mode, &kept.path, &kept.bytes, reason)
             }
             Cause::Raised(_) => Vec::from_slice(inputs.alloc, TOO_LONG),
             Cause::Steady(UnsteadyError::Memory) => Ok(Vec::new(inputs.alloc)),
@@ -181,7 +166,7 @@ impl Explaining {
     }
 
     /// The explanation of a refused source text.
-    fn of_source(self, inputs: &Inputs, error: &CompileError) -> Result<Vec<u8>, AllocError> {
+    fn of_source(self, inputs: &Inputs, error: &CompileError) -> Explained {
         let Some(kept) = inputs.last(InputKind::Source) else {
             return Ok(Vec::new(inputs.alloc));
         };
@@ -192,76 +177,49 @@ impl Explaining {
         if let CompileError::Flow(_) = error {
             return self.of_flow(inputs.alloc, &lattice, kept);
         }
-        self.refusal_of(inputs.alloc, kept, Reason::Source(&lattice, error))
-    }
-
-    /// The explanation of the refusal of a file.
-    fn refusal_of(
-        self,
-        alloc: Global,
-        kept: &Kept,
-        reason: Reason<'_>,
-    ) -> Result<Vec<u8>, AllocError> {
-        explanation(alloc, self.mode, &kept.path, &kept.bytes, reason)
-    }
-
-    /// The explanation of another refusal, with positions in a file.
-    fn advice_on(
-        self,
-        alloc: Global,
-        kept: &Kept,
-        reason: vsi_advice::Reason<'_>,
-    ) -> Result<Vec<u8>, AllocError> {
-        advice(alloc, self.mode, &kept.path, &kept.bytes, reason)
+        let reason = Reason::Source(&lattice, error);
+        explanation(inputs.alloc, self.mode, &kept.path, &kept.bytes, reason)
     }
 
     /// The explanation of a source text whose image isn't steady.
-    fn of_text_image(self, inputs: &Inputs, error: &SteadyError) -> Result<Vec<u8>, AllocError> {
+    fn of_text_image(self, inputs: &Inputs, error: &SteadyError) -> Explained {
         let Some(kept) = inputs.last(InputKind::Source) else {
             return Ok(Vec::new(inputs.alloc));
         };
         let lattice = policy(inputs).ok_or(AllocError)?;
-        let reason = vsi_advice::Reason::Text(&lattice, error);
-        self.advice_on(inputs.alloc, kept, reason)
+        let reason = Refusal::Text(&lattice, error);
+        advice(inputs.alloc, self.mode, &kept.path, &kept.bytes, reason)
     }
 
     /// The explanation of a source text that is refused for a flow, which is read once more.
-    fn of_flow(self, alloc: Global, lattice: &Lattice, kept: &Kept) -> Result<Vec<u8>, AllocError> {
-        let Ok(source) = read_source(alloc, lattice, &kept.bytes) else {
-            return Err(AllocError);
-        };
+    fn of_flow(self, alloc: Global, lattice: &Lattice, kept: &Kept) -> Explained {
+        let source = read_source(alloc, lattice, &kept.bytes).map_err(|_| AllocError)?;
         flows_explanation(alloc, self.mode, self.profile, &kept.path, &source)
     }
 
     /// The explanation of a refused lattice file or image.
-    fn of_file(self, inputs: &Inputs, fault: &Fault) -> Result<Vec<u8>, AllocError> {
+    fn of_file(self, inputs: &Inputs, fault: &Fault) -> Explained {
+        let interface = inputs.last(InputKind::Interface);
         let kept = match fault {
             // An interface that has its own classes counts as a lattice file.
-            Fault::Lattice(_) => {
-                inputs
-                    .last(InputKind::Lattice)
-                    .or(inputs.last(InputKind::Interface))
-            }
+            Fault::Lattice(_) => inputs.last(InputKind::Lattice).or(interface),
             Fault::Store(_) => inputs.last(InputKind::Store),
             Fault::Decode(_) | Fault::Verify(_) | Fault::View(_) => inputs.last(InputKind::Image),
         };
         let Some(kept) = kept else {
             return Ok(Vec::new(inputs.alloc));
         };
-        self.refusal_of(inputs.alloc, kept, Reason::File(fault))
+        let reason = Reason::File(fault);
+        explanation(inputs.alloc, self.mode, &kept.path, &kept.bytes, reason)
     }
 
     /// The explanation of a refused interface.
-    fn of_interface(self, inputs: &Inputs, error: &InterfaceError) -> Result<Vec<u8>, AllocError> {
+    fn of_interface(self, inputs: &Inputs, error: &InterfaceError) -> Explained {
         let Some(kept) = inputs.last(InputKind::Interface) else {
             return Ok(Vec::new(inputs.alloc));
         };
         let lattice = match inputs.last(InputKind::Lattice) {
-            Some(kept) => Some(
-                read_lattice(inputs.alloc, &kept.bytes)
-                    .ok()
-                    .ok_or(AllocError)?,
-            ),
+            Some(kept) => Some(read_lattice(inputs.alloc, &kept.bytes).map_err(|_| AllocError)?),
             None => None,
         };
         self.interface_advice(inputs.alloc, kept, lattice.as_ref(), error)
@@ -274,30 +232,23 @@ impl Explaining {
         kept: &'d Kept,
         lattice: Option<&'d Lattice>,
         error: &'d InterfaceError,
-    ) -> Result<Vec<u8>, AllocError> {
-        let reason = vsi_advice::Reason::Interface(lattice, error);
-        self.advice_on(alloc, kept, reason)
+    ) -> Explained {
+        let reason = Refusal::Interface(lattice, error);
+        advice(alloc, self.mode, &kept.path, &kept.bytes, reason)
     }
 
     /// The explanation of an image that an audit refuses.
-    fn of_audit(self, inputs: &Inputs, failure: &Failure<'_>) -> Result<Vec<u8>, AllocError> {
+    fn of_audit(self, inputs: &Inputs, failure: &Failure<'_>) -> Explained {
         let kept = inputs.last(InputKind::Image).ok_or(AllocError)?;
         let image = read_image(inputs).ok_or(AllocError)?;
         let lattice = policy(inputs).ok_or(AllocError)?;
         let reason = match failure {
-            Failure::Audit(_, error) => vsi_advice::Reason::Audit(&lattice, &image, error),
-            Failure::Unsteady(_, error) => vsi_advice::Reason::Steady(&lattice, &image, error),
+            Failure::Audit(_, error) => Refusal::Audit(&lattice, &image, error),
+            Failure::Unsteady(_, error) => Refusal::Steady(&lattice, &image, error),
             _ => return Ok(Vec::new(inputs.alloc)),
         };
         advice(inputs.alloc, self.mode, &kept.path, b"", reason)
     }
-}
-
-/// Adds the line that names the page of a refusal.
-fn put_page(lines: &mut Vec<u8>, diagnostic: &Diagnostic) -> Result<(), AllocError> {
-    lines.extend_from_slice(b"More: vsi explain ")?;
-    put_number(lines, diagnostic.code)?;
-    lines.extend_from_slice(b"\n")
 }
 
 /// The lattice that was read or that an interface has, or `L` below `H` if there is none.
@@ -308,16 +259,16 @@ fn policy(inputs: &Inputs) -> Option<Lattice> {
     let Some(kept) = inputs.last(InputKind::Interface) else {
         return read_lattice(inputs.alloc, TWO_CLASSES).ok();
     };
-    match read_interface(inputs.alloc, &kept.bytes) {
+    let asked = read_interface(inputs.alloc, &kept.bytes);
+    let text = match &asked {
+        Err(InterfaceError::Memory) => return None,
         Ok(asked) => match &asked.policy {
-            Policy::Tables(text) => read_lattice(inputs.alloc, text).ok(),
-            _ => read_lattice(inputs.alloc, TWO_CLASSES).ok(),
+            Policy::Tables(text) => text.as_slice(),
+            _ => TWO_CLASSES,
         },
-        Err(error) => match &error {
-            InterfaceError::Memory => None,
-            _ => read_lattice(inputs.alloc, TWO_CLASSES).ok(),
-        },
-    }
+        Err(_) => TWO_CLASSES,
+    };
+    read_lattice(inputs.alloc, text).ok()
 }
 
 /// The image that was read.
@@ -329,6 +280,7 @@ fn read_image(inputs: &Inputs) -> Option<Image> {
 /// The text that keeps a run from beginning: a setting, a list of names, the store file, or else
 /// the image.
 fn faulty_start<'d>(inputs: &'d Inputs, fault: StartFault) -> Option<&'d Kept> {
+    let image = inputs.last(InputKind::Image);
     match fault {
         StartFault::Setting(
             LineFault::BadSetting(number)
@@ -339,11 +291,7 @@ fn faulty_start<'d>(inputs: &'d Inputs, fault: StartFault) -> Option<&'d Kept> {
         ) => inputs.behind(InputKind::Setting, number),
         StartFault::Setting(LineFault::TooLong) => None,
         StartFault::Boundary(_) => inputs.last(InputKind::Names),
-        StartFault::Unnamed(_) => {
-            inputs
-                .last(InputKind::Store)
-                .or(inputs.last(InputKind::Image))
-        }
+        StartFault::Unnamed(_) => inputs.last(InputKind::Store).or(image),
     }
 }
 
@@ -352,18 +300,14 @@ const BROKEN: &str = "the file was changed or cut short: its first line isn't th
 rest. To use it all the same, delete that line.";
 
 /// The reason why a file can't be used.
-fn of_fault<F: Files>(inputs: &Inputs, files: &F, path: &str) -> Result<Vec<u8>, AllocError> {
+fn of_fault<F: Files>(inputs: &Inputs, files: &F, path: &str) -> Explained {
     if path == STREAM {
         return Vec::from_slice(
             inputs.alloc,
             b"A standard stream can't be read or written.\n",
         );
     }
-    let found = match objection_to(inputs, files) {
-        Some(sentence) => Some(sentence),
-        None => files.trouble(path),
-    };
-    if let Some(sentence) = found {
+    if let Some(sentence) = objection_to(inputs, files).or_else(|| files.trouble(path)) {
         return sentence_line(inputs.alloc, path, sentence);
     }
     let mut lines = Vec::new(inputs.alloc);
@@ -385,7 +329,7 @@ fn objection_to<F: Files>(inputs: &Inputs, files: &F) -> Option<&'static str>
 }
 
 /// The line with the path and a sentence about its file.
-fn sentence_line(alloc: Global, path: &str, sentence: &str) -> Result<Vec<u8>, AllocError>
+fn sentence_line(alloc: Global, path: &str, sentence: &str) -> Explained
     ensures { IfOk result (λ line. line.items ≡ objection_line path.now sentence.now) }
 {
     let mut line = Vec::new(alloc);
@@ -397,11 +341,7 @@ fn sentence_line(alloc: Global, path: &str, sentence: &str) -> Result<Vec<u8>, A
 }
 
 /// The line about such a file, if it is the reason for the failure.
-pub(crate) fn objection<F: Files>(
-    inputs: &Inputs,
-    files: &F,
-    failure: &Failure<'_>,
-) -> Result<Vec<u8>, AllocError>
+pub(crate) fn objection<F: Files>(inputs: &Inputs, files: &F, failure: &Failure<'_>) -> Explained
     ensures { IfOk result (λ line. MayObject failure.now line.items) }
 {
     let Failure::FileFault(path) = failure else {

@@ -9,19 +9,21 @@
 //!
 //! To be believed: `specs/Laws`, and these files of `vsi_subject/specs`: `Words`, `Holding`,
 //! `Loading`, `Driven`, `State`, `Tried`, `Shaping`, `Seeing`, `Laying`, `Raises`, `Documents`,
-//! `Admitted`, `Served`, `Files`, `Interfaces`, `Filed`, `Visible`, `Boundaries`, `Steering`,
-//! `Feeding`, `Viewing`, `Performed`, `Refusals`, `Undriven`, `Reasons`, `Partly`, `FaultyFiles`,
-//! `Diagnosing`, `Done`, `Screen`, `Objections`, `Works`, `Input`, `Failures` but `FailsFor`,
-//! `Noted` but `Notes` and `NotesAnswer`, and the second part of `Saved`. Its first part and
-//! `Walked` are lemmas of the proofs.
+//! `Admitted`, `Served`, `Files`, `Interfaces`, `Surveys`, `Projects`, `Filed`, `Visible`,
+//! `Boundaries`, `Steering`, `Feeding`, `Viewing`, `Performed`, `Refusals`, `Undriven`, `Reasons`,
+//! `Partly`, `FaultyFiles`, `Diagnosing`, `Done`, `Screen`, `Objections`, `Works`, `Input`,
+//! `Failures` but `FailsFor`, `Noted` but `Notes` and `NotesAnswer`, and the second part of
+//! `Saved`. Its first part and `Walked` are lemmas of the proofs.
 #![tactic(auto)]
 
+mod advice;
 mod answers;
 mod command_line;
 mod explanations;
 pub mod laws;
 mod refusals;
 mod requests;
+mod shortening;
 
 pub use command_line::command;
 pub use vsi_answers::{Fault, Field, fault_text, refusal_text};

@@ -61,6 +61,16 @@ pub(crate) fn cause_diagnostic<'s>(source: &[u8], cause: &'s Cause) -> Option<Di
     }
 }
 
+/// Whether an answer is written as a line of JSON.
+fn is_json(form: AnswerForm) -> bool
+    ensures { result ≡ faulty_spec.is_json form }
+{
+    match form {
+        AnswerForm::Json => true,
+        AnswerForm::Lines | AnswerForm::Sarif => false,
+    }
+}
+
 /// Whether a request answers with a line of JSON.
 pub(crate) fn answers_json(request: &Request<'_>) -> bool
     ensures { result ≡ faulty_spec.answers_json request.now }
@@ -70,10 +80,9 @@ pub(crate) fn answers_json(request: &Request<'_>) -> bool
         Request::Document(Document::Sarif(_)) => false,
         Request::Document(Document::AuditSarif(_)) => false,
         Request::Document(_) => true,
-        Request::Conform(asked) => match asked.form {
-            AnswerForm::Json => true,
-            AnswerForm::Lines | AnswerForm::Sarif => false,
-        },
+        Request::Conform(asked) => is_json(asked.form),
+        Request::Survey(asked) => is_json(asked.form),
+        Request::Project(asked) => is_json(asked.form),
         Request::Mend(asked) => asked.is_json,
         Request::Steps { is_json, .. }
         | Request::Monitor { is_json, .. }

@@ -14,8 +14,7 @@ use std::alloc::Global;
 use std::io::{Read, Write};
 use vsi_arguments::{ArgumentsError, Manner, Reporting, Request, asks_help, manner_of, request_of};
 use vsi_drive::Counted;
-use vsi_requests::{lay_out, put_flows};
-use vsi_runs::{Running, drive, run, serve};
+use vsi_requests::{Running, drive, lay_out, put_flows, run, serve};
 use vsi_subject::{Failure, Fallible, Files, InputCache, Inputs, Subject, write};
 
 /// The message if the arguments spell no request, or don't ask for the help that the parser has.
@@ -51,9 +50,12 @@ pub(crate) fn carry_out<'a, F: Files, R: Read, W: Write>(
         (R.remaining (device_of input.old)) words.now
         (W.contents (device_of output.old)) (W.contents (device_of output.new))) }
 {
-    let manner = match manner_of(alloc, words) {
-        Ok(manner) => manner,
-        Err(error) => return answer_arguments(alloc, words, error, output),
+    let manner = match files.manner() {
+        Some(manner) => manner,
+        None => match manner_of(alloc, words) {
+            Ok(manner) => manner,
+            Err(error) => return answer_arguments(alloc, words, error, output),
+        },
     };
     let Ok(asked) = request_of(alloc, words) else {
         return answer_arguments(alloc, words, ArgumentsError::Memory, output);
@@ -148,7 +150,7 @@ fn explaining_of<F: Files>(asking: &Asking<'_>, files: &F) -> Option<Explaining>
 {
     match asking.manner.reporting {
         Reporting::Explained(colour) if asking.explains => {
-            Some(Explaining::new(&asking.request, colour, files))
+            Some(Explaining::new(asking.manner, colour, files))
         }
         _ => None,
     }

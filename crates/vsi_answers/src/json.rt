@@ -17,7 +17,11 @@ use vsi_types::Step;
 
 /// The objects of the steps of a walk, in their order, by the names of the program of a source
 /// text: the position where the source of a step is read, its rule, and the names of both ends.
-fn source_objects(alloc: Global, source: &Source<'_>, steps: &[Step]) -> Result<Objects, AllocError>
+pub fn source_objects(
+    alloc: Global,
+    source: &Source<'_>,
+    steps: &[Step],
+) -> Result<Objects, AllocError>
     ensures { IfOk result (λ found.
         spec.NamesWalk source.now.lattice source.now.text steps.now (map view found)) }
 {

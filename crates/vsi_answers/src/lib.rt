@@ -39,7 +39,9 @@ pub use bounds::{
     list, run, run_source, start_words, view,
 };
 pub use diagnostic::{Diagnostic, Fault, Field, fault_diagnostic, line_text, refusal_diagnostic};
-pub use json::{accepted_json, refusal_json, refusal_json_of, refusal_object, without_end};
+pub use json::{
+    accepted_json, refusal_json, refusal_json_of, refusal_object, source_objects, without_end,
+};
 pub use lines::{fault_text, refusal_text, refusal_text_of};
 pub use loops::unchanged_guards;
 pub use object::{Object, Objects};

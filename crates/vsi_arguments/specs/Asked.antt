@@ -26,11 +26,16 @@ use Rattle.vsi_arguments.specs.declared.request.InitialStore.{InitialStore}
 use Rattle.vsi_arguments.specs.declared.request.Search.{Search}
 use Rattle.vsi_arguments.specs.declared.request.StepComparison.{StepComparison}
 use Rattle.vsi_arguments.specs.declared.request.Stepping.{Stepping}
+use Rattle.vsi_arguments.specs.declared.request.Survey.{Survey}
 use Rattle.vsi_arguments.specs.declared.request.Viewing.{Viewing}
+use Rattle.vsi_arguments.specs.declared.request.Visibility.{Visibility}
+use Rattle.vsi_arguments.specs.declared.request.Looking.{Looking}
 use Rattle.vsi_arguments.specs.declared.request.AnswerForm.{AnswerForm}
 use Rattle.vsi_arguments.specs.declared.request.AnswerForm.TheVariants.{Lines, Json, Sarif}
+use Rattle.vsi_arguments.specs.declared.request.Page.{Page}
+use Rattle.vsi_arguments.specs.declared.request.Projecting.{Projecting}
 use Rattle.vsi_arguments.specs.declared.request.Request.{Request}
-use Rattle.vsi_arguments.specs.declared.request.Request.TheVariants.{Try, Lsp, Check, Document as Documented, Conform, Classes, Flows, Mend, Build, List as Listing, Audit, Source, EmitC, Bound, Run, View, ViewWithin, Drive, Compare, CompareSteps, Steps, Monitor, Leak, Report, Draw, Policy, Visible, Format, Layout, Lattice as Shaped, Explain}
+use Rattle.vsi_arguments.specs.declared.request.Request.TheVariants.{Try, Lsp, Check, Survey as Surveyed, Project, New, Document as Documented, Conform, Classes, Flows, Mend, Build, List as Listing, Audit, Source, EmitC, Bound, Run, View, ViewWithin, Drive, Compare, CompareSteps, Steps, Monitor, Leak, Report, Draw, Policy, Visible, Format, Layout, Lattice as Shaped, Explain}
 use Rattle.vsi_arguments.specs.declared.request.TheConstants.{EVERY, RUNS_BUDGET, SEARCH, STEPS, TRY_BUDGET}
 use Rattle.vsi_arguments.specs.Numbers.{GivesBudget, number_in}
 use Rattle.vsi_arguments.specs.Pages.{page_of}
@@ -48,11 +53,18 @@ document_name (document.Bound bounding) = codes "bound"
 document_name (document.Run execution initial_store) = codes "run"
 document_name (document.Compare comparison) = codes "compare"
 document_name (document.Leak search) = codes "leak"
+document_name (document.List image) = codes "list"
+document_name (document.Policy looking) = codes "policy"
+document_name (document.Visible visibility) = codes "policy"
+document_name (document.Layout source) = codes "fmt"
 
 -- The name of the request's subcommand.
 abbrev pub name_of : Request → List ℕ
 name_of (Try attempt) = codes "try"
 name_of (Check judging) = codes "check"
+name_of (Surveyed survey) = codes "check"
+name_of (Project projecting) = codes "check"
+name_of (New folder) = codes "new"
 name_of (Documented asked) = document_name asked
 name_of (Conform conformance) = codes "conform"
 name_of (Classes compilation) = codes "classes"
@@ -73,7 +85,7 @@ name_of (CompareSteps comparison is_json) = codes "compare"
 name_of (Steps stepping is_json) = codes "steps"
 name_of (Monitor stepping rule is_json) = codes "monitor"
 name_of (Leak search) = codes "leak"
-name_of (Report compilation) = codes "report"
+name_of (Report page) = codes "report"
 name_of (Draw drawing) = codes "draw"
 name_of (Policy looking) = codes "policy"
 name_of (Visible visibility) = codes "policy"
@@ -106,6 +118,10 @@ lists_of (policy.Interface path) = record { inputs = None; outputs = None; relea
 abbrev pub compiled : Compilation → List (List ℕ)
 compiled compilation = compilation.lattice.now ∷ compilation.source.now ∷ []
 
+-- The lattice file and the source texts of a survey.
+abbrev pub surveyed : Survey → List (List ℕ)
+surveyed survey = survey.lattice.now ∷ shown survey.sources.items
+
 -- The lattice file and the image of an audit.
 abbrev pub audited : Auditing → List (List ℕ)
 audited audit = audit.lattice.now ∷ audit.image.now ∷ []
@@ -126,6 +142,10 @@ leaking search = search.lattice.now ∷ search.source.now ∷ []
 abbrev pub stepped : Stepping → List (List ℕ)
 stepped stepping = stepping.lattice.now ∷ stepping.source.now ∷ []
 
+-- The lattice files of a look at one, the older one last.
+abbrev pub looked : Looking → List (List ℕ)
+looked looking = looking.lattice.now ∷ given looking.old
+
 -- The operands of a request for a document.
 abbrev pub document_operands : Document → List (List ℕ)
 document_operands (document.Sarif judging) = compiled judging.compilation
@@ -137,12 +157,19 @@ document_operands (document.Bound bounding) = searched bounding
 document_operands (document.Run execution initial_store) = execution.image.now ∷ []
 document_operands (document.Compare comparison) = compared comparison
 document_operands (document.Leak search) = leaking search
+document_operands (document.List image) = image.now ∷ []
+document_operands (document.Policy looking) = looked looking
+document_operands (document.Visible visibility) = given visibility.old
+document_operands (document.Layout source) = source.now ∷ []
 
 -- The operands of a request, in their order: paths or, for `lattice`, a shape and names. `AsksPage` covers the operand
--- of `explain`.
+-- of `explain`, and `AsksPolicy` files that options of `policy` name instead.
 abbrev pub operands_of : Request → List (List ℕ)
 operands_of (Try attempt) = attempt.source.now ∷ []
 operands_of (Check judging) = compiled judging.compilation
+operands_of (Surveyed survey) = surveyed survey
+operands_of (Project projecting) = given projecting.name
+operands_of (New folder) = folder.now ∷ []
 operands_of (Documented asked) = document_operands asked
 operands_of (Conform conformance) = conformance.interface.now ∷ conformance.source.now ∷ []
 operands_of (Classes compilation) = compiled compilation
@@ -163,9 +190,9 @@ operands_of (CompareSteps comparison is_json) = comparison.lattice.now ∷ compa
 operands_of (Steps stepping is_json) = stepped stepping
 operands_of (Monitor stepping rule is_json) = stepped stepping
 operands_of (Leak search) = leaking search
-operands_of (Report compilation) = compiled compilation
+operands_of (Report page) = compiled page.compilation
 operands_of (Draw drawing) = drawing.lattice.now ∷ given drawing.source
-operands_of (Policy looking) = looking.lattice.now ∷ given looking.old
+operands_of (Policy looking) = looked looking
 operands_of (Visible visibility) = given visibility.old
 operands_of (Format source) = source.now ∷ []
 operands_of (Layout layout) = layout.source.now ∷ []
@@ -179,6 +206,28 @@ check_flags judging is_sarif =
     (codes "--strict", judging.compilation.is_strict) ∷ (codes "--steady", judging.is_steady)
     ∷ (codes "--json", judging.is_json) ∷ (codes "--sarif", is_sarif)
     ∷ (codes "--warnings", judging.has_warnings) ∷ []
+
+-- The answer is written as a line of JSON.
+abbrev pub is_json : AnswerForm → Bool
+is_json Lines = false
+is_json Json = true
+is_json Sarif = false
+
+-- The answer is written as a document of SARIF.
+abbrev pub is_sarif : AnswerForm → Bool
+is_sarif Lines = false
+is_sarif Json = false
+is_sarif Sarif = true
+
+-- The flags of the form of an answer, each with whether it is set.
+abbrev pub form_flags : AnswerForm → List (List ℕ × Bool)
+form_flags form = (codes "--json", is_json form) ∷ (codes "--sarif", is_sarif form) ∷ []
+
+-- The flags of `check` with source texts that are judged each by itself, each with whether it is set.
+abbrev pub survey_flags : Survey → List (List ℕ × Bool)
+survey_flags survey =
+    (codes "--strict", survey.is_strict) ∷ (codes "--steady", survey.is_steady)
+    ∷ form_flags survey.form
 
 -- The flags of `classes`, each with whether it is set.
 abbrev pub classes_flags : Compilation → Bool → List (List ℕ × Bool)
@@ -195,21 +244,9 @@ audit_flags audit is_json is_sarif =
     (codes "--strict", audit.is_strict) ∷ (codes "--steady", audit.is_steady)
     ∷ (codes "--evidence", audit.has_evidence) ∷ (codes "--json", is_json) ∷ (codes "--sarif", is_sarif) ∷ []
 
--- The answer is written as a line of JSON.
-abbrev pub is_json : AnswerForm → Bool
-is_json Lines = false
-is_json Json = true
-is_json Sarif = false
-
--- The answer is written as a document of SARIF.
-abbrev pub is_sarif : AnswerForm → Bool
-is_sarif Lines = false
-is_sarif Json = false
-is_sarif Sarif = true
-
--- The flag of `bound`, with whether it is set.
-abbrev pub bound_flags : Bool → List (List ℕ × Bool)
-bound_flags is_json = (codes "--json", is_json) ∷ []
+-- The flag of a subcommand that has no other one, with whether it is set.
+abbrev pub json_flag : Bool → List (List ℕ × Bool)
+json_flag is_json = (codes "--json", is_json) ∷ []
 
 -- The flags of `run`, each with whether it is set.
 abbrev pub run_flags : InitialStore → Bool → Bool → Bool → List (List ℕ × Bool)
@@ -230,6 +267,10 @@ leak_flags search is_json =
 abbrev pub step_flags : Stepping → Bool → List (List ℕ × Bool)
 step_flags stepping is_json = (codes "--full-store", stepping.is_full) ∷ (codes "--json", is_json) ∷ []
 
+-- The flags of `policy`, each with whether it is set.
+abbrev pub policy_flags : Bool → Bool → List (List ℕ × Bool)
+policy_flags is_denying is_json = (codes "--deny", is_denying) ∷ (codes "--json", is_json) ∷ []
+
 -- The flags of a request for a document, each with whether it is set.
 abbrev pub document_flags : Document → List (List ℕ × Bool)
 document_flags (document.Sarif judging) = check_flags judging true
@@ -237,15 +278,22 @@ document_flags (document.Classes compilation) = classes_flags compilation true
 document_flags (document.Flows compilation) = flows_flags compilation false true
 document_flags (document.Audit audit) = audit_flags audit true false
 document_flags (document.AuditSarif audit) = audit_flags audit false true
-document_flags (document.Bound bounding) = bound_flags true
+document_flags (document.Bound bounding) = json_flag true
 document_flags (document.Run execution initial_store) = run_flags initial_store false false true
 document_flags (document.Compare comparison) = compare_flags comparison true
 document_flags (document.Leak search) = leak_flags search true
+document_flags (document.List image) = json_flag true
+document_flags (document.Policy looking) = policy_flags looking.is_denying true
+document_flags (document.Visible visibility) = policy_flags visibility.is_denying true
+document_flags (document.Layout source) = (codes "--check", true) ∷ (codes "--json", true) ∷ []
 
 -- The flags of a request, each with whether it is set.
 abbrev pub flags_of : Request → List (List ℕ × Bool)
 flags_of (Try attempt) = []
 flags_of (Check judging) = check_flags judging false
+flags_of (Surveyed survey) = survey_flags survey
+flags_of (Project projecting) = form_flags projecting.form
+flags_of (New folder) = []
 flags_of (Documented asked) = document_flags asked
 flags_of (Conform conformance) =
     (codes "--json", is_json conformance.form) ∷ (codes "--sarif", is_sarif conformance.form)
@@ -256,12 +304,12 @@ flags_of (Mend mending) =
     (codes "--strict", mending.compilation.is_strict) ∷ (codes "--apply", mending.is_applied)
     ∷ (codes "--json", mending.is_json) ∷ []
 flags_of (Build compilation image) = (codes "--strict", compilation.is_strict) ∷ []
-flags_of (Listing image) = []
+flags_of (Listing image) = json_flag false
 flags_of (Audit audit) = audit_flags audit false false
 flags_of (Source image) = []
 flags_of (EmitC emission) =
     (codes "--header", emission.is_header) ∷ (codes "--bounded", emission.is_bounded) ∷ []
-flags_of (Bound bounding) = bound_flags false
+flags_of (Bound bounding) = json_flag false
 flags_of (Run execution initial_store has_trace has_count) = run_flags initial_store has_trace has_count false
 flags_of (View lattice class execution initial_store) = (codes "--full-store", initial_store.is_full) ∷ []
 flags_of (ViewWithin viewing) =
@@ -273,10 +321,10 @@ flags_of (CompareSteps comparison is_json) = (codes "--steps", true) ∷ (codes 
 flags_of (Steps stepping is_json) = step_flags stepping is_json
 flags_of (Monitor stepping rule is_json) = step_flags stepping is_json
 flags_of (Leak search) = leak_flags search false
-flags_of (Report compilation) = (codes "--strict", compilation.is_strict) ∷ []
+flags_of (Report page) = (codes "--strict", page.compilation.is_strict) ∷ []
 flags_of (Draw drawing) = (codes "--strict", drawing.is_strict) ∷ (codes "--flows", drawing.is_alone) ∷ []
-flags_of (Policy looking) = []
-flags_of (Visible visibility) = []
+flags_of (Policy looking) = policy_flags looking.is_denying false
+flags_of (Visible visibility) = policy_flags visibility.is_denying false
 flags_of (Format source) = []
 flags_of (Layout layout) =
     (codes "--keep-comments", layout.is_kept) ∷ (codes "--check", layout.is_checked)
@@ -359,15 +407,36 @@ GivesRule (value ∷ next ∷ rest) rule = ⊥
 abbrev pub leak_options : Search → List (List ℕ × List (List ℕ))
 leak_options search = (codes "--class", given search.class) ∷ []
 
--- The option of `policy`, with its value, if it has one.
-abbrev pub policy_options : Option (Bor (List ℕ)) → List (List ℕ × List (List ℕ))
-policy_options interface = (codes "--interface", given interface) ∷ []
+-- The options of `policy`, each with its values: the interface, and the newer and the older file that it names.
+abbrev pub policy_options : Option (Bor (List ℕ)) → List (List ℕ) → List (List ℕ) → List (List ℕ × List (List ℕ))
+policy_options interface new old =
+    (codes "--interface", given interface) ∷ (codes "--to", new) ∷ (codes "--from", old) ∷ []
+
+-- The option of `check` that says where each line of the answer begins, with these values.
+abbrev pub place_options : List (List ℕ) → List (List ℕ × List (List ℕ))
+place_options formats = (codes "--format", formats) ∷ []
+
+-- These values of `--format` say whether each line of the answer begins with its place: the only value is `line` or
+-- `text`, or there is none.
+abbrev pub GivesPlaces : List (List ℕ) → Bool → Type 0
+GivesPlaces [] has_places = has_places ≡ false
+GivesPlaces (value ∷ []) has_places = value ≡ (if has_places then codes "line" else codes "text")
+GivesPlaces (value ∷ next ∷ rest) has_places = ⊥
+
+-- Source texts are judged each by itself: several, or one in an answer with places before its lines.
+abbrev pub is_survey : Bool → List (Bor (List ℕ)) → Bool
+is_survey has_places [] = false
+is_survey has_places (source ∷ []) = has_places
+is_survey has_places (source ∷ next ∷ rest) = true
 
 -- The options of a request for a document, each with its values.
 abbrev pub document_options : Document → List (List ℕ × List (List ℕ))
 document_options (document.Run execution initial_store) = beginning execution initial_store
 document_options (document.Compare comparison) = compare_options comparison
 document_options (document.Leak search) = leak_options search
+document_options (document.Sarif judging) = place_options []
+document_options (document.Policy looking) = policy_options None [] []
+document_options (document.Visible visibility) = policy_options (Some visibility.interface) [] []
 document_options asked = []
 
 -- The options of a request, each with its values; `numbers_of` has the options that take numbers.
@@ -376,7 +445,10 @@ options_of (Try attempt) =
     (codes "--lattice", given attempt.lattice) ∷ (codes "--class", given attempt.class)
     ∷ (codes "--set", shown attempt.settings.items) ∷ []
 options_of (EmitC emission) =
-    (codes "--lattice", given emission.lattice) ∷ (codes "--name", given emission.name) ∷ []
+    (codes "--lattice", given emission.lattice) ∷ (codes "--name", given emission.name)
+    ∷ (codes "--out", given emission.out) ∷ []
+options_of (Report page) = (codes "--out", given page.out) ∷ []
+options_of (Project projecting) = (codes "--project", projecting.project.now ∷ []) ∷ []
 options_of (Run execution initial_store has_trace has_count) = starting execution initial_store
 options_of (View lattice class execution initial_store) = (codes "--class", class.now ∷ []) ∷ starting execution initial_store
 options_of (ViewWithin viewing) = view_options viewing (interface_of viewing.policy) (lists_of viewing.policy)
@@ -386,10 +458,12 @@ options_of (CompareSteps comparison is_json) = step_comparison_options compariso
 options_of (Steps stepping is_json) = step_options stepping
 options_of (Monitor stepping rule is_json) = monitor_options stepping (rule_name rule ∷ [])
 options_of (Leak search) = leak_options search
-options_of (Policy looking) = policy_options None
-options_of (Visible visibility) = policy_options (Some visibility.interface)
+options_of (Policy looking) = policy_options None [] []
+options_of (Visible visibility) = policy_options (Some visibility.interface) [] []
 options_of (Documented asked) = document_options asked
 options_of (Lsp serving) = (codes "--lattice", given serving.lattice) ∷ []
+options_of (Check judging) = place_options []
+options_of (Surveyed survey) = place_options []
 options_of request = []
 
 -- The budget of a run, which is required.
@@ -471,6 +545,28 @@ pub record AsksPage (words : List (String Global)) (page : List ℕ) : Type 0 wh
   pub asks : Asks words (codes "explain") (argument ∷ []) [] [] []
   pub is_named : named_page argument ≡ Some page
 
+-- The arguments are `check` with two files, and no place is requested before each line of the answer.
+pub record AsksCheck (words : List (String Global)) (judging : Judging) : Type 0 where
+  pub formats : List (List ℕ)
+  pub asks : Asks words (codes "check") (compiled judging.compilation) (check_flags judging false)
+      (place_options formats) []
+  pub is_text : GivesPlaces formats false
+
+-- The arguments are `check` with a lattice file, several source texts, or one whose answer has places before its lines.
+pub record AsksSurvey (words : List (String Global)) (survey : Survey) : Type 0 where
+  pub formats : List (List ℕ)
+  pub has_places : Bool
+  pub asks : Asks words (codes "check") (surveyed survey) (survey_flags survey) (place_options formats) []
+  pub given : GivesPlaces formats has_places
+  pub each : is_survey has_places survey.sources.items ≡ true
+
+-- The arguments are `check` with a project file and, at most, the name of one of its programs; all runs have the default
+-- budget.
+pub record AsksProject (words : List (String Global)) (projecting : Projecting) : Type 0 where
+  pub asks : Asks words (codes "check") (given projecting.name) (form_flags projecting.form)
+      (options_of (Project projecting)) []
+  pub budgeted : projecting.budget ≡ RUNS_BUDGET
+
 -- Comments are kept with any of the three flags, and `--check` doesn't go with `--write`.
 abbrev pub keeps_comments : Laid → Bool
 keeps_comments layout = if layout.is_checked then not layout.is_written else layout.is_written || layout.is_kept
@@ -479,6 +575,34 @@ keeps_comments layout = if layout.is_checked then not layout.is_written else lay
 pub record AsksLayout (words : List (String Global)) (layout : Laid) : Type 0 where
   pub asks : Asks words (codes "fmt") (layout.source.now ∷ []) (flags_of (Layout layout)) [] []
   pub kept : keeps_comments layout ≡ true
+
+-- These paths, if this holds.
+abbrev pub when : Bool → List (List ℕ) → List (List ℕ)
+when holds paths = if holds then paths else []
+
+-- The arguments after `policy` give a newer file, unless an interface is that, and maybe an older one: as operands, the
+-- older one last, or by the options `--to` and `--from`, which name them.
+pub record GivesFiles (words : List (List ℕ)) (new : List (List ℕ)) (old : Option (Bor (List ℕ))) : Type 0 where
+  pub is_named : Bool
+  pub operands : operands_in false words ≡ when (not is_named) (new ++ given old)
+  pub to : values_in (codes "--to") false words ≡ when is_named new
+  pub from : values_in (codes "--from") false words ≡ when is_named (given old)
+
+-- The arguments are `policy` with its flags and its interface, if it has one, and with such files.
+pub record AsksPolicy (words : List (String Global)) (interface : Option (Bor (List ℕ))) (new : List (List ℕ))
+    (old : Option (Bor (List ℕ))) (is_denying is_json : Bool) : Type 0 where
+  pub is_named : Bool
+  pub asks : Asks words (codes "policy") (when (not is_named) (new ++ given old)) (policy_flags is_denying is_json)
+      (policy_options interface (when is_named new) (when is_named (given old))) []
+
+-- The same with a lattice file.
+abbrev pub AsksLooking : List (String Global) → Looking → Bool → Type 0
+AsksLooking words looking is_json =
+    AsksPolicy words None (looking.lattice.now ∷ []) looking.old looking.is_denying is_json
+
+-- The same with an interface.
+abbrev pub AsksVisibility : List (String Global) → Visibility → Bool → Type 0
+AsksVisibility words v is_json = AsksPolicy words (Some v.interface) [] v.old v.is_denying is_json
 
 -- The arguments are `mend` with both files and flags that don't ask for a text as JSON.
 pub record AsksRaises (words : List (String Global)) (mending : Mending) : Type 0 where
@@ -523,9 +647,20 @@ pub record AsksMonitor (words : List (String Global)) (stepping : Stepping) (rul
       (monitor_options stepping rules) (step_numbers stepping.budget)
   pub given : GivesRule rules rule
 
+-- The arguments spell the request for a document.
+abbrev pub SpellsDocument : List (String Global) → Document → Type 0
+SpellsDocument words (document.Policy looking) = AsksLooking words looking true
+SpellsDocument words (document.Visible visibility) = AsksVisibility words visibility true
+SpellsDocument words asked =
+    Asks words (document_name asked) (document_operands asked) (document_flags asked) (document_options asked)
+    (document_numbers asked)
+
 -- The arguments spell the request: its subcommand, then its operands, flags, options and numbers or, for `explain`, an
 -- operand that names its page.
 abbrev pub Spells : List (String Global) → Request → Type 0
+Spells words (Check judging) = AsksCheck words judging
+Spells words (Surveyed survey) = AsksSurvey words survey
+Spells words (Project projecting) = AsksProject words projecting
 Spells words (Mend mending) = AsksRaises words mending
 Spells words (View lattice class execution initial_store) =
     Asks words (codes "view") (operands_of (View lattice class execution initial_store))
@@ -534,6 +669,9 @@ Spells words (View lattice class execution initial_store) =
 Spells words (ViewWithin viewing) = AsksViewWithin words viewing
 Spells words (Drive driving) = AsksDrive words driving
 Spells words (Layout layout) = AsksLayout words layout
+Spells words (Policy looking) = AsksLooking words looking false
+Spells words (Visible visibility) = AsksVisibility words visibility false
+Spells words (Documented asked) = SpellsDocument words asked
 Spells words (Monitor stepping rule is_json) = AsksMonitor words stepping rule is_json
 Spells words (Explain page) = AsksPage words page.now
 Spells words request =
@@ -541,24 +679,30 @@ Spells words request =
 
 -- The flags of a request for a document that no part of it depends on.
 abbrev pub free_document_flags : Document → List (List ℕ)
-free_document_flags (document.Run execution initial_store) = codes "--explain" ∷ codes "--force" ∷ []
-free_document_flags asked = codes "--explain" ∷ []
+free_document_flags (document.Run execution initial_store) = codes "--explain" ∷ codes "--all" ∷ codes "--force" ∷ []
+free_document_flags asked = codes "--explain" ∷ codes "--all" ∷ []
 
--- The flags of a subcommand that no part of its request depends on: the one that asks for an explanation, and, where a
--- file is written, the one that lets it replace a file of another kind.
+-- The flags of a subcommand that no part of its request depends on: those that ask for an explanation and for all lines
+-- of it, and, where a file is written, the one that lets it replace a file of another kind.
 abbrev pub free_flags : Request → List (List ℕ)
-free_flags (Build compilation image) = codes "--explain" ∷ codes "--force" ∷ []
-free_flags (Run execution initial_store has_trace has_count) = codes "--explain" ∷ codes "--force" ∷ []
-free_flags (View lattice class execution initial_store) = codes "--explain" ∷ codes "--force" ∷ []
-free_flags (ViewWithin viewing) = codes "--explain" ∷ codes "--force" ∷ []
-free_flags (Drive driving) = codes "--explain" ∷ codes "--force" ∷ []
+free_flags (Build compilation image) = codes "--explain" ∷ codes "--all" ∷ codes "--force" ∷ []
+free_flags (Run execution initial_store has_trace has_count) = codes "--explain" ∷ codes "--all" ∷ codes "--force" ∷ []
+free_flags (View lattice class execution initial_store) = codes "--explain" ∷ codes "--all" ∷ codes "--force" ∷ []
+free_flags (ViewWithin viewing) = codes "--explain" ∷ codes "--all" ∷ codes "--force" ∷ []
+free_flags (Drive driving) = codes "--explain" ∷ codes "--all" ∷ codes "--force" ∷ []
+free_flags (EmitC emission) = codes "--explain" ∷ codes "--all" ∷ codes "--force" ∷ []
+free_flags (Report page) = codes "--explain" ∷ codes "--all" ∷ codes "--force" ∷ []
 free_flags (Documented asked) = free_document_flags asked
-free_flags request = codes "--explain" ∷ []
+free_flags request = codes "--explain" ∷ codes "--all" ∷ []
 
--- These flags, and the option that says how a refusal is explained, for each subcommand that one can end.
+-- These flags, and the option that says how a refusal is explained, for each subcommand that one can end. A fault
+-- of one of several texts, or of a program of a project, isn't explained. The flag of `lsp` changes nothing.
 abbrev pub manner_of : Request → List (List ℕ) × List (List ℕ)
+manner_of (Surveyed survey) = ([], codes "--color" ∷ [])
+manner_of (Project projecting) = ([], codes "--color" ∷ [])
+manner_of (New folder) = ([], [])
 manner_of (Shaped arguments) = ([], [])
-manner_of (Lsp serving) = ([], [])
+manner_of (Lsp serving) = (codes "--stdio" ∷ [], [])
 manner_of (Explain page) = ([], [])
 manner_of request = (free_flags request, codes "--color" ∷ [])
 

@@ -23,9 +23,10 @@ is_among (name ∷ names) word = if bytes_eq word name then true else is_among n
 -- The options that take a value.
 abbrev pub VALUED : List (List ℕ)
 VALUED =
-    codes "--budget" ∷ codes "--class" ∷ codes "--color" ∷ codes "--init" ∷ codes "--inputs" ∷ codes "--interface"
-    ∷ codes "--lattice" ∷ codes "--name" ∷ codes "--out" ∷ codes "--outputs" ∷ codes "--release" ∷ codes "--rule"
-    ∷ codes "--save" ∷ codes "--save-every" ∷ codes "--seed" ∷ codes "--set" ∷ codes "--store" ∷ codes "--tries" ∷ []
+    codes "--budget" ∷ codes "--class" ∷ codes "--color" ∷ codes "--format" ∷ codes "--from" ∷ codes "--init"
+    ∷ codes "--inputs" ∷ codes "--interface" ∷ codes "--lattice" ∷ codes "--name" ∷ codes "--out" ∷ codes "--outputs"
+    ∷ codes "--project" ∷ codes "--release" ∷ codes "--rule" ∷ codes "--save" ∷ codes "--save-every"
+    ∷ codes "--seed" ∷ codes "--set" ∷ codes "--store" ∷ codes "--to" ∷ codes "--tries" ∷ []
 
 -- The argument begins with a hyphen and is longer than that.
 abbrev pub is_dashed : List ℕ → Bool

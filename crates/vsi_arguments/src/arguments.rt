@@ -79,7 +79,7 @@ macro_rules! rest_of {
         behind(
             $words,
             $name,
-            [$($flag,)* "--explain" $(, $force)?].as_slice(),
+            [$($flag,)* "--explain", "--all" $(, $force)?].as_slice(),
             [$($option,)* "--color"].as_slice(),
         )?
     };
@@ -93,9 +93,10 @@ macro_rules! texts {
 }
 
 /// The options that take a value.
-const VALUED: [&str; 18] = texts! {
-    "--budget" "--class" "--color" "--init" "--inputs" "--interface" "--lattice" "--name" "--out"
-    "--outputs" "--release" "--rule" "--save" "--save-every" "--seed" "--set" "--store" "--tries"
+const VALUED: [&str; 22] = texts! {
+    "--budget" "--class" "--color" "--format" "--from" "--init" "--inputs" "--interface" "--lattice"
+    "--name" "--out" "--outputs" "--project" "--release" "--rule" "--save" "--save-every" "--seed"
+    "--set" "--store" "--to" "--tries"
 };
 
 /// Whether an argument is `--`, after which every argument is an operand.
@@ -118,7 +119,7 @@ pub(crate) fn is_among(names: &[&str], word: &[u8]) -> bool
 }
 
 /// Whether an argument is an option that takes the next one as its value.
-pub(crate) fn is_valued(word: &[u8]) -> bool
+pub fn is_valued(word: &[u8]) -> bool
     ensures { result ≡ spec.is_among spec.VALUED word.now }
 {
     is_among(VALUED.as_slice(), word)
@@ -325,6 +326,35 @@ pub(crate) fn operands<'a>(alloc: Global, words: &'a [String]) -> Result<Vec<&'a
         (rest, is_over) = left;
     }
     Ok(operands)
+}
+
+/// The operands among arguments, each of which is one if `is_over`.
+fn paths<'a>(alloc: Global, words: &'a [String], is_over: bool) -> Result<Vec<&'a str>, AllocError>
+    ensures { IfOk result (λ made.
+        spec.left is_over false (spec.texts words.now) ≡ spec.shown made.items) }
+{
+    let mut paths = Vec::new(alloc);
+    let mut rest = words;
+    let mut is_past = is_over;
+    while let Some((path, left)) = next_operand(rest, is_past) {
+        paths.push(path)?;
+        (rest, is_past) = left;
+    }
+    Ok(paths)
+}
+
+/// The first operand, if there is one, and all others.
+pub(crate) fn one_and_more<'a>(
+    alloc: Global,
+    words: &'a [String],
+) -> Result<Option<(&'a str, Vec<&'a str>)>, AllocError>
+    ensures { IfOk result (λ made. IfSome made (λ some.
+        spec.operands_in false (spec.texts words.now) ≡ some.0.now ∷ spec.shown some.1.items)) }
+{
+    let Some((first, (left, is_over))) = next_operand(words, false) else {
+        return Ok(None);
+    };
+    Ok(Some((first, paths(alloc, left, is_over)?)))
 }
 
 /// The operand, if there is one.

@@ -3,7 +3,7 @@
 use crate::arguments::number_in;
 use crate::explained::named_page;
 use crate::request::{Colour, Manner, Reporting};
-use crate::usage::{message, program};
+use crate::usage::{grouped, is_subcommand, message, program};
 use clap::ArgMatches;
 use clap::error::ErrorKind;
 use clap::parser::ValueSource;
@@ -33,29 +33,41 @@ pub enum ArgumentsError {
 pub fn manner_of(alloc: Global, arguments: &[String]) -> Result<Manner, ArgumentsError> {
     match parsed(alloc, arguments) {
         Ok(manner) => Ok(manner),
-        Err(error) => Err(told(alloc, &error)),
+        Err(error) => Err(told(alloc, &error).unwrap_or(ArgumentsError::Memory)),
     }
 }
 
 /// Turns an answer of the command-line parser into a text.
-fn told(alloc: Global, error: &clap::Error) -> ArgumentsError {
+fn told(alloc: Global, error: &clap::Error) -> Option<ArgumentsError> {
     if error.kind() == ErrorKind::OutOfMemory {
-        return ArgumentsError::Memory;
+        return None;
     }
-    let Ok(text) = error.to_string(alloc) else {
-        return ArgumentsError::Memory;
-    };
-    if !error.use_stderr() {
-        return ArgumentsError::Help(text);
+    let text = error.to_string(alloc).ok()?;
+    if error.use_stderr() {
+        let text = message(alloc, text.as_str()).ok()?;
+        return Some(ArgumentsError::Mistake(text));
     }
-    match message(alloc, text.as_str()) {
-        Ok(text) => ArgumentsError::Mistake(text),
-        Err(_) => ArgumentsError::Memory,
+    Some(ArgumentsError::Help(grouped(alloc, text).ok()?))
+}
+
+/// The arguments that are parsed: those after `help`, if they begin with no subcommand's name, so
+/// that the mistake is the one of a subcommand that there isn't, with the names that are similar.
+fn sought(arguments: &[String]) -> &[String] {
+    match arguments {
+        [help, name, ..] if help.as_str() == "help" && is_misspelt(name.as_str()) =>
+            &arguments[1..],
+        _ => arguments,
     }
+}
+
+/// Whether a word after `help` should be the name of a subcommand and isn't.
+fn is_misspelt(name: &str) -> bool {
+    !(name == "help" || name.starts_with("-") || is_subcommand(name))
 }
 
 /// Parses the arguments.
 fn parsed(alloc: Global, arguments: &[String]) -> Result<Manner, clap::Error> {
+    let arguments = sought(arguments);
     let first = arguments.first().map_or("", |first| first.as_str());
     let mut command = program(alloc, first)?;
     let matches = command.try_get_matches_from_mut(arguments)?;
@@ -87,10 +99,11 @@ fn judged(matches: &ArgMatches<'_>) -> Result<Manner, &'static str> {
         (true, Some("never")) => Reporting::Explained(Colour::Never),
         (true, _) => Reporting::Explained(Colour::Auto),
     };
-    let is_forced = inner.get_flag("force");
     Ok(Manner {
         reporting,
-        is_forced,
+        is_whole: inner.get_flag("all"),
+        is_strict: inner.get_flag("strict") || inner.get_flag("steady"),
+        is_forced: inner.get_flag("force"),
     })
 }
 
@@ -138,7 +151,13 @@ macro_rules! rules {
 }
 
 /// The rules, in the order in which they are checked.
-const RULES: [Rule; 15] = rules! {
+const RULES: [Rule; 24] = rules! {
+    "check" "project" without ["strict" "steady" "format" "warnings" "explain"]
+    "`--project` goes with `--json` or `--sarif` alone: the project file says how each program \
+    is judged";
+    "check" "project" without ["SOURCE"]
+    "`--project` goes with at most one operand, the NAME of a program";
+    "*" "all" needs ["explain"] "`--all` needs `--explain`: it writes all lines of an explanation";
     "*" "save-every" needs ["save"] "`--save-every` needs `--save`, which says where";
     "*" "flows" needs ["SOURCE"] "`--flows` needs a SOURCE, whose flows it draws";
     "view" "unbounded" needs ["interface" "outputs" "release"]
@@ -150,6 +169,16 @@ const RULES: [Rule; 15] = rules! {
     "*" "walks" without ["json"] "`--walks` and `--json` don't go together";
     "*" "apply" without ["json"] "`--apply` prints a text, so it doesn't go with `--json`";
     "*" "check" without ["write"] "`--check` writes nothing, so it doesn't go with `--write`";
+    "fmt" "json" without ["keep-comments" "write"]
+    "`--json` of `fmt` goes with `--check` alone";
+    "fmt" "json" needs ["check"] "`--json` of `fmt` needs `--check`";
+    "policy" "from" needs ["to" "interface"]
+    "`--from` needs the newer file, by `--to` or `--interface`";
+    "policy" "from" without ["LATTICE"]
+    "`--from` names the older file, so it goes with no operand";
+    "policy" "to" without ["interface"]
+    "`--to` names a lattice file, so it doesn't go with `--interface`";
+    "policy" "to" needs ["from"] "`--to` needs `--from`, which names the older file";
     "*" "json" without ["trace" "count" "out"]
     "`--json` of `run` doesn't go with `--trace`, `--count` and `--out`";
     "*" "interface" without ["IMAGE"]
@@ -215,6 +244,7 @@ fn own_mistake(name: &str, matches: &ArgMatches<'_>) -> Option<&'static str> {
                 && path_of(matches, "IMAGE") != path_of(matches, "SOURCE"),
             "the image would replace a file that is read",
         ),
+        "check" => return survey_mistake(matches),
         "compare" if !matches!(matches.get_strs("store"), Some([_, _])) => {
             (false, "`compare` needs two stores")
         }
@@ -232,8 +262,38 @@ fn own_mistake(name: &str, matches: &ArgMatches<'_>) -> Option<&'static str> {
             is_function_name(matches.get_str("name")?.as_bytes()),
             "the name isn't an identifier of C, or it is a keyword",
         ),
+        "policy" => (
+            !is_given(matches, "deny")
+                || is_given(matches, "from")
+                || is_given(matches, "OLD")
+                || is_given(matches, "interface") && is_given(matches, "LATTICE"),
+            "`--deny` needs an older file: OLD or `--from`",
+        ),
         "explain" => return named_page(matches.get_str("WHAT")?).err(),
         _ => return None,
     };
     (!is_right).then_some(mistake)
+}
+
+/// The mistake in the arguments of `check` for source texts that are judged each by itself, if
+/// there is one.
+fn survey_mistake(matches: &ArgMatches<'_>) -> Option<&'static str> {
+    let is_several = matches!(matches.get_strs("SOURCE"), Some([_, _, ..]));
+    let is_explained = is_given(matches, "explain") || is_given(matches, "warnings");
+    match matches.get_str("format") {
+        Some("line") if is_explained => {
+            Some("`--explain` and `--warnings` don't go with `--format line`")
+        }
+        Some("text") if is_several => Some(
+            "`--format text` takes one source text: the faults of several begin with \
+            FILE:LINE:COLUMN",
+        ),
+        Some(_) if is_given(matches, "json") || is_given(matches, "sarif") => {
+            Some("`--format` says how lines begin, so it doesn't go with `--json` and `--sarif`")
+        }
+        _ if is_several && is_explained => {
+            Some("`--explain` and `--warnings` take one source text, and here are several")
+        }
+        _ => None,
+    }
 }

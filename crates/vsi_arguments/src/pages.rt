@@ -10,13 +10,16 @@ HTML that needs no other file: the verdict, the source with the class of each
 name, pictures of the lattice and of the flows, and a list of all flows. For an
 accepted text the page shows the image; for a refused one, why it is refused,
 and a leak if one is found. Every text has a page: the status is 0 even if the
-text is refused."
+text is refused.
+
+Without operands, or with the name of one program, `report` writes the pages of
+the programs of `vsi.toml` into the folder `out` beside it, with an index."
     statuses "0 printed, 1 the lattice is refused, 2 usage, 4 file fault,
 5 out of memory."
     example "  $ vsi report two.toml leak.vsi > page.html
   $ grep '<title>Refused' page.html
   <title>Refused: a report of its flows, leak.vsi</title>"
-    { LATTICE } { SOURCE } { STRICT } },
+    { LATTICE } { SOURCE } { STRICT } { TEXT_OUT } { TEXT_FORCE } },
     subcommand! { "draw" "Prints a lattice, and the flows of a source text, as a graph" "\
 Reads and judges the lattice file, and prints a graph in the language of
 Graphviz with an edge from each class to each one directly above it. With a
@@ -47,7 +50,8 @@ its lattice those whose class is at or below it, and those that its table of
 `cycle` sets, reads and releases; or what an edit of the file made visible, and
 to whom. A program isn't read: what a released global reveals isn't known.
 Standard error then also has a warning for each class that no global has."
-    statuses "0 printed, 1 refused, 2 usage, 4 file fault, 5 out of memory."
+    statuses "0 printed, 1 refused, or --deny and a class sees more, 2 usage,
+4 file fault, 5 out of memory."
     example "  $ vsi policy two.toml
   L sees L
   H sees L H
@@ -59,12 +63,15 @@ Standard error then also has a warning for each class that no global has."
   L sees out
   H sees key out
   $ sed 's/\"H\"/\"L\"/' lock.toml > open.toml
-  $ vsi policy --interface open.toml lock.toml
+  $ vsi policy --deny --interface open.toml --from lock.toml
   L now sees key
   warning: no global has the class H"
     usage "vsi policy [OPTIONS] <LATTICE> [OLD]
-       vsi policy [OPTIONS] --interface <FILE> [OLD]"
-    { PlaceUnless("interface") "LATTICE" "The lattice file; with --interface left out"
+       vsi policy [OPTIONS] --from <OLD> --to <NEW>
+       vsi policy [OPTIONS] --interface <FILE> [OLD]
+       vsi policy [OPTIONS] --interface <FILE> --from <OLD>"
+    { PlaceUnless("interface", &["from", "to"]) "LATTICE"
+    "The lattice file; with --interface left out"
     lattice_text! { " With
 --interface it is left out, and OLD is the only operand." } }
     { FreePlace "OLD" "An older file of the same kind, to show what changed" "\
@@ -75,11 +82,27 @@ didn't see then, and what it sees no longer." }
 The path of an interface file, in place of LATTICE. The lattice is
 that of the interface, and the answer has the globals that each class
 sees in place of the classes. A program isn't read: `vsi conform` says
-whether one has these globals." } },
+whether one has these globals." }
+    { Value("OLD") "from" "The older file, in place of the operand OLD" "\
+The path of the older lattice file, with --to, or of the older
+interface file, with --interface. Then there is no operand." }
+    { Value("NEW") "to" "The newer lattice file, in place of LATTICE" "\
+The path of the lattice file, with --from." }
+    { Flag "deny" "Has status 1 if a class sees more than before" "\
+Prints the same, and has status 1 if some class sees or reads what it
+neither saw nor read under the older file: if `sees_more` is true in
+the answer of --json. Otherwise the status is 0." }
+    { Flag "json" "Writes the answer as JSON" "\
+Writes the answer as a line of JSON: an object with an entry for each
+class, or for each change and `sees_more`, which says whether a class
+sees more than before." } },
     subcommand! { "fmt" "Prints a source text in its canonical form" "\
 Reads the source text and prints it with a command on each line, two spaces for
 each block around it, and one space around each operator. Comments are dropped,
-except with --keep-comments, --check or --write. Names and flows aren't judged."
+except with --keep-comments, --check or --write. Names and flows aren't judged.
+
+Several files may be given, with --check or --write, and folders, each of which
+stands for the `.vsi` files below it: `fmt` does this for one after another."
     statuses "0 printed, written or nothing to change, 1 refused or --check found a
 difference, 2 usage, 4 file fault, 5 out of memory."
     example "  $ cat short.vsi
@@ -105,7 +128,10 @@ for each line of the text on which they begin to differ." }
     { Flag "write" "Replaces the file by its layout" "\
 Puts the layout into the file, with comments kept, if the text isn't
 laid out so already: first into a new file beside it, which then takes
-its place. Nothing is printed, and a refused text stays as it is." } },
+its place. Nothing is printed, and a refused text stays as it is." }
+    { Flag "json" "Writes the answer of --check as JSON" "\
+Writes the answer of --check as a line of JSON for each text: an
+object with its `file` and whether it is `formatted`." } },
     subcommand! { "lattice"
     "Prints a lattice file: two classes, levels, a diamond or a power set" whole "\
 Prints a lattice file of a usual shape.
@@ -136,8 +162,9 @@ Serves an editor: shows errors while a source text is typed, and more.
 Speaks the Language Server Protocol over standard input and standard output, to
 which nothing else is written, until the editor says `exit` or standard input
 ends. The lattice file of a text is the one that its first comment names, as
-`# policy: FILE`, otherwise the one that --lattice gives. Without either the
-classes are L and H, L below H. The file is read whenever the text changes. No
+`# policy: FILE`, otherwise the one that --lattice gives, otherwise that of the
+nearest project file vsi.toml in the folder of the text or above it. Without any
+the classes are L and H, L below H. Files are read whenever the text changes. No
 file is written."
     statuses "0 the editor has said `shutdown` and `exit`, 1 it hasn't, 2 usage,
 4 standard input or output failed, 5 out of memory."
@@ -147,9 +174,12 @@ Neovim then runs this command and sends messages to it:
   $ vsi lsp"
     { Value("FILE") "lattice" "The lattice file of texts that name none" "\
 The path of the lattice file of each text whose first comment names
-none. Without it such a text is judged with the classes L and H, L
-below H." }
-    { STRICT } },
+none. Without it such a text is judged as its project requires, or
+with the classes L and H, L below H." }
+    { STRICT }
+    { Flag "stdio" "Changes nothing, and is there for editors that add it" "\
+Changes nothing: the server always speaks over standard input and
+standard output. Some editors add this option." } },
     subcommand! { "explain"
     "Explains a refusal by its number, or the language and its files" whole "\
 Explains a refusal by its number, or a subject.

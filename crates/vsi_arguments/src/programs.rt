@@ -3,7 +3,7 @@
 use crate::subcommand::{Argument, Form, Subcommand, argument, subcommand, *};
 
 /// The subcommands that judge a source text or compile it, in the order of the help.
-pub(crate) const TEXTS: [Subcommand; 7] = [
+pub(crate) const TEXTS: [Subcommand; 8] = [
     subcommand! { "try" "Judges a source text and runs it" "\
 Reads the source text, then the lattice file that --lattice gives, or the one
 that the text names in its first comment, `# policy: FILE`. Without either the
@@ -41,7 +41,17 @@ twice, the second setting counts." } },
 Reads and judges the lattice file, then the source text, and prints `accepted`.
 A refusal is reported on standard error: its number, its name and its place, and
 for a refused flow each step and the two classes. With --steady the image of the
-text is judged too. No file is written."
+text is judged too. No file is written.
+
+With several source texts each is judged by itself, and its line on standard
+output begins with its path, or in a refusal with its place, FILE:LINE:COLUMN.
+The last line counts the texts. A folder stands for each `.vsi` file below it.
+Explanations and warnings are for one text.
+
+With --project the programs of a project file are judged, or the one named NAME.
+Without operands, or with one name, `check` judges the programs of the project
+file `vsi.toml` in the working folder or the nearest one above it, of which a
+folder `out` keeps the images."
     statuses "0 accepted, 1 refused, 2 usage, 4 file fault, 5 out of memory."
     example "  $ cat two.toml
   classes = [\"L\", \"H\"]
@@ -58,7 +68,24 @@ text is judged too. No file is written."
   refused: 25 Refused
   1:15 h flows to (loop) by LOOP at 1:15
   h : H may not flow to (loop) : L"
-    { LATTICE } { SOURCE } { STRICT }
+    usage "vsi check [OPTIONS] <LATTICE> <SOURCE>...
+       vsi check [--json | --sarif] --project <FILE> [NAME]"
+    { PlaceUnless("project", &[]) "LATTICE" "The lattice file; with --project left out"
+    lattice_text! { " With
+--project it is left out, and the name of one program may be there." } }
+    { PlacesUnless("project") "SOURCE" "The source text, or several, each judged by itself" "\
+The path of the source text, of at most 1048576 bytes, or of each of
+several source texts." }
+    { Value("FILE") "project" "The project file whose programs are judged" "\
+The path of a project file, as `vsi.toml`, in place of LATTICE and
+SOURCE. It says how each of its programs is judged. With a NAME after
+it that program alone is judged." }
+    { Choice("FORM", &["text", "line"]) "format"
+    "How each fault begins: text or line; default: text" "\
+How each fault begins: `line`, with FILE:LINE:COLUMN, as those of
+compilers do, on standard output; or `text`, the default for one
+source text. The faults of several always begin as those of `line`." }
+    { STRICT }
     { Flag "steady" "Requires that the number of instructions reveals nothing" "\
 Judges by the strict profile as if each `if` were a `while`: each
 variable that a guard reads must have the least class. Then judges
@@ -68,11 +95,13 @@ same values there. --strict adds nothing to it." }
     { Flag "json" "Writes the answer as JSON" "\
 Writes the answer as a line of JSON on standard output: an object with
 `accepted`, and for a refusal its number, its name, its place, its
-text and the steps of its flow." }
+text and the steps of its flow. For several texts and for a project
+it has such an object for each, with all faults in `errors`." }
     { Flag "sarif" "Writes the answer as SARIF" "\
 Writes the answer as a document of SARIF 2.1.0 on standard output,
-which services that check changes show on the lines of the text: a
-refusal is its one result, and an accepted text has none." }
+which services that check changes show on the lines of the texts. For
+one text a refusal is its one result; for several texts and for a
+project it has a result for each fault. What is accepted has none." }
     { Flag "warnings" "Adds warnings about the text" "\
 Writes warnings about the text to standard error, a line each: loops
 whose guard nothing changes, variables that nothing reads, assignments
@@ -208,7 +237,10 @@ Writes the answer as a line of JSON: an object with `accepted` and
 Reads the lattice file and the source text as `check` does, compiles the text,
 and writes the image file. A file that is already at the path of the image isn't
 touched until all bytes of the image are known. A file that is read stays, and
-so does one that is no image, without --force. Nothing is printed."
+so does one that is no image, without --force. Nothing is printed.
+
+Without operands, or with the name of one program, `build` does this for the
+programs of `vsi.toml`, into the folder `out` beside it, and prints each path."
     statuses "0 written, 1 refused, 2 usage, 4 file fault, 5 out of memory."
     example "  $ cat sum.vsi
   var x : L; x := 1 + 2
@@ -220,6 +252,16 @@ so does one that is no image, without --force. Nothing is printed."
 The path that the image is written to. A file that is already there is
 replaced, or left as it is if the text is refused." }
     { FORCE } },
+    subcommand! { "new" "Makes a folder with a project: a program and its files" "\
+Makes a folder NAME with a project file `vsi.toml`, a lattice file, a program,
+an interface and a start store, which `vsi check` accepts, and prints the paths
+of the files. Nothing that is already there is touched."
+    statuses "0 made, 2 usage, or NAME is there already, 4 file fault,
+5 out of memory."
+    example "  $ vsi new lock && cd lock && vsi check"
+    { Place "NAME" "The folder to make" "\
+The name of the folder that is made in the working folder: a letter,
+then letters, digits, `_` and `-`, at most 64 in all." } },
 ];
 
 /// The subcommands about an image, in the order of the help.
@@ -237,7 +279,10 @@ number."
   0: PUSH 3
   1: STORE 0
   2: HALT"
-    { IMAGE } },
+    { IMAGE }
+    { Flag "json" "Writes the answer as JSON" "\
+Writes the answer as a line of JSON: an object with `globals`, `slots`
+and `stack`, and with `instructions`, an array of their texts." } },
     subcommand! { "audit" "Says whether an image is accepted, whoever made it" "\
 Reads and judges the lattice file, reads and verifies the image, reads the
 commands back from its code, and judges their flows. Prints `accepted`: two runs
@@ -288,7 +333,10 @@ no library: the numbers of the globals, and a function
 halts within the budget, and the globals then hold the final store; otherwise it
 returns 1 and leaves the globals as they were. With --bounded the function takes
 no budget and always leaves the final store, and an image without a bound is
-refused. With --lattice a source text is read, judged and compiled first."
+refused. With --lattice a source text is read, judged and compiled first.
+
+Without operands, or with the name of one program, `emit-c` does this for the
+programs of `vsi.toml`, into the folder `out` beside it."
     statuses "0 printed, 1 refused, 2 usage, 4 file fault, 5 out of memory."
     example "  $ vsi emit-c sum.image --header
   #ifndef VSI_sum_H
@@ -330,7 +378,8 @@ budget and counts no instructions. The image must have a bound, as
 bound is refused." }
     { Value("LATTICE") "lattice" "The lattice file of a source text" "\
 The path of the lattice file. With it FILE is a source text, which is
-judged as `vsi build` judges it." } },
+judged as `vsi build` judges it." }
+    { TEXT_OUT } { TEXT_FORCE } },
     subcommand! { "bound" "Prints a number of instructions within which every run halts" "\
 Reads and verifies the image, or with a lattice file reads, judges and compiles
 the source text. If there is a bound, prints `halts within N instructions`: with

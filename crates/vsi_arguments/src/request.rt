@@ -169,21 +169,26 @@ pub struct Drawing<'a> {
     pub is_alone: bool,
 }
 
-/// A look at a lattice file, which is compared with an older one if there is one.
+/// A look at a lattice file, which is compared with an older one if there is one. If it is denying,
+/// the answer is bad if some class sees more than before.
 #[derive(Clone, Copy)]
 pub struct Looking<'a> {
     pub lattice: &'a str,
     pub old: Option<&'a str>,
+    pub is_denying: bool,
 }
 
 /// A look at who sees which globals of an interface, which is compared with an older one, if any.
+/// `is_denying` is as for a lattice.
 #[derive(Clone, Copy)]
 pub struct Visibility<'a> {
     pub interface: &'a str,
     pub old: Option<&'a str>,
+    pub is_denying: bool,
 }
 
-/// C from an image or, with a lattice file, from a source text; `name` is the prefix of its names.
+/// C from an image or, with a lattice file, from a source text; `name` is the prefix of its names,
+/// and `out` the file for it, if it isn't for standard output.
 #[derive(Clone, Copy)]
 pub struct Emission<'a> {
     pub lattice: Option<&'a str>,
@@ -191,6 +196,7 @@ pub struct Emission<'a> {
     pub name: Option<&'a str>,
     pub is_header: bool,
     pub is_bounded: bool,
+    pub out: Option<&'a str>,
 }
 
 /// A search for a bound of an image or, with a lattice file, of a source text.
@@ -207,6 +213,32 @@ pub struct Judging<'a> {
     pub is_steady: bool,
     pub is_json: bool,
     pub has_warnings: bool,
+}
+
+/// Source texts, each judged by itself under one lattice file.
+#[derive(Drop)]
+pub struct Survey<'a> {
+    pub lattice: &'a str,
+    pub sources: Vec<&'a str>,
+    pub is_strict: bool,
+    pub is_steady: bool,
+    pub form: AnswerForm,
+}
+
+/// The programs of a project file that are judged: the one of this name, or all.
+#[derive(Clone, Copy)]
+pub struct Projecting<'a> {
+    pub project: &'a str,
+    pub name: Option<&'a str>,
+    pub budget: u64,
+    pub form: AnswerForm,
+}
+
+/// A page on a source text, and the file for it, if it isn't for standard output.
+#[derive(Clone, Copy)]
+pub struct Page<'a> {
+    pub compilation: Compilation<'a>,
+    pub out: Option<&'a str>,
 }
 
 /// An attempt to judge and run a source text, with settings, each `NAME=NUMBER`.
@@ -259,6 +291,11 @@ pub enum Document<'a> {
     },
     Compare(Comparison<'a>),
     Leak(Search<'a>),
+    List(&'a str),
+    Policy(Looking<'a>),
+    Visible(Visibility<'a>),
+    /// With the source text that is compared with its layout.
+    Layout(&'a str),
 }
 
 /// Whether an explanation is coloured.
@@ -277,10 +314,13 @@ pub enum Reporting {
     Explained(Colour),
 }
 
-/// How a refusal of a request is reported, and whether its file replaces one of another kind.
+/// How a refusal of a request is reported, whether by all lines of an explanation and by the strict
+/// profile, and whether its file replaces one of another kind.
 #[derive(Clone, Copy)]
 pub struct Manner {
     pub reporting: Reporting,
+    pub is_whole: bool,
+    pub is_strict: bool,
     pub is_forced: bool,
 }
 
@@ -289,6 +329,10 @@ pub struct Manner {
 pub enum Request<'a> {
     Try(Attempt<'a>),
     Check(Judging<'a>),
+    Survey(Survey<'a>),
+    Project(Projecting<'a>),
+    /// With the name of the folder that is made for a new project.
+    New(&'a str),
     Document(Document<'a>),
     Conform(Conformance<'a>),
     Classes(Compilation<'a>),
@@ -332,7 +376,7 @@ pub enum Request<'a> {
         is_json: bool,
     },
     Leak(Search<'a>),
-    Report(Compilation<'a>),
+    Report(Page<'a>),
     Draw(Drawing<'a>),
     Policy(Looking<'a>),
     Visible(Visibility<'a>),

@@ -1,24 +1,25 @@
 //! The request that arguments make.
 
-ghost use Rattle.std.specs.Prelude.{◌≡◌, ◌↔◌, IfOk, IfSome, IsTrue, Some, codes, false};
+ghost use Rattle.std.specs.Prelude.{◌≡◌, ◌↔◌, ◌∷◌, [], IfOk, IfSome, IsTrue, Some, codes, false};
 ghost use Rattle.vsi_arguments.specs.Asked as spec;
 ghost use Rattle.vsi_arguments.specs.Help as help_spec;
 ghost use Rattle.vsi_arguments.specs.Words.{has_flag as is_flag, operands_in, texts};
 
 use crate::arguments::{
-    at_most_one, behind, has_flag, is_end, is_valued, number, number_in, one, one_or_two, operands,
-    rest_of, three, two, value, values_of,
+    at_most_one, behind, has_flag, has_values, is_end, is_valued, number, one, one_or_two,
+    operands, rest_of, three, two, value, values_of,
 };
+use crate::checks::judge;
 use crate::explained::named_page;
 use crate::run_requests::{attempt, compare, compare_steps, drive, monitor, run, steps, view};
 use crate::{
-    AnswerForm, Audit, Bounding, Compilation, Conformance, Document, Drawing, Emission, Judging,
-    Layout, Looking, Mending, RUNS_BUDGET, Request, SEARCH, Search, Serving, Visibility,
+    AnswerForm, Audit, Bounding, Compilation, Conformance, Document, Drawing, Emission, Layout,
+    Looking, Mending, Page, RUNS_BUDGET, Request, SEARCH, Search, Serving, Visibility,
 };
 use std::alloc::{AllocError, Global};
 
 /// The compilation of the two operands.
-fn compilation<'a>(words: &'a [String]) -> Option<Compilation<'a>>
+pub(crate) fn compilation<'a>(words: &'a [String]) -> Option<Compilation<'a>>
     ensures files { IfSome result (λ made.
         operands_in false (texts words.now) ≡ spec.compiled made) }
     ensures strict { IfSome result (λ made.
@@ -32,26 +33,8 @@ fn compilation<'a>(words: &'a [String]) -> Option<Compilation<'a>>
     })
 }
 
-/// The request of `check`.
-fn check<'a>(words: &'a [String]) -> Option<Request<'a>>
-    ensures { IfSome result (spec.AsksFor words.now) }
-{
-    let rest =
-        rest_of! { words "check" ["--strict" "--steady" "--json" "--sarif" "--warnings"] [] };
-    let judging = Judging {
-        compilation: compilation(rest)?,
-        is_steady: has_flag(rest, "--steady"),
-        is_json: has_flag(rest, "--json"),
-        has_warnings: has_flag(rest, "--warnings"),
-    };
-    if has_flag(rest, "--sarif") {
-        return Some(Request::Document(Document::Sarif(judging)));
-    }
-    Some(Request::Check(judging))
-}
-
 /// The form of an answer, as lines, JSON or SARIF.
-fn form(words: &[String]) -> Option<AnswerForm>
+pub(crate) fn form(words: &[String]) -> Option<AnswerForm>
     ensures json { IfSome result (λ made.
         is_flag (codes "--json") (texts words.now) ≡ spec.is_json made) }
     ensures sarif { IfSome result (λ made.
@@ -63,6 +46,13 @@ fn form(words: &[String]) -> Option<AnswerForm>
         (false, true) => Some(AnswerForm::Sarif),
         (true, true) => None,
     }
+}
+
+/// The request of `new`.
+fn new<'a>(words: &'a [String]) -> Option<Request<'a>>
+    ensures { IfSome result (spec.AsksFor words.now) }
+{
+    Some(Request::New(one(behind(words, "new", &[], &[])?)?))
 }
 
 /// The request of `conform`.
@@ -188,8 +178,12 @@ fn build<'a>(words: &'a [String]) -> Option<Request<'a>>
 fn list<'a>(words: &'a [String]) -> Option<Request<'a>>
     ensures { IfSome result (spec.AsksFor words.now) }
 {
-    let rest = rest_of! { words "list" [] [] };
-    Some(Request::List(one(rest)?))
+    let rest = rest_of! { words "list" ["--json"] [] };
+    let image = one(rest)?;
+    if has_flag(rest, "--json") {
+        return Some(Request::Document(Document::List(image)));
+    }
+    Some(Request::List(image))
 }
 
 /// The request of `source`.
@@ -204,13 +198,15 @@ fn source<'a>(words: &'a [String]) -> Option<Request<'a>>
 fn emit_c<'a>(words: &'a [String]) -> Option<Request<'a>>
     ensures { IfSome result (spec.AsksFor words.now) }
 {
-    let rest = rest_of! { words "emit-c" ["--header" "--bounded"] ["--lattice" "--name"] };
+    let rest = rest_of! { words "emit-c" ["--header" "--bounded"] ["--lattice" "--name" "--out"]
+    "--force" };
     Some(Request::EmitC(Emission {
         lattice: value(rest, "--lattice")?,
         file: one(rest)?,
         name: value(rest, "--name")?,
         is_header: has_flag(rest, "--header"),
         is_bounded: has_flag(rest, "--bounded"),
+        out: value(rest, "--out")?,
     }))
 }
 
@@ -234,8 +230,10 @@ fn bound<'a>(words: &'a [String]) -> Option<Request<'a>>
 fn report<'a>(words: &'a [String]) -> Option<Request<'a>>
     ensures { IfSome result (spec.AsksFor words.now) }
 {
-    let rest = rest_of! { words "report" ["--strict"] [] };
-    Some(Request::Report(compilation(rest)?))
+    let rest = rest_of! { words "report" ["--strict"] ["--out"] "--force" };
+    let compilation = compilation(rest)?;
+    let out = value(rest, "--out")?;
+    Some(Request::Report(Page { compilation, out }))
 }
 
 /// The request of `draw`.
@@ -252,18 +250,63 @@ fn draw<'a>(words: &'a [String]) -> Option<Request<'a>>
     }))
 }
 
+/// The files of a look at a lattice, the older one last: operands, or those of `--to` and `--from`.
+fn looked<'a>(words: &'a [String]) -> Option<(&'a str, Option<&'a str>)>
+    ensures { IfSome result
+        (λ some. spec.GivesFiles (texts words.now) (some.0.now ∷ []) some.1) }
+{
+    let Some(lattice) = value(words, "--to")? else {
+        has_values(words, "--from", &[])?;
+        return one_or_two(words);
+    };
+    let old = value(words, "--from")?;
+    match at_most_one(words, false)? {
+        Some(_) => None,
+        None => Some((lattice, old)),
+    }
+}
+
+/// The older file of a look at an interface, if there is one: the operand, or that of `--from`.
+fn older<'a>(words: &'a [String]) -> Option<Option<&'a str>>
+    ensures { IfSome result (λ old. spec.GivesFiles (texts words.now) [] old) }
+{
+    has_values(words, "--to", &[])?;
+    let operand = at_most_one(words, false)?;
+    match (value(words, "--from")?, operand) {
+        (None, old) => Some(old),
+        (old, None) => Some(old),
+        (Some(_), Some(_)) => None,
+    }
+}
+
 /// The request of `policy`. With an interface, which has the lattice, the one operand is the older
 /// interface.
 fn policy<'a>(words: &'a [String]) -> Option<Request<'a>>
     ensures { IfSome result (spec.AsksFor words.now) }
 {
-    let rest = rest_of! { words "policy" [] ["--interface"] };
+    let rest = rest_of! { words "policy" ["--deny" "--json"] ["--interface" "--to" "--from"] };
+    let is_denying = has_flag(rest, "--deny");
     let Some(interface) = value(rest, "--interface")? else {
-        let (lattice, old) = one_or_two(rest)?;
-        return Some(Request::Policy(Looking { lattice, old }));
+        let (lattice, old) = looked(rest)?;
+        let looking = Looking {
+            lattice,
+            old,
+            is_denying,
+        };
+        if has_flag(rest, "--json") {
+            return Some(Request::Document(Document::Policy(looking)));
+        }
+        return Some(Request::Policy(looking));
     };
-    let old = at_most_one(rest, false)?;
-    Some(Request::Visible(Visibility { interface, old }))
+    let visibility = Visibility {
+        interface,
+        old: older(rest)?,
+        is_denying,
+    };
+    if has_flag(rest, "--json") {
+        return Some(Request::Document(Document::Visible(visibility)));
+    }
+    Some(Request::Visible(visibility))
 }
 
 /// Whether the flags of a layout keep comments: there is one, and not both `--check` and `--write`.
@@ -295,6 +338,17 @@ fn layout<'a>(words: &'a [String]) -> Option<Request<'a>>
     Some(Request::Format(one(rest)?))
 }
 
+/// The request of `fmt --check --json`.
+fn layout_json<'a>(words: &'a [String]) -> Option<Request<'a>>
+    ensures { IfSome result (spec.AsksFor words.now) }
+{
+    let rest = rest_of! { words "fmt" ["--check" "--json"] [] };
+    if !has_flag(rest, "--check") || !has_flag(rest, "--json") {
+        return None;
+    }
+    Some(Request::Document(Document::Layout(one(rest)?)))
+}
+
 /// The request of `lattice`.
 fn lattice<'a>(alloc: Global, words: &'a [String]) -> Result<Option<Request<'a>>, AllocError>
     ensures { IfOk result (λ request. IfSome request (spec.AsksFor words.now)) }
@@ -309,7 +363,7 @@ fn lattice<'a>(alloc: Global, words: &'a [String]) -> Result<Option<Request<'a>>
 fn lsp<'a>(words: &'a [String]) -> Option<Request<'a>>
     ensures { IfSome result (spec.AsksFor words.now) }
 {
-    let (flags, options) = (["--strict"], ["--lattice"]);
+    let (flags, options) = (["--strict", "--stdio"], ["--lattice"]);
     let rest = behind(words, "lsp", flags.as_slice(), options.as_slice())?;
     match at_most_one(rest, false)? {
         Some(_) => None,
@@ -333,7 +387,7 @@ fn plain<'a>(name: &str, words: &'a [String]) -> Option<Request<'a>>
     ensures { IfSome result (spec.AsksFor words.now) }
 {
     match name {
-        "check" => check(words),
+        "new" => new(words),
         "conform" => conform(words),
         "classes" => classes(words),
         "flows" => flows(words),
@@ -350,7 +404,7 @@ fn plain<'a>(name: &str, words: &'a [String]) -> Option<Request<'a>>
         "report" => report(words),
         "draw" => draw(words),
         "policy" => policy(words),
-        "fmt" => layout(words),
+        "fmt" => layout(words).or(layout_json(words)),
         "lsp" => lsp(words),
         "explain" => explain(words),
         _ => None,
@@ -368,8 +422,10 @@ pub fn request_of<'a>(alloc: Global, words: &'a [String]) -> Result<Option<Reque
     let [name, rest @ ..] = words else {
         return Ok(None);
     };
-    if name.as_str() == "lattice" {
-        return lattice(alloc, words);
+    match name.as_str() {
+        "check" => return judge(alloc, words),
+        "lattice" => return lattice(alloc, words),
+        _ => {}
     }
     let settings = values_of(alloc, rest, "--set")?;
     Ok(match name.as_str() {

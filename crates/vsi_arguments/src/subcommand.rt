@@ -56,9 +56,10 @@ impl Subcommand {
         for argument in self.arguments {
             arguments.push(argument.made(alloc)?)?;
         }
-        if !matches!(self.name, "lattice" | "lsp" | "explain") {
-            arguments.push(EXPLAIN.made(alloc)?)?;
-            arguments.push(COLOR.made(alloc)?)?;
+        if !matches!(self.name, "new" | "lattice" | "lsp" | "explain") {
+            for argument in [EXPLAIN, ALL, COLOR] {
+                arguments.push(argument.made(alloc)?)?;
+            }
         }
         command.args(arguments)
     }
@@ -78,10 +79,12 @@ pub(crate) enum Form {
     Place,
     /// By position, optional.
     FreePlace,
-    /// By position, required unless this option is given.
-    PlaceUnless(&'static str),
+    /// By position, required unless this option or one of the others is given.
+    PlaceUnless(&'static str, &'static [&'static str]),
     /// By position, one or more.
     Places,
+    /// By position, one or more unless this option is given.
+    PlacesUnless(&'static str),
     Flag,
     Value(&'static str),
     NeededValue(&'static str),
@@ -124,7 +127,11 @@ impl Argument {
     pub(crate) fn is_option(&self) -> bool {
         !matches!(
             self.form,
-            Form::Place | Form::FreePlace | Form::PlaceUnless(_) | Form::Places
+            Form::Place
+                | Form::FreePlace
+                | Form::PlaceUnless(_, _)
+                | Form::Places
+                | Form::PlacesUnless(_)
         )
     }
 
@@ -141,8 +148,14 @@ impl Argument {
         Ok(match self.form {
             Form::Place => told.required(true),
             Form::FreePlace => told,
-            Form::PlaceUnless(option) => told.required_unless_present(option)?,
+            Form::PlaceUnless(option, others) => told
+                .required_unless_present(option)?
+                .required_unless_present_any(others)?,
             Form::Places => told.required(true).action(ArgAction::Append).num_args(1..),
+            Form::PlacesUnless(option) => told
+                .required_unless_present(option)?
+                .action(ArgAction::Append)
+                .num_args(1..),
             Form::Flag => told.action(ArgAction::SetTrue),
             Form::Value(value) => told.value_name(value),
             Form::NeededValue(value) => told.value_name(value).required(true),
@@ -202,12 +215,17 @@ pub(crate) const DRIVE_LATTICE: Argument = argument! {
 --interface it is left out, and IMAGE is the only operand." } };
 
 pub(crate) const DRIVEN_IMAGE: Argument = argument! {
-    PlaceUnless("interface") "IMAGE" "The image file" LONG_IMAGE };
+    PlaceUnless("interface", &[]) "IMAGE" "The image file" LONG_IMAGE };
 
 pub(crate) const COLOR: Argument = argument! {
     Choice("WHEN", &["auto", "always", "never"]) "color" "Colours an explanation: auto, always or never" "\
 Colours an explanation: `always`, `never`, or `auto`, the default: if
-standard error is a terminal and NO_COLOR isn't set." };
+standard error is a terminal and NO_COLOR is empty or not set." };
+
+pub(crate) const ALL: Argument = argument! {
+    Flag "all" "Writes all lines of an explanation" "\
+Writes all lines of an explanation. Without this option it has at most
+40; one of them says how many are left out." };
 
 pub(crate) const CLASS: Argument = argument! { NeededValue("C") "class" "The observer's class" "\
 The name of the observer's class, one of the classes of LATTICE." };
@@ -237,6 +255,18 @@ pub(crate) const OUT: Argument = argument! {
 The path of a file that the store is written to, instead of standard
 output. The file is replaced as a whole if the run halts, and is left
 as it is otherwise, so it may be the store file that is read." };
+
+pub(crate) const TEXT_OUT: Argument = argument! {
+    Value("FILE") "out" "The file to write to, not standard output" "\
+The path of a file that the text is written to, instead of standard
+output. The file is replaced as a whole, if it is empty or with
+--force, and is left as it is if the answer is a refusal." };
+
+pub(crate) const TEXT_FORCE: Argument = argument! {
+    Flag "force" "Replaces a file that isn't empty" "\
+Replaces the file that --out names whatever is in it. Without this
+option it is written only if there is none or it is empty. A file that
+is read is never replaced." };
 
 pub(crate) const OUTPUTS: Argument = argument! {
     Value("NAMES") "outputs" "The globals that are written; default: all C sees" "\

@@ -104,13 +104,13 @@ fn put_owners(alloc: Global, told: &mut String, mistake: &str) -> Result<bool, A
         return Ok(false);
     };
     let owners = owners_of(alloc, option)?;
-    let is_of_most = option == "color" || option == "explain";
+    let is_of_most = matches!(option, "all" | "color" | "explain");
     if owners.is_empty() && !is_of_most {
         return Ok(false);
     }
     write!(told, "{GAP}{TIP}'--{option}' is an option of ")?;
     match (option, owners.as_str().rsplit_once(", ")) {
-        ("color", _) => told.push_str(MOST)?,
+        ("all" | "color", _) => told.push_str(MOST)?,
         ("explain", _) => write!(told, "{MOST}, as in `vsi try a.vsi --explain`")?,
         (_, Some((others, last))) => write!(told, "{others} and {last}")?,
         (_, None) => told.push_str(owners.as_str())?,
@@ -150,8 +150,15 @@ Without arguments the program reads a source text from standard input, judges it
 under the classes L and H, L below H, runs it from a store of zeros for at most
 1000000 instructions, and prints each global.";
 
-/// An example of the program.
-const PROGRAM_EXAMPLE: &str = "\
+/// The end of the program's help: a text, if there is one, and an example.
+macro_rules! ending {
+    ($($text:literal)?) => {
+        concat!($($text,)? "Example:\n  $ printf 'var x : L; x := 1 + 2' | vsi\n  x = 3")
+    };
+}
+
+/// The end of the program's long help.
+const PROGRAM_END: &str = ending! { "\
 `vsi explain language` shows the language in one program; `vsi explain` also has
 `lattice`, `store`, `interface`, `classes` and `profiles`.
 
@@ -164,12 +171,82 @@ Statuses, each but 0 with its cause on standard error or standard output:
   4  file fault: a file or a standard stream can't be opened, read or written
   5  out of memory
 
-Example:
-  $ printf 'var x : L; x := 1 + 2' | vsi
-  x = 3";
+" };
 
 /// The version that `--version` prints after the program's name.
 const VERSION: &str = "0.1.0";
+
+/// The heading of the first group of subcommands.
+const JUDGE: &str = "Judge a text or an image";
+
+/// The groups of subcommands, in the order of the help: the heading of each, and its names.
+const GROUPS: [(&str, &[&str]); 6] = [
+    (
+        JUDGE,
+        &[
+            "try", "check", "conform", "classes", "flows", "mend", "leak", "audit",
+        ],
+    ),
+    (
+        "Run a text or an image",
+        &["run", "steps", "monitor", "compare"],
+    ),
+    (
+        "Make and read images",
+        &["build", "list", "source", "emit-c", "bound"],
+    ),
+    ("Serve observers and controllers", &["view", "drive"]),
+    (
+        "Show lattices and flows",
+        &["lattice", "policy", "draw", "report"],
+    ),
+    ("Write programs", &["new", "fmt", "lsp", "explain"]),
+];
+
+/// The place of a subcommand in the help.
+fn place_of(name: &str) -> usize {
+    let mut place = 0;
+    for (_, names) in &GROUPS {
+        for other in *names {
+            if *other == name {
+                return place;
+            }
+            place = place.saturating_add(1);
+        }
+    }
+    place
+}
+
+/// Adds a text up to a line, a heading and the line, and returns the text after it; or returns the
+/// whole text if it has no such line.
+fn put_heading<'t>(
+    grouped: &mut String,
+    text: &'t str,
+    heading: &str,
+    line: &str,
+) -> Result<&'t str, AllocError> {
+    let Some((before, behind)) = text.split_once(line) else {
+        return Ok(text);
+    };
+    write!(grouped, "{before}\n\n{heading}:{line}")?;
+    Ok(behind)
+}
+
+/// The help with a heading before each group of subcommands but the first, if it lists them.
+pub(crate) fn grouped(alloc: Global, text: String) -> Result<String, AllocError> {
+    if !text.as_str().contains(JUDGE) {
+        return Ok(text);
+    }
+    let mut grouped = String::new(alloc);
+    let mut rest = text.as_str();
+    for (heading, names) in &GROUPS[1..] {
+        let mut line = String::from_str(alloc, "\n  ")?;
+        line.push_str(names.first().map_or("", |first| *first))?;
+        rest = put_heading(&mut grouped, rest, heading, line.as_str())?;
+    }
+    grouped.push_str(rest)?;
+    Ok(grouped)
+}
 
 /// The subcommand of a list with this name.
 fn subcommand_of<'b>(list: &'b [Subcommand], name: &str) -> Option<&'b Subcommand> {
@@ -186,7 +263,9 @@ fn bare<'a>(alloc: Global) -> Result<Command<'a>, AllocError> {
     Command::new(alloc, "vsi")
         .about("Compiles programs whose information flows are typed, and runs them")
         .long_about(PROGRAM)
-        .after_help(PROGRAM_EXAMPLE)
+        .after_help(ending! {})
+        .after_long_help(PROGRAM_END)
+        .subcommand_help_heading(JUDGE)
         .no_binary_name(true)
         .version(VERSION)
         .bin_name("vsi")
@@ -200,7 +279,8 @@ fn having<'a>(
 ) -> Result<Command<'a>, AllocError> {
     let mut program = program;
     for subcommand in subcommands {
-        program = program.subcommand(subcommand.made(alloc)?)?;
+        let made = subcommand.made(alloc)?;
+        program = program.subcommand(made.display_order(place_of(subcommand.name)))?;
     }
     Ok(program)
 }
@@ -211,6 +291,11 @@ fn whole<'a>(alloc: Global) -> Result<Command<'a>, AllocError> {
     let program = having(alloc, program, &IMAGES)?;
     let program = having(alloc, program, &RUNS)?;
     having(alloc, program, &PAGES)
+}
+
+/// Whether a subcommand has this name.
+pub(crate) fn is_subcommand(name: &str) -> bool {
+    GROUPS.iter().any(|(_, names)| names.contains(&name))
 }
 
 /// The program with the subcommands that the parser needs for arguments that begin with this one.

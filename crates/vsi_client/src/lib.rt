@@ -24,5 +24,5 @@ mod renaming;
 
 pub use changes::{Change, changed_by};
 pub use pieces::{Piece, next_piece, path_beside};
-pub use places::{Encoding, Marked, Place, Range, offset_of, place_of, range_of};
+pub use places::{Encoding, Marked, Place, Range, offset_of, place_of};
 pub use renaming::{Mention, mentions_of, rename};

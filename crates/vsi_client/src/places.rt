@@ -300,11 +300,10 @@ fn units_before(encoding: Encoding, text: &[u8], left: usize) -> usize
     units_in(encoding, line)
 }
 
-/// The position of the place before a byte; a place near it, if that is inside of a character or of
-/// a line's end.
-fn near(encoding: Encoding, text: &[u8], at: usize) -> Place
-    ensures { length text.now < 2 ^ 62 → spec.IsPlaced text.now at →
-        spec.offset_in encoding text.now result ≡ at }
+/// The position of the place before a byte, unless that is inside a character or a line's end.
+pub fn place_of(encoding: Encoding, text: &[u8], at: usize) -> Option<Place>
+    ensures denoted { IfSome result (λ place. spec.offset_in encoding text.now place ≡ at) }
+    ensures found { length text.now < 2 ^ 62 → spec.IsPlaced text.now at → is_some result ≡ true }
 {
     let mut line: usize = 0;
     let mut left = at;
@@ -315,23 +314,9 @@ fn near(encoding: Encoding, text: &[u8], at: usize) -> Place
         left = left.saturating_sub(size);
         rest = after(rest, size);
     }
-    Place {
-        line,
-        character: units_before(encoding, rest, left),
-    }
-}
-
-/// The position of the place before a byte, unless that is inside of a character or of a line's end.
-pub fn place_of(encoding: Encoding, text: &[u8], at: usize) -> Option<Place>
-    ensures denoted { IfSome result (λ place. spec.offset_in encoding text.now place ≡ at) }
-    ensures found { length text.now < 2 ^ 62 → spec.IsPlaced text.now at → is_some result ≡ true }
-{
-    let place = near(encoding, text, at);
-    if offset_of(encoding, text, place) == at {
-        Some(place)
-    } else {
-        None
-    }
+    let character = units_before(encoding, rest, left);
+    let place = Place { line, character };
+    (offset_of(encoding, text, place) == at).then_some(place)
 }
 
 /// A part of a text between two positions.
@@ -339,17 +324,4 @@ pub fn place_of(encoding: Encoding, text: &[u8], at: usize) -> Option<Place>
 pub struct Range {
     pub start: Place,
     pub stop: Place,
-}
-
-/// The positions of a part of a text.
-pub fn range_of(encoding: Encoding, text: &[u8], start: usize, stop: usize) -> Range
-    ensures start { length text.now < 2 ^ 62 → spec.IsPlaced text.now start →
-        spec.offset_in encoding text.now result.start ≡ start }
-    ensures stop { length text.now < 2 ^ 62 → spec.IsPlaced text.now stop →
-        spec.offset_in encoding text.now result.stop ≡ stop }
-{
-    Range {
-        start: near(encoding, text, start),
-        stop: near(encoding, text, stop),
-    }
 }

@@ -10,7 +10,6 @@ use crate::places::{Encoding, Marked, Range};
 use std::alloc::{AllocError, Global};
 use vsi_code::generate;
 use vsi_compiler::{CompileError, Source, read_source};
-use vsi_image::Instr;
 use vsi_scope::{Cmd, Entry, Ex, Global as Declared, Resolved};
 use vsi_syntax::{Span, is_name};
 
@@ -39,13 +38,12 @@ struct Tour {
 impl Tour {
     /// Notes a name of a variable.
     fn note(&mut self, span: Span, variable: usize, is_declaration: bool) -> Made {
-        Ok(
-            self.mentions.push(Mention {
-                span,
-                variable,
-                is_declaration,
-            })?,
-        )
+        let mention = Mention {
+            span,
+            variable,
+            is_declaration,
+        };
+        Ok(self.mentions.push(mention)?)
     }
 
     /// Notes a name of the variable at a location.
@@ -129,10 +127,7 @@ pub fn mentions_of(alloc: Global, source: &Source<'_>) -> Result<Vec<Mention>, A
 fn after_first(place: Option<usize>) -> Option<usize>
     ensures { result ≡ after_first place }
 {
-    match place {
-        Some(place) => place.checked_sub(1),
-        None => None,
-    }
+    place?.checked_sub(1)
 }
 
 /// Whether the first name of a list is kept, or is the new one if that is its place.
@@ -199,25 +194,6 @@ fn keep_variables(variable: usize, name: &[u8], old: &Resolved<'_>, new: &Resolv
         && keep_letvars(place, name, old.letvars(), new.letvars())
 }
 
-/// Whether two codes are the same.
-fn is_same_code(old: &[Instr], new: &[Instr]) -> bool
-    ensures { result ≡ true → new.now ≡ old.now }
-{
-    let mut olds = old;
-    let mut news = new;
-    while let [instruction, more @ ..] = olds {
-        let [other, others @ ..] = news else {
-            return false;
-        };
-        if *other != *instruction {
-            return false;
-        }
-        olds = more;
-        news = others;
-    }
-    news.is_empty()
-}
-
 /// Whether a program is another one but for the name of a variable.
 fn is_kept(
     alloc: Global,
@@ -234,7 +210,7 @@ fn is_kept(
     }
     let before = generate(alloc, old.resolved())?;
     let after = generate(alloc, new.resolved())?;
-    Ok(is_same_code(&before.image().code, &after.image().code))
+    Ok(after.image().code == before.image().code)
 }
 
 /// Whether the program of a text is that of a source but for the name of a variable.

@@ -5,3 +5,4 @@ mod Below
 mod Digits
 mod First
 mod Shaped
+pub mod Counted

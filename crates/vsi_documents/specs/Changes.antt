@@ -1,5 +1,5 @@
 -- The differences of two lattices, or of two interfaces, by what each class sees and may do.
-use Rattle.std.specs.Prelude.{ℕ, ◌++◌, ◌&&◌, ◌||◌, not, List, [], ◌∷◌, codes, if◌then◌else◌}
+use Rattle.std.specs.Prelude.{ℕ, zero, suc, Bool, false, ◌++◌, ◌&&◌, ◌||◌, not, List, [], ◌∷◌, codes, if◌then◌else◌}
 use Rattle.vsi_lattice.specs.LatticeView.{order}
 use Rattle.vsi_lattice.specs.declared.lattice.Lattice.{Lattice}
 use Rattle.vsi_image.specs.Fields.{Global}
@@ -79,3 +79,31 @@ visible_changes l a old before = changes (boundaries l a) (boundaries old before
 -- The differences of a lattice from an older one.
 abbrev pub seen_changes : Lattice → Lattice → List ℕ
 seen_changes l old = changes (classes_alone l) (classes_alone old)
+
+-- ---- whether somebody sees more.
+
+-- The class sees the global, or reads it as an output of its table.
+abbrev pub is_shown : Boundaries → List ℕ → List ℕ → Bool
+is_shown b class name = may Sees b class name || may Reads b class name
+
+-- The class sees or reads one of these globals, and neither saw nor read it on the older side.
+abbrev pub gains : Boundaries → Boundaries → List ℕ → List Global → Bool
+gains b old class [] = false
+gains b old class (g ∷ gs) = (is_shown b class g.0 && not (is_shown old class g.0)) || gains b old class gs
+
+-- One of the classes with the numbers below a count does so.
+abbrev pub some_gains : Boundaries → Boundaries → ℕ → Bool
+some_gains b old zero = false
+some_gains b old (suc n) = some_gains b old n || gains b old (name_at b.lattice n) b.globals
+
+-- Some class sees more: it sees or reads a global that it neither saw nor read on the older side.
+abbrev pub sees_more : Boundaries → Boundaries → Bool
+sees_more b old = some_gains b old (order b.lattice).count
+
+-- The same of an interface and an older one, each with its lattice.
+abbrev pub interface_sees_more : Lattice → InterfaceFile → Lattice → InterfaceFile → Bool
+interface_sees_more l a old before = sees_more (boundaries l a) (boundaries old before)
+
+-- The same of a lattice and an older one: some class sees another that it didn't see.
+abbrev pub lattice_sees_more : Lattice → Lattice → Bool
+lattice_sees_more l old = sees_more (classes_alone l) (classes_alone old)

@@ -16,6 +16,9 @@ use vsi_lattice::{Class, Lattice};
 use vsi_leak::is_shown;
 use vsi_store::RunEnding;
 
+/// A part of an answer, whose making fails if memory runs out.
+pub(crate) type Made<T> = Result<T, AllocError>;
+
 /// The text that answers a request, and whether it says that all is well: then the status of the
 /// subcommand is 0. The answer about raises is good if the text is accepted as it is or with them.
 #[derive(Debug, Drop)]
@@ -181,11 +184,7 @@ fn with_ending(
 }
 
 /// The object of a run that executes so many instructions.
-pub(crate) fn end_object(
-    alloc: Global,
-    halted: bool,
-    instructions: u64,
-) -> Result<Object, AllocError>
+pub(crate) fn end_object(alloc: Global, halted: bool, instructions: u64) -> Made<Object>
     ensures { IfOk result
         (λ made. members_view made ≡ words_spec.end_members halted instructions) }
 {

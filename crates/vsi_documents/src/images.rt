@@ -11,7 +11,7 @@ ghost use Rattle.vsi_documents.specs.Runs as runs_spec;
 ghost use Rattle.vsi_documents.specs.Comparisons as comparisons_spec;
 ghost use Rattle.vsi_documents.specs.Leaks as leaks_spec;
 
-use crate::answer::{Reply, end_object, runs_line, with_pairs, word_objects};
+use crate::answer::{Made, Reply, end_object, runs_line, with_pairs, word_objects};
 use std::alloc::{AllocError, Global};
 use vsi_answers::{
     BoundAnswer, Object, Unanswered, accepted_json, bound, bound_in, refusal_json, without_end,
@@ -50,12 +50,7 @@ pub fn audit_json(
 }
 
 /// The line of an answer with this text.
-fn bound_line(
-    alloc: Global,
-    is_bounded: bool,
-    found: Bound,
-    text: &[u8],
-) -> Result<Vec<u8>, AllocError>
+fn bound_line(alloc: Global, is_bounded: bool, found: Bound, text: &[u8]) -> Made<Vec<u8>>
     ensures { IfOk result (λ line. line.items
         ≡ lines.object_line (bounds_spec.bound_members is_bounded found text.now)) }
 {
@@ -149,10 +144,6 @@ pub fn run_json(
 /// if both halt, `after`, arrays with an object for each global that it sees, which has its `name`
 /// and its words in the `first` and the `second` run, and `first` and `second`, how the runs end,
 /// as of `run_json`. The answer is good if the class sees the same.
-///
-/// # Errors
-///
-/// The errors of `vsi_answers::compare`.
 pub fn compare_json(
     alloc: Global,
     lattice: &Lattice,
@@ -191,10 +182,6 @@ pub fn compare_json(
 /// each global at the start of both runs, `after`, the same for each global that the class sees at
 /// their ends, if both halt, and `first` and `second`, how the runs end, as of `compare_json`.
 /// Otherwise it has `pairs`, the number of pairs of runs. The answer is good if no leak was found.
-///
-/// # Errors
-///
-/// The errors of `leak_of_text`: no flow is refused here.
 pub fn leak_json(
     alloc: Global,
     lattice: &Lattice,

@@ -8,6 +8,7 @@ ghost use Rattle.vsi_documents.specs.Location as location_spec;
 ghost use Rattle.vsi_documents.specs.Refusals as spec;
 ghost use Rattle.vsi_documents.specs.Steps as steps_spec;
 
+use crate::answer::Made;
 use crate::sarif::document;
 use percent_encoding::{AsciiSet, NON_ALPHANUMERIC, ascii_set, percent_encode};
 use std::alloc::{AllocError, Global};
@@ -38,11 +39,7 @@ pub(crate) fn uri_of(alloc: Global, path: &str) -> Result<String, AllocError>
 }
 
 /// The object of a location: the URI of its file and, if it is known, its position.
-pub(crate) fn location(
-    alloc: Global,
-    uri: &[u8],
-    place: Option<(usize, usize)>,
-) -> Result<Object, AllocError>
+pub(crate) fn location(alloc: Global, uri: &[u8], place: Option<(usize, usize)>) -> Made<Object>
     ensures { IfOk result
         (λ made. members_view made ≡ location_spec.location_members uri.now place) }
 {

@@ -8,7 +8,7 @@ ghost use Rattle.vsi_documents.specs.Document as document_spec;
 ghost use Rattle.vsi_documents.specs.Auditing as auditing_spec;
 ghost use Rattle.vsi_documents.specs.Checking as checking_spec;
 
-use crate::answer::Reply;
+use crate::answer::{Made, Reply};
 use crate::refusal::{flow_objects, identified, location, refusal_document, result_object, uri_of};
 use std::alloc::{AllocError, Global};
 use vsi_answers::{Object, Objects};
@@ -112,20 +112,34 @@ fn run(alloc: Global, rules: Objects, results: Objects) -> Result<Object, AllocE
 
 /// The text of the document of these rules and results, a line. An accepted text or image has no
 /// result.
-pub(crate) fn document(
-    alloc: Global,
-    rules: Objects,
-    results: Objects,
-) -> Result<Vec<u8>, AllocError>
+pub(crate) fn document(alloc: Global, rules: Objects, results: Objects) -> Made<Vec<u8>>
     ensures { IfOk result (λ line.
         line.items ≡ document_spec.document_text (map view rules) (map view results)) }
 {
-    let runs = Objects::of(alloc, run(alloc, rules, results)?)?;
+    let run = run(alloc, rules, results)?;
+    run_line(alloc, run)
+}
+
+/// The text of the document of a run, a line.
+fn run_line(alloc: Global, run: Object) -> Result<Vec<u8>, AllocError>
+    ensures { IfOk result (λ line. line.items ≡ document_spec.run_text (members_view run)) }
+{
+    let runs = Objects::of(alloc, run)?;
     Object::new(alloc)
         .array("runs", runs)?
         .text("$schema", b"https://json.schemastore.org/sarif-2.1.0.json")?
         .text("version", b"2.1.0")?
         .line()
+}
+
+/// The text of the document of a check of files, a line, which has an identifier of its own.
+pub(crate) fn check_document(alloc: Global, rules: Objects, results: Objects) -> Made<Vec<u8>>
+    ensures { IfOk result (λ line.
+        line.items ≡ document_spec.check_text (map view rules) (map view results)) }
+{
+    let id = Object::new(alloc).text("id", b"vsi/check")?;
+    let run = run(alloc, rules, results)?.object("automationDetails", id)?;
+    run_line(alloc, run)
 }
 
 /// The answer of `vsi audit` to the image of the file at a path as a document of SARIF 2.1.0. An

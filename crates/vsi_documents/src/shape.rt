@@ -6,6 +6,7 @@ ghost use Rattle.vsi_documents.specs.{Shapes.{IsShapedText}, declared.shape.Shap
 ghost use Rattle.vsi_documents.specs.Shapes as spec;
 ghost use Rattle.vsi_documents.specs.Named as named_spec;
 
+use crate::answer::Made;
 use std::alloc::{AllocError, AllocFailed, Global};
 use thiserror::Error;
 use vsi_conform::put_parts;
@@ -56,12 +57,7 @@ impl Shape {
     }
 
     /// The name of a class of the shape with these names.
-    pub(crate) fn class_name(
-        self,
-        alloc: Global,
-        given: &[&[u8]],
-        class: usize,
-    ) -> Result<Vec<u8>, AllocError>
+    pub(crate) fn class_name(self, alloc: Global, given: &[&[u8]], class: usize) -> Made<Vec<u8>>
         ensures { IfOk result
             (λ name. name.items ≡ spec.class_name self (texts given.now) class) }
     {
@@ -257,12 +253,7 @@ fn class_names(
 }
 
 /// A proposed text for the lattice file of a shape with classes of these names.
-fn proposed(
-    alloc: Global,
-    shape: Shape,
-    names: usize,
-    classes: &[Vec<u8>],
-) -> Result<Vec<u8>, AllocError> {
+fn proposed(alloc: Global, shape: Shape, names: usize, classes: &[Vec<u8>]) -> Made<Vec<u8>> {
     let mut text = Vec::from_slice(alloc, b"classes = [")?;
     let mut between: &[u8] = b"\"";
     for name in classes {

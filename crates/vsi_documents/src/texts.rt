@@ -7,7 +7,7 @@ ghost use Rattle.vsi_infer.specs.Inference.{AreClasses};
 ghost use Rattle.vsi_flows.specs.Answers.{HasClassesIn};
 ghost use Rattle.vsi_documents.specs.{Answers.{TellsMended}, Classes.{TellsClasses}, Flows.{TellsFlows, are_allowed as are_allowed_of}};
 
-use crate::answer::{Reply, refused, verdict_line};
+use crate::answer::{Made, Reply, refused, verdict_line};
 use std::alloc::{AllocError, Global};
 use vsi_answers::{Object, Objects};
 use vsi_compiler::{CompileError, Source, judge, read_source};
@@ -20,13 +20,7 @@ use vsi_syntax::{Span, line_column};
 use vsi_types::Profile;
 
 /// The object of a declaration.
-fn class_object(
-    alloc: Global,
-    text: &[u8],
-    span: Span,
-    name: &[u8],
-    class: &[u8],
-) -> Result<Object, AllocError> {
+fn class_object(alloc: Global, text: &[u8], span: Span, name: &[u8], class: &[u8]) -> Made<Object> {
     let (line, column) = line_column(text, span.start);
     Object::new(alloc)
         .natural("line", line)?
@@ -165,11 +159,7 @@ pub fn flows_json(
 }
 
 /// The objects of raises of a source text, in their order.
-fn raise_objects(
-    alloc: Global,
-    source: &Source<'_>,
-    raises: &[Raise],
-) -> Result<Objects, AllocError>
+fn raise_objects(alloc: Global, source: &Source<'_>, raises: &[Raise]) -> Made<Objects>
     requires { HasClassesIn (order source.now.lattice) raises.now }
 {
     let lattice = source.lattice();
@@ -212,8 +202,7 @@ fn source_mended(alloc: Global, profile: Profile, source: &Source<'_>) -> Result
 /// The answer of `vsi mend` to a text as a line of JSON: an object with `accepted`, whether the
 /// text is accepted as it is, and `raises`, an array with an object for each of the least raises,
 /// in the order of the lines of `raise_lines_in`. Where no raise serves, or the text has no
-/// program, it is the line of `check_json`. The text is read once. An error means that memory ran
-/// out.
+/// program, it is the line of `check_json`. The text is read once.
 pub fn mend_json(
     alloc: Global,
     profile: Profile,

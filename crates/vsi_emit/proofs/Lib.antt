@@ -12,3 +12,4 @@ pub mod Small
 pub mod Whole
 pub mod Prepaid
 pub mod Begun
+pub mod Lines

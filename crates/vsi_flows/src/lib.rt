@@ -39,7 +39,7 @@ pub use rows::{declarations, name_start};
 pub use table::{FlowsError, Pair, Related, flows_in, refused_pairs};
 pub use text::{
     WalkTable, Walks, ends_text, flows_text_in, flows_text_of, step_text, table_text, table_walks,
-    walk_table, walks_text_in, walks_text_of,
+    walk_table,
 };
 pub use walked::{WalkedPair, walks_of};
 pub use written::{raised_text_in, raised_text_of};

@@ -174,47 +174,6 @@ pub fn flows_text_in(
     Ok(lines)
 }
 
-/// The table of a source text under a profile, as text. Below the line of each pair are the lines
-/// of a walk of its fewest steps, as `Walks` adds them.
-pub fn walks_text_of(
-    alloc: Heap,
-    profile: Profile,
-    source: &Source<'_>,
-) -> Result<Vec<u8>, AllocError>
-    ensures { IfOk result (λ out.
-        text_spec.IsWalksText source.now.lattice profile source.now.text out.items) }
-{
-    let table = walk_table(alloc, profile, source)?;
-    let walks = table_walks(alloc, &table)?;
-    let mut text = Vec::new(alloc);
-    for number in 0..walks.len() {
-        walks.put_lines(alloc, number, &mut text)?;
-    }
-    Ok(text)
-}
-
-/// The table of a text with a walk below each pair, by `walks_text_of`.
-///
-/// # Errors
-///
-/// The errors of `read_source`: no flow is refused here.
-pub fn walks_text_in(
-    alloc: Heap,
-    profile: Profile,
-    lattice: &Lattice,
-    text: &[u8],
-) -> Result<Vec<u8>, CompileError>
-    ensures lines { IfOk result (λ out. text_spec.IsWalksText lattice.now profile text.now
-        out.items) }
-    ensures refused { IfErr result (RefusesProgram (class_named lattice.now) text.now) }
-    ensures exact { (tree : Whole) (commands : List Command) → Reads text.now tree
-        → IsResolution (class_named lattice.now) tree commands → IfErr result (λ e. e ≡ Memory) }
-{
-    let source = read_source(alloc, lattice, text)?;
-    let lines = walks_text_of(alloc, profile, &source)?;
-    Ok(lines)
-}
-
 /// The pairs of a source text under a profile, the rows that walks go down, and the program's steps
 /// that lead down them.
 #[derive(Drop)]

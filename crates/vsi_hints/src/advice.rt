@@ -8,7 +8,7 @@ use crate::expression::{FALSE, TRUE};
 use crate::names::{declaration, local, named};
 use crate::offers::{hint_of, narrow, offer};
 use crate::scan::{DECLARING, Scan, is_one_of};
-use crate::structure::{COUNTED, halved_at, loop_at, sign, structure_at};
+use crate::structure::{COUNTED, LOCAL, commands_at, halved_at, sign, structure_at};
 use std::alloc::{AllocError, Global};
 use vsi_syntax::put_place;
 
@@ -45,21 +45,20 @@ impl<'s> Advice<'s> {
                 _ if scan.is_name(at) => named(&scan, at).or(sign(&scan, at)),
                 _ => sign(&scan, at),
             };
-            if let Some(found) = loop_at(&scan, at) {
-                if offer(&scan, &found)?.is_some() {
-                    shape = Some(found);
-                }
+            if let Some(found) = commands_at(&scan, at)
+                && offer(&scan, &found)?.is_some()
+            {
+                shape = Some(found);
             }
             if let Some(found) = shape {
                 next = found.next;
                 shapes.push(found)?;
             }
         }
-        let mut piece = scan.pieces.len();
-        if at < scan.stop(piece.saturating_sub(1)) {
-            let begun = scan.pieces.iter().rposition(|piece| piece.at <= at);
-            piece = begun.unwrap_or(0);
-        }
+        let count = scan.pieces.len();
+        let begun = scan.pieces.iter().rposition(|piece| piece.at <= at);
+        let is_within = at < scan.stop(count.saturating_sub(1));
+        let piece = if is_within { begun.unwrap_or(0) } else { count };
         Ok(Advice {
             scan,
             shapes,
@@ -77,7 +76,10 @@ impl<'s> Advice<'s> {
     /// Whether a piece is in a construct, and the text that replaces it has or hasn't the piece.
     fn is_in(&self, at: usize, is_kept: bool) -> bool {
         self.shapes.iter().any(|found| match found.shape {
-            Shape::Commands if is_kept => found.first < at && at < found.next.saturating_sub(1),
+            Shape::Commands if is_kept => {
+                let next = at.saturating_add(usize::from(!self.scan.is(at, b";")));
+                found.first < at && next < found.next
+            }
             Shape::Commands | Shape::Value | Shape::Comment => false,
             _ => !is_kept && found.first <= at && at < found.next,
         })
@@ -118,7 +120,10 @@ impl<'s> Advice<'s> {
             Shape::Say | Shape::Put | Shape::Declarations => {
                 scan.has(found.first, found.next, name)
             }
-            Shape::Commands => found.after == COUNTED && scan.has(found.first, found.value, name),
+            Shape::Commands => {
+                (found.after == COUNTED || found.after == LOCAL)
+                    && scan.has(found.first, found.value, name)
+            }
             // The offer for a name that isn't valid here begins with it.
             Shape::Expression => {
                 matches!(name.strip_prefix(scan.text(found.first)), Some([b'_', ..]))
@@ -233,9 +238,7 @@ pub fn put_further(
 /// The places for which `hint_at` and `put_further` have hints in a text refused at this byte.
 pub fn listed_places(alloc: Global, source: &[u8], at: usize) -> Result<Vec<usize>, AllocError> {
     let advice = Advice::of(alloc, source, at)?;
-    let mut places = Vec::new(alloc);
-    for (found, _) in &advice.chosen()? {
-        places.push(advice.scan.piece(found.first).at)?;
-    }
-    Ok(places)
+    let chosen = advice.chosen()?;
+    let place = |(found, _): &(Found, bool)| advice.scan.piece(found.first).at;
+    chosen.iter().map(place).collect(alloc)
 }

@@ -5,7 +5,7 @@ ghost use Rattle.vsi_hints.specs.Hints as spec;
 
 use crate::expression::rewritten;
 use crate::scan::{Scan, after, number_of};
-use crate::structure::counting_at;
+use crate::structure::{choice_at, counting_at};
 use std::alloc::AllocError;
 use vsi_syntax::put_number;
 
@@ -171,18 +171,6 @@ fn put_reason(words: &mut Vec<u8>, reason: Reason) -> Result<(), AllocError>
     }
 }
 
-/// Adds the form of this language for a sign.
-fn put_operator(words: &mut Vec<u8>, text: &[u8], sign: &[u8]) -> Result<(), AllocError>
-    ensures { OnOk result (words.new.items ≡ words.old.items ++ codes "write "
-        ++ spec.quoted text.now ++ codes " for `P " ++ sign.now ++ codes " Q`.") }
-{
-    words.extend_from_slice(b"write ")?;
-    put_quoted(words, text)?;
-    words.extend_from_slice(b" for `P ")?;
-    words.extend_from_slice(sign)?;
-    words.extend_from_slice(b" Q`.")
-}
-
 /// Adds the sentence of a hint.
 pub(crate) fn put_sentence(words: &mut Vec<u8>, hint: &Hint) -> Result<(), AllocError>
     ensures { OnOk result (words.new.items ≡ words.old.items ++ spec.sentence hint.now) }
@@ -196,7 +184,13 @@ pub(crate) fn put_sentence(words: &mut Vec<u8>, hint: &Hint) -> Result<(), Alloc
             put_replacing(words, new.as_bytes(), old)?;
             words.extend_from_slice(rest.as_bytes())
         }
-        Hint::Operator(text, sign) => put_operator(words, text, sign),
+        Hint::Operator(text, sign) => {
+            words.extend_from_slice(b"write ")?;
+            put_quoted(words, text)?;
+            words.extend_from_slice(b" for `P ")?;
+            words.extend_from_slice(sign)?;
+            words.extend_from_slice(b" Q`.")
+        }
         Hint::Piece(before, piece, rest) => {
             words.extend_from_slice(before.as_bytes())?;
             put_quoted(words, piece)?;
@@ -265,13 +259,21 @@ impl<'s, 't> Draft<'s, 't> {
         let (scan, found) = (self.scan, self.found);
         let comma = scan.value_stop(found.value);
         let stop = comma.min(found.next);
-        let (first, next, level) = match letter {
-            b'E' => (found.first, found.next, 0),
-            b'X' => (found.value, stop, 2),
-            b'Y' => (found.value, stop, 3),
-            b'W' if scan.is(comma, b",") => (comma.saturating_add(1), found.next, 0),
-            b'W' => (stop, stop, 0),
-            _ => (found.value, stop, 0),
+        let value = (found.value, stop);
+        let choice = choice_at(scan, found.first).unwrap_or((value, value, value));
+        let (first, next) = match letter {
+            b'E' => (found.first, found.next),
+            b'W' if scan.is(comma, b",") => (comma.saturating_add(1), found.next),
+            b'W' => (stop, stop),
+            b'J' => choice.0,
+            b'H' => choice.1,
+            b'S' => choice.2,
+            _ => value,
+        };
+        let level = match letter {
+            b'X' => 2,
+            b'Y' => 3,
+            _ => 0,
         };
         if (first..next).any(|at| scan.is_hyphened(at)) {
             return Ok(false);
@@ -283,22 +285,28 @@ impl<'s, 't> Draft<'s, 't> {
         }
     }
 
-    /// Adds a number, and so many more.
-    fn put_number(&mut self, text: &[u8], more: u64) -> Result<bool, AllocError> {
+    /// Adds 1 more than an operand if `is_more`, and otherwise 1 less, if that isn't below 0.
+    fn put_changed(&mut self, text: &[u8], is_more: bool) -> Result<bool, AllocError> {
         let Some(number) = number_of(text) else {
-            return Ok(false);
+            self.words.extend_from_slice(text)?;
+            return self.put(if is_more { b" + 1" } else { b" - 1" });
         };
-        put_number(&mut self.words, number.saturating_add(more) as usize)?;
-        Ok(true)
+        let (more, less) = (number.saturating_add(1), number.saturating_sub(1));
+        let changed = if is_more { more } else { less };
+        put_number(&mut self.words, changed as usize)?;
+        Ok(is_more || number > 0)
     }
 
-    /// Adds the body of a loop, without braces around it and without a `;` after a last command.
+    /// Adds the body of a loop, or the commands after a declaration, without braces around them and
+    /// without a `;` after a last command.
     fn put_body(&mut self) -> Result<bool, AllocError> {
         let (scan, found) = (self.scan, self.found);
         let (mut start, mut stop) = (found.value, found.next);
-        if !scan.is(found.first, b"for") {
+        if scan.is_any(found.first, b"do repeat") {
             start = found.first.saturating_add(1);
             stop = found.value.saturating_sub(1);
+        } else if !scan.is(found.first, b"for") {
+            start = scan.value_stop(start).saturating_add(1);
         }
         if scan.is(start, b"{") && scan.is(stop.saturating_sub(1), b"}") {
             start = start.saturating_add(1);
@@ -324,44 +332,36 @@ impl<'s, 't> Draft<'s, 't> {
             return Ok(false);
         };
         match letter {
-            b'I' => return self.put(scan.text(counter)),
-            b'F' if first == counter => return self.put(b"0"),
-            b'F' => return self.put(scan.text(first)),
-            _ => {}
+            b'I' => self.put(scan.text(counter)),
+            b'F' if first == counter => self.put(b"0"),
+            b'F' => self.put(scan.text(first)),
+            _ if scan.is_after(limit, b"to <=") => self.put_changed(scan.text(limit), true),
+            _ => self.put(scan.text(limit)),
         }
-        let is_counted = scan.is_after(limit, b"to <=");
-        if is_counted && self.put_number(scan.text(limit), 1)? {
-            return Ok(true);
-        }
-        self.words.extend_from_slice(scan.text(limit))?;
-        self.put(if is_counted { b" + 1" } else { b"" })
     }
 
     /// Adds what a letter of an offer stands for.
     fn put_letter(&mut self, letter: u8) -> Result<bool, AllocError> {
         let (scan, first) = (self.scan, self.found.first);
-        let (second, third, fourth, fifth, _) = after(first);
+        let last = self.found.next.saturating_sub(1);
+        let (second, third, fourth, ..) = after(first);
         match letter {
             b'N' => self.put(scan.text(first)),
             b'A' => self.put(scan.text(second)),
             b'P' => self.put(scan.text(third)),
             b'C' => self.put(scan.text(fourth)),
-            b'Q' => self.put(scan.text(fifth)),
+            b'U' => self.put(scan.text(self.found.value)),
+            b'Z' => self.put(scan.text(last)),
+            b'M' => self.put_changed(scan.text(last), false),
             b'K' => self.put_fresh(b"t old kept former"),
             b'R' => self.put_fresh(b"r left rest remainder"),
             b'T' => self.put_fresh(b"q times count quotient"),
-            b'E' | b'V' | b'W' | b'X' | b'Y' => self.put_value(letter),
-            b'D' => self.put_number(scan.text(first), 0),
+            b'E' | b'H' | b'J' | b'S' | b'V' | b'W' | b'X' | b'Y' => self.put_value(letter),
             b'L' => {
-                let (scan, found) = (self.scan, self.found);
-                let class = scan.text(found.next.saturating_sub(1));
                 let mut joint: &[u8] = b"var ";
-                for at in found.first..found.next {
-                    if scan.is(at, b":") {
-                        return Ok(true);
-                    }
+                for at in first..last {
                     if scan.is_name(at) {
-                        for part in [joint, scan.text(at), b" : ", class] {
+                        for part in [joint, scan.text(at), b" : ", scan.text(last)] {
                             self.words.extend_from_slice(part)?;
                         }
                         joint = b"; var ";

@@ -134,9 +134,9 @@ fn put_part(words: &mut Vec<u8>, part: &Part, level: u8) -> Result<(), AllocErro
 }
 
 /// An operator between two parts.
-fn joined(alloc: Global, pattern: Pattern, left: &Part, right: &Part) -> Result<Part, AllocError> {
+fn joined(pattern: Pattern, left: &Part, right: &Part) -> Result<Part, AllocError> {
     let (form, level, left_level, right_level) = pattern;
-    let mut text = Vec::new(alloc);
+    let mut text = Vec::new(*left.text.allocator());
     for byte in form {
         match *byte {
             b'P' => put_part(&mut text, left, left_level)?,
@@ -149,36 +149,39 @@ fn joined(alloc: Global, pattern: Pattern, left: &Part, right: &Part) -> Result<
 
 impl Operand {
     /// Its truth: 1 if it isn't 0, and 0 otherwise.
-    fn truth(&self, alloc: Global) -> Result<Part, AllocError> {
+    fn truth(&self) -> Result<Part, AllocError> {
         let same: Pattern = (b"P", self.part.level, 0, 0);
-        let pattern = if self.is_truth { same } else { TRUTH };
-        joined(alloc, pattern, &self.part, &self.part)
+        joined(
+            if self.is_truth { same } else { TRUTH },
+            &self.part,
+            &self.part,
+        )
     }
 }
 
 /// An operator between two operands, or before one that is given twice, if it can be written.
-fn applied(
-    alloc: Global,
-    form: Form,
-    left: &Operand,
-    right: &Operand,
-) -> Result<Option<Part>, AllocError> {
+fn applied(form: Form, left: &Operand, right: &Operand) -> Result<Option<Part>, AllocError> {
     let are_truths = left.is_truth && right.is_truth;
     let Some(pattern) = pattern_of(form, are_truths, right.value) else {
         return Ok(None);
     };
-    // A comparison of a comparison is chained, as in `a < b < c`, and not as in `a < 5 = 1`.
+    // A comparison of a comparison is chained, as in `a < b < c`, and not as in `a < 5 = 1`. It
+    // isn't clear which is meant by `a = b < c`, and no chain compares two numbers.
     let is_truth = left.compared != b"P = Q".as_slice() && matches!(right.value, Some(0 | 1));
-    let asks = pattern.0.contains(&b'=')
-        && right.value.is_some()
-        && (is_decimal(&left.last.text) || is_truth);
-    let part = if form.1 == AND {
-        joined(alloc, pattern, &left.truth(alloc)?, &right.truth(alloc)?)?
-    } else if form.1 == COMPARISON && !left.compared.is_empty() && !asks {
-        let second = joined(alloc, pattern, &left.last, &right.part)?;
-        joined(alloc, BOTH, &left.part, &second)?
+    let compares = pattern.0.contains(&b'=');
+    let is_fixed = right.value.is_some() && is_decimal(&left.last.text);
+    let asks = compares && (is_fixed || is_truth);
+    let is_chained = form.1 == COMPARISON && !left.compared.is_empty() && !asks;
+    let is_mixed = is_fixed || left.compared.contains(&b'=') != compares;
+    let part = if is_chained && is_mixed {
+        return Ok(None);
+    } else if is_chained {
+        let second = joined(pattern, &left.last, &right.part)?;
+        joined(BOTH, &left.part, &second)?
+    } else if form.1 == AND {
+        joined(pattern, &left.truth()?, &right.truth()?)?
     } else {
-        joined(alloc, pattern, &left.part, &right.part)?
+        joined(pattern, &left.part, &right.part)?
     };
     Ok(Some(part))
 }
@@ -245,22 +248,22 @@ impl Reading {
             };
             let left = if is_before { None } else { self.operands.pop() };
             let made = match &left {
-                Some(left) => applied(self.alloc, form, left, &right)?,
-                None if is_before => applied(self.alloc, form, &right, &right)?,
+                Some(left) => applied(form, left, &right)?,
+                None if is_before => applied(form, &right, &right)?,
                 None => None,
             };
             let Some(part) = made else {
                 return Ok(false);
             };
             let Operand { part: last, .. } = right;
-            let is_short = self.put(Operand {
+            let joined = Operand {
                 part,
                 is_truth: form.1 <= COMPARISON,
                 value: None,
                 compared: if form.1 == COMPARISON { form.2.0 } else { b"" },
                 last,
-            })?;
-            if !is_short {
+            };
+            if !self.put(joined)? {
                 return Ok(false);
             }
         }
@@ -276,13 +279,13 @@ impl Reading {
                 if !self.join_stronger(0)? {
                     return Ok(false);
                 }
-                let (Some((_, 0, _)), Some(operand)) = (self.waiting.pop(), self.operands.pop())
-                else {
-                    return Ok(false);
+                return match (self.waiting.pop(), self.operands.pop()) {
+                    (Some((_, 0, _)), Some(mut operand)) => {
+                        operand.compared = b"";
+                        self.put(operand)
+                    }
+                    _ => Ok(false),
                 };
-                let mut operand = operand;
-                operand.compared = b"";
-                return self.put(operand);
             }
             sign if wants_operand => form_in(&BEFORE, sign),
             sign => form_in(&BETWEEN, sign),

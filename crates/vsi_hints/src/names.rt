@@ -4,10 +4,11 @@ use crate::drafts::{Found, Letters, Shape, say, shaped, valued};
 use crate::expression::{FALSE, TRUE, is_operator};
 use crate::offers::{CALLS, COMMANDS, NONE, SIGNS, Saying, saying_in};
 use crate::scan::{KEYWORDS, Scan, Sort, after, is_one_of};
-use crate::structure::unwritten;
+use crate::structure::{LOCAL, unwritten};
 
 /// Names that declare a variable.
-const TYPES: &[u8] = b"let const local auto int long unsigned float double bool boolean char \
+pub(crate) const TYPES: &[u8] =
+    b"let const local auto int long unsigned float double bool boolean char \
     string val mut static global integer short dim";
 
 /// Names that do nothing.
@@ -38,7 +39,7 @@ const KEYWORD: Letters = (b"N_1", ": a keyword can't be a name.", "");
 
 /// A name that declares a variable, or does nothing.
 fn declaring_word(scan: &Scan, at: usize) -> Option<Found> {
-    let (next, colon, _, _, value) = after(at);
+    let next = at.saturating_add(1);
     if !scan.is_command_start(at) || !scan.is_any(at, TYPES) {
         if scan.is_command_start(at) && scan.is_any(at, IDLE) {
             let rest = ": assign a variable to itself to do nothing, as in `x := x`.";
@@ -48,14 +49,11 @@ fn declaring_word(scan: &Scan, at: usize) -> Option<Found> {
     }
     let (sign, stop) = local_value(scan, at);
     if scan.is_any(sign, b":= =") && scan.is(stop, b"in") {
-        let rest = ": it declares a variable for one command.";
-        shaped(at, sign, Shape::Put, (b"", rest, "letvar"))
-    } else if scan.is(colon, b":") {
-        shaped(at, scan.value_stop(value), Shape::Declarations, INITIAL)
+        shaped(at, sign, Shape::Put, (b"", LOCAL, "letvar"))
     } else if scan.is_name(next) {
-        let rest = ": declare a global with `var x : L;` at the beginning, where L is a class of \
-            the lattice file, and set its value in the store, or begin the command that uses the \
-            variable with `letvar x := 1 in`.";
+        let rest = ": begin the command that uses the variable with `letvar x := 1 in`, or declare \
+            a global with `var x : L;` at the beginning, where L is a class of the lattice file, \
+            and set its value in the store.";
         say(at, scan.command_stop(at), NONE, rest)
     } else {
         None
@@ -153,10 +151,10 @@ static REPLACED: [(&[u8], &str, &str); 5] = [
 
 /// The commands that compute a quotient.
 const QUOTIENT: &[u8] =
-    b"letvar R := P in letvar T := 0 in { while Q - 1 < R do { R := R - Q; T := T + 1 }; N := T }";
+    b"letvar R := U in letvar T := 0 in { while M < R do { R := R - Z; T := T + 1 }; N := T }";
 
 /// The commands that compute a remainder.
-const REMAINDER: &[u8] = b"letvar R := P in { while Q - 1 < R do R := R - Q; N := R }";
+const REMAINDER: &[u8] = b"letvar R := U in { while M < R do R := R - Z; N := R }";
 
 /// The rule for a command that assigns to several variables.
 const ONE_VARIABLE: &str = ": a command assigns to one variable.";
@@ -169,7 +167,7 @@ const SWAP: Letters = (
 );
 
 /// The rule for other signs than `:=`.
-const ONE_SIGN: &str = ": a command assigns with `:=` only.";
+pub(crate) const ONE_SIGN: &str = ": a command assigns with `:=` only.";
 
 /// The advice on such a sign.
 const ASSIGN: &str = "assign with `:=`, as in `x := x + 1`.";
@@ -197,7 +195,7 @@ static ASSIGNMENTS: [(&[u8], Letters); 9] = [
 fn call_stop(scan: &Scan, at: usize) -> usize {
     let next = at.saturating_add(1);
     if scan.is(next, b"(") {
-        scan.after_closing(next, b'(', b')')
+        scan.after_closing(next)
     } else {
         scan.command_stop(at)
     }
@@ -273,22 +271,30 @@ fn rewriting(scan: &Scan, at: usize, value: usize, stop: usize, letters: Letters
     valued((at, value, stop), Shape::Commands, letters)
 }
 
-/// An operand that is divided by another one, in the value that a command assigns.
+/// An operand that is divided by another one, by a command that assigns the result.
 fn division(scan: &Scan, at: usize) -> Option<Found> {
-    let (assign, value, sign, last, next) = after(at);
-    let is_whole = scan.ends_operand(value) && scan.ends_operand(last);
-    if !scan.is_any(assign, b":= =") || !is_whole || scan.value_stop(last) != next {
+    let (assign, first, second, last, _) = after(at);
+    let (value, sign, divisor) = match scan.is_any(assign, b"%= /= //=") {
+        true => (at, assign, first),
+        false if scan.is_any(assign, b":= =") => (first, second, last),
+        false => return None,
+    };
+    let next = divisor.saturating_add(1);
+    if !scan.is_operand(value) || !scan.is_operand(divisor) || scan.value_stop(divisor) != next {
         return None;
     }
-    let text = if scan.is_any(sign, b"% mod MOD") {
+    let text = if scan.is_any(sign, b"% mod MOD %=") {
         REMAINDER
-    } else if scan.is_any(sign, b"/ // div DIV") {
+    } else if scan.is_any(sign, b"/ // div DIV /= //=") {
         QUOTIENT
     } else {
         return None;
     };
-    let rule = ": subtract as often as you can, if the dividend isn't negative and the divisor is \
-        above 0.";
+    let rule = if scan.is_name(divisor) {
+        ": subtract as often as you can, if the dividend isn't negative and the divisor is above 0."
+    } else {
+        ": subtract as often as you can, if the dividend isn't negative."
+    };
     let plain = "divide in a loop, as `while 1 < r do { r := r - 2; q := q + 1 }` does for half of \
         r, if r isn't negative.";
     valued((at, value, next), Shape::Commands, (text, rule, plain))

@@ -64,7 +64,7 @@ pub(crate) static COMMANDS: [&str; 12] = [
 ];
 
 /// The signs between or before operands, in the same form.
-pub(crate) static SIGNS: [&str; 14] = [
+pub(crate) static SIGNS: [&str; 15] = [
     "<< <<=\n: double the value for each place, as in `x := x * 2`.",
     ">> >>= >>> >>>=\n: halve the value for each place, as `while 1 < r do { r := r - 2; q := q \
     + 1 }` does if r isn't negative.",
@@ -84,6 +84,7 @@ pub(crate) static SIGNS: [&str; 14] = [
     "^\n: multiply for a power, as in `x * x`; write `1 - (a = b)` for the exclusive or of two \
     values that are 0 or 1.",
     "xor XOR\n: write `1 - (a = b)` where both are 0 or 1.",
+    "++ --\n: a command assigns with `:=` only, as in `x := x + 1`.",
 ];
 
 /// A sign between numbers whose bits it joins.
@@ -108,22 +109,15 @@ pub(crate) fn saying_in(sayings: &[&'static str], word: &[u8]) -> Option<Saying>
     None
 }
 
+/// Characters outside of ASCII, each before the sign that it looks like.
+const LIKE_SIGNS: &str = "\u{FF08}( \u{FF09}) \u{FF0A}* \u{FF0B}+ \u{FF0D}- \u{FF1A}: \u{2236}: \
+    \u{FF1B}; \u{37E}; \u{FF1C}< \u{FF1D}= \u{FF5B}{ \u{FF5D}}";
+
 /// The sign that a character outside of ASCII looks like, or else the same text.
 pub(crate) fn narrow<'a>(text: &'a [u8]) -> &'a [u8] {
-    match text {
-        [0xEF, 0xBC, 0x88] => b"(",
-        [0xEF, 0xBC, 0x89] => b")",
-        [0xEF, 0xBC, 0x8A] => b"*",
-        [0xEF, 0xBC, 0x8B] => b"+",
-        [0xEF, 0xBC, 0x8D] => b"-",
-        [0xEF, 0xBC, 0x9A] | [0xE2, 0x88, 0xB6] => b":",
-        [0xEF, 0xBC, 0x9B] | [0xCD, 0xBE] => b";",
-        [0xEF, 0xBC, 0x9C] => b"<",
-        [0xEF, 0xBC, 0x9D] => b"=",
-        [0xEF, 0xBD, 0x9B] => b"{",
-        [0xEF, 0xBD, 0x9D] => b"}",
-        _ => text,
-    }
+    let mut pairs = LIKE_SIGNS.as_bytes().split(|byte| *byte == b' ');
+    let sign = pairs.find_map(|pair| pair.strip_prefix(text).filter(|sign| sign.len() == 1));
+    sign.unwrap_or(text)
 }
 
 /// The sentence for a character outside of ASCII, if it is a common one.
@@ -196,47 +190,23 @@ fn is_one_assignment<'a>(body: &[Stmt<'a>]) -> bool
     is_assignment(only)
 }
 
-/// Whether a program consists of one assignment.
-fn is_alone<'a>(program: &Program<'a>) -> bool
-    ensures { result ≡ true → (name : Named) × ((value : Tree) × (whole program.now
-        ≡ assigning name value)) }
-{
-    let globals = program.globals();
-    let body = program.body();
-    if globals.is_empty() {
-        is_one_assignment(body)
-    } else {
-        false
-    }
-}
-
-/// Whether a text is a program that consists of one assignment.
-fn assigns(alloc: Global, text: &[u8]) -> Result<bool, AllocError>
-    ensures { IfOk result (λ is. is ≡ true →
-        (name : Named) × ((value : Tree) × IsTreeOf text.now (assigning name value))) }
-{
-    match program_of(alloc, text)? {
-        Some(program) => Ok(is_alone(&program)),
-        None => Ok(false),
-    }
-}
-
 /// Whether a text is an expression.
 fn is_expression(alloc: Global, text: &[u8]) -> Result<bool, AllocError>
     ensures { IfOk result (λ is. is ≡ true → IsExpression text.now) }
 {
-    let mut assignment = Vec::new(alloc);
-    assignment.extend_from_slice(b"x := ")?;
+    let mut assignment = Vec::from_slice(alloc, b"x := ")?;
     assignment.extend_from_slice(text)?;
-    assigns(alloc, &assignment)
+    match program_of(alloc, &assignment)? {
+        Some(program) => Ok(program.globals().is_empty() && is_one_assignment(program.body())),
+        None => Ok(false),
+    }
 }
 
 /// Whether a text declares variables.
 fn declares(alloc: Global, text: &[u8]) -> Result<bool, AllocError>
     ensures { IfOk result (λ is. is ≡ true → IsProgramText (text.now ++ codes "; x := 1")) }
 {
-    let mut program = Vec::new(alloc);
-    program.extend_from_slice(text)?;
+    let mut program = Vec::from_slice(alloc, text)?;
     program.extend_from_slice(b"; x := 1")?;
     is_program(alloc, &program)
 }
@@ -262,11 +232,8 @@ pub(crate) fn offer(scan: &Scan, found: &Found) -> Result<Option<Vec<u8>>, Alloc
     let Some(text) = text_of(scan, found)? else {
         return Ok(None);
     };
-    if text.len() <= LONGEST && is_read(scan.alloc, &text, found.shape)? {
-        Ok(Some(text))
-    } else {
-        Ok(None)
-    }
+    let is_offered = text.len() <= LONGEST && is_read(scan.alloc, &text, found.shape)?;
+    Ok(is_offered.then_some(text))
 }
 
 /// The sentence for a comment of several lines.
@@ -290,7 +257,11 @@ fn fixed_hint<'s>(scan: &Scan<'s>, found: &Found, replaced: &'s [u8]) -> Option<
             Some(Hint::Put("#", &text[..text.len().min(2)], rest))
         }
         Shape::Value => match scan.text(found.value) {
-            [b'<' | b'='] => None,
+            [b'<' | b'='] => Some(Hint::Plain(
+                "put ( ) around one of these comparisons, as in `(x < 5) = 1`: a comparison has \
+                two sides.",
+            )),
+            [b'-'] => Some(Hint::Plain("write `0 - x` for `-x`: a number has no sign before it.")),
             sign => Some(Hint::Operator(operator_text(sign)?, sign)),
         },
         _ if before.is_empty() => None,

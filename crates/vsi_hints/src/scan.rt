@@ -35,7 +35,7 @@ pub(crate) struct Piece<'a> {
 
 /// The signs of more than one byte, longer ones first.
 const SIGNS: &[u8] = b">>>= === !== **= //= <<= >>= >>> << >> |= &= ^= := == != <> ~= <= >= =< => \
-    && || ** ++ -- += -= *= /= %= ->";
+    && || ** // ++ -- += -= *= /= %= ->";
 
 /// Whether a word is one of these, which have blanks between them.
 pub(crate) fn is_one_of(words: &[u8], word: &[u8]) -> bool {
@@ -68,9 +68,9 @@ fn word_length(rest: &[u8], is_number: bool) -> usize {
 fn measured(rest: &[u8], is_begun: bool) -> (Sort, usize) {
     match rest {
         [b'-', b'-', b' ', ..] if is_begun => (Sort::Comment, line(rest).len()),
-        // In Python `//` divides by the number after it.
+        // In Python `//` divides by the number after it, and `//=` assigns.
         [b'/', b'/', after @ ..]
-            if !matches!(after.trim_ascii_start().first(), Some(b'0'..=b'9')) => {
+            if !matches!(after.trim_ascii_start().first(), Some(b'0'..=b'9' | b'=')) => {
             (Sort::Comment, line(rest).len())
         }
         [b'/', b'*', ..] => (Sort::Comment, up_to_end(rest, 2, b"*/")),
@@ -104,10 +104,7 @@ pub(crate) fn number_of(text: &[u8]) -> Option<u64> {
         _ => (text, 10),
     };
     let mut value: u64 = 0;
-    for byte in digits {
-        if *byte == b'_' {
-            continue;
-        }
+    for byte in digits.iter().filter(|byte| **byte != b'_') {
         let digit = char::from(*byte).to_digit(16)? as u64;
         if digit >= base {
             return None;
@@ -216,12 +213,18 @@ impl<'s> Scan<'s> {
         0 < at && self.is_any(at.saturating_sub(1), texts)
     }
 
-    /// Whether the pieces from this one on are these texts. A `*` is any name or number.
+    /// Whether the pieces from this one on are these texts. A `*` is any name or number, a `?` is
+    /// `=` or `:=`, and a `_` is `<` or `<=`.
     pub(crate) fn begins(&self, at: usize, texts: &[u8]) -> bool {
         let mut texts = texts.split(|byte| *byte == b' ').enumerate();
         texts.all(|(number, text)| {
             let place = at.saturating_add(number);
-            matches!(text, [b'*']) && self.is_operand(place) || self.is(place, text)
+            match text {
+                [b'*'] => self.is_operand(place) || self.is(place, text),
+                [b'?'] => self.is_any(place, b"= :="),
+                [b'_'] => self.is_any(place, b"< <="),
+                _ => self.is(place, text),
+            }
         })
     }
 
@@ -333,21 +336,25 @@ impl<'s> Scan<'s> {
         self.pieces.len()
     }
 
-    /// The piece after the bracket that closes the one at a piece, or the brace that comes first.
-    pub(crate) fn after_closing(&self, at: usize, opening: u8, closing: u8) -> usize {
+    /// The bracket that closes the one around a piece, or the piece after the last one.
+    pub(crate) fn closing(&self, at: usize, opens: &[u8], closes: &[u8]) -> usize {
         let mut open: usize = 0;
         for place in at..self.pieces.len() {
-            match self.text(place) {
-                [byte] if *byte == opening => open = open.saturating_add(1),
-                [byte] if *byte == closing => open = open.saturating_sub(1),
-                [b'{' | b'}'] => return place,
-                _ => {}
-            }
-            if open == 0 {
-                return place.saturating_add(1);
-            }
+            open = match self.text(place) {
+                text if text == opens => open.saturating_add(1),
+                text if text != closes => open,
+                _ if open == 0 => return place,
+                _ => open.saturating_sub(1),
+            };
         }
         self.pieces.len()
+    }
+
+    /// The piece after the bracket that closes the one at a piece, or the brace that comes first.
+    pub(crate) fn after_closing(&self, at: usize) -> usize {
+        let stop = self.closing(at.saturating_add(1), b"(", b")");
+        let brace = (at..stop).find(|place| self.is_any(*place, b"{ }"));
+        brace.unwrap_or(stop.saturating_add(1).min(self.pieces.len()))
     }
 
     /// The piece at which the command around a piece has ended.

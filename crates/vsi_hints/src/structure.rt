@@ -2,9 +2,9 @@
 
 use crate::drafts::{Found, LONGEST, Letters, Shape, say, shaped, valued};
 use crate::expression::is_operator;
-use crate::names::{ELSE_IF, local_value};
+use crate::names::{ELSE_IF, ONE_SIGN, TYPES, local_value};
 use crate::offers::{BITS, COMMANDS, NONE, SIGNS, Saying, character_saying, narrow, saying_in};
-use crate::scan::{DECLARING, KEYWORDS, Scan, Sort, is_decimal, number_of};
+use crate::scan::{DECLARING, KEYWORDS, Scan, Sort, after, is_decimal, number_of};
 
 /// The keywords with which an `if` goes on after its first branch.
 const ELSE: &[u8] = b"else elif elsif elseif ELSE";
@@ -57,8 +57,8 @@ fn unended(scan: &Scan, at: usize) -> Option<Found> {
 /// The piece at which the branch that begins at a piece has ended, if that is clear.
 fn branch_stop(scan: &Scan, at: usize) -> Option<usize> {
     if scan.is(at, b"{") {
-        let stop = scan.after_closing(at, b'{', b'}');
-        scan.is(stop.saturating_sub(1), b"}").then_some(stop)
+        let stop = scan.closing(at.saturating_add(1), b"{", b"}");
+        scan.is(stop, b"}").then_some(stop.saturating_add(1))
     } else if is_command(scan, at) && !scan.is_any(at, KEYWORDS) {
         Some(scan.value_stop(at.saturating_add(2)))
     } else {
@@ -68,17 +68,43 @@ fn branch_stop(scan: &Scan, at: usize) -> Option<usize> {
 
 /// An `if` after a value that is assigned, as other languages choose between two values.
 fn conditional(scan: &Scan, at: usize) -> Option<Found> {
-    let before = at.checked_sub(1)?;
-    if !scan.is(at, b"if") || !scan.ends_operand(before) || scan.piece(at).is_first {
-        return None;
-    }
-    let next = at.saturating_add(1);
-    let start = scan.value_start(before);
-    if !scan.is_after(start, b"= :=") || !scan.is(scan.value_stop(next), b"else") {
+    let (before, next) = (at.checked_sub(1)?, at.saturating_add(1));
+    let is_later = scan.ends_operand(before)
+        && !scan.piece(at).is_first
+        && scan.is_after(scan.value_start(before), b"= :=")
+        && scan.is(scan.value_stop(next), b"else");
+    if !scan.is(at, b"if") || !is_later && !scan.is_any(before, b"= :=") {
         return None;
     }
     let rest = " in an expression: choose with `if a < b then x := a else x := b`.";
     say(at, next, NONE, rest)
+}
+
+/// The pieces of the guard and of the two values of a choice, each up to a piece.
+type Choice = ((usize, usize), (usize, usize), (usize, usize));
+
+/// The parts of a choice between two values that a command assigns.
+pub(crate) fn choice_at(scan: &Scan, at: usize) -> Option<Choice> {
+    let (sign, value, ..) = after(at);
+    if !scan.is_any(sign, b":= =") {
+        return None;
+    }
+    let part = |start: usize| (start, scan.value_stop(start));
+    let is_leading = scan.is(value, b"if");
+    let first = part(value.saturating_add(usize::from(is_leading)));
+    let second = part(first.1.saturating_add(1));
+    let third = part(second.1.saturating_add(1));
+    if !scan.is_any(third.1, b"; } else") && !scan.piece(third.1).is_first {
+        return None;
+    }
+    let are = |sign: &[u8], other: &[u8]| scan.is(first.1, sign) && scan.is(second.1, other);
+    if is_leading && are(b"then", b"else") || are(b"?", b":") {
+        Some((first, second, third))
+    } else if are(b"if", b"else") {
+        Some((second, first, third))
+    } else {
+        None
+    }
 }
 
 /// A guard of a branch or of a loop without the keyword after it.
@@ -106,12 +132,9 @@ pub(crate) fn structure_at(scan: &Scan, at: usize) -> Option<Found> {
     if scan.is_after(at, DECLARING) {
         return None;
     }
-    let found = conditional(scan, at);
-    if found.is_some() {
-        return found;
-    }
     let next = at.saturating_add(1);
     match scan.text(at) {
+        _ if conditional(scan, at).is_some() => None,
         [b'l', b'e', b't', b'v', b'a', b'r'] => {
             let (sign, stop) = local_value(scan, at);
             if !scan.is_any(sign, b":= =") || scan.is(stop, b"in") {
@@ -126,7 +149,6 @@ pub(crate) fn structure_at(scan: &Scan, at: usize) -> Option<Found> {
             let rest = " before the next command, as in `{ x := 1 }; y := 2`.";
             say(at, next, "put a `;` after the ", rest)
         }
-        [b'}'] => None,
         [b'i', b'f'] | [b'w', b'h', b'i', b'l', b'e'] => unguarded(scan, at),
         [b'e', b'l', b's', b'e'] if scan.is(next, b":") => {
             let rest = " without a `:` after it, as in `if x < 1 then y := 1 else y := 2`.";
@@ -166,13 +188,17 @@ pub(crate) fn halved_at(scan: &Scan, at: usize) -> Option<Found> {
 type Counting = (&'static [u8], usize, usize, usize);
 
 /// The counting loops of other languages.
-static COUNTING: [Counting; 6] = [
-    (b":= * to * do", 2, 4, 6),
-    (b"= * to * do", 2, 4, 6),
+static COUNTING: [Counting; 10] = [
+    (b"? * to * do", 2, 4, 6),
+    (b"? * to * {", 2, 4, 5),
     (b"in range ( * ) :", 0, 4, 7),
+    (b"in range ( * ) {", 0, 4, 6),
     (b"in range ( * , * ) :", 4, 6, 9),
-    (b"= * ; * < * ; * ++ )", 2, 6, 11),
-    (b"= * ; * <= * ; * ++ )", 2, 6, 11),
+    (b"in range ( * , * ) {", 4, 6, 8),
+    (b"? * ; * _ * ; * ++ )", 2, 6, 11),
+    (b"? * ; * _ * ; ++ * )", 2, 6, 11),
+    (b"? * ; * _ * ; * += 1 )", 2, 6, 12),
+    (b"? * ; * _ * ; * ? * + 1 )", 2, 6, 14),
 ];
 
 /// The reason for the commands of a loop that counts.
@@ -200,7 +226,9 @@ fn counting(scan: &Scan, start: usize) -> Option<Found> {
     let differs = |at: usize| {
         let sign = at.saturating_add(1);
         let is_counter = scan.is(at, scan.text(counter));
-        let is_other = at < body && !is_counter && scan.is_any(sign, b"< <= ++");
+        let is_other = at < body
+            && !is_counter
+            && (limit < at && scan.is_name(at) || scan.is_any(sign, b"< <="));
         let is_bound = is_counter || scan.is(at, scan.text(limit));
         is_other || at >= body && is_bound && scan.is(sign, b":=")
     };
@@ -215,28 +243,64 @@ fn counting(scan: &Scan, start: usize) -> Option<Found> {
     valued((start, body, next), Shape::Commands, (text, COUNTED, ""))
 }
 
-/// A loop of another language at a piece, if it is short and on one line.
-pub(crate) fn loop_at(scan: &Scan, start: usize) -> Option<Found> {
+/// The reason for a variable of the commands after it.
+pub(crate) const LOCAL: &str = ": it declares a variable for one command.";
+
+/// A declaration with a value, and the commands after it in its block.
+fn locals(scan: &Scan, start: usize) -> Option<Found> {
+    let (sign, stop) = local_value(scan, start);
+    let is_begun = |at: usize| scan.is(at, b":=") && scan.is_assignment(at);
+    if !scan.is_any(start, TYPES) && !(scan.is(start, b"var") && (0..start).any(is_begun))
+        || !scan.is_any(sign, b":= =")
+        || !scan.is(stop, b";")
+    {
+        return None;
+    }
+    let text: &'static [u8] = if scan.is(start.saturating_add(2), b":") {
+        b"letvar A : C := V in { B }"
+    } else {
+        b"letvar A := V in { B }"
+    };
+    let (value, stop) = (sign.saturating_add(1), scan.closing(start, b"{", b"}"));
+    valued((start, value, stop), Shape::Commands, (text, LOCAL, ""))
+}
+
+/// A choice between two values that a command assigns.
+const CHOICE: Letters = (
+    b"if J then N := H else N := S",
+    ": commands choose, and not values.",
+    "",
+);
+
+/// A loop with its test after its body.
+fn tested(scan: &Scan, start: usize) -> Option<Found> {
+    let (word, text): (&[u8], &'static [u8]) = if scan.is(start, b"do") {
+        (b"while", b"{ B; while V do { B } }")
+    } else {
+        (b"until", b"{ B; while X = 0 do { B } }")
+    };
+    let value = (start..scan.pieces.len().saturating_add(1)).find(|value| {
+        scan.is_after(*value, word) && !scan.is_any(scan.value_stop(*value), b"do {")
+    })?;
+    let pieces = (start, value, scan.value_stop(value));
+    valued(pieces, Shape::Commands, (text, TESTED, ""))
+}
+
+/// A loop, a declaration or a choice of another language at a piece, if it is short and on one
+/// line.
+pub(crate) fn commands_at(scan: &Scan, start: usize) -> Option<Found> {
     let next = start.saturating_add(1);
     let found = if scan.is(start, b"for") {
         counting(scan, start)?
-    } else if scan.is_any(start, b"do repeat") && scan.is_command_start(start) {
-        // A loop with its test after its body.
-        let (word, text): (&[u8], &'static [u8]) = if scan.is(start, b"do") {
-            (b"while", b"{ B; while V do { B } }")
-        } else {
-            (b"until", b"{ B; while X = 0 do { B } }")
-        };
-        let value = (next..scan.pieces.len().saturating_add(1)).find(|value| {
-            scan.is_after(*value, word) && !scan.is_any(scan.value_stop(*value), b"do {")
-        })?;
-        valued(
-            (start, value, scan.value_stop(value)),
-            Shape::Commands,
-            (text, TESTED, ""),
-        )?
-    } else {
+    } else if !scan.is_command_start(start) {
         return None;
+    } else if scan.is_any(next, b":= =") {
+        let (_, _, third) = choice_at(scan, start)?;
+        shaped(start, third.1, Shape::Commands, CHOICE)?
+    } else if scan.is_any(start, b"do repeat") {
+        tested(scan, start)?
+    } else {
+        locals(scan, start)?
     };
     let longest = scan.piece(start).at.saturating_add(LONGEST);
     let is_far = |at: usize| scan.piece(at).is_first || scan.stop(at) > longest;
@@ -274,6 +338,20 @@ fn is_chained(scan: &Scan, at: usize) -> bool {
         }
     }
     false
+}
+
+/// A command that begins with a sign and counts by 1.
+fn stepped(scan: &Scan, at: usize) -> Option<Found> {
+    let (name, stop, ..) = after(at);
+    let text: &'static [u8] = match scan.text(at) {
+        [b'+', b'+'] => b"A := A + 1",
+        [b'-', b'-'] => b"A := A - 1",
+        _ => return None,
+    };
+    if !scan.is_command_start(at) || !scan.is_name(name) {
+        return None;
+    }
+    shaped(at, stop, Shape::Commands, (text, ONE_SIGN, ""))
 }
 
 /// The value around a foreign operator, or the operator alone if that can't be rewritten.
@@ -314,7 +392,7 @@ fn operator(scan: &Scan, at: usize) -> Option<Found> {
 const VALUE: Letters = (b"E", "", "");
 
 /// A number in the digits of this language.
-const DIGITS: Letters = (b"D", ": a number has only digits.", "");
+const DIGITS: Letters = (b"E", ": a number has only digits.", "");
 
 /// A number that a command assigns to, or that the language writes differently or can't write.
 fn number(scan: &Scan, at: usize) -> Option<Found> {
@@ -352,6 +430,7 @@ pub(crate) fn sign(scan: &Scan, at: usize) -> Option<Found> {
                 ASCII.";
             say(at, next, "write ", rest)
         }
+        Sort::Word if scan.is(at, b"if") => conditional(scan, at),
         Sort::Word if scan.is(at, b"do") && scan.is_command_start(at) => {
             let rest = ": write the body before the loop too, as in `{ C; while E do { C } }` for \
                 the body C and the guard E.";
@@ -368,6 +447,6 @@ pub(crate) fn sign(scan: &Scan, at: usize) -> Option<Found> {
             say(at, next, "there are no strings such as ", rest)
         }
         Sort::Number => number(scan, at),
-        _ => operator(scan, at),
+        _ => stepped(scan, at).or(operator(scan, at)),
     }
 }

@@ -4,7 +4,7 @@ ghost use Rattle.std.specs.{Prelude.{◌≡◌, ◌≤◌, ◌<◌, ◌+◌, ℕ
 ghost use Rattle.vsi_layered.specs.{Drawing.{HasSize, IsWithin, AreApart, AllApart, AllSized, AllWithin, AllInside, IsSound}, declared.drawing.Place.{Place as Box}};
 
 use crate::groups::{frame_of, groups_of};
-use crate::rows::{Placed, placed_in};
+use crate::rows::placed_in;
 use std::alloc::{AllocError, Global};
 
 /// The result of a function that needs memory.
@@ -113,7 +113,7 @@ impl Point {
 }
 
 /// A box: its left edge, its upper edge, its width and its height.
-#[derive(Clone, Copy)]
+#[derive(Clone, Copy, Default)]
 pub struct Place {
     pub left: usize,
     pub top: usize,
@@ -241,24 +241,6 @@ pub(crate) fn is_sound(nodes: &[Node], drawing: &Drawing) -> bool
     are_laid_out(&drawing.groups, frame)
 }
 
-impl Placed<'_> {
-    /// The boxes of the nodes.
-    fn places(&self) -> Made<Vec<Place>> {
-        let mut places = Vec::new(self.alloc);
-        let nodes = self.graph.nodes;
-        for (index, node) in nodes.iter().enumerate() {
-            let height = at(&self.frame.heights, self.row_of(index));
-            places.push(Place {
-                left: at(&self.middles, index).saturating_sub(node.wide / 2),
-                top: height.saturating_sub(node.high / 2),
-                wide: node.wide,
-                high: node.high,
-            })?;
-        }
-        Ok(places)
-    }
-}
-
 /// The drawing of a graph, if the search finds one that is sound; it finds none if a node's group
 /// has no number below 64, if a node has no size, or if numbers are too large.
 ///
@@ -284,9 +266,5 @@ pub fn drawing_of(alloc: Global, graph: Graph<'_>) -> Result<Option<Drawing>, Al
         wide: frame.wide,
         high: frame.high,
     };
-    if is_sound(graph.nodes, &drawing) {
-        Ok(Some(drawing))
-    } else {
-        Ok(None)
-    }
+    Ok(is_sound(graph.nodes, &drawing).then_some(drawing))
 }

@@ -32,10 +32,9 @@ impl Placed<'_> {
                 if from != to && from == node && (row <= self.row_of(to)) == is_above {
                     let key = at(&self.middles, to);
                     let number = index.saturating_mul(2).saturating_add(number);
+                    let is_before = key < own || (key == own && number < place);
                     count = count.saturating_add(1);
-                    if key < own || (key == own && number < place) {
-                        before = before.saturating_add(1);
-                    }
+                    before = before.saturating_add(is_before as usize);
                 }
             }
         }
@@ -49,16 +48,12 @@ impl Placed<'_> {
     /// Whether no box of a row is near the positions from one to another.
     fn is_free(&self, row: usize, from: usize, to: usize) -> bool {
         let (low, high) = (from.min(to), from.max(to));
-        for node in 0..self.middles.len() {
-            if self.row_of(node) == row {
-                let half = (self.graph.width_of(node) / 2).saturating_add(CLEAR);
-                let middle = at(&self.middles, node);
-                if low < middle.saturating_add(half) && middle < high.saturating_add(half) {
-                    return false;
-                }
-            }
-        }
-        true
+        (0..self.middles.len()).all(|node| {
+            let half = (self.graph.width_of(node) / 2).saturating_add(CLEAR);
+            let middle = at(&self.middles, node);
+            let is_near = low < middle.saturating_add(half) && middle < high.saturating_add(half);
+            self.row_of(node) != row || !is_near
+        })
     }
 
     /// Adds the points at which a line passes a row, unless it is straight there.
@@ -72,26 +67,19 @@ impl Placed<'_> {
         }
         // The free position of the row nearest to the line's: that one, or one beside a box.
         let wanted = position(last, to, middle);
-        let mut x = wanted;
-        let mut nearest = if self.is_free(row, x, x) {
-            0
-        } else {
-            usize::MAX
-        };
-        for node in 0..self.middles.len() {
-            if self.row_of(node) != row {
-                continue;
-            }
+        let mut tries = vec![in self.alloc; wanted; 1]?;
+        for node in (0..self.middles.len()).filter(|node| self.row_of(*node) == row) {
             let half = (self.graph.width_of(node) / 2).saturating_add(CLEAR + 3);
-            let own = at(&self.middles, node);
-            for beside in [own.saturating_sub(half), own.saturating_add(half)] {
-                let way = apart(beside, wanted);
-                if way < nearest && beside > 0 && self.is_free(row, beside, beside) {
-                    nearest = way;
-                    x = beside;
-                }
-            }
+            tries.push(at(&self.middles, node).saturating_sub(half))?;
+            tries.push(at(&self.middles, node).saturating_add(half))?;
         }
+        let is_good = |x: &usize| (wanted == 0 || *x > 0) && self.is_free(row, *x, *x);
+        let nearest = tries
+            .iter()
+            .copied()
+            .filter(is_good)
+            .min_by_key(|x| apart(*x, wanted));
+        let x = nearest.unwrap_or(wanted);
         let end = Point { x, y: far };
         line.push(Point { x, y: near })?;
         line.push(end)?;
@@ -143,6 +131,12 @@ fn distance_from(point: Point, others: &[Point]) -> usize {
         .fold(ENOUGH, |found, other| found.min(point.distance(*other)))
 }
 
+/// The distance of a number from a stretch, 0 within it.
+fn outside(from: usize, length: usize, number: usize) -> usize {
+    let beyond = number.saturating_sub(from.saturating_add(length));
+    from.saturating_sub(number).max(beyond)
+}
+
 /// The point of a line that is the most free, and of those the nearest to its middle: the farthest
 /// from all other lines, from the boxes of nodes, and from the points that others have.
 fn badge_of(places: &[Place], lines: &[Vec<Point>], own: usize, taken: &[Point]) -> Point {
@@ -152,26 +146,13 @@ fn badge_of(places: &[Place], lines: &[Vec<Point>], own: usize, taken: &[Point])
     };
     let mut most: usize = 0;
     for number in 0..line.len() {
-        let index = moved(
-            line.len() / 2,
-            number.saturating_add(1) / 2,
-            number % 2 == 0,
-        );
+        let aside = number.saturating_add(1) / 2;
+        let index = moved(line.len() / 2, aside, number % 2 == 0);
         let point = line.get(index).copied().unwrap_or(found);
         let mut free = distance_from(point, taken);
         for place in places {
-            // The distance from the box, 0 inside it.
-            let right = place.left.saturating_add(place.wide);
-            let foot = place.top.saturating_add(place.high);
-            let across = place
-                .left
-                .saturating_sub(point.x)
-                .max(point.x.saturating_sub(right));
-            let down = place
-                .top
-                .saturating_sub(point.y)
-                .max(point.y.saturating_sub(foot));
-            free = free.min(across.max(down));
+            let across = outside(place.left, place.wide, point.x);
+            free = free.min(across.max(outside(place.top, place.high, point.y)));
         }
         for (other, line) in lines.iter().enumerate() {
             if other != own && free > 0 {
@@ -179,8 +160,7 @@ fn badge_of(places: &[Place], lines: &[Vec<Point>], own: usize, taken: &[Point])
             }
         }
         if number == 0 || free > most {
-            most = free;
-            found = point;
+            (most, found) = (free, point);
         }
     }
     found

@@ -1,3 +1,4 @@
 pub mod Framing
 pub mod TitleLemmas
 pub mod Verdicts
+pub mod Views

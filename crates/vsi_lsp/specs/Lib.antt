@@ -1,3 +1,4 @@
 pub mod Severity
 pub mod Titles
 pub mod Verdict
+pub mod Ways

@@ -15,10 +15,13 @@ use vsi_lattice::Lattice;
 use vsi_recovery::{Cause, further_faults};
 use vsi_scope::{ScopeError, Var};
 use vsi_syntax::{LexError, ParseError, Span, put_number};
+use vsi_telling::{Telling, put_text};
 use vsi_types::Step;
 
-/// The errors in a text, and then the other objects that an editor shows for it: the warnings about
-/// a text that has a program, or the further errors in one that has none. The text is read once.
+/// The number of a refused flow.
+pub(crate) const REFUSED: u64 = 25;
+
+/// The errors in a text, and then the warnings about it, or further errors if it has no program.
 pub(crate) fn objects_in<'a>(document: DocumentText<'a>, lattice: &'a Lattice) -> Made<Vec<Value>>
     ensures exact { IfOk result (λ objects. spec.ShowsVerdict
         lattice.now document.entry.profile document.entry.text.now objects.items) }
@@ -48,8 +51,7 @@ fn source_objects(document: DocumentText<'_>, source: &Source<'_>) -> Made<Vec<V
 /// The most tokens that are read again to find faults: those of a text of 64 KB some eight times.
 const MAX_READ: usize = 131_072;
 
-/// The errors in a text that has no program. A text that is too large has no other error, since its
-/// size is judged last.
+/// The errors in a text that has no program: one alone if it is too large, which is judged last.
 fn refused_objects(
     document: DocumentText<'_>,
     lattice: &Lattice,
@@ -58,18 +60,21 @@ fn refused_objects(
     ensures judged { IfOk result (λ objects. error.now ≢ Memory) }
     ensures begins { IfOk result (λ objects. spec.BeginsWithErrors objects.items) }
 {
-    let mut errors = refusal_errors(document, error)?;
+    let mut errors = refusal_errors(document, Some(lattice), error)?;
     if let CompileError::Scope(ScopeError::TooLarge) = error {
         return Ok(errors);
     }
+    let has_tokens = !matches!(error, CompileError::Lex(_));
     let mut further = Vec::new(document.alloc);
     for fault in &further_faults(document.alloc, lattice, document.text, MAX_READ)? {
-        let error = match fault.cause {
-            Cause::Lex(error) => CompileError::Lex(error),
-            Cause::Tree => CompileError::Parse(ParseError::Unexpected(fault.span)),
-            Cause::Scope(error) => CompileError::Scope(error),
+        // The tokens that may come at a further place of the tree aren't known.
+        let (error, is_told) = match fault.cause {
+            Cause::Lex(error) => (CompileError::Lex(error), true),
+            Cause::Tree => (ParseError::Unexpected(fault.span).into(), false),
+            Cause::Scope(error) => (CompileError::Scope(error), has_tokens),
         };
-        further.append(&mut refusal_errors(document, &error)?)?;
+        let lattice = if is_told { Some(lattice) } else { None };
+        further.append(&mut refusal_errors(document, lattice, &error)?)?;
     }
     errors.append(&mut further)?;
     Ok(errors)
@@ -87,10 +92,10 @@ fn judged_errors(
     ensures severe { IfOk result (λ errors. All IsError errors.items) }
 {
     let CompileError::Flow(walk) = error else {
-        return refusal_errors(document, error);
+        return refusal_errors(document, None, error);
     };
     let (Some(first), Some(last)) = (walk.steps.first(), walk.steps.last()) else {
-        return refusal_errors(document, error);
+        return refusal_errors(document, None, error);
     };
     let (code, line) = line_of(document, error)?;
     let text = RefusedText {
@@ -112,8 +117,12 @@ fn judged_errors(
     Ok(errors)
 }
 
-/// The error in a text that is refused, unless memory ran out.
-fn refusal_errors(document: DocumentText<'_>, error: &CompileError) -> Made<Vec<Value>>
+/// The error in a text that is refused, with its explanation if the lattice is given.
+fn refusal_errors(
+    document: DocumentText<'_>,
+    lattice: Option<&Lattice>,
+    error: &CompileError,
+) -> Made<Vec<Value>>
     ensures some { IfOk result (λ errors. errors.items ≢ []) }
     ensures judged { IfOk result (λ errors. error.now ≢ Memory) }
     ensures severe { IfOk result (λ errors. All IsError errors.items) }
@@ -121,8 +130,15 @@ fn refusal_errors(document: DocumentText<'_>, error: &CompileError) -> Made<Vec<
     if let CompileError::Memory = error {
         return Err(AllocError);
     }
-    let (code, line) = line_of(document, error)?;
-    error_list(document, refused_span(document.text, error), code, &line)
+    let (code, mut message) = line_of(document, error)?;
+    if let Some(lattice) = lattice {
+        let mut telling = Telling::new(document.alloc, document.uri, document.text);
+        telling.put_refusal(lattice, error)?;
+        message.extend_from_slice(b"\n")?;
+        put_text(&mut message, &telling.words)?;
+    }
+    let span = refused_span(document.text, error);
+    error_list(document, span, code, message.trim_ascii_end())
 }
 
 /// The list of the error at a part of a document, with a number and a message.
@@ -224,33 +240,32 @@ struct RefusedText<'p, 's, 'a> {
 }
 
 impl RefusedText<'_, '_, '_> {
-    /// The objects of the steps of a walk: where each reads, and its message.
-    fn steps(&self, steps: &[Step]) -> Made<Value> {
+    /// The message of a refused flow, with the steps of its walk if the client doesn't show them
+    /// beside it, and the objects of these steps: where each reads, and its message.
+    fn told(&self, from: Var, to: Var, steps: &[Step]) -> Made<(Value, Value)> {
         let alloc = self.document.alloc;
+        let ends = ends_text(alloc, self.source, from, to)?;
+        let mut message = joined(alloc, &[&self.line, b"\n", &ends])?;
         let mut objects = Vec::new(alloc);
         for step in steps {
             let location = self.document.location(step.read)?;
             let (line, column) = self.document.marked.line_column(step.written.start);
-            let message = step_text(alloc, self.source, step, line, column)?;
-            let message = text_value(alloc, &message)?;
-            objects.push(json!(in alloc; {"location": location, "message": message})?)?;
+            let text = step_text(alloc, self.source, step, line, column)?;
+            if !self.document.shows_steps {
+                message.extend_from_slice(b"\n")?;
+                message.extend_from_slice(&text)?;
+            }
+            let text = text_value(alloc, &text)?;
+            objects.push(json!(in alloc; {"location": location, "message": text})?)?;
         }
-        Ok(Value::Array(objects))
-    }
-
-    /// The message of a refused flow: the line of the text, and the classes of the flow's ends.
-    fn message(&self, from: Var, to: Var) -> Made<Value> {
-        let alloc = self.document.alloc;
-        let ends = ends_text(alloc, self.source, from, to)?;
-        text_value(alloc, &joined(alloc, &[&self.line, b"\n", &ends])?)
+        Ok((text_value(alloc, &message)?, Value::Array(objects)))
     }
 
     /// The object of a refused flow: its message, and the steps of its walk.
     fn flow(&self, span: Span, from: Var, to: Var, steps: &[Step]) -> Made<Value>
         ensures { IfOk result IsError }
     {
-        let message = self.message(from, to)?;
-        let related = self.steps(steps)?;
+        let (message, related) = self.told(from, to, steps)?;
         let range = self.document.range(span)?;
         json!(in self.document.alloc; {
             "range": range, "severity": 1, "code": self.code, "source": "vsi", "message": message,

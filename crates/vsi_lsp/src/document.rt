@@ -6,7 +6,7 @@ ghost use Rattle.vsi_client.specs.Frames as spec;
 
 use serde_json::{Value, json};
 use std::alloc::{AllocError, Global};
-use vsi_client::{Encoding, Marked, Place, Range, offset_of};
+use vsi_client::{Change, Encoding, Marked, Piece, Place, Range, next_piece, offset_of};
 use vsi_compiler::{CompileError, Source, read_source};
 use vsi_lattice::Lattice;
 use vsi_syntax::{LayoutError, LexError, Span, Token, layout, lex, put_number};
@@ -15,16 +15,90 @@ use vsi_types::Profile;
 /// A result whose only error is that memory ran out.
 pub(crate) type Made<T> = Result<T, AllocError>;
 
-/// A document: the allocator of the objects about it, the code units of its positions, the profile
-/// under which it is judged, its name, its text, and the text's positions.
+/// A client: the code units of its positions, and what it shows, asks for and watches.
+#[derive(Clone, Copy)]
+pub(crate) struct Editor {
+    pub(crate) encoding: Encoding,
+    pub(crate) shows_steps: bool,
+    pub(crate) asks: bool,
+    pub(crate) watches: bool,
+    prepares: bool,
+}
+
+impl Editor {
+    /// The client that sends `initialize`. It counts in UTF-8 if it offers that.
+    pub(crate) fn of(value: &Value) -> Editor {
+        let able = value.pointer("/params/capabilities").unwrap_or(value);
+        let mut encoding = Encoding::Utf16;
+        if let Some(Value::Array(offered)) = able.pointer("/general/positionEncodings")
+            && offered.iter().any(|name| name.as_str() == Some("utf-8"))
+        {
+            encoding = Encoding::Utf8;
+        }
+        let is_true = |path: &str| able.pointer(path).and_then(Value::as_bool) == Some(true);
+        Editor {
+            encoding,
+            shows_steps: is_true("/textDocument/publishDiagnostics/relatedInformation"),
+            asks: able.pointer("/textDocument/diagnostic").is_some(),
+            watches: is_true("/workspace/didChangeWatchedFiles/dynamicRegistration"),
+            prepares: is_true("/textDocument/rename/prepareSupport"),
+        }
+    }
+
+    /// The result of `initialize`.
+    pub(crate) fn welcome(&self, alloc: Global) -> Made<Value> {
+        let encoding = match self.encoding {
+            Encoding::Utf8 => "utf-8",
+            Encoding::Utf16 => "utf-16",
+        };
+        let synchronization = json!(in alloc; {
+            "openClose": true, "change": 2, "save": {"includeText": false}
+        })?;
+        let rename = if self.prepares {
+            json!(in alloc; {"prepareProvider": true})?
+        } else {
+            Value::Bool(true)
+        };
+        let mut able = json!(in alloc; {
+            "textDocumentSync": synchronization,
+            "hoverProvider": true,
+            "inlayHintProvider": true,
+            "definitionProvider": true,
+            "referencesProvider": true,
+            "documentHighlightProvider": true,
+            "documentSymbolProvider": true,
+            "renameProvider": rename,
+            "documentFormattingProvider": true,
+            "completionProvider": {"triggerCharacters": [":"]},
+            "codeActionProvider": {"codeActionKinds": ["quickfix"]},
+            "foldingRangeProvider": true,
+            "positionEncoding": encoding
+        })?;
+        if self.asks
+            && let Some(able) = able.as_object_mut()
+        {
+            let provider = json!(in alloc; {
+                "interFileDependencies": true, "workspaceDiagnostics": false
+            })?;
+            let name = String::from_str(alloc, "diagnosticProvider")?;
+            able.insert(name, provider)?;
+        }
+        json!(in alloc; {"capabilities": able, "serverInfo": {"name": "vsi"}})
+    }
+}
+
+/// A document: how it is shown and judged, its name, its text with the text's positions, and the
+/// last text that had a program.
 #[derive(Clone, Copy)]
 pub(crate) struct DocumentText<'a> {
     pub(crate) alloc: Global,
     pub(crate) encoding: Encoding,
+    pub(crate) shows_steps: bool,
     pub(crate) profile: Profile,
     pub(crate) uri: &'a [u8],
     pub(crate) text: &'a [u8],
     pub(crate) marked: &'a Marked<'a>,
+    pub(crate) last: &'a [u8],
 }
 
 impl<'a> DocumentText<'a> {
@@ -59,10 +133,15 @@ impl<'a> DocumentText<'a> {
         json!(in self.alloc; [change])
     }
 
-    /// The list of the one change that puts another text in place of the whole text.
-    pub(crate) fn whole_edits(&self, new: &[u8]) -> Made<Value> {
-        let stop = self.text.len();
-        self.edits(Span { start: 0, stop }, new)
+    /// The list of changes at positions.
+    pub(crate) fn change_list(&self, changes: &[Change<'_>]) -> Made<Value> {
+        let mut list = Vec::new(self.alloc);
+        for change in changes {
+            if let Some((start, stop)) = change.range {
+                list.push(edit(self.alloc, Range { start, stop }, change.text)?)?;
+            }
+        }
+        Ok(Value::Array(list))
     }
 
     /// The changes of the document in a list.
@@ -95,7 +174,7 @@ fn range_object(alloc: Global, range: Range) -> Made<Value> {
 }
 
 /// The change of a part of a text.
-pub(crate) fn edit(alloc: Global, range: Range, new: &[u8]) -> Made<Value> {
+fn edit(alloc: Global, range: Range, new: &[u8]) -> Made<Value> {
     json!(in alloc; {"range": range_object(alloc, range)?, "newText": text_value(alloc, new)?})
 }
 
@@ -115,6 +194,57 @@ pub(crate) fn place_at(value: &Value, path: &str) -> Option<Place> {
     let line = usize::try_from(number_at(place, "/line")?).ok()?;
     let character = usize::try_from(number_at(place, "/character")?).ok()?;
     Some(Place { line, character })
+}
+
+/// The version of the document that a message gives.
+pub(crate) fn version_in(value: &Value) -> Option<i64> {
+    value.pointer("/params/textDocument/version")?.as_i64()
+}
+
+/// The changes that a message gives, unless one is malformed.
+pub(crate) fn changes_in(alloc: Global, value: &Value) -> Made<Option<Vec<Change<'_>>>> {
+    let Some(Value::Array(list)) = value.pointer("/params/contentChanges") else {
+        return Ok(None);
+    };
+    let mut changes = Vec::new(alloc);
+    for part in list {
+        let Some(change) = change_in(part) else {
+            return Ok(None);
+        };
+        changes.push(change)?;
+    }
+    Ok(Some(changes))
+}
+
+/// The change that an object gives, unless it is malformed.
+fn change_in(value: &Value) -> Option<Change<'_>> {
+    let range = match value.get("range") {
+        Some(part) => Some((place_at(part, "/start")?, place_at(part, "/end")?)),
+        None => None,
+    };
+    let text = text_at(value, "/text")?.as_bytes();
+    Some(Change { range, text })
+}
+
+/// The method of a change.
+pub(crate) const CHANGE: &str = "textDocument/didChange";
+
+/// Whether a stream begins with a whole message that changes the document of this name.
+pub(crate) fn begins_with_change(alloc: Global, stream: &[u8], uri: &[u8]) -> Made<bool> {
+    let Piece::Message(start, size) = next_piece(stream) else {
+        return Ok(false);
+    };
+    let message = stream.get(start..start.saturating_add(size));
+    match Value::from_slice(alloc, message.unwrap_or(b"")) {
+        Ok(next) => Ok(
+            text_at(&next, "/method") == Some(CHANGE)
+                && next.get("id").is_none()
+                && text_at(&next, "/params/textDocument/uri").map(str::as_bytes) == Some(uri)
+                && changes_in(alloc, &next)?.is_some(),
+        ),
+        Err(error) if error.is_memory() => Err(AllocError),
+        Err(_) => Ok(false),
+    }
 }
 
 /// The tokens of a text, if each part of it has one.
@@ -224,44 +354,6 @@ pub fn framed(alloc: Global, messages: &[Value]) -> Result<Vec<u8>, AllocError>
         put_frame(&mut out, &body)?;
     }
     Ok(out)
-}
-
-/// The encoding of positions for a client: UTF-8 if it offers that, otherwise UTF-16.
-pub(crate) fn encoding_for(value: &Value) -> Encoding {
-    let path = "/params/capabilities/general/positionEncodings";
-    if let Some(Value::Array(offered)) = value.pointer(path)
-        && offered.iter().any(|name| name.as_str() == Some("utf-8"))
-    {
-        return Encoding::Utf8;
-    }
-    Encoding::Utf16
-}
-
-/// The result of `initialize`.
-pub(crate) fn welcome(alloc: Global, encoding: Encoding) -> Made<Value> {
-    let encoding = match encoding {
-        Encoding::Utf8 => "utf-8",
-        Encoding::Utf16 => "utf-16",
-    };
-    let synchronization = json!(in alloc; {
-        "openClose": true, "change": 2, "save": {"includeText": false}
-    })?;
-    let able = json!(in alloc; {
-        "textDocumentSync": synchronization,
-        "hoverProvider": true,
-        "inlayHintProvider": true,
-        "definitionProvider": true,
-        "referencesProvider": true,
-        "documentHighlightProvider": true,
-        "documentSymbolProvider": true,
-        "renameProvider": true,
-        "documentFormattingProvider": true,
-        "completionProvider": {"triggerCharacters": [":"]},
-        "codeActionProvider": {"codeActionKinds": ["quickfix"]},
-        "foldingRangeProvider": true,
-        "positionEncoding": encoding
-    })?;
-    json!(in alloc; {"capabilities": able, "serverInfo": {"name": "vsi"}})
 }
 
 /// The message with the errors of a document.

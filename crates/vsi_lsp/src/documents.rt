@@ -1,18 +1,20 @@
 //! Open documents, and the errors that are published for them.
 
 use crate::diagnostics::{START, error_list, objects_in};
-use crate::document::{DocumentText, Made, joined};
+use crate::document::{DocumentText, Editor, Made, joined};
 use serde_json::Value;
 use std::alloc::{AllocError, Global};
 use vsi_answers::{Fault, fault_diagnostic, fault_text};
-use vsi_client::{Encoding, Marked, path_beside};
+use vsi_client::{Encoding, Marked, Place as Line, offset_of, path_beside};
 use vsi_conform::{
     InterfaceError, InterfaceFile, Policy as Place, interface_text, read_interface, unknown_class,
     unknown_cycle,
 };
 use vsi_documents::named_policy;
 use vsi_lattice::{LatticeError, read_lattice};
+use vsi_project::{ProjectError, read_project};
 use vsi_syntax::Span;
+use vsi_telling::{Telling, put_text};
 use vsi_types::Profile;
 
 /// The lattice file of two classes, for a document that names none.
@@ -31,7 +33,7 @@ pub(crate) enum Policy {
     /// A file with these bytes.
     File(Vec<u8>),
     /// The file at this path, which can't be read.
-    Lost(Vec<u8>),
+    Lost(String),
 }
 
 impl Policy {
@@ -40,7 +42,7 @@ impl Policy {
         match self {
             Policy::Two => Ok(TWO_CLASSES),
             Policy::File(bytes) => Ok(bytes.as_slice()),
-            Policy::Lost(path) => Err(path.as_slice()),
+            Policy::Lost(path) => Err(path.as_bytes()),
         }
     }
 }
@@ -49,6 +51,7 @@ impl Policy {
 #[derive(Clone, Copy, Debug, PartialEq, Eq)]
 pub(crate) enum DocumentKind {
     Source,
+    /// A lattice file or a project file.
     Lattice,
     Interface,
     /// A store, or another file that isn't judged.
@@ -62,6 +65,10 @@ pub(crate) struct Document {
     pub(crate) version: Option<i64>,
     pub(crate) text: Vec<u8>,
     pub(crate) policy: Policy,
+    /// The profile under which it is judged.
+    pub(crate) profile: Profile,
+    /// The last text that had a program.
+    pub(crate) last: Vec<u8>,
 }
 
 impl Document {
@@ -69,17 +76,18 @@ impl Document {
     pub(crate) fn text_in<'a>(
         &'a self,
         alloc: Global,
-        encoding: Encoding,
-        profile: Profile,
+        editor: Editor,
         marked: &'a Marked<'a>,
     ) -> DocumentText<'a> {
         DocumentText {
             alloc,
-            encoding,
-            profile,
+            encoding: editor.encoding,
+            shows_steps: editor.shows_steps,
+            profile: self.profile,
             uri: &self.uri,
             text: &self.text,
             marked,
+            last: &self.last,
         }
     }
 
@@ -88,6 +96,9 @@ impl Document {
     pub(crate) fn kind(&self) -> DocumentKind {
         if !self.uri.ends_with(b".toml") {
             return DocumentKind::Source;
+        }
+        if self.uri.ends_with(b"/vsi.toml") {
+            return DocumentKind::Lattice;
         }
         let has = |key: &[u8]| {
             let mut lines = self.text.split(|byte| *byte == b'\n');
@@ -103,20 +114,16 @@ impl Document {
     }
 
     /// The errors and warnings of the document.
-    pub(crate) fn errors(
-        &self,
-        alloc: Global,
-        encoding: Encoding,
-        profile: Profile,
-    ) -> Made<Vec<Value>> {
-        let marked = Marked::of(alloc, encoding, &self.text)?;
-        let document = self.text_in(alloc, encoding, profile, &marked);
+    pub(crate) fn errors(&self, alloc: Global, editor: Editor) -> Made<Vec<Value>> {
+        let marked = Marked::of(alloc, editor.encoding, &self.text)?;
+        let document = self.text_in(alloc, editor, &marked);
         match self.kind() {
             DocumentKind::Other => Ok(Vec::new(alloc)),
             DocumentKind::Interface => interface_errors(document, &self.policy),
+            DocumentKind::Lattice if self.uri.ends_with(b"/vsi.toml") => project_errors(document),
             DocumentKind::Lattice => match read_lattice(alloc, &self.text) {
                 Ok(_lattice) => Ok(Vec::new(alloc)),
-                Err(error) => refused_errors(document, line_span(&self.text, 0), error),
+                Err(error) => refused_errors(document, None, &self.text, error),
             },
             DocumentKind::Source => {
                 // The part of the text that names its lattice file.
@@ -129,7 +136,7 @@ impl Document {
                 match self.policy.bytes() {
                     Ok(bytes) => match read_lattice(document.alloc, bytes) {
                         Ok(lattice) => objects_in(document, &lattice),
-                        Err(error) => refused_errors(document, span, error),
+                        Err(error) => refused_errors(document, Some(span), bytes, error),
                     },
                     Err(path) => lost_errors(document, span, path),
                 }
@@ -140,12 +147,9 @@ impl Document {
 
 /// The part of a text from a byte to the end of its line.
 fn line_span(text: &[u8], start: usize) -> Span {
-    let line = text.get(start..).unwrap_or(b"");
-    let size = line
-        .iter()
-        .take_while(|byte| **byte != b'\n' && **byte != b'\r')
-        .count();
-    let stop = start.saturating_add(size);
+    let rest = text.get(start..).unwrap_or(b"").iter();
+    let line = rest.take_while(|byte| **byte != b'\n' && **byte != b'\r');
+    let stop = start.saturating_add(line.count());
     Span { start, stop }
 }
 
@@ -155,14 +159,38 @@ fn lost_errors(document: DocumentText<'_>, span: Span, path: &[u8]) -> Made<Vec<
     error_list(document, span, 0, &message)
 }
 
-/// The error of a lattice file that is refused.
-fn refused_errors(document: DocumentText<'_>, span: Span, error: LatticeError) -> Made<Vec<Value>> {
+/// The error of a refused lattice file: at a part of the document, or else where it is wrong.
+fn refused_errors(
+    document: DocumentText<'_>,
+    span: Option<Span>,
+    bytes: &[u8],
+    error: LatticeError,
+) -> Made<Vec<Value>> {
     let fault = Fault::Lattice(error);
     let Some(diagnostic) = fault_diagnostic(&fault) else {
         return Err(AllocError);
     };
-    let text = fault_text(document.alloc, &fault)?;
-    error_list(document, span, diagnostic.code, text.trim_ascii_end())
+    let mut message = fault_text(document.alloc, &fault)?;
+    let mut telling = Telling::new(document.alloc, document.uri, bytes);
+    let found = telling.put_file(&fault)?;
+    put_text(&mut message, &telling.words)?;
+    let span = span.or(found).unwrap_or(line_span(document.text, 0));
+    error_list(document, span, diagnostic.code, message.trim_ascii_end())
+}
+
+/// The error of a project file that is open, at the line of its fault.
+fn project_errors(document: DocumentText<'_>) -> Made<Vec<Value>> {
+    match read_project(document.alloc, "vsi.toml", document.text) {
+        Ok(_project) => Ok(Vec::new(document.alloc)),
+        Err(ProjectError::Memory) => Err(AllocError),
+        Err(ProjectError::Fault(line, column, sentence)) => {
+            let (line, character) = (line.saturating_sub(1), column.saturating_sub(1));
+            let start = offset_of(Encoding::Utf8, document.text, Line { line, character });
+            let message = [b"project fault: ".as_slice(), sentence.trim_ascii_end()];
+            let message = joined(document.alloc, &message)?;
+            error_list(document, line_span(document.text, start), 0, &message)
+        }
+    }
 }
 
 /// The path of the lattice file that an interface names, if it does.
@@ -177,8 +205,7 @@ pub(crate) fn interface_path(alloc: Global, uri: &[u8], text: &[u8]) -> Made<Opt
     }
 }
 
-/// The errors of an interface file that is open, with the lattice file that was read for it.
-/// Without such a file only the interface itself is judged.
+/// The errors of an interface file that is open, and of its lattice file if that was read.
 fn interface_errors(document: DocumentText<'_>, policy: &Policy) -> Made<Vec<Value>> {
     let asked = match read_interface(document.alloc, document.text) {
         Ok(asked) => asked,
@@ -188,18 +215,20 @@ fn interface_errors(document: DocumentText<'_>, policy: &Policy) -> Made<Vec<Val
     match (&asked.policy, policy) {
         (Place::Tables(text), _) => errors_by(document, &asked, text),
         (Place::File(_), Policy::File(bytes)) => errors_by(document, &asked, bytes),
-        (Place::File(_), Policy::Lost(path)) => lost_errors(document, span, path),
+        (Place::File(_), Policy::Lost(path)) => lost_errors(document, span, path.as_bytes()),
         (Place::File(_), Policy::Two) => Ok(Vec::new(document.alloc)),
     }
 }
 
-/// The errors of an interface under a lattice file: its first global whose class isn't there, or
-/// else its first such boundary.
+/// The error of an interface under a lattice file: its first unknown class, of globals first.
 fn errors_by(document: DocumentText<'_>, asked: &InterfaceFile, bytes: &[u8]) -> Made<Vec<Value>> {
     let (alloc, interface) = (document.alloc, &asked.interface);
     let lattice = match read_lattice(alloc, bytes) {
         Ok(lattice) => lattice,
-        Err(error) => return refused_errors(document, line_span(document.text, 0), error),
+        Err(error) => {
+            let span = line_span(document.text, 0);
+            return refused_errors(document, Some(span), bytes, error);
+        }
     };
     if let Some(place) = unknown_class(&lattice, interface)
         && let Some(entry) = interface.globals.get(place)

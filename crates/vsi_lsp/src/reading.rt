@@ -1,20 +1,20 @@
 //! A document as requests about its names read it, and the words with which it can go on.
 
 use crate::document::{
-    DocumentText, Fault, Made, PARAMETERS, RENAME, edit, folds, joined, laid_out, text_at,
-    text_value, tokens_of,
+    DocumentText, Fault, Made, PARAMETERS, RENAME, folds, joined, laid_out, text_at, text_value,
+    tokens_of,
 };
 use crate::repairs::fixes;
 use serde_json::{Value, json};
 use std::alloc::{AllocError, Global};
-use vsi_client::{Change, Mention, Range, mentions_of, rename};
+use vsi_client::{Marked, Mention, mentions_of, rename};
 use vsi_compiler::{CompileError, Source, judge};
 use vsi_flows::related;
 use vsi_infer::put_variable;
 use vsi_lattice::{Class, Classes, Lattice, LatticeError, read_lattice};
 use vsi_recovery::{Sort, expected_after};
 use vsi_scope::Var;
-use vsi_syntax::{Kind, MAX_DEPTH, Token};
+use vsi_syntax::{Kind, MAX_DEPTH, Span, Token};
 
 /// The numbers of the protocol for kinds of items.
 const VARIABLE: usize = 6;
@@ -84,12 +84,9 @@ impl Items {
 pub(crate) fn completion(document: DocumentText<'_>, lattice: &Lattice, at: usize) -> Made<Value> {
     let alloc = document.alloc;
     let before = document.text.get(..at).unwrap_or(b"");
-    let word = before
-        .iter()
-        .rev()
-        .take_while(|byte| is_of_word(**byte))
-        .count();
-    let before = before.get(..at.saturating_sub(word)).unwrap_or(b"");
+    let word = before.iter().rev().take_while(|byte| is_of_word(**byte));
+    let before = before.get(..at.saturating_sub(word.count()));
+    let before = before.unwrap_or(b"");
     let mut line = before.iter().rev().take_while(|byte| **byte != b'\n');
     let is_comment = line.any(|byte| *byte == b'#');
     let list = Vec::new(alloc);
@@ -169,7 +166,7 @@ pub(crate) fn names_after<'a>(alloc: Global, tokens: &[Token<'a>]) -> Made<Vec<&
 pub(crate) fn is_topic(topic: &str) -> bool {
     match topic {
         "formatting" | "foldingRange" | "completion" | "codeAction" => true,
-        "inlayHint" | "documentSymbol" | "rename" | "hover" => true,
+        "inlayHint" | "documentSymbol" | "rename" | "prepareRename" | "hover" => true,
         "definition" | "references" | "documentHighlight" => true,
         _ => false,
     }
@@ -184,7 +181,10 @@ pub(crate) fn answer(
 ) -> Result<Value, Fault> {
     match (topic, policy) {
         ("formatting", _) => match laid_out(document.alloc, document.text)? {
-            Some(out) => Ok(document.whole_edits(&out)?),
+            Some(out) => {
+                let stop = document.text.len();
+                Ok(document.edits(Span { start: 0, stop }, &out)?)
+            }
             None => Ok(Value::Null),
         },
         ("foldingRange", _) => Ok(folds(document.alloc, document.text)?),
@@ -195,9 +195,10 @@ pub(crate) fn answer(
                     let at = document.byte_at(value, "/params/position");
                     Ok(completion(document, &lattice, at.ok_or(PARAMETERS)?)?)
                 }
-                "codeAction" => Ok(fixes(document, &lattice, value)?),
+                "codeAction" => fixes(document, &lattice, value),
                 _ => match document.source(&lattice)? {
                     Some(source) => Reading::of(document, source)?.answer(topic, value),
+                    None if topic == "hover" => earlier(document, &lattice, value),
                     None => Ok(Value::Null),
                 },
             },
@@ -207,8 +208,49 @@ pub(crate) fn answer(
     }
 }
 
-/// A document whose text has a program: the names in it, and the names of the classes of its
-/// letvars, which are none if a flow is refused.
+/// What is shown over a name of a text that has no program: what the last text that had one says of
+/// the variable, if the name was of one variable there.
+fn earlier(document: DocumentText<'_>, lattice: &Lattice, value: &Value) -> Result<Value, Fault> {
+    let (alloc, encoding) = (document.alloc, document.encoding);
+    let at = document.byte_at(value, "/params/position");
+    let at = at.ok_or(PARAMETERS)?;
+    let (before, after) = document.text.split_at(at.min(document.text.len()));
+    let is_of_name = |byte: &&u8| is_of_word(**byte);
+    let span = Span {
+        start: at.saturating_sub(before.iter().rev().take_while(is_of_name).count()),
+        stop: at.saturating_add(after.iter().take_while(is_of_name).count()),
+    };
+    let word = document.text.get(span.start..span.stop);
+    let marked = Marked::of(alloc, encoding, document.last)?;
+    let text = DocumentText {
+        text: document.last,
+        marked: &marked,
+        ..document
+    };
+    let Some(source) = text.source(lattice)? else {
+        return Ok(Value::Null);
+    };
+    let reading = Reading::of(text, source)?;
+    let mut names = reading.mentions.iter().filter(|name| {
+        name.is_declaration && text.text.get(name.span.start..name.span.stop) == word
+    });
+    match (names.next().copied(), names.next()) {
+        (Some(name), None) => {
+            let about = reading.about(name)?;
+            let note = b"\n(before the error)";
+            Ok(shown(document, span, &joined(alloc, &[&about, note])?)?)
+        }
+        _ => Ok(Value::Null),
+    }
+}
+
+/// The object of what is shown over a part of a document.
+fn shown(document: DocumentText<'_>, span: Span, text: &[u8]) -> Made<Value> {
+    let text = text_value(document.alloc, text)?;
+    json!(in document.alloc; {"contents": text, "range": document.range(span)?})
+}
+
+/// A document whose text has a program: the names in it, and its letvars' classes if known.
 #[derive(Drop)]
 struct Reading<'a> {
     document: DocumentText<'a>,
@@ -251,7 +293,8 @@ impl<'a> Reading<'a> {
             ("documentSymbol", _) => Ok(self.symbols()?),
             ("rename", Some(name)) => self.renaming(name.variable, value),
             ("rename", None) => Err(RENAME),
-            ("hover", Some(name)) => Ok(self.hover(name)?),
+            ("prepareRename", Some(name)) => Ok(self.document.range(name.span)?),
+            ("hover", Some(name)) => Ok(shown(self.document, name.span, &self.about(name)?)?),
             ("definition", Some(name)) => {
                 let mut names = self.mentions.iter();
                 match names.find(|one| one.is_declaration && one.variable == name.variable) {
@@ -259,7 +302,12 @@ impl<'a> Reading<'a> {
                     None => Ok(Value::Null),
                 }
             }
-            (_, Some(name)) => Ok(self.parts(name.variable, topic == "references")?),
+            ("references", Some(name)) => {
+                let path = "/params/context/includeDeclaration";
+                let is_whole = value.pointer(path).and_then(Value::as_bool) != Some(false);
+                Ok(self.parts(name.variable, true, is_whole)?)
+            }
+            (_, Some(name)) => Ok(self.parts(name.variable, false, true)?),
             (_, None) => Ok(Value::Null),
         }
     }
@@ -271,16 +319,13 @@ impl<'a> Reading<'a> {
             return (Some(global.class.text), false);
         }
         let number = variable.saturating_sub(globals.len());
-        let is_inferred = match self.source.resolved().letvars().get(number) {
-            Some(entry) => entry.class.is_none(),
-            None => false,
-        };
+        let entry = self.source.resolved().letvars().get(number);
+        let is_inferred = entry.is_some_and(|entry| entry.class.is_none());
         (self.classes.get(number).copied(), is_inferred)
     }
 
-    /// The text about a name: the class of its variable, and the declared variables that reach it
-    /// or that it reaches.
-    fn hover(&self, name: Mention) -> Made<Value> {
+    /// The text about a name: its variable's class, and the declared variables joined with it.
+    fn about(&self, name: Mention) -> Made<Vec<u8>> {
         let alloc = self.document.alloc;
         let part = self.document.text.get(name.span.start..name.span.stop);
         let mut shown = Vec::from_slice(alloc, part.unwrap_or(b""))?;
@@ -298,15 +343,17 @@ impl<'a> Reading<'a> {
             put_line(&mut shown, &self.source, b"\nfrom ", &found.from)?;
             put_line(&mut shown, &self.source, b"\nto ", &found.to)?;
         }
-        let range = self.document.range(name.span)?;
-        json!(in alloc; {"contents": text_value(alloc, &shown)?, "range": range})
+        Ok(shown)
     }
 
-    /// The parts of the text that name a variable, with the name of the document or without.
-    fn parts(&self, variable: usize, is_named: bool) -> Made<Value> {
+    /// The parts that name a variable, with the document's name or without, or not the declaration.
+    fn parts(&self, variable: usize, is_named: bool, is_whole: bool) -> Made<Value> {
         let mut list = Vec::new(self.document.alloc);
         let names = self.mentions.iter();
-        for name in names.filter(|name| name.variable == variable) {
+        let is_part = |name: &&Mention| {
+            name.variable == variable && (is_whole || !name.is_declaration)
+        };
+        for name in names.filter(is_part) {
             list.push(if is_named {
                 self.document.location(name.span)?
             } else {
@@ -359,21 +406,9 @@ impl<'a> Reading<'a> {
         let (alloc, encoding) = (self.document.alloc, self.document.encoding);
         let (source, mentions) = (&self.source, &self.mentions);
         match rename(alloc, encoding, source, mentions, variable, name.as_bytes())? {
-            Some(changes) => Ok(self.edits(&changes)?),
+            Some(changes) => Ok(self.document.changes(self.document.change_list(&changes)?)?),
             None => Err(RENAME),
         }
-    }
-
-    /// The object of changes at positions.
-    fn edits(&self, changes: &[Change<'_>]) -> Made<Value> {
-        let alloc = self.document.alloc;
-        let mut list = Vec::new(alloc);
-        for change in changes {
-            if let Some((start, stop)) = change.range {
-                list.push(edit(alloc, Range { start, stop }, change.text)?)?;
-            }
-        }
-        self.document.changes(Value::Array(list))
     }
 }
 

@@ -4,14 +4,19 @@ ghost use Rattle.std.specs.Prelude.{IfOk, IfSome, ◌≡◌, ◌++◌, OnOk};
 ghost use Rattle.vsi_lattice.specs.{LatticeView.{class_named, order}, Order.{IsClass}};
 ghost use Rattle.vsi_compiler.specs.Acceptance.{IsAccepted};
 ghost use Rattle.vsi_flows.specs.Answers.{HasClassesIn};
+ghost use Rattle.vsi_client.specs.Changes.{changed_by};
 ghost use Rattle.vsi_lsp.specs.Titles as spec;
 
-use crate::document::{DocumentText, Made, joined, number_at, text_value, tokens_of};
+use crate::diagnostics::{REFUSED, objects_in};
+use crate::document::{
+    DocumentText, Fault, Made, PARAMETERS, joined, number_at, place_at, text_value, tokens_of,
+};
 use crate::reading::names_after;
 use serde_json::{Value, json};
 use std::alloc::{AllocError, Global};
 use std::str::from_utf8;
 use strsim::osa_distance;
+use vsi_client::{Change, Place, Range, changed_by};
 use vsi_compiler::Source;
 use vsi_flows::{Raise, RaisedError, Raising, raised_text_of, raises_of};
 use vsi_hints::{Hint, hint_at};
@@ -27,48 +32,143 @@ const UNEXPECTED: u64 = 15;
 /// The number of the refusal of a name that isn't declared.
 const UNBOUND: u64 = 19;
 
-/// The number of a refused flow.
-const REFUSED: u64 = 25;
-
 /// The most bytes of a text that a title shows.
 const LONGEST: usize = 120;
 
-/// The repairs for a request: one that writes the text with the least raises, if the request is
-/// about a refused flow, and the rewrites of the parts that its errors are about, up to 20 errors.
-pub(crate) fn fixes(document: DocumentText<'_>, lattice: &Lattice, value: &Value) -> Made<Value> {
-    let list = Vec::new(document.alloc);
-    let mut repairs = Repairs { document, list };
-    if let Some(Value::Array(errors)) = value.pointer("/params/context/diagnostics") {
-        let mut codes = errors.iter().map(|error| number_at(error, "/code"));
-        // One repair makes all raises at once: none if the text has no program, no raise makes it
-        // accepted, or it is accepted as it is.
-        if codes.any(|code| code == Some(REFUSED))
-            && let Some(source) = document.source(lattice)?
-            && let Some(title) = raising_title(document, &source)?
-            && let Some(new) = raised_text(document, &source)?
-        {
-            let title = text_value(document.alloc, &title)?;
-            let changes = document.changes(document.whole_edits(&new)?)?;
-            repairs.list.push(json!(in document.alloc; {
-                "title": title, "kind": "quickfix", "isPreferred": true, "edit": changes
-            })?)?;
-        }
-        for error in errors.iter().take(20) {
-            repairs.put_rewrites(error)?;
-        }
+/// The repairs for a request, if it asks for those: of the errors that touch its range.
+pub(crate) fn fixes(
+    document: DocumentText<'_>,
+    lattice: &Lattice,
+    value: &Value,
+) -> Result<Value, Fault> {
+    let start = place_at(value, "/params/range/start").ok_or(PARAMETERS)?;
+    let stop = place_at(value, "/params/range/end").ok_or(PARAMETERS)?;
+    if is_for_repairs(value) {
+        return Ok(repairs_in(document, lattice, start, stop)?);
     }
-    Ok(Value::Array(repairs.list))
+    Ok(Value::Array(Vec::new(document.alloc)))
 }
 
-/// The repairs of a document that have been found.
+/// The repairs of the errors that touch the part between two positions: the rewrites of their
+/// parts, up to 20 errors, or the least raises if one of them is a refused flow. A rewrite is
+/// preferred if its error has no other. A raise never is: it is the policy that it changes.
+fn repairs_in(
+    document: DocumentText<'_>,
+    lattice: &Lattice,
+    start: Place,
+    stop: Place,
+) -> Made<Value> {
+    let alloc = document.alloc;
+    let mut actions = Vec::new(alloc);
+    let errors = objects_in(document, lattice)?;
+    let touched = errors.iter().filter(|error| touches(error, start, stop));
+    for error in touched.take(20) {
+        if number_at(error, "/code") == Some(REFUSED) {
+            // One repair makes all raises at once, and so repairs all flows.
+            return raising(document, lattice, &errors);
+        }
+        let list = Vec::new(alloc);
+        let mut repairs = Repairs { document, list };
+        repairs.put_rewrites(error)?;
+        let is_preferred = repairs.list.len() == 1;
+        for (title, span, new) in &repairs.list {
+            let repaired = json!(in alloc; [error])?;
+            let edits = document.edits(*span, new)?;
+            actions.push(action(document, title, repaired, is_preferred, edits)?)?;
+        }
+    }
+    Ok(Value::Array(actions))
+}
+
+/// Whether a request for actions is for repairs: for all kinds, or for theirs.
+fn is_for_repairs(value: &Value) -> bool {
+    let Some(Value::Array(kinds)) = value.pointer("/params/context/only") else {
+        return true;
+    };
+    let mut kinds = kinds.iter().map(Value::as_str);
+    kinds.any(|kind| kind == Some("") || kind == Some("quickfix"))
+}
+
+/// Whether the part of an error touches the part between two positions.
+fn touches(error: &Value, start: Place, stop: Place) -> bool {
+    let is_before = |a: Place, b: Place| (a.line, a.character) < (b.line, b.character);
+    let first = place_at(error, "/range/start").unwrap_or(start);
+    let last = place_at(error, "/range/end").unwrap_or(stop);
+    !is_before(stop, first) && !is_before(last, start)
+}
+
+/// The object of a repair: its title, the errors that it repairs, and its changes of the text.
+fn action(
+    document: DocumentText<'_>,
+    title: &[u8],
+    repaired: Value,
+    is_preferred: bool,
+    edits: Value,
+) -> Made<Value> {
+    let title = text_value(document.alloc, title)?;
+    let changes = document.changes(edits)?;
+    json!(in document.alloc; {
+        "title": title, "kind": "quickfix", "diagnostics": repaired, "isPreferred": is_preferred,
+        "edit": changes
+    })
+}
+
+/// The list of the repair that makes the least raises, which repairs each refused flow, if any do.
+fn raising(document: DocumentText<'_>, lattice: &Lattice, errors: &[Value]) -> Made<Value> {
+    let alloc = document.alloc;
+    let mut list = Vec::new(alloc);
+    if let Some(source) = document.source(lattice)?
+        && let Some(title) = raising_title(document, &source)?
+        && let Some(new) = raised_text(document, &source)?
+        && let Some(changes) = changes_to(document, &new)?
+    {
+        let mut repaired = Vec::new(alloc);
+        for error in errors {
+            if number_at(error, "/code") == Some(REFUSED) {
+                repaired.push(error.clone()?)?;
+            }
+        }
+        let edits = document.change_list(&changes)?;
+        list.push(action(document, &title, Value::Array(repaired), false, edits)?)?;
+    }
+    Ok(Value::Array(list))
+}
+
+/// The changes of single tokens that make another text, the last token first, if there are some.
+fn changes_to<'n>(document: DocumentText<'_>, new: &'n [u8]) -> Made<Option<Vec<Change<'n>>>>
+    ensures made { IfOk result (λ found. IfSome found (λ changes.
+        changed_by document.entry.encoding changes.items document.entry.text.now ≡ new.now)) }
+{
+    let alloc = document.alloc;
+    let (olds, news) = (tokens_of(alloc, document.text)?, tokens_of(alloc, new)?);
+    let (Some(olds), Some(news)) = (olds, news) else {
+        return Ok(None);
+    };
+    let mut changes = Vec::new(alloc);
+    for (old, token) in olds.iter().rev().zip(news.iter().rev()) {
+        if old.text != token.text {
+            let Range { start, stop } = document.marked.range(old.span);
+            let range = Some((start, stop));
+            let text = token.text;
+            changes.push(Change { range, text })?;
+        }
+    }
+    let changed = changed_by(alloc, document.encoding, document.text, &changes)?;
+    if changed.as_slice() == new {
+        return Ok(Some(changes));
+    }
+    Ok(None)
+}
+
+/// The rewrites found for an error of a document: each title, and the text in place of a part.
 #[derive(Drop)]
 struct Repairs<'a> {
     document: DocumentText<'a>,
-    list: Vec<Value>,
+    list: Vec<(Vec<u8>, Span, Vec<u8>)>,
 }
 
 impl Repairs<'_> {
-    /// Adds the rewrites for an error of a request.
+    /// Adds the rewrites for an error.
     fn put_rewrites(&mut self, error: &Value) -> Made<()> {
         let Some(at) = self.document.byte_at(error, "/range/start") else {
             return Ok(());
@@ -100,10 +200,9 @@ impl Repairs<'_> {
     /// Adds the repair with a title that puts a text in place of a part.
     fn put(&mut self, title: &[&[u8]], span: Span, new: &[u8]) -> Made<()> {
         let alloc = self.document.alloc;
-        let title = text_value(alloc, &joined(alloc, title)?)?;
-        let changes = self.document.changes(self.document.edits(span, new)?)?;
-        let repair = json!(in alloc; {"title": title, "kind": "quickfix", "edit": changes})?;
-        Ok(self.list.push(repair)?)
+        let title = joined(alloc, title)?;
+        let new = Vec::from_slice(alloc, new)?;
+        Ok(self.list.push((title, span, new))?)
     }
 
     /// Adds the repair that writes a text in place of a part.
@@ -150,10 +249,8 @@ impl Repairs<'_> {
             let new = branch(alloc, name)?;
             if is_read(alloc, text, stop, &new, rest)? {
                 let branch = new.trim_ascii_start();
-                let span = Span {
-                    start: stop,
-                    stop: stop,
-                };
+                let start = stop;
+                let span = Span { start, stop };
                 self.put(&[b"Add `", branch, b"`, which changes nothing"], span, &new)?;
             }
         }
@@ -222,8 +319,7 @@ fn title_of(
     Ok(title)
 }
 
-/// The title of the fix that makes all raises of a source: none if no raise makes it accepted, or
-/// it is accepted as it is.
+/// The title of the fix that makes all raises of a source, if it needs some and they help.
 fn raising_title(document: DocumentText<'_>, source: &Source<'_>) -> Made<Option<Vec<u8>>>
     ensures title { IfOk result (λ found. IfSome found (λ title. spec.IsTitle
         source.now.lattice document.entry.profile source.now.text title.items)) }
@@ -245,12 +341,8 @@ fn raising_title(document: DocumentText<'_>, source: &Source<'_>) -> Made<Option
 
 /// The tokens that begin before a byte, and the others.
 fn parted<'a>(tokens: &'a [Token<'a>], at: usize) -> (&'a [Token<'a>], &'a [Token<'a>]) {
-    let count = tokens
-        .iter()
-        .take_while(|token| token.span.start < at)
-        .count();
-    let ahead = tokens.get(..count).unwrap_or(&[]);
-    (ahead, tokens.get(count..).unwrap_or(&[]))
+    let ahead = tokens.iter().take_while(|token| token.span.start < at);
+    tokens.split_at(ahead.count().min(tokens.len()))
 }
 
 /// The nearest of the names, the first of those as near: fewer than half of its letters differ.
@@ -273,8 +365,7 @@ fn nearest<'n>(alloc: Global, written: &[u8], names: &[&'n [u8]]) -> Made<Option
     Ok(best)
 }
 
-/// The last variable that is assigned after the last `then` of these tokens and is in scope after
-/// an `else` that follows them.
+/// The last variable that is assigned after the last `then` and is in scope after an `else`.
 fn assigned<'a>(alloc: Global, ahead: &[Token<'a>]) -> Made<Option<&'a [u8]>> {
     let mut list = Vec::from_slice(alloc, ahead)?;
     if let Some(tokens) = tokens_of(alloc, b"else")? {
@@ -294,8 +385,7 @@ fn assigned<'a>(alloc: Global, ahead: &[Token<'a>]) -> Made<Option<&'a [u8]>> {
     Ok(found)
 }
 
-/// Whether the text into which `new` is put at a byte is read over the next two tokens, or is a
-/// program if there are fewer.
+/// Whether the text with `new` at a byte is read over the next two tokens, or else is a program.
 fn is_read(alloc: Global, text: &[u8], at: usize, new: &[u8], next: &[Token<'_>]) -> Made<bool> {
     let (before, after) = text.split_at(at.min(text.len()));
     let changed = joined(alloc, &[before, new, after])?;

@@ -3,22 +3,32 @@
 ghost use Rattle.std.specs.Prelude.{IfOk};
 ghost use Rattle.vsi_client.specs.Frames.{AreFrames};
 
+use crate::diagnostics::REFUSED;
 use crate::document::{
-    EARLY, Fault, METHOD, Made, PARAMETERS, PARSE, REQUEST, encoding_for, framed, place_at,
-    published, text_at, text_value, welcome,
+    CHANGE, EARLY, Editor, Fault, METHOD, Made, PARAMETERS, PARSE, REQUEST, begins_with_change,
+    changes_in, framed, joined, number_at, published, text_at, text_value, version_in,
 };
 use crate::documents::{Document, DocumentKind, Policy, interface_path};
+use crate::projects::{MOST_FILES, Wanted, is_strict_at};
 use crate::reading::{answer, is_topic};
 use serde_json::{Value, json};
 use std::alloc::{AllocError, Global};
-use vsi_client::{Change, Encoding, Marked, Piece, changed_by, next_piece, path_beside};
+use vsi_client::{Marked, Piece, changed_by, next_piece, path_beside};
 use vsi_documents::named_policy;
+use vsi_project::{ProjectError, read_project};
 use vsi_types::Profile;
 
 /// The line about texts that name no lattice file.
-pub const TWO_SAID: &[u8] =
-    b"vsi: a text that names no lattice file is judged with the classes L and \
+const TWO_SAID: &[u8] = b"vsi: a text that names no lattice file is judged with the classes L and \
 H. Its first comment line can name one: # policy: FILE";
+
+/// The line about a header that gives no length.
+const LOST: &[u8] = b"vsi: a message has no header of at most 4096 bytes with a line \
+`Content-Length: N`, N at most 16777216\n";
+
+/// The text about a change that isn't obeyed.
+const MALFORMED: &[u8] = b"vsi: a malformed change isn't obeyed: the errors are those of the text \
+before it";
 
 /// The state of the conversation with a client.
 #[derive(Clone, Copy, Debug, PartialEq, Eq)]
@@ -27,45 +37,40 @@ enum Phase {
     Running,
     ShutDown,
     Exited,
-    /// The client has ended without `shutdown`, or sent a header without a length.
+    /// The client has ended without `shutdown`.
     Failed,
+    /// The client has sent a header without a length.
+    Lost,
 }
 
-/// A lattice file that is to be read, and the document for which it is.
-#[derive(Drop)]
-pub struct Wanted {
-    /// The path of the file.
-    pub path: String,
-    uri: Vec<u8>,
-}
-
-/// A server: the bytes that have come and aren't obeyed yet, the open documents, and the messages
-/// that are to go to the client.
+/// A server: the bytes that aren't obeyed yet, the open documents, and messages for the client.
 #[derive(Drop)]
 pub struct Server {
     alloc: Global,
     profile: Profile,
     lattice: Option<String>,
     stream: Vec<u8>,
-    encoding: Encoding,
+    editor: Editor,
     phase: Phase,
     has_said: bool,
+    /// The last line about a faulty project file.
+    fault: Vec<u8>,
     documents: Vec<Document>,
     messages: Vec<Value>,
 }
 
 impl Server {
-    /// A server that judges under a profile, with the lattice file at a path for texts that name
-    /// none.
+    /// A server that judges under a profile, with a lattice file for texts that name none.
     pub fn new(alloc: Global, profile: Profile, lattice: Option<String>) -> Server {
         Server {
             alloc,
             profile,
             lattice,
             stream: Vec::new(alloc),
-            encoding: Encoding::Utf16,
+            editor: Editor::of(&Value::Null),
             phase: Phase::New,
             has_said: false,
+            fault: Vec::new(alloc),
             documents: Vec::new(alloc),
             messages: Vec::new(alloc),
         }
@@ -73,18 +78,24 @@ impl Server {
 
     /// Whether the server is to end.
     pub fn has_exited(&self) -> bool {
-        self.phase == Phase::Exited || self.phase == Phase::Failed
+        self.phase == Phase::Exited || self.has_failed()
     }
 
-    /// Whether the server is to end with a failure: the client has asked it to end without
-    /// `shutdown`, or has sent a header without a length.
+    /// Whether the server is to end with a failure: `exit` came early, or a header had no length.
     pub fn has_failed(&self) -> bool {
-        self.phase == Phase::Failed
+        self.phase == Phase::Failed || self.phase == Phase::Lost
     }
 
-    /// Whether a text that names no lattice file has been judged with the classes `L` and `H`.
-    pub fn judges_by_two(&self) -> bool {
-        self.has_said
+    /// Adds the lines for standard error: that texts had two classes, and a header no length.
+    pub fn put_notes(&self, lines: &mut Vec<u8>) -> Result<(), AllocError> {
+        if self.has_said {
+            lines.extend_from_slice(TWO_SAID)?;
+            lines.extend_from_slice(b"\n")?;
+        }
+        if self.phase == Phase::Lost {
+            lines.extend_from_slice(LOST)?;
+        }
+        Ok(())
     }
 
     /// Takes bytes of the client.
@@ -119,14 +130,13 @@ impl Server {
                 Ok(Some(message))
             }
             Piece::Faulty => {
-                self.phase = Phase::Failed;
+                self.phase = Phase::Lost;
                 Ok(None)
             }
         }
     }
 
-    /// Does what a message asks, and returns the lattice file that is to be read and given to
-    /// `judge` then.
+    /// Does what a message asks, and returns the file that is to be read and given to `judge` then.
     pub fn obey(&mut self, message: &[u8]) -> Result<Option<Wanted>, AllocError> {
         let value = match Value::from_slice(self.alloc, message) {
             Ok(value) => value,
@@ -171,9 +181,9 @@ impl Server {
     fn reply(&mut self, method: &str, value: &Value) -> Result<Value, Fault> {
         match (self.phase, method) {
             (Phase::New, "initialize") => {
-                self.encoding = encoding_for(value);
+                self.editor = Editor::of(value);
                 self.phase = Phase::Running;
-                Ok(welcome(self.alloc, self.encoding)?)
+                Ok(self.editor.welcome(self.alloc)?)
             }
             (Phase::New, _) => Err(EARLY),
             (Phase::Running, "initialize") => Err(REQUEST),
@@ -181,12 +191,17 @@ impl Server {
                 self.phase = Phase::ShutDown;
                 Ok(Value::Null)
             }
+            (Phase::Running, "textDocument/diagnostic") => {
+                let place = self.place_of(value).ok_or(PARAMETERS)?;
+                let errors = Value::Array(self.judged(place)?);
+                Ok(json!(in self.alloc; {"kind": "full", "items": errors})?)
+            }
             (Phase::Running, _) => match method.strip_prefix("textDocument/") {
                 Some(topic) if is_topic(topic) => {
                     let place = self.place_of(value).ok_or(PARAMETERS)?;
                     let document = self.documents.get(place).ok_or(PARAMETERS)?;
-                    let marked = Marked::of(self.alloc, self.encoding, &document.text)?;
-                    let judged = document.text_in(self.alloc, self.encoding, self.profile, &marked);
+                    let marked = Marked::of(self.alloc, self.editor.encoding, &document.text)?;
+                    let judged = document.text_in(self.alloc, self.editor, &marked);
                     let policy = match document.kind() {
                         DocumentKind::Source => document.policy.bytes().ok(),
                         _ => None,
@@ -205,7 +220,7 @@ impl Server {
             (Phase::ShutDown, "exit") => self.phase = Phase::Exited,
             (_, "exit") => self.phase = Phase::Failed,
             (Phase::Running, "textDocument/didOpen") => return self.open(value),
-            (Phase::Running, "textDocument/didChange") => return self.change(value),
+            (Phase::Running, CHANGE) => return self.change(value),
             (Phase::Running, "textDocument/didClose") => {
                 if let Some(uri) = text_at(value, "/params/textDocument/uri") {
                     self.forget(uri.as_bytes());
@@ -217,9 +232,15 @@ impl Server {
             }
             (Phase::Running, "textDocument/didSave") => {
                 if let Some(place) = self.place_of(value) {
+                    let document = self.documents.get(place);
+                    if document.is_some_and(|one| one.kind() == DocumentKind::Lattice) {
+                        self.save_all()?;
+                    }
                     return self.want(place);
                 }
             }
+            (Phase::Running, "workspace/didChangeWatchedFiles") => self.save_all()?,
+            (Phase::Running, "initialized") if self.editor.watches => self.watch()?,
             _ => {}
         }
         Ok(None)
@@ -233,8 +254,9 @@ impl Server {
 
     /// The number of the document of this name.
     fn place_named(&self, uri: &[u8]) -> Option<usize> {
-        let mut documents = self.documents.iter();
-        documents.position(|document| document.uri.as_slice() == uri)
+        self.documents
+            .iter()
+            .position(|one| one.uri.as_slice() == uri)
     }
 
     /// Opens a document.
@@ -249,6 +271,8 @@ impl Server {
             version: version_in(value),
             text: Vec::from_slice(self.alloc, text.as_bytes())?,
             policy: Policy::Two,
+            profile: self.profile,
+            last: Vec::new(self.alloc),
         };
         let place = self.documents.len();
         self.documents.push(document)?;
@@ -257,53 +281,53 @@ impl Server {
 
     /// Forgets the document of this name.
     fn forget(&mut self, uri: &[u8]) {
-        if let Some(place) = self.place_named(uri)
-            && place < self.documents.len()
-        {
-            drop(self.documents.swap_remove(place));
-        }
+        self.documents
+            .retain(|document| document.uri.as_slice() != uri);
     }
 
-    /// Changes a document, up to the first change that is malformed.
+    /// Changes a document, unless a change is malformed, which a message says. It isn't judged if
+    /// the next message has come and changes it again.
     fn change(&mut self, value: &Value) -> Made<Option<Wanted>> {
         let Some(place) = self.place_of(value) else {
             return Ok(None);
         };
-        let Some(Value::Array(list)) = value.pointer("/params/contentChanges") else {
+        let Some(changes) = changes_in(self.alloc, value)? else {
+            self.log(2, MALFORMED)?;
             return Ok(None);
         };
-        let mut changes = Vec::new(self.alloc);
-        for part in list {
-            match change_in(part) {
-                Some(change) => changes.push(change)?,
-                None => break,
-            }
-        }
         if let Some(document) = self.documents.get_mut(place) {
-            document.text = changed_by(self.alloc, self.encoding, &document.text, &changes)?;
+            document.text = changed_by(self.alloc, self.editor.encoding, &document.text, &changes)?;
             document.version = version_in(value);
+            if begins_with_change(self.alloc, &self.stream, &document.uri)? {
+                return Ok(None);
+            }
         }
         self.want(place)
     }
 
-    /// The lattice file that is to be read for a document; if there is none, its errors are
-    /// published.
+    /// The first file that is to be read for a document. If there is none, it is judged.
     fn want(&mut self, place: usize) -> Made<Option<Wanted>> {
-        let Some(document) = self.documents.get(place) else {
+        let Some(document) = self.documents.get_mut(place) else {
             return Ok(None);
         };
+        document.profile = self.profile;
+        let mut left = 0;
         let path = match document.kind() {
             DocumentKind::Interface => interface_path(self.alloc, &document.uri, &document.text)?,
             DocumentKind::Lattice | DocumentKind::Other => None,
             DocumentKind::Source => match (named_policy(&document.text), &self.lattice) {
                 (Some(name), _) => Some(path_beside(self.alloc, &document.uri, name)?),
                 (None, Some(path)) => Some(path.clone()?),
+                (None, None) if document.uri.starts_with(b"file:///") => {
+                    left = MOST_FILES - 1;
+                    Some(path_beside(self.alloc, &document.uri, b"vsi.toml")?)
+                }
                 (None, None) => None,
             },
         };
         if let Some(path) = path {
             let uri = document.uri.clone()?;
-            return Ok(Some(Wanted { path, uri }));
+            return Ok(Some(Wanted { path, uri, left }));
         }
         self.publish(place, Policy::Two)?;
         Ok(None)
@@ -319,43 +343,118 @@ impl Server {
         document.policy = policy;
         if is_by_two && document.kind() == DocumentKind::Source && !self.has_said {
             self.has_said = true;
-            let line = text_value(self.alloc, TWO_SAID)?;
-            let message = json!(in self.alloc; {
-                "jsonrpc": "2.0", "method": "window/logMessage",
-                "params": {"type": 3, "message": line}
-            })?;
-            self.messages.push(message)?;
+            self.log(3, TWO_SAID)?;
         }
-        let errors = document.errors(self.alloc, self.encoding, self.profile)?;
-        let message = published(self.alloc, &document.uri, document.version, errors)?;
+        if !self.editor.asks {
+            let errors = self.judged(place)?;
+            if let Some(document) = self.documents.get(place) {
+                let message = published(self.alloc, &document.uri, document.version, errors)?;
+                self.messages.push(message)?;
+            }
+        }
+        Ok(())
+    }
+
+    /// The errors and warnings of a document, whose text is kept if it has a program.
+    fn judged(&mut self, place: usize) -> Made<Vec<Value>> {
+        let Some(document) = self.documents.get_mut(place) else {
+            return Ok(Vec::new(self.alloc));
+        };
+        let errors = document.errors(self.alloc, self.editor)?;
+        let code = errors.first().and_then(|error| number_at(error, "/code"));
+        if code.is_none() || code == Some(REFUSED) {
+            document.last = Vec::from_slice(self.alloc, &document.text)?;
+        }
+        Ok(errors)
+    }
+
+    /// Puts a message before the others for each text with a lattice file, as if it were saved.
+    fn save_all(&mut self) -> Made<()> {
+        let alloc = self.alloc;
+        self.fault.clear();
+        let mut saved = Vec::new(alloc);
+        for document in &self.documents {
+            if document.kind() != DocumentKind::Lattice {
+                let uri = text_value(alloc, &document.uri)?;
+                saved.push(json!(in alloc; {
+                    "method": "textDocument/didSave", "params": {"textDocument": {"uri": uri}}
+                })?)?;
+            }
+        }
+        let mut stream = framed(alloc, &saved)?;
+        stream.extend_from_slice(&self.stream)?;
+        self.stream = stream;
+        Ok(())
+    }
+
+    /// Asks the client to say when a TOML file has changed.
+    fn watch(&mut self) -> Made<()> {
+        let watchers = json!(in self.alloc; [{"globPattern": "**/*.toml"}])?;
+        let message = json!(in self.alloc; {
+            "jsonrpc": "2.0", "id": "watch", "method": "client/registerCapability",
+            "params": {"registrations": [{
+                "id": "watch", "method": "workspace/didChangeWatchedFiles",
+                "registerOptions": {"watchers": watchers}
+            }]}
+        })?;
         Ok(self.messages.push(message)?)
     }
 
-    /// Judges the document for which a lattice file was wanted, with the bytes of the file, or
-    /// nothing if it can't be read.
-    pub fn judge(&mut self, wanted: Wanted, bytes: Option<Vec<u8>>) -> Result<(), AllocError> {
-        let Some(place) = self.place_named(&wanted.uri) else {
-            return Ok(());
-        };
-        let policy = match bytes {
-            Some(bytes) => Policy::File(bytes),
-            None => Policy::Lost(Vec::from_slice(self.alloc, wanted.path.as_bytes())?),
-        };
-        self.publish(place, policy)
+    /// Adds a message for the client's log, of a type of the protocol: 2 is a warning, 3 is none.
+    fn log(&mut self, kind: usize, text: &[u8]) -> Made<()> {
+        let message = json!(in self.alloc; {
+            "jsonrpc": "2.0", "method": "window/logMessage",
+            "params": {"type": kind, "message": text_value(self.alloc, text)?}
+        })?;
+        Ok(self.messages.push(message)?)
     }
-}
 
-/// The version of the document that a message gives.
-fn version_in(value: &Value) -> Option<i64> {
-    value.pointer("/params/textDocument/version")?.as_i64()
-}
+    /// Judges the document for which a file was wanted, with the bytes of the file, or nothing if
+    /// it can't be read; or returns the next file that is to be read for it.
+    pub fn judge(
+        &mut self,
+        wanted: Wanted,
+        bytes: Option<Vec<u8>>,
+    ) -> Result<Option<Wanted>, AllocError> {
+        let Some(place) = self.place_named(&wanted.uri) else {
+            return Ok(None);
+        };
+        let (next, policy) = match (wanted.left, bytes) {
+            (0, Some(bytes)) => (None, Policy::File(bytes)),
+            (0, None) => (None, Policy::Lost(wanted.path.clone()?)),
+            (_, Some(bytes)) => (self.follow(place, &wanted, &bytes)?, Policy::Two),
+            (_, None) => (wanted.above(self.alloc)?, Policy::Two),
+        };
+        if next.is_none() {
+            self.publish(place, policy)?;
+        }
+        Ok(next)
+    }
 
-/// The change that an object gives, unless it is malformed.
-fn change_in(value: &Value) -> Option<Change<'_>> {
-    let range = match value.get("range") {
-        Some(part) => Some((place_at(part, "/start")?, place_at(part, "/end")?)),
-        None => None,
-    };
-    let text = text_at(value, "/text")?.as_bytes();
-    Some(Change { range, text })
+    /// Gives a document the profile that a project file requires for it, and returns its lattice
+    /// file. A faulty project file gives nothing, and a message says once where its fault is.
+    fn follow(&mut self, place: usize, wanted: &Wanted, bytes: &[u8]) -> Made<Option<Wanted>> {
+        let (alloc, uri) = (self.alloc, wanted.uri.clone()?);
+        let error = match read_project(alloc, wanted.path.as_str(), bytes) {
+            Ok(project) => {
+                // The document's path, with a slash at its end.
+                let text = path_beside(alloc, &joined(alloc, &[&uri, b"/"])?, b"")?;
+                if is_strict_at(alloc, &project.programs, text.as_bytes())?
+                    && let Some(document) = self.documents.get_mut(place)
+                {
+                    document.profile = Profile::Strict;
+                }
+                let path = project.programs[0].lattice.clone()?;
+                return Ok(Some(Wanted { path, uri, left: 0 }));
+            }
+            Err(ProjectError::Memory) => return Err(AllocError),
+            Err(error) => error,
+        };
+        let line = error.line(alloc, wanted.path.as_str())?;
+        if line != self.fault {
+            self.log(2, &line)?;
+            self.fault = line;
+        }
+        Ok(None)
+    }
 }

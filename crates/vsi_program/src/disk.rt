@@ -6,9 +6,9 @@ use crate::replacing::{
 use crate::troubles::{NO_FILE, Objection, Trouble, reason_of};
 use std::cell::Cell;
 use std::fs::{File, Metadata};
-use std::io::{ErrorKind, Read};
+use std::io::{ErrorKind, Read, Stdin};
 use std::os::unix::fs::{FileTypeExt, MetadataExt};
-use std::{env, fs};
+use std::{env, fs, io};
 use vsi::{Files, OutputKind, Writing};
 
 /// The bytes that every image begins with; the version follows, which is below `FIRST_PRINTABLE`.
@@ -97,6 +97,7 @@ fn is_of_kind(mut file: File, kind: OutputKind) -> bool {
         }
         OutputKind::Store | OutputKind::State => is_store(file),
         OutputKind::Source => true,
+        OutputKind::Text => false,
     }
 }
 
@@ -106,6 +107,9 @@ const LIMIT: u64 = 1_048_577;
 /// The path of the file that is standard input, if it is one.
 const INPUT: &str = "/proc/self/fd/0";
 
+/// The path that means standard input where a file is read.
+const DASH: &str = "-";
+
 /// Why a file that the request reads isn't replaced.
 const IS_READ: &str = "this request reads the file, so it doesn't write over it.";
 
@@ -113,8 +117,8 @@ const IS_READ: &str = "this request reads the file, so it doesn't write over it.
 /// read it.
 const OWNER_ALONE: u32 = 0o600;
 
-/// The mode of an image where there was none, from which the system takes what its user doesn't
-/// give to others.
+/// The mode of any other file where there was none, from which the system takes what its user
+/// doesn't give to others.
 const OPEN_TO_ALL: u32 = 0o666;
 
 /// How many of the files that a request reads are known by their identities: more than it names.
@@ -125,6 +129,22 @@ const MOST_READ: usize = 8;
 struct Identity {
     device: u64,
     number: u64,
+}
+
+/// A file of the system, or standard input.
+#[derive(Drop)]
+pub(crate) enum DiskFile {
+    File(File),
+    Input(Stdin),
+}
+
+impl Read for DiskFile {
+    fn read(&mut self, buf: &mut [u8]) -> io::Result<usize> {
+        match self {
+            DiskFile::File(file) => file.read(buf),
+            DiskFile::Input(input) => input.read(buf),
+        }
+    }
 }
 
 /// The files of the system.
@@ -151,6 +171,10 @@ pub(crate) struct Disk<'a> {
     fault: Cell<Option<&'static str>>,
     /// Whether the request serves an editor, which waits for no file.
     is_server: bool,
+    /// Whether the request itself reads standard input, so that `-` is the name of a file.
+    reads_input: bool,
+    /// Whether the request has read standard input as a file.
+    has_read_input: Cell<bool>,
 }
 
 impl<'a> Disk<'a> {
@@ -168,7 +192,28 @@ impl<'a> Disk<'a> {
             objection: None,
             fault: Cell::new(None),
             is_server,
+            reads_input: is_server,
+            has_read_input: Cell::new(false),
         }
+    }
+
+    /// Whether the path means standard input.
+    fn is_input(&self, path: &str) -> bool {
+        path == DASH && !self.reads_input
+    }
+
+    /// The path at which the system has the file.
+    fn place<'p>(&self, path: &'p str) -> &'p str {
+        if self.is_input(path) { INPUT } else { path }
+    }
+
+    /// Standard input as a file.
+    fn open_input(&self) -> DiskFile {
+        if let Some(identity) = self.identity_at(INPUT) {
+            self.note(identity);
+        }
+        self.has_read_input.set(true);
+        DiskFile::Input(self.rt.stdin())
     }
 
     /// Notes a file that was opened to read.
@@ -195,6 +240,10 @@ impl<'a> Disk<'a> {
     fn spares(&mut self, path: &str) -> bool {
         if matches!(self.claim, Claim::Taken) {
             self.objection = Some(Objection::Kept);
+            return true;
+        }
+        if self.is_input(path) && self.has_read_input.get() {
+            self.is_spared = true;
             return true;
         }
         let found = self.identity_at(path);
@@ -229,10 +278,19 @@ impl<'a> Disk<'a> {
         }
         self.objection = Some(match self.kind {
             OutputKind::Image => Objection::NoImage,
+            OutputKind::Text => Objection::NotEmpty,
             OutputKind::State if is_alike => Objection::OtherStore,
             _ => Objection::NoStore,
         });
         true
+    }
+
+    /// The mode of a file where there was none.
+    fn mode(&self) -> u32 {
+        match self.kind {
+            OutputKind::Text => OPEN_TO_ALL,
+            _ => OWNER_ALONE,
+        }
     }
 
     /// Whether the stream of this number, by its link under /proc, is a terminal.
@@ -259,7 +317,7 @@ impl<'a> Disk<'a> {
         let is_store = matches!(self.kind, OutputKind::Store | OutputKind::State);
         let making = Making {
             fresh,
-            mode: OWNER_ALONE,
+            mode: self.mode(),
             bytes: if is_store { None } else { Some(bytes) },
         };
         let filling = Filling {
@@ -305,9 +363,12 @@ fn identity_of(found: &Metadata) -> Identity {
 }
 
 impl Files for Disk<'_> {
-    type Input = File;
+    type Input = DiskFile;
 
-    fn open_file(&self, path: &str) -> Option<File> {
+    fn open_file(&self, path: &str) -> Option<DiskFile> {
+        if self.is_input(path) {
+            return Some(self.open_input());
+        }
         // Pipes and devices are barred, except the streams that the system gives to the program and
         // devices that the path names. The server has only files.
         let is_barred = match fs::metadata(self.rt, path) {
@@ -324,7 +385,7 @@ impl Files for Disk<'_> {
         let file = File::open(self.rt, path).ok()?;
         let found = file.metadata().ok()?;
         self.note(identity_of(&found));
-        Some(file)
+        Some(DiskFile::File(file))
     }
 
     fn fill_file(&mut self, path: &str, bytes: &[u8]) -> Option<()> {
@@ -360,6 +421,7 @@ impl Files for Disk<'_> {
             Some(path) => self.identity_at(path),
             None => None,
         };
+        self.reads_input = self.is_server || writing.reads_input;
         if writing.reads_input
             && let Some(identity) = self.identity_at(INPUT)
         {
@@ -372,18 +434,20 @@ impl Files for Disk<'_> {
     }
 
     fn may_wait(&self, path: &str) -> bool {
-        fs::metadata(self.rt, path).is_ok_and(|found| !found.is_file())
+        fs::metadata(self.rt, self.place(path)).is_ok_and(|found| !found.is_file())
     }
 
     fn lacks(&self, path: &str) -> bool {
-        fs::symlink_metadata(self.rt, path).is_err_and(|error| error.kind() == ErrorKind::NotFound)
+        !self.is_input(path)
+            && fs::symlink_metadata(self.rt, path).is_err_and(|error| error.kind()
+                == ErrorKind::NotFound)
     }
 
     fn trouble(&self, path: &str) -> Option<&'static str> {
         if let Some(objection) = self.objection {
             return Some(objection.sentence());
         }
-        match fs::metadata(self.rt, path) {
+        match fs::metadata(self.rt, self.place(path)) {
             Ok(found) if found.is_dir() => Some("this is a folder."),
             Ok(_) if self.is_spared => Some(IS_READ),
             _ if self.fault.get().is_some() => self.fault.get(),
@@ -401,6 +465,7 @@ impl Files for Disk<'_> {
     }
 
     fn wants_colour(&self) -> bool {
-        env::var(self.rt, "NO_COLOR").is_err() && self.is_terminal("/proc/self/fd/2")
+        let is_refused = env::var(self.rt, "NO_COLOR").is_ok_and(|value| !value.is_empty());
+        !is_refused && self.is_terminal("/proc/self/fd/2")
     }
 }

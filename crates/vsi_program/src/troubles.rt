@@ -32,6 +32,8 @@ pub(crate) enum Objection {
     NoImage,
     /// It is no store.
     NoStore,
+    /// It has bytes, and nothing says of what kind.
+    NotEmpty,
     /// It is a store, but not the one with which the drive began.
     OtherStore,
     /// Another user owns it.
@@ -52,6 +54,7 @@ impl Objection {
         match self {
             Objection::NoImage => "this file is no image; only --force replaces it.",
             Objection::NoStore => "this file is no store; only --force replaces it.",
+            Objection::NotEmpty => "this file isn't empty; only --force replaces it.",
             Objection::OtherStore => {
                 "the drive didn't begin with this store; only --force replaces it."
             }
@@ -108,5 +111,14 @@ pub(crate) fn reason_of(kind: ErrorKind) -> Option<&'static str> {
             "a name on this path is too long, or is with .new added.",
         ),
         _ => None,
+    }
+}
+
+/// Why a folder with an error of this kind isn't listed.
+pub(crate) fn reason_of_listing(kind: ErrorKind) -> &'static str {
+    match kind {
+        ErrorKind::PermissionDenied => "this folder may not be listed, or not be entered.",
+        ErrorKind::InvalidFilename => "a name in this folder isn't text.",
+        _ => "this folder can't be listed.",
     }
 }

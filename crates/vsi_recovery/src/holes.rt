@@ -11,8 +11,8 @@ use vsi_syntax::{LexError, Span, Token, lex};
 fn skipped(rest: &[u8]) -> usize {
     match rest {
         [b'/', b'/', ..] => {
-            let end = rest.iter().position(|byte| *byte == b'\n');
-            end.unwrap_or(rest.len())
+            let line = rest.split(|byte| *byte == b'\n').next();
+            line.unwrap_or(rest).len()
         }
         [b'/', b'*', ..] => {
             let is_end = |at: &usize| rest.get(*at..).unwrap_or(b"").starts_with(b"*/");
@@ -67,7 +67,7 @@ impl<'a> Pieces<'a> {
             Cause::Lex(LexError::BadNumber(_)) => "0",
             _ => "",
         };
-        put_text(&mut self.list, put, fault.span)?;
+        put_text(&mut self.list, put.as_bytes(), fault.span)?;
         self.faults.push(fault)?;
         self.from = fault.span.stop;
         Ok(())
@@ -85,12 +85,9 @@ impl<'a> Pieces<'a> {
                 Err(LexError::Memory) => return Err(AllocError),
                 Err(LexError::TooLong) => return Ok(true),
                 Err(LexError::BadByte(at)) => {
-                    let start = at.saturating_add(from);
-                    let count = skipped(self.text.get(start..).unwrap_or(b""));
-                    (
-                        span(start, start.saturating_add(count)),
-                        LexError::BadByte(start),
-                    )
+                    let count = skipped(self.text.get(at.saturating_add(from)..).unwrap_or(b""));
+                    let part = moved(span(at, at.saturating_add(count)), from);
+                    (part, LexError::BadByte(part.start))
                 }
                 Err(LexError::BadWord(part)) => {
                     let part = moved(part, from);
@@ -109,7 +106,7 @@ impl<'a> Pieces<'a> {
 
     /// The part of the text around a hole whose tokens aren't judged: from the token after the
     /// landmark before it to the landmark after it, or to the next token after a comment.
-    fn stretch_of(&self, hole: Span) -> Stretch {
+    pub(crate) fn stretch_of(&self, hole: Span) -> Stretch {
         let skipped = self.text.get(hole.start..).unwrap_or(b"");
         let is_comment = matches!(skipped, [b'/', b'/' | b'*', ..]);
         let mut stretch = Stretch {
@@ -132,14 +129,5 @@ impl<'a> Pieces<'a> {
             }
         }
         stretch
-    }
-
-    /// The parts of the text around the holes.
-    pub(crate) fn stretches(&self) -> Result<Vec<Stretch>, AllocError> {
-        let mut stretches = Vec::new(self.alloc);
-        for fault in &self.faults {
-            stretches.push(self.stretch_of(fault.span))?;
-        }
-        Ok(stretches)
     }
 }

@@ -1,13 +1,13 @@
 //! The names of a program that can't be resolved.
 
-use crate::open::{number_of, put_numbered, put_text, span, spanned, tokens_of};
+use crate::open::{number_of, put_numbered, put_text, span};
 use crate::search::{DECLARATION, NAME};
 use crate::walk::{Cause, Fault, MAX_FAULTS, Walk};
 use indexmap::IndexSet;
 use std::alloc::AllocError;
-use vsi_lattice::{Class, Classes};
+use vsi_lattice::Classes;
 use vsi_scope::{ScopeError, resolve};
-use vsi_syntax::{Kind, Span, Token, parse};
+use vsi_syntax::{Kind, ParseError, Span, Token, parse};
 
 /// The most names that are found at once.
 const MAX_NAMES: usize = 20;
@@ -18,19 +18,9 @@ fn is_declaring(kind: Kind) -> bool {
 }
 
 impl<'a> Walk<'_, 'a> {
-    /// Adds a class of the lattice with this span.
-    fn put_class(&self, list: &mut Vec<Token<'a>>, span: Span) -> Result<(), AllocError> {
-        for number in 0..self.lattice.count() {
-            let name = self.lattice.name(Class::at(number as u8));
-            let tokens = tokens_of(self.alloc, name)?;
-            for token in &tokens {
-                list.push(spanned(token, span))?;
-            }
-            if !tokens.is_empty() {
-                return Ok(());
-            }
-        }
-        Ok(())
+    /// The name of a class of the lattice.
+    fn class(&self) -> &'a [u8] {
+        self.lattice.name(self.lattice.bottom())
     }
 
     /// Puts tokens in place of those from a place up to another one.
@@ -47,25 +37,25 @@ impl<'a> Walk<'_, 'a> {
         let start = span(0, 0);
         let mut made = Vec::new(self.alloc);
         for name in names {
-            put_text(&mut made, "var", start)?;
-            made.push(spanned(name, start))?;
-            put_text(&mut made, ":", start)?;
-            self.put_class(&mut made, start)?;
-            put_text(&mut made, ";", start)?;
+            for text in [b"var".as_slice(), name.text, b":", self.class(), b";"] {
+                put_text(&mut made, text, start)?;
+            }
         }
         self.splice(0, 0, &made)
     }
 
-    /// The first fault of the names, with the number of its name.
-    fn name_fault(&mut self) -> Result<Option<(usize, ScopeError)>, AllocError> {
+    /// The first fault of the names, with its name and the number of that.
+    fn name_fault(&mut self) -> Result<Option<(usize, Token<'a>, ScopeError)>, AllocError> {
         if self.left == 0 {
             return Ok(None);
         }
         self.left = self.left.saturating_sub(self.list.len());
         let mut numbered = Vec::new(self.alloc);
         put_numbered(&mut numbered, &self.list)?;
-        let Ok(program) = parse(self.alloc, &numbered) else {
-            return Ok(None);
+        let program = match parse(self.alloc, &numbered) {
+            Ok(program) => program,
+            Err(ParseError::Memory) => return Err(AllocError),
+            Err(_) => return Ok(None),
         };
         let Err(error) = resolve(self.alloc, &program, self.lattice) else {
             return Ok(None);
@@ -74,42 +64,38 @@ impl<'a> Walk<'_, 'a> {
             ScopeError::Memory => Err(AllocError),
             ScopeError::Duplicate(span)
             | ScopeError::UnknownClass(span)
-            | ScopeError::Unbound(span) => Ok(Some((number_of(span), error))),
+            | ScopeError::Unbound(span) => {
+                let place = number_of(span);
+                Ok(self.list.get(place).map(|token| (place, *token, error)))
+            }
             _ => Ok(None),
         }
     }
 
     /// Whether a part with a repair has a name, or some declaration has lost a part.
     fn is_in_doubt(&self, name: &[u8]) -> bool {
-        for token in self.source {
+        let is_cut = |token: &Token<'_>| {
             let at = token.span.start;
-            if is_declaring(token.kind) && self.is_within(at, true) {
-                return true;
-            }
-            if token.text == name && self.is_within(at, false) {
-                return true;
-            }
-        }
-        let mut before = Kind::Semicolon;
-        for token in &self.list {
+            is_declaring(token.kind) && self.is_within(at, true)
+                || token.text == name && self.is_within(at, false)
+        };
+        let is_lost = |(before, token): (&Token<'_>, &Token<'_>)| {
             // Declarations that were put in front end at 0.
-            let is_lost = token.text == NAME.as_bytes() && token.span.stop != 0;
-            if is_declaring(before) && (is_lost || self.is_mended && token.text == name) {
-                return true;
-            }
-            before = token.kind;
-        }
-        false
+            let is_put = token.text == NAME.as_bytes() && token.span.stop != 0;
+            is_declaring(before.kind) && (is_put || self.is_mended && token.text == name)
+        };
+        let mut pairs = self.list.iter().zip(self.list.iter().skip(1));
+        self.source.iter().any(is_cut) || pairs.any(is_lost)
     }
 
     /// Adds a fault of a name, unless it may come from a repair.
     fn put_name_fault(&mut self, token: Token<'a>, error: ScopeError) -> Result<(), AllocError> {
         // Nothing of the text is in a token that a repair has put in.
         let is_put = token.span.start == token.span.stop;
-        if is_put || self.is_within(token.span.start, false) {
-            return Ok(());
-        }
-        if matches!(error, ScopeError::Unbound(_)) && self.is_in_doubt(token.text) {
+        if is_put
+            || self.is_within(token.span.start, false)
+            || matches!(error, ScopeError::Unbound(_)) && self.is_in_doubt(token.text)
+        {
             return Ok(());
         }
         let span = token.span;
@@ -156,10 +142,7 @@ impl<'a> Walk<'_, 'a> {
 
     /// Adds the first fault of the names, and repairs it, if there is one that can be repaired.
     fn put_name(&mut self) -> Result<bool, AllocError> {
-        let Some((place, error)) = self.name_fault()? else {
-            return Ok(false);
-        };
-        let Some(token) = self.list.get(place).copied() else {
+        let Some((place, token, error)) = self.name_fault()? else {
             return Ok(false);
         };
         match error {
@@ -167,10 +150,10 @@ impl<'a> Walk<'_, 'a> {
             ScopeError::Duplicate(_) => {
                 self.put_name_fault(token, error)?;
                 // The class of a global whose name is declared above may be another fault.
-                if let Some(class) = self.list.get(place.saturating_add(2)).copied() {
-                    if self.lattice.class_named(class.text).is_none() {
-                        self.put_name_fault(class, ScopeError::UnknownClass(class.span))?;
-                    }
+                if let Some(class) = self.list.get(place.saturating_add(2)).copied()
+                    && self.lattice.class_named(class.text).is_none()
+                {
+                    self.put_name_fault(class, ScopeError::UnknownClass(class.span))?;
                 }
                 let start = place.saturating_sub(1);
                 self.splice(start, start.saturating_add(DECLARATION), &[])?;
@@ -178,7 +161,7 @@ impl<'a> Walk<'_, 'a> {
             _ => {
                 self.put_name_fault(token, error)?;
                 let mut class = Vec::new(self.alloc);
-                self.put_class(&mut class, token.span)?;
+                put_text(&mut class, self.class(), token.span)?;
                 self.splice(place, place.saturating_add(1), &class)?;
             }
         }

@@ -54,10 +54,10 @@ pub(crate) fn spanned<'a>(token: &Token<'a>, span: Span) -> Token<'a> {
 /// Adds the tokens of a text, all with this span.
 pub(crate) fn put_text<'a>(
     list: &mut Vec<Token<'a>>,
-    text: &'a str,
+    text: &'a [u8],
     span: Span,
 ) -> Result<(), AllocError> {
-    for token in &tokens_of(*list.allocator(), text.as_bytes())? {
+    for token in &tokens_of(*list.allocator(), text)? {
         list.push(spanned(token, span))?;
     }
     Ok(())
@@ -98,6 +98,13 @@ pub(crate) struct Start {
     pub(crate) kept: usize,
 }
 
+impl Start {
+    /// The beginning at these numbers.
+    pub(crate) fn new(place: usize, kept: usize) -> Start {
+        Start { place, kept }
+    }
+}
+
 /// A sequence that hasn't ended: where it begins in `kept`, where its last command begins, and
 /// where the innermost command within that one begins.
 #[derive(Clone, Copy)]
@@ -122,10 +129,7 @@ pub(crate) struct Open<'a> {
 impl<'a> Open<'a> {
     /// The beginning of a list whose first token has this number.
     pub(crate) fn new(alloc: Global, number: usize) -> Open<'a> {
-        let start = Start {
-            place: number,
-            kept: 0,
-        };
+        let start = Start::new(number, 0);
         Open {
             alloc,
             kept: Vec::new(alloc),
@@ -146,10 +150,7 @@ impl<'a> Open<'a> {
 
     /// Begins a command after the token with this number, in a sequence or within a command.
     fn begin(&mut self, number: usize, is_item: bool) {
-        self.now.command = Start {
-            place: number.saturating_add(1),
-            kept: self.kept.len(),
-        };
+        self.now.command = Start::new(number.saturating_add(1), self.kept.len());
         if is_item {
             self.now.item = self.now.command;
         }
@@ -162,35 +163,27 @@ impl<'a> Open<'a> {
         if is_declaration {
             return Ok(());
         }
-        put_text(&mut self.kept, COMMAND, span(place, place))?;
+        put_text(&mut self.kept, COMMAND.as_bytes(), span(place, place))?;
         Ok(self.kept.push(spanned(&token, span(number, number)))?)
     }
 
     /// Reads the token with this number.
     pub(crate) fn note(&mut self, number: usize, token: Token<'a>) -> Result<(), AllocError> {
         match token.kind {
-            Kind::Semicolon => {
-                self.shorten(self.now.item.place, number, token)?;
-                self.begin(number, true);
-            }
-            Kind::CloseBrace => {
-                self.shorten(number, number, token)?;
-                if let Some(level) = self.outer.pop() {
-                    self.now = level;
-                }
-            }
+            Kind::Semicolon => self.shorten(self.now.item.place, number, token)?,
+            Kind::CloseBrace => self.shorten(number, number, token)?,
+            _ => self.kept.push(spanned(&token, span(number, number)))?,
+        }
+        match token.kind {
+            Kind::CloseBrace => self.now = self.outer.pop().unwrap_or(self.now),
             Kind::OpenBrace => {
-                self.kept.push(spanned(&token, span(number, number)))?;
                 self.outer.push(self.now)?;
                 self.now.mark = self.kept.len();
                 self.begin(number, true);
             }
-            kind => {
-                self.kept.push(spanned(&token, span(number, number)))?;
-                if matches!(kind, Kind::Do | Kind::Then | Kind::Else | Kind::In) {
-                    self.begin(number, false);
-                }
-            }
+            Kind::Semicolon => self.begin(number, true),
+            Kind::Do | Kind::Then | Kind::Else | Kind::In => self.begin(number, false),
+            _ => {}
         }
         Ok(())
     }
@@ -198,10 +191,8 @@ impl<'a> Open<'a> {
     /// The constructs that haven't ended after a repair.
     pub(crate) fn with(&self, choice: Choice) -> Result<Open<'a>, AllocError> {
         let start = choice.start;
-        let first = self
-            .kept
-            .first()
-            .map_or(start.place, |token| token.span.start);
+        let first = self.kept.first();
+        let first = first.map_or(start.place, |token| token.span.start);
         let parts = tokens_of(self.alloc, choice.put.as_bytes())?;
         let mut open = Open::new(self.alloc, first);
         for token in self.kept.get(..start.kept).unwrap_or(&[]) {

@@ -140,11 +140,7 @@ pub fn completion(
         return Ok(None);
     };
     let rows = rows_of(alloc, count, pairs)?;
-    if keeps_rows(&lattice, &rows) {
-        Ok(Some(addition))
-    } else {
-        Ok(None)
-    }
+    Ok(keeps_rows(&lattice, &rows).then_some(addition))
 }
 
 /// The lowest classes of those above two others, by rows.

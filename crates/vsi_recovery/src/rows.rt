@@ -86,13 +86,8 @@ pub(crate) fn reaches(rows: &[u64], low: u8, high: u8) -> bool
 pub(crate) fn turned(alloc: Global, rows: &[u64]) -> Result<Vec<u64>, AllocError> {
     let mut turned = Vec::new(alloc);
     for class in 0..rows.len() {
-        let mut row = 0u64;
-        for other in 0..rows.len() {
-            if has(rows[other], class) {
-                row |= bit(other);
-            }
-        }
-        turned.push(row)?;
+        let low = rows.iter().enumerate().filter(|(_, row)| has(**row, class));
+        turned.push(low.fold(0, |all, (other, _)| all | bit(other)))?;
     }
     Ok(turned)
 }
@@ -109,11 +104,7 @@ pub(crate) fn has(row: u64, class: usize) -> bool {
 
 /// The bits of all classes.
 pub(crate) fn all_bits(count: usize) -> u64 {
-    let mut all = 0u64;
-    for class in 0..count {
-        all |= bit(class);
-    }
-    all
+    (0..count).fold(0, |all, class| all | bit(class))
 }
 
 /// The classes of a set that no other class of it reaches, by rows.
@@ -129,13 +120,11 @@ pub(crate) fn ends(alloc: Global, rows: &[u64], set: u64) -> Result<Vec<u8>, All
 
 /// The classes that each class of a set reaches, by rows; all where the set is empty.
 pub(crate) fn common(rows: &[u64], set: u64) -> u64 {
-    let mut found = all_bits(rows.len());
-    for class in 0..rows.len() {
-        if has(set, class) {
-            found &= rows[class];
-        }
-    }
-    found
+    let reached = rows
+        .iter()
+        .enumerate()
+        .filter(|(class, _)| has(set, *class));
+    reached.fold(all_bits(rows.len()), |found, (_, row)| found & *row)
 }
 
 /// The largest number of classes.

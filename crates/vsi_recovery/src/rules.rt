@@ -104,40 +104,26 @@ pub(crate) fn put_rule(
     ensures { IfOk result (λ put. Puts (parts_of sort (rules wanted)) put
         (reverse ahead.old.items) (reverse ahead.new.items)) }
 {
-    match wanted {
-        Globals => match sort {
-            Var => put(
-                ahead,
-                &[
-                    Token(Name),
-                    Token(Colon),
-                    Token(Name),
-                    Token(Semicolon),
-                    Globals,
-                ],
-            ),
-            _ => Ok(false),
-        },
-        Command => put_command(ahead, sort),
-        Rest => match sort {
-            Semicolon => put(ahead, &[Command, Rest]),
-            _ => Ok(false),
-        },
-        Class => match sort {
-            Colon => put(ahead, &[Token(Name)]),
-            _ => Ok(false),
-        },
-        Expression => put_operand(ahead, sort, Operators),
-        Sum => put_operand(ahead, sort, SumOperators),
-        Operators => match sort {
-            Plus | Minus | Star => put(ahead, &[Expression]),
-            Equal | Less => put(ahead, &[Sum]),
-            _ => Ok(false),
-        },
-        SumOperators => match sort {
-            Plus | Minus | Star => put(ahead, &[Sum]),
-            _ => Ok(false),
-        },
-        Token(this) => Ok(this == sort),
+    match (wanted, sort) {
+        (Globals, Var) => put(
+            ahead,
+            &[
+                Token(Name),
+                Token(Colon),
+                Token(Name),
+                Token(Semicolon),
+                Globals,
+            ],
+        ),
+        (Command, _) => put_command(ahead, sort),
+        (Rest, Semicolon) => put(ahead, &[Command, Rest]),
+        (Class, Colon) => put(ahead, &[Token(Name)]),
+        (Expression, _) => put_operand(ahead, sort, Operators),
+        (Sum, _) => put_operand(ahead, sort, SumOperators),
+        (Operators, Plus | Minus | Star) => put(ahead, &[Expression]),
+        (Operators, Equal | Less) => put(ahead, &[Sum]),
+        (SumOperators, Plus | Minus | Star) => put(ahead, &[Sum]),
+        (Token(this), _) => Ok(this == sort),
+        _ => Ok(false),
     }
 }

@@ -76,53 +76,40 @@ const ENDS: [(Kind, Kind); 5] = [
 
 /// The constructs that begin in a skipped part and haven't ended: how many there are for each row
 /// of `ENDS`. Within braces only braces count.
-#[derive(Clone, Copy)]
-struct Nest {
-    open: [usize; 5],
-}
+type Nest = [usize; 5];
 
 /// The kinds that begin a construct which ends with another kind.
 const OPENINGS: [Kind; 6] = [If, While, Letvar, Var, OpenBrace, Kind::Open];
 
-/// No construct.
-const OUTSIDE: Nest = Nest { open: [0; 5] };
+/// Whether reading can go on at this kind: no construct of the skipped part has the token.
+fn serves([braces, rounds, ifs, whiles, letvars]: Nest, kind: Kind) -> bool {
+    let is_outside = match kind {
+        Semicolon | Var => rounds == 0,
+        CloseBrace => true,
+        Else => ifs == 0,
+        Do => whiles == 0,
+        In => letvars == 0,
+        _ => false,
+    };
+    braces == 0 && is_outside
+}
 
-impl Nest {
-    /// Whether reading can go on at this kind: no construct of the skipped part has the token.
-    fn serves(&self, kind: Kind) -> bool {
-        let [braces, rounds, ifs, whiles, letvars] = self.open;
-        let is_outside = match kind {
-            Semicolon | Var => rounds == 0,
-            CloseBrace => true,
-            Else => ifs == 0,
-            Do => whiles == 0,
-            In => letvars == 0,
-            _ => false,
-        };
-        braces == 0 && is_outside
+/// Reads one more token of a skipped part.
+fn note(nest: &mut Nest, kind: Kind) {
+    let rows = if nest[0] == 0 { 5 } else { 1 };
+    if kind == OpenBrace || kind == CloseBrace {
+        nest[1] = 0;
     }
-
-    /// The constructs after one more token.
-    fn noted(&self, kind: Kind) -> Nest {
-        let mut open = self.open;
-        if kind == OpenBrace || kind == CloseBrace {
-            open[1] = 0;
+    if kind == Semicolon && nest[0] == 0 && nest[1] == 0 {
+        *nest = [0; 5];
+    }
+    for number in 0..rows {
+        let (begin, end) = ENDS[number];
+        if kind == begin {
+            nest[number] = nest[number].saturating_add(1);
+        } else if kind == end {
+            nest[number] = nest[number].saturating_sub(1);
         }
-        if kind == Semicolon && open[0] == 0 && open[1] == 0 {
-            return OUTSIDE;
-        }
-        for number in 0..5 {
-            if 0 < number && self.open[0] != 0 {
-                break;
-            }
-            let (begin, end) = ENDS[number];
-            if kind == begin {
-                open[number] = open[number].saturating_add(1);
-            } else if kind == end {
-                open[number] = open[number].saturating_sub(1);
-            }
-        }
-        Nest { open }
     }
 }
 
@@ -283,11 +270,8 @@ impl Search<'_, '_> {
             self.attempt(replacing(here, number, "0"))?;
         }
         self.try_small(here)?;
-        if 0 < here.kept {
-            let before = Start {
-                place: here.place.saturating_sub(1),
-                kept: here.kept.saturating_sub(1),
-            };
+        if let Some(kept) = here.kept.checked_sub(1) {
+            let before = Start::new(here.place.saturating_sub(1), kept);
             self.attempt(replacing(before, 0, ""))?;
         }
         let start = self.open.now.command;
@@ -359,16 +343,16 @@ impl Search<'_, '_> {
         }
         self.try_sure(here)?;
         self.try_small(here)?;
-        let mut nest = OUTSIDE;
+        let mut nest = [0; 5];
         let rest = self.rest;
         for (number, token) in rest.iter().enumerate().take(MAX_SKIPPED) {
             if self.is_found {
                 return Ok(());
             }
-            if nest.serves(token.kind) {
+            if serves(nest, token.kind) {
                 self.try_landmark(here, number, token.kind)?;
             }
-            nest = nest.noted(token.kind);
+            note(&mut nest, token.kind);
         }
         if rest.len() <= MAX_SKIPPED {
             self.try_landmark(here, rest.len(), Kind::Name)?;

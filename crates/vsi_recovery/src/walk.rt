@@ -98,12 +98,6 @@ impl<'s, 'a> Walk<'s, 'a> {
         read.or(next).unwrap_or(stop_of(&self.list))
     }
 
-    /// Whether a fault of the tree at a byte may come from a repair.
-    pub(crate) fn is_near(&self, at: usize) -> bool {
-        let is_near = |part: &Stretch| part.from <= at && at <= part.stop;
-        self.stretches.iter().any(is_near)
-    }
-
     /// Whether a byte belongs to a part that was repaired, and has lost something if `is_cut`.
     pub(crate) fn is_within(&self, at: usize, is_cut: bool) -> bool {
         let has = |part: &Stretch| part.first <= at && at < part.stop && (part.is_out || !is_cut);
@@ -190,7 +184,7 @@ impl<'s, 'a> Walk<'s, 'a> {
             after.extend_from_slice(self.list.get(from..).unwrap_or(&[]))?;
         }
         self.list.truncate(from);
-        put_text(&mut self.list, choice.put, span(start, start))?;
+        put_text(&mut self.list, choice.put.as_bytes(), span(start, start))?;
         self.list.extend_from_slice(&after)?;
         Ok(true)
     }
@@ -212,7 +206,9 @@ impl<'s, 'a> Walk<'s, 'a> {
                 Some(token) => (token.span, token.kind == Kind::CloseBrace),
                 None => (span(at, at), true),
             };
-            if !self.is_near(at) && !(is_end && self.is_unclear) {
+            // A fault in a part with a repair may come from that.
+            let is_near = |part: &Stretch| part.from <= at && at <= part.stop;
+            if !self.stretches.iter().any(is_near) && !(is_end && self.is_unclear) {
                 let cause = Cause::Tree;
                 self.faults.push(Fault { cause, span })?;
             }
@@ -284,7 +280,8 @@ pub fn further_faults(
         from: 0,
     };
     let is_whole = pieces.read(MAX_FAULTS)?;
-    let stretches = pieces.stretches()?;
+    let around = |fault: &Fault| pieces.stretch_of(fault.span);
+    let stretches = pieces.faults.iter().map(around).collect(alloc)?;
     let Pieces { list, faults, .. } = pieces;
     let mut walk = Walk {
         alloc,

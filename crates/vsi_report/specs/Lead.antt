@@ -13,8 +13,8 @@ use Rattle.vsi_compiler.specs.Refusal.{HasShortestBadWalk}
 use Rattle.vsi_compiler.specs.Stands.{Stands}
 use Rattle.vsi_flows.specs.declared.table.Pair.{Pair}
 use Rattle.vsi_flows.specs.Table.{IsTable}
-use Rattle.vsi_report.specs.declared.banner.End.{End}
 use Rattle.vsi_report.specs.declared.banner.Lead.{Lead}
+use Rattle.vsi_report.specs.declared.facts.Variable.{Variable}
 use Rattle.vsi_report.specs.declared.page.Verdict.TheVariants as verdicts
 use Rattle.vsi_report.specs.Banner.{HasLead}
 use Rattle.vsi_report.specs.Escape.{escaped}
@@ -71,7 +71,7 @@ refused_of [] = 0
 refused_of (r ∷ rest) = cond r.allowed 0 1 + refused_of rest
 
 -- The end has the name of the variable and, if the program declares a class for it, that class with its name.
-pub record IsEnd (l : Lattice) (r : Resolved) (v : ℕ) (e : End) : Type 0 where
+pub record IsEnd (l : Lattice) (r : Resolved) (v : ℕ) (e : Variable) : Type 0 where
   pub named : e.name.now ≡ name_of r v
   pub class : (c : ℕ) → declared_class (order l) (program r) v ≡ Some c → e.class ≡ c
   pub class_named : e.class_name.now ≡ name_at (names l) e.class

@@ -6,8 +6,9 @@ ghost use Rattle.vsi_report.specs.Graph.{texts};
 ghost use Rattle.vsi_report.specs.Lead as spec;
 
 use crate::dot::{Order, name_of};
+use crate::facts::Variable;
 use crate::page::Part::{Markup, Name, Number, Text};
-use crate::page::{Added, Made, Page, either, put_escaped};
+use crate::page::{Added, Made, Page, Piece, either, put_escaped};
 use crate::panel::{ends_at, hidden_at};
 use crate::report::View;
 use crate::sections::{leaf, profile_text};
@@ -41,27 +42,19 @@ const NO_PAIR: &[u8] =
     b"<p class=\"lead\">No declared variable flows to another: if runs halt, no global depends on \
 another.</p>\n";
 
-/// A variable at an end of a walk: its name, and its class with the name of that.
-#[derive(Clone, Copy)]
-pub(crate) struct End<'a> {
-    pub(crate) name: &'a [u8],
-    pub(crate) class: usize,
-    pub(crate) class_name: &'a [u8],
-}
-
 /// The facts in the first sentences about a refused text: the ends of a refused walk, the number of
 /// its steps, the number of refused pairs, and that of all pairs.
 #[derive(Clone, Copy)]
 pub(crate) struct Lead<'a> {
-    pub(crate) source: End<'a>,
-    pub(crate) target: End<'a>,
+    pub(crate) source: Variable<'a>,
+    pub(crate) target: Variable<'a>,
     pub(crate) steps: usize,
     pub(crate) refused: usize,
     pub(crate) pairs: usize,
 }
 
 /// The text for one thing, or for several.
-pub(crate) fn number_word(count: usize, one: &'static [u8], several: &'static [u8]) -> &'static [u8]
+pub(crate) fn number_word(count: usize, one: Piece, several: Piece) -> Piece
     ensures { result.now ≡ spec.plural count one.now several.now }
 {
     if count == 1 { one } else { several }
@@ -153,18 +146,19 @@ fn ends_of(walk: &[Step]) -> (Var, Var)
 }
 
 /// A variable at an end of a walk.
-fn end_of<'a>(lattice: &Lattice, order: &'a Order, program: &Resolved<'a>, variable: Var) -> End<'a>
+fn end_of<'a>(lattice: &Lattice, order: &'a Order, program: &Resolved<'a>, end: Var) -> Variable<'a>
     requires { texts order.now.names.items ≡ names lattice.now }
-    ensures { spec.IsEnd lattice.now program.now variable result }
+    ensures { spec.IsEnd lattice.now program.now end result }
 {
-    let class = match declared_class(lattice, program, variable) {
+    let class = match declared_class(lattice, program, end) {
         Some(class) => class.index(),
         None => 0,
     };
-    End {
-        name: variable_name(program, variable),
+    Variable {
+        name: variable_name(program, end),
         class,
         class_name: name_of(order, class),
+        is_declared: true,
     }
 }
 
@@ -259,10 +253,8 @@ pub(crate) fn put_accepted(page: &mut Page, view: &View<'_>, verified: &Verified
         let word = number_word(most as usize, b"instruction", b"instructions");
         let parts = [Markup(word), Number(most as usize), Number(least as usize)];
         page.put(b"<li>Bound: from every store it halts, after ")?;
-        page.fill(
-            either(least < most, b"%2 to %1 %0.</li>\n", b"%1 %0.</li>\n"),
-            &parts,
-        )?;
+        page.fill(either(least < most, b"%2 to ", b""), &parts)?;
+        page.fill(b"%1 %0.</li>\n", &parts)?;
     } else {
         page.put(b"<li>No bound on the number of instructions is known.</li>\n")?;
     }

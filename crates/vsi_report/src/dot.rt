@@ -9,7 +9,7 @@ ghost use Rattle.vsi_report.specs.Graph as classes_spec;
 ghost use Rattle.vsi_report.specs.FlowsGraph as spec;
 
 use crate::page::Part::{Bytes, Markup, Number};
-use crate::page::{Added, Made, fill};
+use crate::page::{Added, Made, Piece, fill};
 use std::alloc::{AllocError, Global};
 use vsi_flows::declarations;
 use vsi_infer::{declared_class, same_rule};
@@ -35,13 +35,7 @@ fn stands_between(lattice: &Lattice, low: Class, high: Class, class: Class) -> b
     ensures nothing { IsFalse result → Below (order lattice.now) low class
         → Below (order lattice.now) class high → (class ≡ low) ⊎ (class ≡ high) }
 {
-    if class == low || class == high {
-        return false;
-    }
-    if !lattice.leq(low, class) {
-        return false;
-    }
-    lattice.leq(class, high)
+    class != low && class != high && lattice.leq(low, class) && lattice.leq(class, high)
 }
 
 /// Whether the second class covers the first.
@@ -51,10 +45,7 @@ pub(crate) fn covers(lattice: &Lattice, low: Class, high: Class) -> bool
     ensures covers { IsTrue result → Covers (order lattice.now) low high }
     ensures each { Covers (order lattice.now) low high → IsTrue result }
 {
-    if low == high {
-        return false;
-    }
-    if !lattice.leq(low, high) {
+    if low == high || !lattice.leq(low, high) {
         return false;
     }
     for middle in 0..lattice.count() {
@@ -79,14 +70,10 @@ fn put_covers(lattice: &Lattice, low: usize, pairs: &mut Vec<(usize, usize)>) ->
     Ok(())
 }
 
-/// The set that has one number below 64.
-fn single(number: usize) -> u64 {
-    1u64 << (number % 64)
-}
-
 /// Whether a class is at or below another.
 pub(crate) fn is_below(order: &Order, low: usize, high: usize) -> bool {
-    order.above.get(low).copied().unwrap_or(0) & single(high) != 0
+    let set = order.above.get(low).copied().unwrap_or(0);
+    set & (1u64 << (high % 64)) != 0
 }
 
 /// The order of a lattice.
@@ -100,15 +87,13 @@ pub(crate) fn order_of(alloc: Global, lattice: &Lattice) -> Made<Order>
         names.push(lattice.name(Class::at(number as u8)).to_vec(alloc)?)?;
     }
     let mut covers = Vec::new(alloc);
-    for low in 0..lattice.count() {
-        put_covers(lattice, low, &mut covers)?;
-    }
     let mut above = Vec::new(alloc);
     for low in 0..lattice.count() {
+        put_covers(lattice, low, &mut covers)?;
         let mut set: u64 = 0;
         for class in 0..lattice.count() {
             if lattice.leq(Class::at(low as u8), Class::at(class as u8)) {
-                set |= single(class);
+                set |= 1u64 << (class % 64);
             }
         }
         above.push(set)?;
@@ -151,7 +136,7 @@ pub(crate) fn graph_text(alloc: Global, name: &[u8], lines: &[u8]) -> Made<Vec<u
 }
 
 /// The colour of a class, that of the pages in light.
-pub(crate) fn colour(class: usize) -> &'static [u8]
+pub(crate) fn colour(class: usize) -> Piece
     ensures { result.now ≡ classes_spec.colour class }
 {
     match class % 8 {
@@ -245,10 +230,7 @@ pub(crate) fn class_shown(drawn: &Drawn<'_>, variable: Var) -> Option<Class>
         return Some(class);
     }
     let place = (variable.0 as usize).saturating_sub(drawn.program.globals().len());
-    match drawn.chosen.get(place) {
-        Some(class) => Some(*class),
-        None => None,
-    }
+    drawn.chosen.get(place).copied()
 }
 
 /// Whether the flow from a number to another keeps the order, if the classes of both are known.
@@ -257,11 +239,8 @@ pub(crate) fn is_upward(drawn: &Drawn<'_>, source: u16, target: u16) -> Option<b
 {
     let low = class_shown(drawn, variable_at(drawn, source))?;
     let high = class_shown(drawn, variable_at(drawn, target))?;
-    let lattice = drawn.lattice;
-    if low.index() >= lattice.count() || high.index() >= lattice.count() {
-        return Some(false);
-    }
-    Some(lattice.leq(low, high))
+    let (lattice, count) = (drawn.lattice, drawn.lattice.count());
+    Some(low.index() < count && high.index() < count && lattice.leq(low, high))
 }
 
 /// Whether a step goes from a variable to another by a rule.
@@ -289,7 +268,7 @@ pub(crate) fn step_number(drawn: &Drawn<'_>, rule: Rule, source: u16, target: u1
 }
 
 /// The attributes of an edge, by the number of its step and by whether it keeps the order.
-pub(crate) fn edge_words(number: Option<usize>, is_upward: Option<bool>) -> &'static [u8]
+pub(crate) fn edge_words(number: Option<usize>, is_upward: Option<bool>) -> Piece
     ensures { result.now ≡ spec.edge_words number is_upward }
 {
     match (number, is_upward) {

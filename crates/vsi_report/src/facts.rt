@@ -12,16 +12,18 @@ ghost use Rattle.vsi_flows.specs.Table.{IsTable};
 ghost use Rattle.vsi_report.specs.{ByRule.{flows_in_rows, HasFlows}, FlowsGraph.{AreShown}};
 
 use crate::dot::{Order, name_of};
-use crate::page::Made;
+use crate::page::{Made, Piece};
+use crate::report::View;
 use std::alloc::{AllocError, Global};
 use vsi_client::Mention;
 use vsi_flows::{FlowsError, Pair, declarations, flows_in};
 use vsi_infer::{
     Flow, FlowRows, InferError, declared_class, fewest_flows, flow_rows, flow_rows_by, infer_in,
+    variable_name,
 };
 use vsi_lattice::{Class, Classes, Lattice};
 use vsi_scope::{Resolved, Var};
-use vsi_types::{Profile, Rule, Step};
+use vsi_types::{LOOP, Profile, Rule, Step};
 
 /// The rules, in their order.
 pub(crate) const RULES: [Rule; 5] = [
@@ -102,21 +104,17 @@ pub(crate) fn reached_classes(
     let flow = flow_rows(alloc, profile, program)?;
     let count = declarations(program);
     let mut classes = Vec::new(alloc);
-    for variable in 0..count {
-        if variable as usize >= program.globals().len() {
-            let row = fewest_flows(alloc, &flow, count as usize + 1, variable as usize)?;
-            let mut class = lattice.bottom();
-            for number in 0..count {
-                let distance = row.get(number as usize).copied().unwrap_or(u16::MAX);
-                if distance == u16::MAX {
-                    continue;
-                }
-                if let Some(found) = declared_class(lattice, program, Var(number)) {
-                    class = lattice.join(class, found);
-                }
+    for variable in program.globals().len()..count as usize {
+        let row = fewest_flows(alloc, &flow, count as usize + 1, variable)?;
+        let mut class = lattice.bottom();
+        for number in 0..count {
+            let steps = row.get(number as usize);
+            let reaches = steps.is_some_and(|steps| *steps != u16::MAX);
+            if reaches && let Some(found) = declared_class(lattice, program, Var(number)) {
+                class = lattice.join(class, found);
             }
-            classes.push(class)?;
         }
+        classes.push(class)?;
     }
     Ok(classes)
 }
@@ -127,7 +125,7 @@ pub(crate) const MOST_DRAWN: usize = 200;
 pub(crate) const MOST_BOXES: usize = 40;
 
 /// A variable: its name, its class with the name of that, and whether the text declares the class.
-#[derive(Clone, Copy)]
+#[derive(Clone, Copy, Default)]
 pub(crate) struct Variable<'a> {
     pub(crate) name: &'a [u8],
     pub(crate) class: usize,
@@ -145,42 +143,37 @@ pub(crate) struct Facts<'a> {
     pub(crate) pairs: Vec<Pair>,
 }
 
-/// A variable with a name and a class.
-fn variable_of<'a>(order: &'a Order, name: &'a [u8], class: Class, declared: bool) -> Variable<'a> {
-    Variable {
-        name,
-        class: class.index(),
-        class_name: name_of(order, class.index()),
-        is_declared: declared,
-    }
-}
-
 /// The facts of a program, with these classes of its letvars, and these names in its text.
 pub(crate) fn facts_of<'a>(
-    alloc: Global,
-    profile: Profile,
-    lattice: &Lattice,
+    blank: &View<'_>,
     order: &'a Order,
     program: &Resolved<'a>,
     chosen: &[Class],
     mentions: Vec<Mention>,
 ) -> Made<Facts<'a>>
-    requires globals { All (IsClass (order_of lattice.now)) (program_of program.now).globals }
-    requires declared { AreClasses (order_of lattice.now) (program_of program.now).declared }
-    ensures { IfOk result (λ facts.
-        IsTable (order_of lattice.now) profile (program_of program.now) facts.pairs.items) }
+    requires globals { All (IsClass (order_of blank.now.lattice.now))
+        (program_of program.now).globals }
+    requires declared { AreClasses (order_of blank.now.lattice.now)
+        (program_of program.now).declared }
+    ensures { IfOk result (λ facts. IsTable (order_of blank.now.lattice.now) blank.now.profile
+        (program_of program.now) facts.pairs.items) }
 {
-    let bottom = lattice.bottom();
+    let (alloc, profile, lattice) = (blank.alloc, blank.profile, blank.lattice);
+    let last = declarations(program);
     let mut variables = Vec::new(alloc);
-    for global in program.globals() {
-        variables.push(variable_of(order, global.name, global.class, true))?;
+    for number in 0..last + 1 {
+        let variable = if number == last { LOOP } else { Var(number) };
+        let declared = declared_class(lattice, program, variable);
+        let letvar = (number as usize).saturating_sub(program.globals().len());
+        let class = declared.or(chosen.get(letvar).copied());
+        let class = class.unwrap_or(lattice.bottom()).index();
+        variables.push(Variable {
+            name: variable_name(program, variable),
+            class,
+            class_name: name_of(order, class),
+            is_declared: declared.is_some(),
+        })?;
     }
-    for (number, entry) in program.letvars().iter().enumerate() {
-        let least = chosen.get(number).copied().unwrap_or(bottom);
-        let class = entry.class.unwrap_or(least);
-        variables.push(variable_of(order, entry.name, class, entry.class.is_some()))?;
-    }
-    variables.push(variable_of(order, b"(loop)", bottom, true))?;
     let mut flows = None;
     if variables.len() <= MOST_BOXES + 1 {
         flows = Some(flows_of(alloc, profile, program)?);
@@ -204,12 +197,7 @@ impl<'a> Facts<'a> {
 
     /// The variable with a number; past the last one it has no name.
     pub(crate) fn variable(&self, number: usize) -> Variable<'a> {
-        self.variables.get(number).copied().unwrap_or(Variable {
-            name: b"",
-            class: 0,
-            class_name: b"",
-            is_declared: true,
-        })
+        self.variables.get(number).copied().unwrap_or_default()
     }
 
     /// A variable with its class.
@@ -222,6 +210,6 @@ impl<'a> Facts<'a> {
 const COLOURS: [&[u8]; 8] = [b"k0", b"k1", b"k2", b"k3", b"k4", b"k5", b"k6", b"k7"];
 
 /// The name of the colour of a class.
-pub(crate) fn colour(class: usize) -> &'static [u8] {
+pub(crate) fn colour(class: usize) -> Piece {
     COLOURS[class % 8]
 }

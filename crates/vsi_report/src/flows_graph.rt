@@ -16,7 +16,7 @@ use crate::dot::{
 };
 use crate::facts::{Flows, MOST_DRAWN, flows_of, has_flow, judged_classes};
 use crate::page::Part::{Bytes, Number, Prefix};
-use crate::page::{Added, Made, fill};
+use crate::page::{Added, Made, Piece, fill};
 use std::alloc::Global;
 use vsi_compiler::{CompileError, resolved_program};
 use vsi_flows::declarations;
@@ -35,7 +35,7 @@ color=\"#d3dae1\";\n%0}\nsubgraph cluster_flows {\n  label=\"flows\";\n  labello
 color=\"#d3dae1\";\n%1}\n";
 
 /// The attribute of a node whose variable has this declared class.
-fn box_words(declared: Option<Class>) -> &'static [u8]
+fn box_words(declared: Option<Class>) -> Piece
     ensures { result.now ≡ spec.box_words declared }
 {
     match declared {
@@ -94,7 +94,7 @@ fn put_variables(text: &mut Vec<u8>, drawn: &Drawn<'_>, count: u16) -> Added
 }
 
 /// The style of an edge.
-fn style(rule: Rule) -> &'static [u8]
+fn style(rule: Rule) -> Piece
     ensures { result.now ≡ spec.style_text rule }
 {
     match rule {

@@ -7,7 +7,7 @@ ghost use Rattle.vsi_leak.specs.Leaks.{IsFinding};
 
 use crate::dot::is_below;
 use crate::page::Part::{Block, Markup, Number, Text, Word};
-use crate::page::{Added, Made, Page};
+use crate::page::{Added, Made, Page, Piece, either};
 use crate::report::View;
 use vsi_compiler::{Source, image_of};
 use vsi_image::Verified;
@@ -46,8 +46,8 @@ const LEAK: &[u8] = b"<section aria-labelledby=\"leak\"><h2 id=\"leak\">A leak</
 <p>Two runs of the text, from stores that agree on everything that an observer at %0 sees, and \
 that the observer can tell apart.</p>\n";
 /// The text of a leak, which opens on request.
-const TEXT: &[u8] = b"<details><summary>What the observer sees, as <code>vsi leak</code> prints \
-it</summary>\n<pre class=\"leak\"><code>%0</code></pre></details>\n</section>\n";
+const TEXT: &[u8] = b"<details class=\"spare\"><summary>What the observer sees, as <code>vsi leak\
+</code> prints it</summary>\n<pre class=\"leak\"><code>%0</code></pre></details>\n</section>\n";
 
 /// A search: the lattice, the image, the first variable of the refused flow, and the signs.
 #[derive(Clone, Copy)]
@@ -70,8 +70,7 @@ fn found_in(search: &Search<'_>, classes: &[Class]) -> Made<Finding>
     let (alloc, lattice, verified) = (search.view.alloc, search.lattice, search.verified);
     let (effort, signs) = (search.effort, search.signs);
     // A store of zeros, and one with a 1 in that variable.
-    let mut first = Vec::new(alloc);
-    first.resize(verified.image().globals.len(), 0)?;
+    let first = vec![in alloc; 0i64; verified.image().globals.len()]?;
     let mut second = first.to_vec(alloc)?;
     if let Some(word) = second.get_mut(search.source) {
         *word = 1;
@@ -141,7 +140,7 @@ fn put_stores(
     page: &mut Page,
     search: &Search<'_>,
     observer: Class,
-    caption: &'static [u8],
+    caption: Piece,
     stores: (&[i64], &[i64]),
 ) -> Added {
     let (view, globals) = (search.view, &search.verified.image().globals);
@@ -156,14 +155,10 @@ fn put_stores(
             continue;
         }
         let class = view.facts.variable(index).class;
-        let (tint, difference): (&[u8], &[u8]) = if one == other {
-            (b"", b"")
-        } else if is_below(view.order, class, observer.index()) {
-            (b" class=\"apart\"", b"differs")
-        } else {
-            (b"", b"differs, not seen")
-        };
-        let (tint, difference) = (Markup(tint), Markup(difference));
+        let is_seen = is_below(view.order, class, observer.index());
+        let differs = either(is_seen, b"differs", b"differs, not seen");
+        let difference = Markup(either(one == other, b"", differs));
+        let tint = Markup(either(one != other && is_seen, b" class=\"apart\"", b""));
         page.fill(ROW, &[name, Word(one), Word(other), difference, tint])?;
     }
     page.put(b"</tbody></table>\n")?;

@@ -17,8 +17,11 @@ pub(crate) type Added = Result<(), AllocError>;
 /// The result of a function that needs memory.
 pub(crate) type Made<T> = Result<T, AllocError>;
 
+/// A piece of markup, or another text of this crate's code.
+pub(crate) type Piece = &'static [u8];
+
 /// The first piece if a condition holds, otherwise the second one.
-pub(crate) fn either(holds: bool, first: &'static [u8], second: &'static [u8]) -> &'static [u8] {
+pub(crate) fn either(holds: bool, first: Piece, second: Piece) -> Piece {
     if holds { first } else { second }
 }
 
@@ -63,7 +66,7 @@ fn put_style(page: &mut Vec<u8>, style: &[u8]) -> Added
 #[derive(Clone, Copy)]
 pub(crate) enum Part<'a> {
     /// A piece of markup from the code.
-    Markup(&'static [u8]),
+    Markup(Piece),
     /// Bytes of a graph, or a panel, as they are.
     Bytes(&'a [u8]),
     /// A part of a page.
@@ -89,7 +92,7 @@ pub(crate) enum Part<'a> {
 }
 
 /// Adds a text in the colour of a class, after the beginning of a tag.
-fn put_tinted(page: &mut Vec<u8>, begin: &'static [u8], class: usize, text: &[u8]) -> Added {
+fn put_tinted(page: &mut Vec<u8>, begin: Piece, class: usize, text: &[u8]) -> Added {
     page.extend_from_slice(begin)?;
     page.extend_from_slice(colour(class))?;
     page.extend_from_slice(b"\">")?;
@@ -170,7 +173,7 @@ fn put_next(page: &mut Vec<u8>, parts: &[Part<'_>], is_hole: bool, byte: u8) -> 
 }
 
 /// Adds markup in which `%0` is a hole for the first part, and so on.
-pub(crate) fn fill(page: &mut Vec<u8>, markup: &'static [u8], parts: &[Part<'_>]) -> Added
+pub(crate) fn fill(page: &mut Vec<u8>, markup: Piece, parts: &[Part<'_>]) -> Added
     ensures { are_stated parts.now ≡ true
         → OnOk result (page.new.items
         ≡ page.old.items ++ filling.fill markup.now (texts_of parts.now)) }
@@ -200,14 +203,14 @@ impl Page {
     }
 
     /// Adds a piece of markup from the code.
-    pub(crate) fn put(&mut self, piece: &'static [u8]) -> Added
+    pub(crate) fn put(&mut self, piece: Piece) -> Added
         ensures { OnOk result (self.new.text.items ≡ self.old.text.items ++ piece.now) }
     {
         self.text.extend_from_slice(piece)
     }
 
     /// Adds a piece of markup from the code, in which `%0` is a hole for the first part, and so on.
-    pub(crate) fn fill(&mut self, markup: &'static [u8], parts: &[Part<'_>]) -> Added
+    pub(crate) fn fill(&mut self, markup: Piece, parts: &[Part<'_>]) -> Added
         ensures { are_stated parts.now ≡ true → OnOk result (self.new.text.items
             ≡ self.old.text.items ++ filling.fill markup.now (texts_of parts.now)) }
     {
@@ -229,7 +232,7 @@ pub(crate) enum Verdict {
 }
 
 /// The beginning of the title of a page.
-fn title(verdict: Verdict) -> &'static [u8]
+fn title(verdict: Verdict) -> Piece
     ensures { result.now ≡ spec.title verdict }
 {
     match verdict {
@@ -241,7 +244,7 @@ fn title(verdict: Verdict) -> &'static [u8]
 }
 
 /// The beginning of the banner of a page, with its heading.
-fn heading(verdict: Verdict) -> &'static [u8]
+fn heading(verdict: Verdict) -> Piece
     ensures { result.now ≡ spec.banner verdict }
 {
     match verdict {
@@ -329,7 +332,7 @@ direction:ltr}\n.line:target{background:var(--badp)}.line,.walk li{scroll-margin
 font-weight:600}\n.line .word{font-weight:700}\n.line .note{color:var(--soft);font-style:italic;\
 font-weight:inherit}\n.line .fault{background:var(--paper);outline:2px solid var(--bad);\
 border-radius:.2rem}\n.line .mark{white-space:nowrap;unicode-bidi:isolate;font-size:0}\n.mark::\
-before{content:attr(data-class);background:var(--ink);color:var(--panel);font:700 .65rem/1 \
+before{content:attr(data-class);background:var(--ink);color:var(--panel);font:700 .72rem/1 \
 system-ui,sans-serif;border-radius:.2rem;padding:.1em .3em;vertical-align:.12em}\n.line \
 [data-class]:not(.mark)::after{content:attr(data-class);font-size:.68em;font-weight:600;\
 vertical-align:.45em;margin-left:.12em;-webkit-user-select:none;user-select:none}\n.line \
@@ -370,17 +373,24 @@ font-weight:700;margin-top:.4rem}\ndd{margin:0}.sum{font-size:.85em}\n.paper{dis
 \n@media (min-width:40rem){th[scope=row]{overflow-wrap:break-word}}\n@media (max-width:40rem){\
 body{font-size:16px}header h1{font-size:1.6rem}.line{padding-left:2.6rem}.line::before{width:2rem}\
 pre{font-size:.85rem}th,td{padding-right:.5rem}td .chip{white-space:normal}}\n@media print{@page{\
-margin:13mm 12mm}:root{--paper:#fff;--panel:#fff;--ink:#000;-webkit-print-color-adjust:exact;\
-print-color-adjust:exact}body{font-size:10.5pt;line-height:1.45}main{max-width:none;padding:0}\
-.beside{display:block}header{margin-top:0}h2{margin-top:1.3rem}pre{overflow:visible;white-space:\
-pre-wrap;overflow-wrap:anywhere;font-size:9pt;line-height:1.35;-webkit-box-decoration-break:clone;\
-box-decoration-break:clone}.listing{columns:17em;column-rule:1px solid var(--rule)}.scroll{\
-overflow:visible}.picture{max-width:100%;max-height:23cm;height:auto}table{font-size:9pt}.line{\
-min-height:1.35em}th,td{padding-top:.1rem;padding-bottom:.1rem}header,figure,tr,li,.line,.end{\
-break-inside:avoid}.spare{display:none}.paper{display:block}.paper+table tr:nth-child(n+21){\
-display:none}h2,h3,summary{break-after:avoid}.turn{display:none}details::details-content{\
-content-visibility:visible;display:block;height:auto}@page{@bottom-right{content:counter(page) \" \
-of \" counter(pages)}}thead{display:table-header-group}}\n";
+margin:13mm 12mm}:root{font-size:10pt;--paper:#fff;--panel:#fff;--ink:#000;\
+-webkit-print-color-adjust:exact;print-color-adjust:exact}body{font-size:10pt;line-height:1.4}\
+main{max-width:none;padding:0}.beside{display:block}header{margin-top:0}h2{margin-top:1.2rem}pre{\
+overflow:visible;white-space:pre-wrap;overflow-wrap:anywhere;font-size:8.5pt;line-height:1.3;\
+-webkit-box-decoration-break:clone;box-decoration-break:clone}.listing{columns:17em;column-rule:\
+1px solid var(--rule)}main:has(#L100) :is(.source,.raise){columns:26em}main:has(#L100) .line{\
+padding-left:3.2em}.scroll{overflow:visible}.picture{max-width:100%;max-height:20cm;height:auto}\
+.picture text{font-size:15px}table{font-size:9pt}.line{min-height:1.3em}.line::before{width:2.4em}\
+.line [data-class]:not(.mark)::after,.line [data-step]::before{font-size:.85em}th,td{padding-top:\
+.1rem;padding-bottom:.1rem}header,figure,dl,tr,li,.line,.end{break-inside:avoid}tr:has(details){\
+break-inside:auto}tr:has(+tr details){break-after:avoid}.spare,.large{display:none}.paper,.large+\
+.spare{display:block}.paper+table tr:nth-child(n+21),td li:nth-child(n+13),.walk li:nth-child(n+\
+21) p+p{display:none}td li:nth-child(12):not(:last-child)::after{content:\". Further steps aren't \
+printed.\"}.walk li:nth-child(21)::before{content:\"From here on sentences aren't printed.\"}\
+.walk{padding-left:2.6em}.walk li{margin-bottom:.4rem}dl{display:grid;grid-template-columns:7em \
+1fr}dt{grid-column:1;margin:0}dd{grid-column:2}h2,h3,summary{break-after:avoid}.turn{display:none}\
+details::details-content{content-visibility:visible;display:block;height:auto}@page{@bottom-right{\
+content:counter(page) \" of \" counter(pages)}}thead{display:table-header-group}}\n";
 /// The style sheet of a page of a lattice with more classes than colours, which has none.
 const PLAIN: &[u8] = b":root:root{--k0:var(--ink);--k1:var(--ink);--k2:var(--ink);--k3:var(--ink);\
 --k4:var(--ink);--k5:var(--ink);--k6:var(--ink);--k7:var(--ink)}\n";

@@ -6,7 +6,7 @@ ghost use Rattle.vsi_report.specs.{Reading.{Shows}, Panel.{attribute, line_tag}}
 
 use crate::facts::colour;
 use crate::page::Part::{Markup, Number};
-use crate::page::{Added, Made, either, fill, put_byte, put_escaped};
+use crate::page::{Added, Made, Piece, either, fill, put_byte, put_escaped};
 use crate::report::View;
 use itoa::Buffer;
 use std::alloc::{AllocError, Global};
@@ -48,7 +48,7 @@ pub(crate) fn ends_at(source: &[u8], at: usize) -> bool {
 }
 
 /// The character at a position, if it isn't visible: its length and its label.
-pub(crate) fn hidden_at(source: &[u8], at: usize) -> Option<(usize, &'static [u8])> {
+pub(crate) fn hidden_at(source: &[u8], at: usize) -> Option<(usize, Piece)> {
     let byte = byte_at(source, at);
     if (32 <= byte && byte < 127) || byte == b'\t' || ends_at(source, at) {
         return None;
@@ -67,12 +67,7 @@ pub(crate) fn hidden_at(source: &[u8], at: usize) -> Option<(usize, &'static [u8
 
 /// What begins at a position before `stop`: the end of the part, its kind, which is empty if it is
 /// plain, its label, and whether a comment goes on after it.
-fn mark_at(
-    source: &[u8],
-    at: usize,
-    stop: usize,
-    is_comment: bool,
-) -> (usize, &'static [u8], &'static [u8], bool) {
+fn mark_at(source: &[u8], at: usize, stop: usize, is_comment: bool) -> (usize, Piece, Piece, bool) {
     if let Some((length, label)) = hidden_at(source, at) {
         let end = at.saturating_add(length).min(stop);
         return (end, b"mark", label, is_comment);
@@ -82,14 +77,12 @@ fn mark_at(
     }
     // A part ends where a line ends, a comment begins, or a character isn't visible.
     let is_note = is_comment || byte_at(source, at) == b'#';
-    let kind: &'static [u8] = if is_note { b"note" } else { b"" };
-    for place in at..stop {
-        let is_start = byte_at(source, place) == b'#' && !is_note;
-        if is_start || ends_at(source, place) || hidden_at(source, place).is_some() {
-            return (place, kind, b"", is_note);
-        }
-    }
-    (stop, kind, b"", is_note)
+    let ends = |place: &usize| {
+        let is_start = byte_at(source, *place) == b'#' && !is_note;
+        is_start || ends_at(source, *place) || hidden_at(source, *place).is_some()
+    };
+    let end = (at..stop).find(ends).unwrap_or(stop);
+    (end, either(is_note, b"note", b""), b"", is_note)
 }
 
 /// A part of a source text: its first byte, the byte after it, its kind, and its two labels.
@@ -97,7 +90,7 @@ fn mark_at(
 pub(crate) struct Tagged {
     pub(crate) start: usize,
     pub(crate) stop: usize,
-    pub(crate) kind: &'static [u8],
+    pub(crate) kind: Piece,
     pub(crate) label: Vec<u8>,
     pub(crate) steps: Vec<u8>,
 }
@@ -112,7 +105,7 @@ fn put_line(page: &mut Vec<u8>, number: usize) -> Added
 }
 
 /// Adds an attribute of a part, up to the end of its value, unless that is empty.
-fn put_attribute(page: &mut Vec<u8>, begin: &'static [u8], value: &[u8]) -> Added
+fn put_attribute(page: &mut Vec<u8>, begin: Piece, value: &[u8]) -> Added
     ensures { OnOk result (page.new.items ≡ page.old.items ++ attribute begin.now value.now) }
 {
     match value {
@@ -128,10 +121,7 @@ fn put_attribute(page: &mut Vec<u8>, begin: &'static [u8], value: &[u8]) -> Adde
 fn put_end(page: &mut Vec<u8>, parts: &[Tagged], number: usize, at: usize) -> Made<usize>
     ensures { (t : List ℕ) → Shows page.old.items t → OnOk result (Shows page.new.items t) }
 {
-    let Some(part) = parts.get(number) else {
-        return Ok(number);
-    };
-    if part.stop != at {
+    if !parts.get(number).is_some_and(|part| part.stop == at) {
         return Ok(number);
     }
     page.extend_from_slice(b"</b>")?;
@@ -142,12 +132,9 @@ fn put_end(page: &mut Vec<u8>, parts: &[Tagged], number: usize, at: usize) -> Ma
 fn put_begin(page: &mut Vec<u8>, parts: &[Tagged], number: usize, at: usize) -> Added
     ensures { (t : List ℕ) → Shows page.old.items t → OnOk result (Shows page.new.items t) }
 {
-    let Some(part) = parts.get(number) else {
+    let Some(part) = parts.get(number).filter(|part| part.start == at) else {
         return Ok(());
     };
-    if part.start != at {
-        return Ok(());
-    }
     page.extend_from_slice(b"<b class=\"")?;
     put_escaped(page, part.kind)?;
     put_attribute(page, b"\" data-class=\"", &part.label)?;
@@ -197,13 +184,7 @@ pub(crate) fn panel_of(alloc: Global, source: &[u8], parts: &[Tagged]) -> Made<V
 }
 
 /// A part without steps.
-fn plain(
-    alloc: Global,
-    start: usize,
-    stop: usize,
-    kind: &'static [u8],
-    label: &'static [u8],
-) -> Made<Tagged> {
+fn plain(alloc: Global, start: usize, stop: usize, kind: Piece, label: Piece) -> Made<Tagged> {
     Ok(Tagged {
         start,
         stop,
@@ -227,15 +208,13 @@ fn put_marks(parts: &mut Vec<Tagged>, view: &View<'_>, from: usize, stop: usize)
         is_comment = goes_on;
         if at == fault && kind.is_empty() && !ends_at(view.source, at) {
             // A name, or a character.
-            (end, kind) = (stop, b"fault");
-            for place in at.saturating_add(1)..stop {
-                let byte = byte_at(view.source, place);
+            let ends = |place: &usize| {
+                let byte = byte_at(view.source, *place);
                 let is_letter = byte.is_ascii_alphanumeric() || byte == b'_' || byte >= 128;
-                if !is_letter || hidden_at(view.source, place).is_some() {
-                    end = place;
-                    break;
-                }
-            }
+                !is_letter || hidden_at(view.source, *place).is_some()
+            };
+            let found = (at.saturating_add(1)..stop).find(ends);
+            (end, kind) = (found.unwrap_or(stop), b"fault");
         }
         if !kind.is_empty() {
             parts.push(plain(view.alloc, at, end, kind, label)?)?;

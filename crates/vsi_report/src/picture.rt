@@ -1,24 +1,28 @@
 //! The sections of a page with its pictures: that of a lattice, and that of a program's flows, with
 //! the variables in the boxes of their classes. A picture too large to be read isn't drawn.
 
+use crate::banner::count_refused;
 use crate::dot::{is_below, name_of};
 use crate::facts::{MOST_BOXES, RULES, colour, has_flow};
 use crate::page::Part::{Block, Markup, Name, Number, Short, Text};
-use crate::page::{Added, Made, Page, Part, either};
+use crate::page::{Added, Made, Page, Part, Piece, either};
 use crate::report::View;
 use crate::sections::put_table;
 use std::alloc::Global;
 use vsi_flows::WalkedPair;
 use vsi_infer::rule_text;
 use vsi_layered::{Drawing, Graph, Node, Place, Point, badges_of, drawing_of};
+use vsi_scope::Var;
 use vsi_types::{Profile, Rule};
 
 /// The most arrows of a picture.
 const MOST_ARROWS: usize = 100;
-/// The greatest width of a picture.
-const WIDEST: usize = 1_400;
-/// The greatest height of a picture.
-const HIGHEST: usize = 2_000;
+/// The greatest width and height of a picture.
+const LARGEST: (usize, usize) = (1_400, 2_000);
+/// The greatest width and height of a picture that is printed: type in it has 7 points or more.
+const PRINTED: (usize, usize) = (1_120, 1_200);
+/// The most refused flows, and the most variables, that the description of a picture names.
+const MOST_TOLD: usize = 12;
 /// The height of a box.
 const HIGH: usize = 34;
 /// The length of a rounded corner of an arrow.
@@ -26,7 +30,7 @@ const CORNER: usize = 12;
 /// The space above the classes in the drawing of a lattice, where a group has its title.
 const TITLE: usize = 34;
 /// The name of a class, in its area.
-const NAME: &[u8] = b"<g class=\"band %0\"><text x=\"%6\" y=\"%7\">%1</text></g>";
+const NAME: &[u8] = b"<g class=\"band %0\"><text x=\"%8\" y=\"%9\">%1</text></g>";
 /// The arrow of a step of a walk.
 const STEP: &[u8] = b"<path id=\"a%1\" class=\"told w%1\" d=\"%0\" marker-end=\"url(#told)\"/>";
 /// The number of a step of a walk, with a link to the step.
@@ -37,7 +41,7 @@ const BADGE: &[u8] =
 const MEANING: &[u8] = b"<li><svg width=\"44\" height=\"12\" aria-hidden=\"true\">\
 <path class=\"flow %0\" d=\"M2 6H42\"/></svg> %1: %2</li>";
 /// The beginning of a picture.
-const PICTURE: &[u8] = b"<figure><div class=\"scroll\"><svg class=\"picture\" role=\"img\" \
+const PICTURE: &[u8] = b"<figure%4><div class=\"scroll\"><svg class=\"picture\" role=\"img\" \
 aria-label=\"%0\" xmlns=\"http://www.w3.org/2000/svg\" width=\"%1\" height=\"%2\" \
 viewBox=\"0 %3 %1 %2\">";
 /// A box with a name in the colour of a class.
@@ -84,6 +88,12 @@ const FLOWS: &[u8] =
 class with its variables. An area right above another one is a class above the other's in the \
 lattice. A flow of a variable into itself isn't drawn. A dashed box is a variable whose class the \
 text doesn't declare.";
+/// The beginning of the description of a picture of flows.
+const SOME_ARROWS: &[u8] = b"The flows of one step between variables, as arrows.";
+/// The beginning of the description of a picture without arrows.
+const NO_ARROWS: &[u8] = b"Variables without arrows: none flows to another one.";
+/// The numbers of what a description doesn't name.
+const OTHERS: &[u8] = b" Not named here are refused flows (%0) and variables (%1).";
 /// The text about the arrows of a walk.
 const THICK: &[u8] = b" The thick arrows with numbers are the chain for which the text is refused; \
 a thin red arrow goes against the order of the classes.";
@@ -121,10 +131,8 @@ fn readable(alloc: Global, graph: Graph<'_>) -> Made<Option<Drawing>> {
     if graph.arrows.len() > MOST_ARROWS {
         return Ok(None);
     }
-    match drawing_of(alloc, graph)? {
-        Some(drawing) if drawing.wide <= WIDEST && drawing.high <= HIGHEST => Ok(Some(drawing)),
-        _ => Ok(None),
-    }
+    let fits = |drawing: &Drawing| drawing.wide <= LARGEST.0 && drawing.high <= LARGEST.1;
+    Ok(drawing_of(alloc, graph)?.filter(fits))
 }
 
 /// A flow of one step: the numbers of its variables, and its rule.
@@ -188,8 +196,7 @@ pub(crate) fn scene_of(view: &View<'_>) -> Made<Option<Scene>> {
     let mut walk = Vec::new(view.alloc);
     for step in view.walk {
         let (source, target) = (facts.number(step.source), facts.number(step.target));
-        let joins = |arrow: &Arrow| arrow.0 == source && arrow.1 == target;
-        let is_it = |arrow: &Arrow| joins(arrow) && arrow.2 == step.rule;
+        let is_it = |arrow: &Arrow| *arrow == (source, target, step.rule);
         walk.push(arrows.iter().position(is_it).unwrap_or(arrows.len()))?;
     }
     Ok(Some(Scene {
@@ -201,19 +208,15 @@ pub(crate) fn scene_of(view: &View<'_>) -> Made<Option<Scene>> {
 
 /// Adds the beginning of a picture with a label, without what is above `top`.
 fn put_picture(page: &mut Page, label: Part<'_>, drawing: &Drawing, top: usize) -> Added {
-    let high = Number(drawing.high.saturating_sub(top));
-    page.fill(PICTURE, &[label, Number(drawing.wide), high, Number(top)])
+    let high = drawing.high.saturating_sub(top);
+    let is_large = drawing.wide > PRINTED.0 || high > PRINTED.1;
+    let class = Markup(either(is_large, b" class=\"large\"", b""));
+    let (wide, high) = (Number(drawing.wide), Number(high));
+    page.fill(PICTURE, &[label, wide, high, Number(top), class])
 }
 
-/// Adds a box, or the area of a class, in the colour of a class, with its name at this offset.
-fn put_box(
-    page: &mut Page,
-    markup: &'static [u8],
-    place: Place,
-    class: usize,
-    name: &[u8],
-    offset: (usize, usize),
-) -> Added {
+/// Adds a box with a name in its middle, the area of a class or its name, in the colour of a class.
+fn put_box(page: &mut Page, markup: Piece, place: Place, class: usize, name: &[u8]) -> Added {
     let parts = [
         Markup(colour(class)),
         Short(name),
@@ -221,8 +224,10 @@ fn put_box(
         Number(place.top),
         Number(place.wide),
         Number(place.high),
-        Number(place.left.saturating_add(offset.0)),
-        Number(place.top.saturating_add(offset.1)),
+        Number(place.left.saturating_add(place.wide / 2)),
+        Number(place.top.saturating_add((place.high / 2).saturating_add(5))),
+        Number(place.left.saturating_add(12)),
+        Number(place.top.saturating_add(18)),
     ];
     page.fill(markup, &parts)
 }
@@ -258,11 +263,10 @@ fn line_of(alloc: Global, drawing: &Drawing, index: usize) -> Made<Page> {
 }
 
 /// Adds the areas of the classes that have variables, or their names, over the arrows.
-fn put_areas(page: &mut Page, view: &View<'_>, drawing: &Drawing, area: &'static [u8]) -> Added {
+fn put_areas(page: &mut Page, view: &View<'_>, drawing: &Drawing, area: Piece) -> Added {
     for (class, place) in drawing.groups.iter().enumerate() {
         if place.wide != 0 {
-            let name = name_of(view.order, class);
-            put_box(page, area, *place, class, name, (12, 18))?;
+            put_box(page, area, *place, class, name_of(view.order, class))?;
         }
     }
     Ok(())
@@ -284,17 +288,41 @@ fn put_arrows(page: &mut Page, view: &View<'_>, scene: &Scene, breaks: bool) -> 
     Ok(())
 }
 
+/// The description of a picture of flows: the first refused flows, the chain if there are more, and
+/// the classes of the first variables, in sentences, and how many others there are.
+fn description_of(view: &View<'_>, scene: &Scene) -> Made<Page> {
+    let (mut text, facts) = (Page::new(view.alloc), view.facts);
+    text.put(either(scene.arrows.is_empty(), NO_ARROWS, SOME_ARROWS))?;
+    let ends = |from: Var, to: Var| [Text(facts.of(from).name), Text(facts.of(to).name)];
+    let refused = count_refused(&facts.pairs);
+    let pairs = facts.pairs.iter().filter(|pair| !pair.allowed);
+    for pair in pairs.take(MOST_TOLD) {
+        let parts = ends(pair.source, pair.target);
+        text.fill(b" The flow from %0 to %1 is refused.", &parts)?;
+    }
+    if let (Some(first), Some(last)) = (view.walk.first(), view.walk.last())
+        && refused > MOST_TOLD
+    {
+        let parts = ends(first.source, last.target);
+        text.fill(b" The chain from %0 to %1 is refused.", &parts)?;
+    }
+    let count = scene.drawing.places.len();
+    for number in 0..count.min(MOST_TOLD) {
+        let of = facts.variable(number);
+        let parts = [Text(of.name), Text(of.class_name)];
+        text.fill(b" %0 has the class %1.", &parts)?;
+    }
+    if refused.max(count) > MOST_TOLD {
+        let others = |number: usize| Number(number.saturating_sub(MOST_TOLD));
+        text.fill(OTHERS, &[others(refused), others(count)])?;
+    }
+    Ok(text)
+}
+
 /// Adds the picture of a program's flows, up to its last badge.
 fn put_scene(page: &mut Page, view: &View<'_>, scene: &Scene) -> Added {
     let drawing = &scene.drawing;
-    let mut label = Page::new(view.alloc);
-    label.put(b"The flows of one step between variables.")?;
-    if let (Some(first), Some(last)) = (view.walk.first(), view.walk.last()) {
-        let from = Text(view.facts.of(first.source).name);
-        let to = Text(view.facts.of(last.target).name);
-        label.fill(b" The chain from %0 to %1 is refused.", &[from, to])?;
-    }
-    put_picture(page, Block(&label), drawing, 0)?;
+    put_picture(page, Block(&description_of(view, scene)?), drawing, 0)?;
     page.put(TIPS)?;
     put_areas(page, view, drawing, AREA)?;
     put_arrows(page, view, scene, false)?;
@@ -307,8 +335,7 @@ fn put_scene(page: &mut Page, view: &View<'_>, scene: &Scene) -> Added {
     for (number, place) in drawing.places.iter().enumerate() {
         let of = view.facts.variable(number);
         page.put(either(of.is_declared, b"<g>", b"<g class=\"inferred\">"))?;
-        let middle = (place.wide / 2, (place.high / 2).saturating_add(5));
-        put_box(page, BOX, *place, of.class, of.name, middle)?;
+        put_box(page, BOX, *place, of.class, of.name)?;
         page.put(b"</g>")?;
     }
     let badges = badges_of(view.alloc, drawing, &scene.walk)?;
@@ -352,23 +379,21 @@ pub(crate) fn lattice_section(view: &View<'_>) -> Made<(Page, bool)> {
     let mut page = Page::new(alloc);
     page.fill(LATTICE, &[Markup(either(is_wide, b" class=\"wide\"", b""))])?;
     if let Some(drawing) = &found {
-        put_picture(&mut page, Markup(b"The lattice of classes"), drawing, TITLE)?;
+        let is_one = order.names.len() == 1;
+        let label = Markup(either(is_one, b"The only class", b"The lattice of classes"));
+        put_picture(&mut page, label, drawing, TITLE)?;
         for index in 0..drawing.ways.len() {
             let line = line_of(alloc, drawing, index)?;
             page.fill(b"<path class=\"cover\" d=\"%0v-5\"/>", &[Block(&line)])?;
         }
         for (class, place) in drawing.places.iter().enumerate() {
-            let middle = (place.wide / 2, (place.high / 2).saturating_add(5));
-            put_box(&mut page, BOX, *place, class, name_of(order, class), middle)?;
+            put_box(&mut page, BOX, *place, class, name_of(order, class))?;
         }
     }
     page.put(either(found.is_some(), POLICY, NO_POLICY))?;
     put_classes(&mut page, view)?;
-    page.put(either(
-        found.is_some(),
-        b"</details>\n</section>\n",
-        b"</section>\n",
-    ))?;
+    let end = b"</details>\n</section>\n";
+    page.put(either(found.is_some(), end, b"</section>\n"))?;
     Ok((page, is_wide))
 }
 
@@ -397,12 +422,8 @@ pub(crate) fn put_all_flows(
         for (index, arrow) in scene.arrows.iter().enumerate() {
             let (from, to) = (view.facts.variable(arrow.0), view.facts.variable(arrow.1));
             let mark = either(scene.walk.contains(&index), b", in the refused chain", b"");
-            let parts = [
-                Name(from),
-                Name(to),
-                Markup(rule_text(arrow.2)),
-                Markup(mark),
-            ];
+            let (rule, mark) = (Markup(rule_text(arrow.2)), Markup(mark));
+            let parts = [Name(from), Name(to), rule, mark];
             page.fill(b"<tr><td>%0</td><td>%1</td><td>%2%3</td></tr>\n", &parts)?;
         }
         page.put(b"</tbody></table></details>\n")?;

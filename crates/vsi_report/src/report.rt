@@ -12,7 +12,7 @@ use crate::dot::{Order, order_of};
 use crate::facts::{Facts, facts_of, reached_classes};
 use crate::leak::put_leak;
 use crate::page::Part::{Block, Markup, Number, Position, Text};
-use crate::page::{Added, Made, Page, Verdict, either, style_of, whole_page};
+use crate::page::{Added, Made, Page, Piece, Verdict, either, style_of, whole_page};
 use crate::panel::{is_large, source_panel};
 use crate::picture::{lattice_section, put_all_flows, scene_of};
 use crate::sections::{Filing, MOST_PAIRS, leaf, profile_text, put_walk};
@@ -158,13 +158,11 @@ fn faulty_sides(view: &View<'_>, error: &CompileError) -> Made<(Page, Page)> {
         })?;
     }
     if let Some(at) = view.fault {
-        before.fill(
-            b": see %0. Its flows aren't judged.</p>\n",
-            &[Position(source, at)],
-        )?;
+        before.fill(b": see %0", &[Position(source, at)])?;
+    }
+    before.put(b". Its flows aren't judged.</p>\n")?;
+    if let Some(at) = view.fault {
         put_quote(&mut before, source, at)?;
-    } else {
-        before.put(b". Its flows aren't judged.</p>\n")?;
     }
     put_judged(&mut before, view)?;
     let mut why = refusal_text(alloc, lattice, source, error)?;
@@ -197,7 +195,7 @@ fn joined(view: &View<'_>, verdict: Verdict, lead: &Page, sides: (Page, Page)) -
     let (before, mut after) = sides;
     let filing = view.filing;
     after.put(FILES)?;
-    let files: [(&'static [u8], &[u8], &[u8]); 2] = [
+    let files: [(Piece, &[u8], &[u8]); 2] = [
         (b"Source text", filing.source, view.source),
         (b"Lattice", filing.lattice, filing.policy),
     ];
@@ -234,18 +232,10 @@ fn accepted_page(blank: &View<'_>, read: &Source<'_>, chosen: &[Class]) -> Made<
     ensures verdict { IfOk result (λ page.
         HasVerdict read.now.lattice blank.now.profile read.now.text page.items) }
 {
-    let (alloc, profile, lattice) = (blank.alloc, blank.profile, blank.lattice);
-    let mentions = mentions_of(alloc, read)?;
+    let (alloc, profile) = (blank.alloc, blank.profile);
     let program = read.resolved();
-    let facts = facts_of(
-        alloc,
-        profile,
-        lattice,
-        blank.order,
-        program,
-        chosen,
-        mentions,
-    )?;
+    let mentions = mentions_of(alloc, read)?;
+    let facts = facts_of(blank, blank.order, program, chosen, mentions)?;
     let view = View {
         facts: &facts,
         ..*blank
@@ -281,15 +271,7 @@ fn refused_page(blank: &View<'_>, read: &Source<'_>, walk: &[Step]) -> Made<Vec<
     let program = read.resolved();
     let chosen = reached_classes(alloc, profile, lattice, program)?;
     let mentions = mentions_of(alloc, read)?;
-    let facts = facts_of(
-        alloc,
-        profile,
-        lattice,
-        blank.order,
-        program,
-        &chosen,
-        mentions,
-    )?;
+    let facts = facts_of(blank, blank.order, program, &chosen, mentions)?;
     let view = View {
         facts: &facts,
         walk,

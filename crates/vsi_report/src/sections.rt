@@ -1,8 +1,8 @@
 //! The sections of a page about flows: why a text is refused, and the table of all flows.
 
 use crate::banner::{count_refused, number_word};
-use crate::page::Part::{Chip, Markup, Name, Number, Position, Text};
-use crate::page::{Added, Page, Part, either};
+use crate::page::Part::{Chip, Markup, Name, Number, Position, Short};
+use crate::page::{Added, Page, Part, Piece, either};
 use crate::report::View;
 use vsi_flows::WalkedPair;
 use vsi_infer::rule_text;
@@ -32,7 +32,7 @@ pub(crate) fn leaf(path: &[u8]) -> &[u8] {
 }
 
 /// The name of a profile, and what it judges by.
-pub(crate) fn profile_text(profile: Profile) -> &'static [u8] {
+pub(crate) fn profile_text(profile: Profile) -> Piece {
     let strict = b"strict profile: by flows into variables, and into the ending of loops";
     let base = b"base profile: by flows into variables";
     either(profile == Profile::Base, base, strict)
@@ -182,7 +182,7 @@ fn put_groups(page: &mut Page, view: &View<'_>, are_allowed: bool) -> Added {
             page.fill(GROUP, &[Name(of), Chip(of)])?;
             last = source;
         }
-        page.fill(b"%0 ", &[Text(view.facts.of(pair.target).name)])?;
+        page.fill(b"%0 ", &[Short(view.facts.of(pair.target).name)])?;
     }
     page.put(b"</td></tr>\n</tbody></table>\n")
 }

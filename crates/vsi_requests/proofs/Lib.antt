@@ -3,3 +3,10 @@ pub mod Walked
 pub mod Documented
 pub mod Sought
 pub mod Unbounded
+pub mod Served
+pub mod Undriven
+pub mod Steered
+pub mod Viewed
+pub mod Fed
+pub mod Stepped
+pub mod Surveyed

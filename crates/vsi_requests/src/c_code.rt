@@ -19,7 +19,7 @@ use vsi_subject::{Failure, Fallible, Files, InputKind, Subject, most_of};
 const OTHERWISE: &[u8] = b"image";
 
 /// The part of a path after its last slash.
-fn file_name(path: &[u8]) -> &[u8]
+pub(crate) fn file_name(path: &[u8]) -> &[u8]
     ensures { result.now ≡ naming.after_slash path.now path.now }
 {
     let mut found = path;

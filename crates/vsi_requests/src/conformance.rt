@@ -6,6 +6,7 @@ ghost use Rattle.vsi_conform.specs.{Conformity.{said as said_of}, Rows.{row}};
 ghost use Rattle.vsi_subject.specs.Supplied as supplied;
 
 use crate::conformity::{lines_after, reaches_in, tried_beside};
+use crate::findings::Made;
 use std::alloc::{AllocError, Global};
 use vsi_answers::judged_image;
 use vsi_arguments::{AnswerForm, Conformance};
@@ -65,12 +66,7 @@ pub fn conform<'a, F: Files>(
 }
 
 /// The text of what is said of the file at a path.
-fn written(
-    alloc: Global,
-    form: AnswerForm,
-    path: &str,
-    said: &Conformity,
-) -> Result<Vec<u8>, AllocError>
+fn written(alloc: Global, form: AnswerForm, path: &str, said: &Conformity) -> Made<Vec<u8>>
     ensures { IfOk result
         (λ text. text.items ≡ written_as form path.now (said_of said.now)) }
 {

@@ -8,6 +8,7 @@ ghost use Rattle.vsi_subject.specs.Filed as spec;
 ghost use Rattle.vsi_subject.specs.Reached as reached;
 
 use crate::conformance::begins_image;
+use crate::findings::Made;
 use crate::images::version;
 use std::alloc::{AllocError, Global};
 use vsi_answers::{enough_budget, judged_image, without_end};
@@ -36,12 +37,7 @@ pub(crate) fn filed_profile(judgement: Judgement) -> AuditProfile
 
 /// The image that was judged: that of these bytes, or that of a source text. A file that conforms
 /// has one.
-fn image_judged(
-    alloc: Global,
-    is_image: bool,
-    lattice: &Lattice,
-    bytes: &[u8],
-) -> Result<Verified, AllocError>
+fn image_judged(alloc: Global, is_image: bool, lattice: &Lattice, bytes: &[u8]) -> Made<Verified>
     ensures { IfOk result (IsJudged is_image lattice.now bytes.now) }
 {
     if is_image {
@@ -51,12 +47,7 @@ fn image_judged(
 }
 
 /// A bound of the image that was judged. A file that conforms has one if the interface requires it.
-fn bound_judged(
-    alloc: Global,
-    is_image: bool,
-    lattice: &Lattice,
-    bytes: &[u8],
-) -> Result<u64, AllocError>
+fn bound_judged(alloc: Global, is_image: bool, lattice: &Lattice, bytes: &[u8]) -> Made<u64>
     ensures { IfOk result (HasBound (IsJudged is_image lattice.now bytes.now)) }
 {
     let verified = image_judged(alloc, is_image, lattice, bytes)?;

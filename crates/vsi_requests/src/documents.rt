@@ -1,7 +1,7 @@
 //! Answers as lines of JSON and documents of SARIF, pages, graphs, and searches for leaks.
 
 ghost use Rattle.std.specs.Prelude.{◌≡◌, ◌⊎◌, IfErr, IfOk, List, IfSome};
-ghost use Rattle.vsi_subject.specs.{Documents.{AuditsDocument, ToldClassesJson, ToldFlowsJson, ToldSarif, judgement_of}, Files.{OfFiles}, Performed.{profile_of, AreSought, DrawsFiles, GraphOf, ToldPage, SearchesFiles, SearchesJson}, Reasons.{LacksSought, OtherLeak, RefusesSearch, WhyDraw}, Refusals.{NoOther, RefusesImage, RefusesLattice, FailsBy}};
+ghost use Rattle.vsi_subject.specs.{Documents.{AuditsDocument, ListsJson, ToldClassesJson, ToldFlowsJson, ToldSarif, judgement_of}, Files.{OfFiles}, Performed.{profile_of, AreSought, DrawsFiles, GraphOf, ToldPage, SearchesFiles, SearchesJson}, Reasons.{LacksSought, OtherLeak, RefusesSearch, WhyDraw}, Refusals.{NoOther, RefusesImage, RefusesLattice, FailsBy}};
 ghost use Rattle.vsi_lattice.specs.{LatticeView.{class_named, order}, Order.{IsClass}};
 ghost use Rattle.vsi_syntax.specs.Tree.{Whole};
 ghost use Rattle.vsi_scope.specs.{Language.{Command}, Resolving.{IsResolution}};
@@ -13,7 +13,7 @@ use std::alloc::Global;
 use vsi_arguments::{Audit, Compilation, Drawing, Judging, Search};
 use vsi_compiler::CompileError;
 use vsi_documents::{
-    Reply, audit_json, audit_sarif, check_sarif, classes_json, flows_json, leak_json,
+    Reply, audit_json, audit_sarif, check_sarif, classes_json, flows_json, leak_json, list_json,
 };
 use vsi_lattice::Lattice;
 use vsi_leak::{Effort, Finding, Wanted, leak_of_text, leak_text};
@@ -87,6 +87,16 @@ pub fn audit_document<'a, F: Files>(
         return Ok(audit_sarif(subject.alloc, judged, &classes, asked.image, &verified)?);
     }
     Ok(audit_json(subject.alloc, judged, &classes, &verified)?)
+}
+
+/// The line of JSON with the parts of an image.
+pub fn list_line<'a, F: Files>(subject: &Subject<'_, F>, image: &'a str) -> Fallible<'a, Vec<u8>>
+    ensures told { IfOk result (ListsJson (F.holds subject.now.files.now) image.now) }
+    ensures failed { IfErr result
+        (FailsBy (RefusesImage (F.holds subject.now.files.now) image.now) NoOther) }
+{
+    let verified = subject.image_in(image)?;
+    Ok(list_json(subject.alloc, &verified)?)
 }
 
 /// The page of a source text.

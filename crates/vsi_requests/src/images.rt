@@ -8,8 +8,9 @@ ghost use Rattle.vsi_subject.specs.Performed as spec;
 ghost use Rattle.vsi_subject.specs.declared.failure.Failure.TheVariants as fails;
 
 use crate::conformity::filed_profile;
+use crate::findings::Made;
 use crate::texts::{judgement, policy_and_text};
-use std::alloc::{AllocError, Global};
+use std::alloc::Global;
 use vsi_answers::judged_image;
 use vsi_arguments::{Audit, Bounding, Compilation};
 use vsi_audit::{AuditError, audit_in, audit_text, source_text};
@@ -76,12 +77,7 @@ pub(crate) fn version() -> &'static [u8]
 }
 
 /// The output of an audit that accepts an image, of the bytes that were read.
-fn accepted_text(
-    alloc: Global,
-    asked: Audit<'_>,
-    lattice: &[u8],
-    image: &[u8],
-) -> Result<Vec<u8>, AllocError>
+fn accepted_text(alloc: Global, asked: Audit<'_>, lattice: &[u8], image: &[u8]) -> Made<Vec<u8>>
     ensures { IfOk result (λ text. text.items ≡ codes "accepted\n"
         ++ spec.filed_text asked.entry lattice.now image.now) }
 {

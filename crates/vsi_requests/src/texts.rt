@@ -1,17 +1,19 @@
 //! The answers of the subcommands that judge, rewrite or lay out a source text.
 
 ghost use Rattle.std.specs.{Prelude.{◌≡◌, IfErr, IfOk, ◌<◌, OnOk, ◌≤◌, ◌+◌, ◌^◌, [], ℕ, List, length}, Io.KnownBytes.{Appends}};
-ghost use Rattle.vsi_subject.specs.{Laying.{ToldCanonical, AnswersLayout, OtherLayout, PerformsLayout, written_by}, Files.{AreFiles, OfFile, OfFiles, Writes}, Documents.{judgement_of}, Performed.{TellsCheck, TellsMend, ToldClasses, ToldFlows, ToldImage, ToldListing}, Refusals.{AsksCanonical, AsksClasses, AsksFlows, AsksImage, NoOther, RefusesFile, RefusesFiles, RefusesLattice, FailsBy}, Reasons.{RefusesCheck, RefusesMend}, Partly.{Leaves, AnswersFlows, WritesPart}, State.{StaysBeside}, Failures.{TellsFault, status_of}, Walked.{IsTextOf}};
+ghost use Rattle.vsi_subject.specs.{Laying.{ToldCanonical, AnswersLayout, ChecksLayout, LaysOut, OtherLayout, PerformsLayout, written_by}, Files.{AreFiles, OfFile, OfFiles, Writes}, Documents.{judgement_of}, Performed.{TellsCheck, TellsMend, ToldClasses, ToldFlows, ToldImage, ToldListing}, Refusals.{AsksCanonical, AsksClasses, AsksFlows, AsksImage, NoOther, RefusesFile, RefusesFiles, RefusesLattice, FailsBy}, Reasons.{RefusesCheck, RefusesMend}, Partly.{Leaves, AnswersFlows, WritesPart}, State.{StaysBeside}, Failures.{TellsFault, status_of}, Walked.{IsTextOf}};
 ghost use Rattle.vsi_answers.specs.Requests.{ListsTo};
 ghost use Rattle.vsi_drive.specs.Counted.{device_of, faults_of};
 ghost use Rattle.vsi_flows.specs.{Walking.{AreWalks}};
 
-use std::alloc::Global;
+use crate::c_code::file_name;
+use std::alloc::{AllocError, Global};
 use std::io::Write;
+use vsi_answers::Object;
 use vsi_arguments::{Compilation, Judging, Layout, Mending};
 use vsi_compiler::read_source;
 use vsi_conform::{Judgement, check_json_for};
-use vsi_documents::{Reply, mend_json};
+use vsi_documents::{Reply, mend_json, named_policy};
 use vsi_drive::Counted;
 use vsi_flows::{Walks, table_walks, walk_table};
 use vsi_lattice::Lattice;
@@ -36,6 +38,19 @@ pub(crate) fn policy_and_text<'a, F: Files>(
     Ok((classes, text))
 }
 
+/// Adds a warning if a text names a lattice file of another name than the given one.
+fn warn_of_policy(lattice: &str, text: &[u8], note: &mut Vec<u8>) -> Result<(), AllocError> {
+    let Some(named) = named_policy(text) else {
+        return Ok(());
+    };
+    if file_name(named) == file_name(lattice.as_bytes()) {
+        return Ok(());
+    }
+    note.extend_from_slice(b"warning: the text names another lattice file, ")?;
+    note.extend_from_slice(named)?;
+    note.extend_from_slice(b"\n")
+}
+
 /// `accepted`, if the source text is accepted as requested, or a line of JSON that says whether
 /// it is. The note gets the warnings about the text.
 pub fn check<'a, F: Files>(
@@ -51,6 +66,7 @@ pub fn check<'a, F: Files>(
     let (classes, text) = policy_and_text(subject, asked.compilation)?;
     let alloc = subject.alloc;
     let text = text.as_slice();
+    warn_of_policy(asked.compilation.lattice, text, note)?;
     let mut observer = CheckObserver {
         cache: subject.cache,
         note,
@@ -196,6 +212,41 @@ pub fn put_flows<'a, F: Files, W: Write>(
     write_walks(alloc, &walks, output)
 }
 
+/// The source text and its layout.
+fn laid_out<'a, F: Files>(
+    subject: &Subject<'_, F>,
+    source: &'a str,
+) -> Fallible<'a, (Vec<u8>, Vec<u8>)>
+    ensures laid { IfOk result (λ both. LaysOut (F.holds subject.now.files.now) source.now
+        both.0.items both.1.items) }
+    ensures failed { IfErr result
+        (FailsBy (RefusesFile (F.holds subject.now.files.now) source.now AsksCanonical) NoOther) }
+{
+    let text = subject.bytes_in(InputKind::Source, source)?;
+    let Ok(layout) = vsi_syntax::layout(subject.alloc, text.as_slice()) else {
+        let classes = two_classes(subject.alloc)?;
+        let _canonical = answered(vsi_answers::format(subject.alloc, &classes, text.as_slice()))?;
+        return Err(Failure::Memory);
+    };
+    Ok((text, layout))
+}
+
+/// The line of JSON that says whether a source text is laid out.
+pub fn layout_line<'a, F: Files>(subject: &Subject<'_, F>, source: &'a str) -> Fallible<'a, Reply>
+    ensures told { IfOk result (λ reply.
+        ChecksLayout (F.holds subject.now.files.now) source.now reply.is_good reply.text) }
+    ensures failed { IfErr result
+        (FailsBy (RefusesFile (F.holds subject.now.files.now) source.now AsksCanonical) NoOther) }
+{
+    let (text, layout) = laid_out(subject, source)?;
+    let is_good = text.as_slice() == layout.as_slice();
+    let made = Object::new(subject.alloc)
+        .text("file", source.as_bytes())?
+        .flag("formatted", is_good)?;
+    let text = made.line()?;
+    Ok(Reply { is_good, text })
+}
+
 /// Lays out a source text: prints the layout, puts it into the file, or prints where the text
 /// differs from it.
 pub fn lay_out<'a, F: Files, W: Write>(
@@ -229,12 +280,7 @@ pub fn lay_out<'a, F: Files, W: Write>(
         cache,
         files,
     };
-    let text = subject.bytes_in(InputKind::Source, asked.source)?;
-    let Ok(layout) = vsi_syntax::layout(cache.alloc, text.as_slice()) else {
-        let classes = two_classes(cache.alloc)?;
-        let _canonical = answered(vsi_answers::format(cache.alloc, &classes, text.as_slice()))?;
-        return Err(Failure::Memory);
-    };
+    let (text, layout) = laid_out(&subject, asked.source)?;
     if asked.is_checked {
         if text == layout {
             return Ok(());

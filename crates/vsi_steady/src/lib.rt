@@ -9,8 +9,8 @@
 //! flow, a chain of steps of its code, whose first global `chain_source` returns.
 //!
 //! `steady_image_of` makes such an image of a source text, or answers a shortest walk from a secret
-//! to a guard; `steady_explanation_of` writes the lines of the walk. `compile_steady` and
-//! `steady_explanation` read the text first.
+//! to a guard; `steady_explanation_of` writes the lines of the walk. `steady_explanation` reads the
+//! text first.
 //!
 //! To be believed: all files of `specs/`.
 #![tactic(auto)]
@@ -23,7 +23,5 @@ mod text;
 
 pub use chain::chain_source;
 pub use check::{SteadyError, steady_in};
-pub use source::{
-    UnsteadyError, compile_steady, steady_explanation, steady_explanation_of, steady_image_of,
-};
+pub use source::{UnsteadyError, steady_explanation, steady_explanation_of, steady_image_of};
 pub use text::steady_text;

@@ -114,33 +114,6 @@ pub fn steady_image_of(alloc: Global, source: &Source<'_>) -> Result<Verified, U
     Ok(verified)
 }
 
-/// The steady image of a text, by `steady_image_of`.
-///
-/// # Errors
-///
-/// The first refusal in the order text, tokens, tree, scope, size, flow, image. `Memory` can
-/// replace any answer.
-pub fn compile_steady(
-    alloc: Global,
-    lattice: &Lattice,
-    text: &[u8],
-) -> Result<Verified, UnsteadyError>
-    ensures flows { IfOk result
-        (λ _. HasSteadyFlows (class_named lattice.now) (order lattice.now) text.now) }
-    ensures compiled { IfOk result
-        (IsCompiled (class_named lattice.now) (order lattice.now) Strict text.now) }
-    ensures steady { IfOk result (IsSteady (class_named lattice.now) (order lattice.now)) }
-    ensures alike { IfOk result (RunsAlike (class_named lattice.now) (order lattice.now)) }
-    ensures views { IfOk result (ViewsAlike (class_named lattice.now) (order lattice.now)) }
-    ensures refused { IfErr result
-        (RefusesSteady (class_named lattice.now) (order lattice.now) text.now) }
-    ensures exact { IsSteadilyAccepted (class_named lattice.now) (order lattice.now) text.now
-        → IfErr result (λ e. e ≡ Memory) }
-{
-    let source = read_source(alloc, lattice, text)?;
-    steady_image_of(alloc, &source)
-}
-
 /// The explanation of a walk that `steady_image_of` answers: a line for each of its steps, and one
 /// for the classes of its ends. It is empty if the walk isn't a bad walk of the source, judged in
 /// the same way.

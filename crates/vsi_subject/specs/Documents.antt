@@ -49,6 +49,11 @@ pub record AuditsDocument (is_sarif : Bool) (holds : Holding) (a : Audit) (good 
   pub held : IsImageAt holds a.image.now image
   pub is : ToldAudit is_sarif a lattice image good text
 
+-- The file is an image, whose parts a line of JSON has.
+pub record ListsJson (holds : Holding) (path : List ℕ) (text : Vec ℕ) : Type 0 where
+  pub image : Image
+  pub held : IsImageAt holds path image
+
 -- The line of JSON for the run of the image of a file, which halts within its budget or doesn't.
 pub record RunsJson (holds : Holding) (e : Execution) (o : InitialStore) (good : Bool) (text : Vec ℕ) : Type 0 where
   pub image : Image

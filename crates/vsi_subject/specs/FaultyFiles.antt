@@ -36,6 +36,8 @@ is_json other = false
 -- The request answers with a line of JSON.
 abbrev pub answers_json : Request → Bool
 answers_json (request.Check asked) = asked.is_json
+answers_json (request.Survey asked) = is_json asked.form
+answers_json (request.Project asked) = is_json asked.form
 answers_json (request.Document asked) = document_answers_json asked
 answers_json (request.Conform asked) = is_json asked.form
 answers_json (request.Mend asked) = asked.is_json

@@ -1,5 +1,5 @@
 -- The output of `fmt`, given the contents of its file.
-use Rattle.std.specs.Prelude.{◌≡◌, ◌≢◌, ◌⊎◌, ℕ, Bool, true, false, List, Option, Some, None}
+use Rattle.std.specs.Prelude.{◌≡◌, ◌≢◌, ◌⊎◌, ℕ, Bool, true, false, List, Option, Some, None, bytes_eq}
 use Rattle.std.specs.Borrow.{Bor}
 use Rattle.std.specs.Global.{Vec}
 use Rattle.std.specs.Io.KnownBytes.{Appends, Keeps}
@@ -79,3 +79,10 @@ ToldChanges Kind old new failure = (failure ≡ Differs) × ((lines : List ℕ) 
 abbrev pub OtherLayout : Bool → Holding → List ℕ → Option (List ℕ) → Option (List ℕ) → Failure → Type 0
 OtherLayout true holds source old new failure = ToldChanges (DiffersIn holds source) old new failure
 OtherLayout false holds source old new failure = ⊥
+
+-- `fmt --check --json`: whether the text of a file is its layout, as a line of JSON says.
+pub record ChecksLayout (holds : Holding) (source : List ℕ) (good : Bool) (line : Vec ℕ) : Type 0 where
+  pub text : List ℕ
+  pub layout : List ℕ
+  pub lays : LaysOut holds source text layout
+  pub verdict : good ≡ bytes_eq text layout

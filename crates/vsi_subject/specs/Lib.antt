@@ -25,6 +25,8 @@ pub mod Steering
 pub mod Files
 pub mod Documents
 pub mod State
+pub mod Surveys
+pub mod Projects
 pub mod Feeding
 pub mod Viewing
 pub mod Supplied

@@ -50,6 +50,8 @@ pub data Noting : Type 0 where
 -- The kind of the lines after a request for a document.
 abbrev pub document_noting : Document → Noting
 document_noting (document.Compare comparison) = CompareBudget comparison
+document_noting (document.Policy looking) = Sentences
+document_noting (document.Visible visibility) = Sentences
 document_noting asked = Nothing
 
 -- The kind of the lines after a request.

@@ -14,6 +14,7 @@ OBJECTIONS =
     ∷ codes "other users may read or write this file, and a store may hold secrets: take these rights away (chmod 600), or give --force."
     ∷ codes "another drive keeps its store in this file."
     ∷ codes "this file was put there since the drive began, perhaps by another drive."
+    ∷ codes "this file isn't empty; only --force replaces it."
     ∷ []
 
 -- The sentence about a store file that isn't whole.

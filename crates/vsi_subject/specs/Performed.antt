@@ -71,12 +71,12 @@ use Rattle.vsi_arguments.specs.declared.request.Search.{Search}
 use Rattle.vsi_arguments.specs.declared.request.Request.{Request}
 use Rattle.vsi_arguments.specs.declared.request.Request.TheVariants as request
 use Rattle.vsi_subject.specs.Admitted.{IsAdmitted}
-use Rattle.vsi_subject.specs.Documents.{AuditsDocument, judgement_of, RunsJson, ToldClassesJson, ToldFlowsJson, ToldSarif}
+use Rattle.vsi_subject.specs.Documents.{AuditsDocument, ListsJson, judgement_of, RunsJson, ToldClassesJson, ToldFlowsJson, ToldSarif}
 use Rattle.vsi_subject.specs.Driven.{DrivesInput}
 use Rattle.vsi_subject.specs.Filed.{IsFiledBound, IsFollowed, IsJudged, filed_profile, lattice_file, policy_bytes}
 use Rattle.vsi_subject.specs.Holding.{Delivers, Holding, IsImageAt, IsLatticeAt, IsReadAt}
 use Rattle.vsi_subject.specs.Interfaces.{IsAskedAt, IsPolicyAt}
-use Rattle.vsi_subject.specs.Laying.{PerformsLayout, ToldCanonical}
+use Rattle.vsi_subject.specs.Laying.{ChecksLayout, PerformsLayout, ToldCanonical}
 use Rattle.vsi_subject.specs.Naming.{function_name}
 use Rattle.vsi_subject.specs.Raises.{ToldMended, ToldMendedJson}
 use Rattle.vsi_subject.specs.Reached.{AreReleasedIn, IsTried, written_as}
@@ -91,6 +91,8 @@ use Rattle.vsi_subject.specs.Beginning.{IsBegun}
 use Rattle.vsi_subject.specs.Files.{BeginsAt, IsBudgetOf, IsStoredAt, LooksAt, LooksFor, OfFile, OfFiles, Writes, shown}
 use Rattle.vsi_subject.specs.State.{state_text}
 use Rattle.vsi_subject.specs.Stepping.{ComparesSteps, IsMonitored, IsStepped, OfStepFiles, rule_of}
+use Rattle.vsi_subject.specs.Projects.{ProjectsFiles}
+use Rattle.vsi_subject.specs.Surveys.{SurveysFiles}
 use Rattle.vsi_subject.specs.Viewing.{ViewsWithin}
 use Rattle.vsi_subject.specs.Works.{Drives, Lays, Lists, Puts, Replies, Runs, Talks, Work, place_of, work_of}
 
@@ -453,6 +455,11 @@ pub record ConformsFiles (holding : Holding) (c : Conformance) (conforms : Bool)
   pub followed : IsFollowed c.has_evidence conforms (IsEvidence holding c asked lattice source files)
       (written_as c.form c.source.now said) text.items
 
+-- A text of this kind, which says that all is well.
+abbrev pub Well : (Vec ℕ → Type 0) → Bool → Vec ℕ → Type 0
+Well Kind true text = Kind text
+Well Kind false text = ⊥
+
 -- The document that answers a request, and that says of its files that all is well or that something is wrong.
 abbrev pub DocumentOf : Holding → Document → Bool → Vec ℕ → Type 0
 DocumentOf holds (document.Sarif asked) accepted =
@@ -466,13 +473,12 @@ DocumentOf holds (document.Bound asked) good = TellsBounding true holds asked go
 DocumentOf holds (document.Run e o) good = RunsJson holds e o good
 DocumentOf holds (document.Compare comparison) good = TellsComparison true holds comparison good
 DocumentOf holds (document.Leak search) good = SearchesJson holds search good
+DocumentOf holds (document.List image) good = Well (ListsJson holds image.now) good
+DocumentOf holds (document.Policy looking) good = SeesFiles true holds looking good
+DocumentOf holds (document.Visible visibility) good = ShowsFiles true holds visibility good
+DocumentOf holds (document.Layout source) good = ChecksLayout holds source.now good
 
 -- ---- the answer of each request.
-
--- A text of this kind, which says that all is well.
-abbrev pub Well : (Vec ℕ → Type 0) → Bool → Vec ℕ → Type 0
-Well Kind true text = Kind text
-Well Kind false text = ⊥
 
 -- `check`: the text is accepted; with `--json` the line says whether it is.
 abbrev pub TellsCheck : Bool → Holding → Judging → Bool → Vec ℕ → Type 0
@@ -492,6 +498,8 @@ TellsMend false holds asked served =
 abbrev pub Tells : Holding → Request → Bool → Vec ℕ → Type 0
 Tells holds (request.Try attempt) = Well (TriesFile holds attempt)
 Tells holds (request.Check asked) = TellsCheck asked.is_json holds asked
+Tells holds (request.Survey asked) = SurveysFiles holds asked
+Tells holds (request.Project asked) = ProjectsFiles holds asked
 Tells holds (request.Document asked) = DocumentOf holds asked
 Tells holds (request.Conform asked) = ConformsFiles holds asked
 Tells holds (request.Classes c) = Well (OfFiles holds c (ToldClasses c.is_strict))
@@ -509,10 +517,10 @@ Tells holds (request.CompareSteps comparison is_json) = λ same text. ComparesSt
 Tells holds (request.Steps stepping is_json) = λ ended text. OfStepFiles holds stepping (IsStepped stepping ended)
 Tells holds (request.Monitor stepping rule is_json) = λ ended text. OfStepFiles holds stepping (IsMonitored stepping (rule_of rule) ended)
 Tells holds (request.Leak search) = Well (SearchesFiles holds search)
-Tells holds (request.Report c) = Well (OfFiles holds c (ToldPage c.is_strict))
+Tells holds (request.Report page) = Well (OfFiles holds page.compilation (ToldPage page.compilation.is_strict))
 Tells holds (request.Draw drawing) = Well (DrawsFiles holds drawing)
-Tells holds (request.Policy looking) = Well (SeesFiles holds looking)
-Tells holds (request.Visible visibility) = Well (ShowsFiles holds visibility)
+Tells holds (request.Policy looking) = SeesFiles false holds looking
+Tells holds (request.Visible visibility) = ShowsFiles false holds visibility
 Tells holds (request.Format source) = Well (OfFile holds source.now ToldCanonical)
 Tells holds (request.Lattice arguments) = Well (ShapedText arguments.items)
 Tells holds (request.Explain page) = Well (λ text. text.items ≡ page.now)

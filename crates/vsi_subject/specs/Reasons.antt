@@ -50,6 +50,7 @@ use Rattle.vsi_subject.specs.declared.failure.Failure.TheVariants as fails
 use Rattle.vsi_subject.specs.Holding.{Holding, IsImageAt, IsLatticeAt, IsReadAt}
 use Rattle.vsi_subject.specs.Laying.{OtherLayout}
 use Rattle.vsi_subject.specs.Input.{two_classes}
+use Rattle.vsi_subject.specs.Projects.{IsFaulty}
 use Rattle.vsi_subject.specs.Served.{Serves, unended_line}
 use Rattle.vsi_subject.specs.Supplied.{begins_image}
 use Rattle.vsi_subject.specs.Steering.{IsViewed}
@@ -220,6 +221,18 @@ abbrev pub RefusesSearch : Holding → Search → Unanswered → Type 0
 RefusesSearch holds s reason =
     RefusesLattice holds s.lattice.now reason ⊎ RefusesSource holds s.lattice.now s.source.now reason
 
+-- `policy`: a lattice is refused, or the older one.
+abbrev pub WhyPolicy : Holding → List ℕ → Option (Bor (List ℕ)) → Unanswered → Type 0
+WhyPolicy holds lattice None reason = RefusesLattice holds lattice reason
+WhyPolicy holds lattice (Some old) reason =
+    RefusesLattice holds lattice reason ⊎ RefusesLattice holds old.now reason
+
+-- `policy --interface`: the lattice of the interface is refused, or that of the older one.
+abbrev pub WhyVisible : Holding → List ℕ → Option (Bor (List ℕ)) → Unanswered → Type 0
+WhyVisible holds interface None reason = RefusesAsked holds interface reason
+WhyVisible holds interface (Some old) reason =
+    RefusesAsked holds interface reason ⊎ RefusesAsked holds old.now reason
+
 -- A request for a document has none: a lattice is refused, or an image, the words that it begins with, a store, or the
 -- text from which an image is made.
 abbrev pub RefusesDocument : Holding → Document → Unanswered → Type 0
@@ -234,12 +247,18 @@ RefusesDocument holds (document.Bound asked) reason = WhyEmit holds asked.lattic
 RefusesDocument holds (document.Run e o) reason = RefusesImage holds e.image.now reason ⊎ RefusesStart holds e o reason
 RefusesDocument holds (document.Compare comparison) reason = WhyCompare holds comparison reason
 RefusesDocument holds (document.Leak search) reason = RefusesSearch holds search reason
+RefusesDocument holds (document.List image) reason = RefusesImage holds image.now reason
+RefusesDocument holds (document.Policy looking) reason = WhyPolicy holds looking.lattice.now looking.old reason
+RefusesDocument holds (document.Visible visibility) reason =
+    WhyVisible holds visibility.interface.now visibility.old reason
+RefusesDocument holds (document.Layout source) reason = RefusesFile holds source.now AsksCanonical reason
 
--- A request for a document lacks a class or a bound.
+-- A request for a document lacks a class or a bound, or an interface is refused.
 abbrev pub LacksDocument : Holding → Document → Failure → Type 0
 LacksDocument holds (document.Run e o) = LacksBoundAt holds e.image.now e.budget
 LacksDocument holds (document.Compare comparison) = LacksCompare holds comparison
 LacksDocument holds (document.Leak search) = LacksSought holds search
+LacksDocument holds (document.Visible visibility) = IsUnusable
 LacksDocument holds asked = NoOther
 
 -- The request of `bound` about the image of an emission.
@@ -258,18 +277,6 @@ abbrev pub WhyDraw : Holding → List ℕ → Option (Bor (List ℕ)) → Unansw
 WhyDraw holds lattice None reason = RefusesLattice holds lattice reason
 WhyDraw holds lattice (Some source) reason =
     RefusesLattice holds lattice reason ⊎ RefusesSource holds lattice source.now reason
-
--- `policy`: a lattice is refused, or the older one.
-abbrev pub WhyPolicy : Holding → List ℕ → Option (Bor (List ℕ)) → Unanswered → Type 0
-WhyPolicy holds lattice None reason = RefusesLattice holds lattice reason
-WhyPolicy holds lattice (Some old) reason =
-    RefusesLattice holds lattice reason ⊎ RefusesLattice holds old.now reason
-
--- `policy --interface`: the lattice of the interface is refused, or that of the older one.
-abbrev pub WhyVisible : Holding → List ℕ → Option (Bor (List ℕ)) → Unanswered → Type 0
-WhyVisible holds interface None reason = RefusesAsked holds interface reason
-WhyVisible holds interface (Some old) reason =
-    RefusesAsked holds interface reason ⊎ RefusesAsked holds old.now reason
 
 -- `view` within a boundary: the lattice lacks the class of a global, the boundary has a fault, the run is out of
 -- budget, or by an interface a setting sets what is no input.
@@ -342,12 +349,18 @@ pub record LacksTried (holds : Holding) (a : Attempt) (failure : Failure) : Type
   pub under : IsTriedUnder holds a.lattice a.source.now text lattice
   pub lacks : LacksGiven lattice a.class failure
 
+-- `check` of a project: the lattice file of a program is refused.
+abbrev pub RefusesSome : Holding → Unanswered → Type 0
+RefusesSome holds reason = (path : List ℕ) × RefusesLattice holds path reason
+
 -- ---- why each request has failed.
 
 -- A request that answers has no answer for this reason.
 abbrev pub Refuses : Holding → Request → Failure → Type 0
 Refuses holds (request.Try attempt) = FailsBy (WhyTry holds attempt) (LacksTried holds attempt)
 Refuses holds (request.Check asked) = FailsBy (RefusesCheck holds asked) NoOther
+Refuses holds (request.Survey asked) = FailsBy (RefusesLattice holds asked.lattice.now) NoOther
+Refuses holds (request.Project asked) = FailsBy (RefusesSome holds) IsFaulty
 Refuses holds (request.Document asked) = FailsBy (RefusesDocument holds asked) (LacksDocument holds asked)
 Refuses holds (request.Conform asked) = FailsBy (RefusesConform holds asked) IsUnusable
 Refuses holds (request.Classes c) = FailsBy (RefusesFiles holds c (AsksClasses c.is_strict)) NoOther
@@ -372,7 +385,7 @@ Refuses holds (request.CompareSteps c is_json) =
 Refuses holds (request.Steps stepping is_json) = FailsBy (WhySteps holds stepping) NoOther
 Refuses holds (request.Monitor stepping rule is_json) = FailsBy (WhyMonitor holds stepping) NoOther
 Refuses holds (request.Leak search) = FailsBy (RefusesSearch holds search) (OtherLeak holds search)
-Refuses holds (request.Report c) = FailsBy (RefusesLattice holds c.lattice.now) NoOther
+Refuses holds (request.Report page) = FailsBy (RefusesLattice holds page.compilation.lattice.now) NoOther
 Refuses holds (request.Draw drawing) = FailsBy (WhyDraw holds drawing.lattice.now drawing.source) NoOther
 Refuses holds (request.Policy looking) = FailsBy (WhyPolicy holds looking.lattice.now looking.old) NoOther
 Refuses holds (request.Visible visibility) =

@@ -88,6 +88,8 @@ abbrev pub place_of : Request → Place
 place_of (request.Build c image) = Image image
 place_of (request.View lattice class e o) = Out o.out
 place_of (request.ViewWithin asked) = Out asked.initial_store.out
+place_of (request.EmitC asked) = Out asked.out
+place_of (request.Report page) = Out page.out
 place_of asked = Out None
 
 -- A text has been put into its place.

@@ -7,6 +7,7 @@ ghost use Rattle.vsi_drive.specs.Counted.{device_of, faults_of};
 use crate::failure::{Failure, Fallible, write};
 use std::alloc::Global;
 use std::io::{Read, Write};
+use vsi_arguments::Manner;
 use vsi_drive::Counted;
 
 /// The kind of the file that a request writes.
@@ -18,6 +19,8 @@ pub enum OutputKind {
     /// alone it takes.
     State,
     Source,
+    /// C or a page, which isn't known by its bytes: only an empty file is of this kind.
+    Text,
 }
 
 /// The output of a request, and the files that it may replace.
@@ -105,6 +108,11 @@ pub trait Files {
     /// Whether the text on standard error may be coloured.
     fn wants_colour(&self) -> bool {
         false
+    }
+
+    /// How the request is carried out, if its arguments were judged when its files were read.
+    fn manner(&self) -> Option<Manner> {
+        None
     }
 }
 

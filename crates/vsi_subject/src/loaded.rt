@@ -1,12 +1,13 @@
 //! Files that are read once, before a request is carried out.
 
-ghost use Rattle.std.specs.{Prelude.{◌≡◌, false, IfOk, IfSome, Some, None}, Io.{ReadsAtMost}, Io.KnownBytes.{ReadConsumes}, Rc.{rc_slice_items}};
+ghost use Rattle.std.specs.{Prelude.{◌≡◌, false, IfOk, Some, None}, Io.{ReadsAtMost}, Io.KnownBytes.{ReadConsumes}, Rc.{rc_slice_items}};
 ghost use Rattle.vsi_subject.specs.Loading.{AreRead, held, left_of};
 
 use crate::failure::Failure;
 use crate::files::{Files, OutputKind, Writing};
 use crate::subject::whole_in;
 use std::alloc::{AllocError, Global};
+use std::collections::BTreeMap;
 use std::io;
 use std::io::{AsBytes, Cursor, Read};
 use std::rc::RcSlice;
@@ -31,22 +32,18 @@ impl AsBytes for Shared {
     }
 }
 
-/// The bytes that were read from the file at a path.
-#[derive(Drop)]
-pub(crate) struct Text {
-    pub(crate) path: Vec<u8>,
-    pub(crate) bytes: RcSlice<u8>,
-}
-
 /// The files of a system, where those that a request names were read once: the request later reads
 /// them from memory, and it writes over none of them.
 #[derive(Drop)]
 pub struct Loaded<F> {
     alloc: Global,
-    texts: Vec<Text>,
+    /// The bytes of each file that was read, at its path.
+    texts: BTreeMap<String, RcSlice<u8>>,
     /// The path of the first file that couldn't be read, and isn't read again.
     lost: Option<Vec<u8>>,
     is_spared: bool,
+    /// How the request is carried out, if its arguments have no mistake.
+    manner: Option<Manner>,
     system: F,
 }
 
@@ -72,41 +69,27 @@ impl<R: Read> Read for Opened<R> {
     }
 }
 
-/// The first text that was read at the path.
-fn found<'a>(texts: &'a [Text], path: &[u8]) -> Option<&'a Text>
-    ensures text { IfSome result (λ text.
-        held texts.now path.now ≡ Some (rc_slice_items text.now.bytes)) }
-    ensures none { result ≡ None → held texts.now path.now ≡ None }
-{
-    for text in texts {
-        if text.path.as_slice() == path {
-            return Some(text);
-        }
-    }
-    None
-}
-
 impl<F> Loaded<F> {
     /// Whether the file at the path was read, so that nothing is written over it.
     fn spares(&mut self, path: &str) -> bool
         ensures kept { self.new.texts ≡ self.old.texts }
-        ensures read { result ≡ false → held self.old.texts.items path.now ≡ None }
+        ensures read { result ≡ false → held self.old.texts path.now ≡ None }
     {
-        let is_read = found(self.texts.as_slice(), path.as_bytes()).is_some();
+        let is_read = self.texts.contains_key(path);
         self.is_spared = self.is_spared || is_read;
         is_read
     }
 }
 
 impl<F: Files> Loaded<F> {
-    /// Reads the file at the path, unless it is one that the request replaces. It returns whether
-    /// nothing is lost.
+    /// Reads the file at the path, unless it was read or is one that the request replaces. It
+    /// returns whether nothing is lost.
     fn take(&mut self, request: &Request<'_>, path: &str) -> Result<bool, AllocError>
         ensures kept { F.holds self.new.system ≡ F.holds self.old.system }
-        ensures told { AreRead (F.holds self.old.system) self.old.texts.items
-            → AreRead (F.holds self.old.system) self.new.texts.items }
+        ensures told { AreRead (F.holds self.old.system) self.old.texts
+            → AreRead (F.holds self.old.system) self.new.texts }
     {
-        if is_state(request, path) {
+        if is_state(request, path) || self.texts.contains_key(path) {
             return Ok(true);
         }
         let bytes = match whole_in(self.alloc, path, &self.system) {
@@ -117,12 +100,9 @@ impl<F: Files> Loaded<F> {
                 return Ok(false);
             }
         };
-        let path = Vec::from_slice(self.alloc, path.as_bytes())?;
+        let path = String::from_str(self.alloc, path)?;
         let shared = RcSlice::from_vec(bytes)?;
-        self.texts.push(Text {
-            path,
-            bytes: shared,
-        })?;
+        self.texts.insert(path, shared)?;
         Ok(true)
     }
 }
@@ -155,6 +135,7 @@ fn prepare<F: Files>(request: &Request<'_>, manner: Manner, system: &mut F)
         }
         Request::Drive(asked) => (OutputKind::State, asked.execution.store),
         Request::Layout(asked) => (OutputKind::Source, Some(asked.source)),
+        Request::EmitC(_) | Request::Report(_) => (OutputKind::Text, None),
         _ => (OutputKind::Image, None),
     };
     system.expect(Writing {
@@ -176,13 +157,14 @@ pub fn load<F: Files + Drop>(
     arguments: &[String],
     system: F,
 ) -> Result<Loaded<F>, AllocError>
-    ensures told { IfOk result (λ loaded. AreRead (F.holds system) loaded.texts.items) }
+    ensures told { IfOk result (λ loaded. AreRead (F.holds system) loaded.texts) }
 {
     let mut loaded = Loaded {
         alloc,
-        texts: Vec::new(alloc),
+        texts: BTreeMap::new(alloc),
         lost: None,
         is_spared: false,
+        manner: None,
         system,
     };
     let manner = match manner_of(alloc, arguments) {
@@ -190,6 +172,7 @@ pub fn load<F: Files + Drop>(
         Err(ArgumentsError::Memory) => return Err(AllocError),
         Err(ArgumentsError::Help(_) | ArgumentsError::Mistake(_)) => return Ok(loaded),
     };
+    loaded.manner = Some(manner);
     let Some(request) = request_of(alloc, arguments)? else {
         return Ok(loaded);
     };
@@ -202,13 +185,18 @@ pub fn load<F: Files + Drop>(
             return Ok(loaded);
         }
     }
+    for source in texts_of(&request) {
+        if !loaded.take(&request, source)? {
+            return Ok(loaded);
+        }
+    }
     Ok(loaded)
 }
 
 impl<F: Files> Files for Loaded<F> {
     type Input = Opened<F::Input>;
 
-    ghost holds = { λ loaded. held loaded.texts.items };
+    ghost holds = { λ loaded. held loaded.texts };
 
     fn open_file(&self, path: &str) -> Option<Opened<F::Input>> {
         if let Some(lost) = &self.lost {
@@ -216,9 +204,9 @@ impl<F: Files> Files for Loaded<F> {
                 return None;
             }
         }
-        match found(self.texts.as_slice(), path.as_bytes()) {
-            Some(text) => {
-                let bytes = text.bytes.clone().ok()?;
+        match self.texts.get(path) {
+            Some(bytes) => {
+                let bytes = bytes.clone().ok()?;
                 Some(Opened::Memory(Cursor::new(Shared { bytes })))
             }
             None => Some(Opened::System(self.system.open_file(path)?)),
@@ -244,10 +232,7 @@ impl<F: Files> Files for Loaded<F> {
     }
 
     fn lacks(&self, path: &str) -> bool {
-        match found(self.texts.as_slice(), path.as_bytes()) {
-            Some(_) => false,
-            None => self.system.lacks(path),
-        }
+        !self.texts.contains_key(path) && self.system.lacks(path)
     }
 
     fn claim(&mut self, path: &str) {
@@ -272,9 +257,13 @@ impl<F: Files> Files for Loaded<F> {
     fn wants_colour(&self) -> bool {
         self.system.wants_colour()
     }
+
+    fn manner(&self) -> Option<Manner> {
+        self.manner
+    }
 }
 
-/// The most files that a request names to read.
+/// The most files that a request names to read, besides the source texts of a survey.
 const MOST_READ: usize = 4;
 
 /// The paths of the files that a request reads, in the order in which it does. The lattice file
@@ -285,16 +274,19 @@ fn paths_of<'a>(request: &Request<'a>) -> [Option<&'a str>; MOST_READ] {
         Request::Check(judging) | Request::Document(Document::Sarif(judging)) => {
             two(judging.compilation.lattice, judging.compilation.source)
         }
+        Request::Survey(asked) => one(asked.lattice),
         Request::Classes(compilation)
         | Request::Document(Document::Classes(compilation))
         | Request::Document(Document::Flows(compilation))
-        | Request::Report(compilation)
         | Request::Build(compilation, _)
         | Request::Flows { compilation, .. } => two(compilation.lattice, compilation.source),
         Request::Mend(asked) => two(asked.compilation.lattice, asked.compilation.source),
+        Request::Report(page) => two(page.compilation.lattice, page.compilation.source),
+        Request::Project(asked) => one(asked.project),
         Request::Conform(asked) => two(asked.interface, asked.source),
-        Request::List(image) | Request::Source(image) => one(image),
-        Request::Format(source) => one(source),
+        Request::List(image) | Request::Source(image) | Request::Document(Document::List(image)) =>
+            one(image),
+        Request::Format(source) | Request::Document(Document::Layout(source)) => one(source),
         Request::Layout(asked) => one(asked.source),
         Request::Audit(asked)
         | Request::Document(Document::Audit(asked))
@@ -350,10 +342,24 @@ fn paths_of<'a>(request: &Request<'a>) -> [Option<&'a str>; MOST_READ] {
             two(asked.lattice, asked.source)
         }
         Request::Draw(asked) => [Some(asked.lattice), asked.source, None, None],
-        Request::Policy(asked) => [Some(asked.lattice), asked.old, None, None],
-        Request::Visible(asked) => [Some(asked.interface), asked.old, None, None],
+        Request::Policy(asked) | Request::Document(Document::Policy(asked)) => {
+            [Some(asked.lattice), asked.old, None, None]
+        }
+        Request::Visible(asked) | Request::Document(Document::Visible(asked)) => {
+            [Some(asked.interface), asked.old, None, None]
+        }
         Request::Try(asked) => [Some(asked.source), asked.lattice, None, None],
-        Request::Lattice(_) | Request::Lsp(_) | Request::Explain(_) => [None; MOST_READ],
+        Request::Lattice(_) | Request::Lsp(_) | Request::Explain(_) | Request::New(_) => {
+            [None; MOST_READ]
+        }
+    }
+}
+
+/// The paths of the source texts that a survey reads after the lattice file.
+fn texts_of<'r, 'a>(request: &'r Request<'a>) -> &'r [&'a str] {
+    match request {
+        Request::Survey(asked) => asked.sources.as_slice(),
+        _ => &[],
     }
 }
 

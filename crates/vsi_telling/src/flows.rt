@@ -4,6 +4,7 @@
 ghost use Rattle.std.specs.Prelude.{◌≡◌, IfOk, true};
 ghost use Rattle.vsi_telling.specs.{declared.place.ColourMode.TheVariants.{Plain}, Safe.{all_plain}};
 
+use crate::parts::{part_of, span_at};
 use crate::place::ColourMode;
 use crate::subject::Subject;
 use crate::telling::Part;
@@ -27,54 +28,44 @@ const WHOLE: usize = 16;
 const NEAR: usize = 8;
 
 /// A refused flow, by the steps of a shortest walk.
-#[derive(Clone, Copy)]
-struct RefusedFlow<'w> {
-    steps: &'w [Step],
+type Walk<'w> = &'w [Step];
+
+/// Where a walk begins.
+fn source_of(walk: Walk<'_>) -> Var {
+    walk.first().map_or(LOOP, |step| step.source)
 }
 
-impl<'w> RefusedFlow<'w> {
-    /// Where the walk begins.
-    fn source(&self) -> Var {
-        self.steps.first().map_or(LOOP, |step| step.source)
-    }
+/// Where a walk ends.
+fn target_of(walk: Walk<'_>) -> Var {
+    walk.last().map_or(LOOP, |step| step.target)
+}
 
-    /// Where the walk ends.
-    fn target(&self) -> Var {
-        self.steps.last().map_or(LOOP, |step| step.target)
+/// The steps that are reported: those near the beginning of a long walk, and near its end.
+fn ends_of<'w>(walk: Walk<'w>) -> (Walk<'w>, Walk<'w>) {
+    if walk.len() <= WHOLE {
+        return (walk, &walk[..0]);
     }
+    (&walk[..NEAR], &walk[walk.len() - NEAR..])
+}
 
-    /// The steps that are reported: those near the beginning of a long walk, and near its end.
-    fn ends(&self) -> (&'w [Step], &'w [Step]) {
-        let steps = self.steps;
-        if steps.len() <= WHOLE {
-            return (steps, &steps[..0]);
-        }
-        (&steps[..NEAR], &steps[steps.len() - NEAR..])
-    }
+/// Whether two steps lead from the same variable to the same one at the same places.
+fn are_same(one: &Step, other: &Step) -> bool {
+    one.source == other.source
+        && one.target == other.target
+        && one.read.start == other.read.start
+        && one.written.start == other.written.start
+}
 
-    /// The step, among those that are reported, that most of these flows take, and how many do;
-    /// among equals the last one.
-    fn busiest(&self, flows: &[RefusedFlow<'_>]) -> Option<(Step, usize)> {
-        let mut best: Option<(Step, usize)> = None;
-        let (start, end) = self.ends();
-        for step in start.iter().chain(end) {
-            let is_same = |other: &Step| {
-                other.source == step.source
-                    && other.target == step.target
-                    && other.read.start == step.read.start
-                    && other.written.start == step.written.start
-            };
-            let mut count: usize = 0;
-            for flow in flows {
-                count = count.saturating_add(usize::from(flow.steps.iter().any(is_same)));
-            }
-            match best {
-                Some((_, most)) if count < most => {}
-                _ => best = Some((*step, count)),
-            }
-        }
-        best
-    }
+/// The step, among those of a walk that are reported, that most of these walks take, and how many
+/// do; among equals the last one.
+fn busiest(walk: Walk<'_>, walks: &[Walk<'_>]) -> Option<(Step, usize)> {
+    let (start, end) = ends_of(walk);
+    let taken = |step: &Step| {
+        let takes = |walk: &&Walk<'_>| walk.iter().any(|other| are_same(step, other));
+        (*step, walks.iter().filter(takes).count())
+    };
+    let steps = start.iter().chain(end).map(taken);
+    steps.max_by_key(|(_, count)| *count)
 }
 
 /// The sentences about a step by its rule: about its source, its target, its target and its source.
@@ -87,12 +78,12 @@ fn sentences(rule: Rule) -> &'static str {
         Rule::If => {
             "Here the guard of an `if` reads %.\n\
             Which branch runs depends on it, and a branch assigns %.\n\
-            No value is copied, but % then depends on %.\nThe assignment is here:\n"
+            No value is copied, but % may then depend on %.\nThe assignment is here:\n"
         }
         Rule::While => {
             "Here the guard of a `while` reads %.\n\
             How often the body runs depends on it, and the body assigns %.\n\
-            No value is copied, but % then depends on %.\nThe assignment is here:\n"
+            No value is copied, but % may then depend on %.\nThe assignment is here:\n"
         }
         Rule::Loop => {
             "Whether a loop ends depends on %, which is read here.\n\
@@ -125,28 +116,31 @@ impl Subject<'_, '_> {
         }
     }
 
+    /// Whether a `letvar` of the text declares a variable.
+    fn is_local(&self, variable: Var) -> bool {
+        variable != LOOP && variable.0 as usize >= self.source.resolved().globals().len()
+    }
+
     /// Adds which class the target of a flow would need, and what that means.
-    fn put_raise(&mut self, flow: &RefusedFlow<'_>) -> Result<(), AllocError> {
-        let (from, to) = (flow.source(), flow.target());
+    fn put_raise(&mut self, walk: Walk<'_>) -> Result<(), AllocError> {
+        let (from, to) = (source_of(walk), target_of(walk));
         let target = self.name(to);
         let (Some(raised), Some(own)) = (self.raised(from, to), self.declared(to)) else {
             let sentence = ".\nNo declaration changes the class of %.\n";
             return self.say(sentence, &[target]);
         };
-        let sentence = if (to.0 as usize) < self.source.resolved().globals().len() {
-            ", or\n- declare % as %: nothing at % may then depend on it.\n"
-        } else {
+        let sentence = if self.is_local(to) {
             ", or\n- declare % as %, or leave out `: %`, and its class is inferred.\n"
+        } else {
+            ", or\n- declare % as %: nothing at % may then depend on it.\n"
         };
         self.say(sentence, &[target, Part::Text(raised), Part::Text(own)])
     }
 
-    /// Adds what would make a flow go away, of the flows the one with this number.
-    fn put_fixes(&mut self, flows: &[RefusedFlow<'_>], number: usize) -> Result<(), AllocError> {
-        let Some(flow) = flows.get(number) else {
-            return Ok(());
-        };
-        let Some((step, count)) = flow.busiest(flows) else {
+    /// Adds what would make a flow go away, of these flows the one with this number.
+    fn put_fixes(&mut self, walks: &[Walk<'_>], number: usize) -> Result<(), AllocError> {
+        let walk = walks.get(number).copied().unwrap_or(&[]);
+        let Some((step, count)) = busiest(walk, walks) else {
             return Ok(());
         };
         let path = Part::Text(self.path);
@@ -157,27 +151,24 @@ impl Subject<'_, '_> {
             walk is left",
             &[path, place, to, from],
         )?;
-        self.put_raise(flow)?;
+        self.put_raise(walk)?;
         if count > 1 {
             let sentence = "% of the flows shown here take the step at %:%.\n";
             self.say(sentence, &[Part::Number(count), path, place])?;
         }
-        let earlier = flows.get(..number).unwrap_or(&[]);
-        let start = flow.source();
-        if earlier.iter().all(|other| other.source() != start) {
-            let source = self.name(start);
-            self.say(
-                "Declaring % lower is not a fix: % may then flow to more variables.\n",
-                &[source, source],
-            )?;
+        let start = source_of(walk);
+        let mut earlier = walks.iter().take(number);
+        if earlier.any(|other| source_of(other) == start) {
+            return Ok(());
         }
-        Ok(())
+        let sentence = "Declaring % lower is not a fix: % may then flow to more variables.\n";
+        self.say(sentence, &[self.name(start), self.name(start)])
     }
 
     /// Adds the flows: the conflict of each, and the steps of the walks of the first ones.
-    fn put_flows(&mut self, flows: &[RefusedFlow<'_>]) -> Result<(), AllocError> {
-        for (place, flow) in flows.iter().enumerate() {
-            let (from, to) = (flow.source(), flow.target());
+    fn put_flows(&mut self, walks: &[Walk<'_>]) -> Result<(), AllocError> {
+        for (place, walk) in walks.iter().enumerate() {
+            let (from, to) = (source_of(walk), target_of(walk));
             let (source, target) = (self.name(from), self.name(to));
             let low = Part::Text(self.declared(from).unwrap_or(b""));
             let high = Part::Text(self.declared(to).unwrap_or(b""));
@@ -186,27 +177,24 @@ impl Subject<'_, '_> {
                 &[source, target, source, low, target, high, low, high],
             )?;
             if place < EXPLAINED {
-                let (start, end) = flow.ends();
-                for step in start {
+                let (start, end) = ends_of(walk);
+                for (number, step) in start.iter().chain(end).enumerate() {
+                    if number == start.len() {
+                        let left_out = walk.len().saturating_sub(WHOLE);
+                        self.say("Steps left out here: %.\n", &[Part::Number(left_out)])?;
+                    }
                     self.put_step(from, step)?;
                 }
-                if !end.is_empty() {
-                    let left_out = flow.steps.len().saturating_sub(WHOLE);
-                    self.say("Steps left out here: %.\n", &[Part::Number(left_out)])?;
-                }
-                for step in end {
-                    self.put_step(from, step)?;
-                }
-                self.put_fixes(flows, place)?;
+                self.put_fixes(walks, place)?;
                 self.say("\n", &[])?;
             }
         }
-        let end = if flows.len() > EXPLAINED { "\n" } else { "" };
+        let end = if walks.len() > EXPLAINED { "\n" } else { "" };
         self.say(end, &[])
     }
 
     /// Adds the least raise of classes with which the whole text is accepted, if there is one.
-    fn put_least_raise(&mut self, profile: Profile) -> Result<(), AllocError> {
+    fn put_least_raise(&mut self, profile: Profile, walks: &[Walk<'_>]) -> Result<(), AllocError> {
         let lines = match raise_lines_of(self.alloc, profile, self.source) {
             Ok(lines) => lines,
             Err(CompileError::Memory) => return Err(AllocError),
@@ -215,26 +203,23 @@ impl Subject<'_, '_> {
                 return self.say(sentence, &[]);
             }
         };
-        // The lines that are listed have so many bytes.
-        let (mut count, mut length): (usize, usize) = (0, 0);
-        for byte in &lines {
-            if count < LISTED {
-                length = length.saturating_add(1);
-                count = count.saturating_add(usize::from(*byte == b'\n'));
-            }
-        }
-        let first = lines.get(..length).unwrap_or(b"");
+        // The place after the last line that is listed, if not all are.
+        let mut ends = lines.iter().enumerate().filter(|(_, byte)| **byte == b'\n');
+        let last = ends.nth(LISTED - 1);
+        let length = last.map_or(lines.len(), |(at, _)| at.saturating_add(1));
+        let others = "`vsi mend` prints the others, too.\n";
+        let rest = if length < lines.len() { others } else { "" };
         self.say(
-            "The whole text is accepted if you raise these classes (`vsi mend`):\n%",
-            &[Part::Text(first)],
+            "The whole text is accepted if you raise these classes (`vsi mend`):\n%%Nothing at the \
+            class before `->` may then depend on the variable.\n",
+            &[
+                Part::Text(part_of(&lines, span_at(0, length))),
+                Part::Text(rest.as_bytes()),
+            ],
         )?;
-        let sentence = if length < lines.len() {
-            "`vsi mend` prints the others, too.\nNothing at the class before `->` may then depend \
-            on the variable.\n"
-        } else {
-            "Nothing at the class before `->` may then depend on the variable.\n"
-        };
-        self.say(sentence, &[])
+        let has_local = walks.iter().any(|walk| self.is_local(target_of(walk)));
+        let sentence = "A `letvar` needs no raise if you leave out its class: it is inferred.\n";
+        self.say(if has_local { sentence } else { "" }, &[])
     }
 }
 
@@ -242,21 +227,19 @@ impl Subject<'_, '_> {
 /// walk, then the others in their order.
 fn listed<'w>(
     alloc: Global,
-    named: &'w [Step],
-    walks: &'w [WalkedPair],
-) -> Result<Vec<RefusedFlow<'w>>, AllocError> {
-    let first = RefusedFlow { steps: named };
-    let mut flows = Vec::new(alloc);
-    flows.push(RefusedFlow { steps: named })?;
-    for walk in walks {
-        let (source, target) = (walk.pair.source, walk.pair.target);
-        let is_other = source != first.source() || target != first.target();
-        if is_other && flows.len() < LISTED {
-            let steps = walk.steps.as_slice();
-            flows.push(RefusedFlow { steps })?;
+    named: Walk<'w>,
+    others: &'w [WalkedPair],
+) -> Result<Vec<Walk<'w>>, AllocError> {
+    let mut walks = Vec::new(alloc);
+    walks.push(named)?;
+    for other in others {
+        let (source, target) = (other.pair.source, other.pair.target);
+        let is_other = source != source_of(named) || target != target_of(named);
+        if is_other && walks.len() < LISTED {
+            walks.push(other.steps.as_slice())?;
         }
     }
-    Ok(flows)
+    Ok(walks)
 }
 
 /// The explanation of a source text that is refused for a flow, by the steps of its walk.
@@ -266,7 +249,7 @@ fn refused_text(
     profile: Profile,
     path: &[u8],
     source: &Source<'_>,
-    named: &[Step],
+    named: Walk<'_>,
 ) -> Result<Vec<u8>, AllocError>
     ensures { mode ≡ Plain → IfOk result (λ text. all_plain text.items ≡ true) }
 {
@@ -287,7 +270,7 @@ fn refused_text(
         let parts = [Part::Number(pairs.len()), Part::Number(flows.len())];
         subject.say("Refused flows: %. Shown here: %.\n", &parts)?;
     }
-    subject.put_least_raise(profile)?;
+    subject.put_least_raise(profile, &flows)?;
     subject.shown(mode)
 }
 

@@ -67,10 +67,8 @@ impl Telling<'_> {
         otherwise: &'static str,
         place: Option<Span>,
     ) -> Told {
-        let names: Vec<&[u8]> = globals
-            .iter()
-            .map(|(name, _)| name.as_slice())
-            .collect(self.alloc)?;
+        let names = globals.iter().map(|(name, _)| name.as_slice());
+        let names: Vec<&[u8]> = names.collect(self.alloc)?;
         let quoted = Part::Quoted(name);
         if names.is_empty() {
             let hint = Part::Text(otherwise.as_bytes());
@@ -104,17 +102,15 @@ impl Telling<'_> {
     }
 
     /// Adds the explanation of any other refused file, and answers where it is wrong.
-    pub(crate) fn put_file(&mut self, fault: &Fault) -> Told {
+    pub fn put_file(&mut self, fault: &Fault) -> Told {
         match fault {
             Fault::Lattice(error) => self.put_lattice(*error),
             Fault::Store(error) => self.put_store(&[], error),
             Fault::Decode(DecodeError::Memory) | Fault::View(ViewError::Memory) => Err(AllocError),
             Fault::Decode(DecodeError::BadMagic) => {
                 let start = self.bytes.trim_ascii_start();
-                if start.starts_with(b"var")
-                    || start.starts_with(b"letvar")
-                    || start.starts_with(b"#")
-                {
+                let begins_with = |word: &[u8]| start.starts_with(word);
+                if begins_with(b"var") || begins_with(b"letvar") || begins_with(b"#") {
                     let path = Part::Text(self.path);
                     let stem = Part::Text(self.path.strip_suffix(b".vsi").unwrap_or(self.path));
                     return self.tell(
@@ -125,7 +121,7 @@ impl Telling<'_> {
                         &[path, stem, stem, stem],
                     );
                 }
-                let sentence = if start.starts_with(b"classes") || start.starts_with(b"below") {
+                let sentence = if begins_with(b"classes") || begins_with(b"below") {
                     "The file looks like a lattice file, not an image. Hint: see `vsi help` for \
                     the order of the files.\n"
                 } else {

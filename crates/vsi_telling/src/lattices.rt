@@ -24,14 +24,10 @@ fn class_in(table: &Table, place: usize) -> Option<&[u8]> {
 /// The name in the pair with this place that is no class.
 fn unknown_in(table: &Table, place: usize) -> Option<&[u8]> {
     let classes = array_in(table, "classes");
-    for item in array_in(table, "below").get(place)?.as_array()?.as_slice() {
-        if let Some(name) = item.as_str()
-            && !has_text(classes, name.as_bytes())
-        {
-            return Some(name.as_bytes());
-        }
-    }
-    None
+    let pair = array_in(table, "below").get(place)?.as_array()?.as_slice();
+    let mut names = pair.iter().filter_map(|item| item.as_str());
+    let name = names.find(|name| !has_text(classes, name.as_bytes()))?;
+    Some(name.as_bytes())
 }
 
 /// The number of the class with this name, or that of none.
@@ -48,10 +44,8 @@ fn order_in<'t>(alloc: Global, table: &'t Table) -> Result<Order<'t>, AllocError
     for item in array_in(table, "below") {
         if let Some(pair) = item.as_array() {
             let pair = pair.as_slice();
-            pairs.push((
-                number_in(&names, pair.get(0)),
-                number_in(&names, pair.get(1)),
-            ))?;
+            let (low, high) = (pair.get(0), pair.get(1));
+            pairs.push((number_in(&names, low), number_in(&names, high)))?;
         }
     }
     Ok(Order { names, pairs })
@@ -64,19 +58,16 @@ fn number_of(class: Class) -> u8 {
 
 /// The hint for another sort of file in the place of a lattice file.
 fn file_hint(bytes: &[u8]) -> Option<&'static str> {
-    let start = bytes.trim_ascii_start();
-    if start.starts_with(b"VSI") {
-        return Some(
+    match bytes.trim_ascii_start() {
+        [b'V', b'S', b'I', ..] => Some(
             "Hint: this is an image. The lattice file has another place on the command line.\n",
-        );
-    }
-    if start.starts_with(b"var") || start.starts_with(b"letvar") {
-        return Some(
+        ),
+        [b'v', b'a', b'r', ..] | [b'l', b'e', b't', b'v', b'a', b'r', ..] => Some(
             "Hint: this looks like a source text. The lattice file comes first, and the source \
             text after it: `vsi check LATTICE %`.\n",
-        );
+        ),
+        _ => None,
     }
-    None
 }
 
 impl Telling<'_> {
@@ -86,10 +77,9 @@ impl Telling<'_> {
         let is_interface = table.get("profile").is_some() && table.get("globals").is_some();
         for (key, _) in table {
             if !is_interface && key.as_str() != "classes" && key.as_str() != "below" {
-                let key = key.as_bytes();
-                let place = key_place(self.bytes, key);
+                let place = key_place(self.bytes, key.as_bytes());
                 let sentence = "A lattice file has no key %, only `classes` and `below`.\n%";
-                return self.tell(place, sentence, &[Part::Quoted(key), SHAPE]);
+                return self.tell(place, sentence, &[Part::Quoted(key.as_bytes()), SHAPE]);
             }
         }
         let sentence = if table.get("classes").is_none() {
@@ -155,16 +145,12 @@ impl Telling<'_> {
             LatticeError::Memory => Err(AllocError),
             LatticeError::NotToml => {
                 self.add("The file isn't a TOML document.\n")?;
-                let hint = file_hint(self.bytes);
-                let place = match hint {
-                    Some(_) => None,
-                    None => bare_place(self.bytes),
+                let (place, hint) = match (file_hint(self.bytes), bare_place(self.bytes)) {
+                    (Some(hint), _) => (None, hint),
+                    (None, None) => (None, ""),
+                    (None, place) => (place, "Hint: the names of classes go between quotes.\n"),
                 };
-                let otherwise = match place {
-                    Some(_) => "Hint: the names of classes go between quotes.\n",
-                    None => "",
-                };
-                self.say(hint.unwrap_or(otherwise), &[Part::Text(self.path)])?;
+                self.say(hint, &[Part::Text(self.path)])?;
                 self.tell(place, "%", &[SHAPE])
             }
             LatticeError::NoClass => {

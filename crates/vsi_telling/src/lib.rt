@@ -87,9 +87,8 @@ pub fn source_explanation(
 ) -> Result<Vec<u8>, AllocError>
     ensures plain { mode ≡ Plain → IfOk result (λ text. all_plain text.items ≡ true) }
 {
-    let mut telling = Telling::new(alloc, path, source);
-    telling.put_source(lattice, error)?;
-    shown(alloc, mode, path, source, place_of(error), &telling.words)
+    let reason = Reason::Source(lattice, error);
+    explanation(alloc, mode, path, source, reason)
 }
 
 /// The explanation that follows the refusal of the file with this path and these bytes: the place

@@ -2,10 +2,10 @@
 //! above both, or one below both.
 
 use crate::parts::key_place;
-use crate::telling::{Part, Telling, Told, say};
+use crate::telling::{Part, Telling, Told};
 use std::alloc::{AllocError, Global};
 use vsi_recovery::{Addition, Placement, Rank, completion, links, nearest, placements};
-use vsi_syntax::Span;
+use vsi_syntax::{Span, put_number};
 
 /// How many names are tried for an added class: more than there are classes.
 const MOST_TRIED: usize = 70;
@@ -71,9 +71,8 @@ impl<'t> Order<'t> {
 
     /// Whether a class is in none of the pairs.
     fn is_unplaced(&self, class: u8) -> bool {
-        self.pairs
-            .iter()
-            .all(|(low, high)| *low != class && *high != class)
+        let has = |(low, high): &(u8, u8)| *low == class || *high == class;
+        !self.pairs.iter().any(has)
     }
 
     /// The classes of the pair with a number.
@@ -112,56 +111,45 @@ impl<'t> Order<'t> {
     }
 }
 
-/// Whether one of the names is this one.
-fn has_name(names: &[&[u8]], fresh: &[Vec<u8>], name: &[u8]) -> bool {
-    names.contains(&name) || fresh.iter().any(|other| other.as_slice() == name)
-}
-
 /// A name for an added class that no class has: this one, or this one and a number.
-fn fresh_name(
-    alloc: Global,
-    names: &[&[u8]],
-    fresh: &[Vec<u8>],
-    base: &[u8],
-) -> Result<Vec<u8>, AllocError> {
+fn fresh_name(alloc: Global, names: &[Vec<u8>], base: &[u8]) -> Result<Vec<u8>, AllocError> {
     for turn in 1..MOST_TRIED {
         let mut name = Vec::from_slice(alloc, base)?;
         if turn > 1 {
-            say(&mut name, "%", &[Part::Number(turn)])?;
+            put_number(&mut name, turn)?;
         }
-        if !has_name(names, fresh, &name) {
+        if !names.contains(&name) {
             return Ok(name);
         }
     }
     Ok(Vec::new(alloc))
 }
 
-/// Names for the added classes, each by the pairs of its class.
-fn fresh_names(
+/// The names of classes, and those of the added ones, each by the pairs of its class.
+fn all_names(
     alloc: Global,
     names: &[&[u8]],
     addition: &Addition,
 ) -> Result<Vec<Vec<u8>>, AllocError> {
-    let mut fresh: Vec<Vec<u8>> = Vec::new(alloc);
-    for more in 0..addition.count {
-        let class = names.len().saturating_add(more);
-        let has_low = addition
-            .pairs
-            .iter()
-            .any(|(_, high)| usize::from(*high) == class);
-        let has_high = addition
-            .pairs
-            .iter()
-            .any(|(low, _)| usize::from(*low) == class);
+    let mut all = Vec::new(alloc);
+    for name in names {
+        all.push(Vec::from_slice(alloc, name)?)?;
+    }
+    for _more in 0..addition.count {
+        let class = all.len();
+        let mut pairs = addition.pairs.iter();
+        let has_low = pairs.any(|(_, high)| usize::from(*high) == class);
+        let mut pairs = addition.pairs.iter();
+        let has_high = pairs.any(|(low, _)| usize::from(*low) == class);
         let base: &[u8] = match (has_low, has_high) {
             (true, false) => b"Top",
             (false, true) => b"Public",
             _ => b"Both",
         };
-        let name = fresh_name(alloc, names, &fresh, base)?;
-        fresh.push(name)?;
+        let name = fresh_name(alloc, &all, base)?;
+        all.push(name)?;
     }
-    Ok(fresh)
+    Ok(all)
 }
 
 /// The condition of a placement.
@@ -222,14 +210,10 @@ impl Telling<'_> {
 
     /// Adds the pairs that place one of the two classes that is in none, if there are any.
     fn put_unplaced(&mut self, order: &Order, lack: Lack) -> Result<bool, AllocError> {
-        let class = if order.is_unplaced(lack.b) {
-            lack.b
-        } else {
-            lack.a
-        };
-        if !order.is_unplaced(class) {
+        let is_unplaced = |class: &u8| order.is_unplaced(*class);
+        let Some(class) = [lack.b, lack.a].iter().copied().find(is_unplaced) else {
             return Ok(false);
-        }
+        };
         let count = order.names.len();
         let found = placements(self.alloc, count, &order.pairs, class)?;
         if found.is_empty() {
@@ -249,10 +233,10 @@ impl Telling<'_> {
             joint = "; ";
         }
         self.add(".\n")?;
-        if order.pairs.is_empty() {
-            if let Some(addition) = completion(self.alloc, count, &order.pairs)? {
-                self.put_addition(order, "Or add ", &addition)?;
-            }
+        if order.pairs.is_empty()
+            && let Some(addition) = completion(self.alloc, count, &order.pairs)?
+        {
+            self.put_addition(order, "Or add ", &addition)?;
         }
         Ok(true)
     }
@@ -267,10 +251,8 @@ impl Telling<'_> {
         }
         let count = order.names.len();
         let near = nearest(self.alloc, count, &order.pairs, lack.a, lack.b)?;
-        let near: Vec<&[u8]> = near
-            .iter()
-            .map(|class| order.name(*class))
-            .collect(self.alloc)?;
+        let names = near.iter().map(|class| order.name(*class));
+        let near: Vec<&[u8]> = names.collect(self.alloc)?;
         let sentence = if near.is_empty() {
             "No class is above both % and %. A value computed from both needs one.\n"
         } else {
@@ -287,17 +269,10 @@ impl Telling<'_> {
         begin: &str,
         addition: &Addition,
     ) -> Result<(), AllocError> {
-        let fresh = fresh_names(self.alloc, &order.names, addition)?;
-        let mut added = Vec::new(self.alloc);
-        let mut names = Vec::new(self.alloc);
-        for name in &order.names {
-            let name: &[u8] = *name;
-            names.push(name)?;
-        }
-        for name in &fresh {
-            added.push(name.as_slice())?;
-            names.push(name.as_slice())?;
-        }
+        let all = all_names(self.alloc, &order.names, addition)?;
+        let names: Vec<&[u8]> = all.iter().map(|name| name.as_slice()).collect(self.alloc)?;
+        let more = all.iter().skip(order.names.len());
+        let added: Vec<&[u8]> = more.map(|name| name.as_slice()).collect(self.alloc)?;
         self.add(begin)?;
         self.say("% to `classes`, and ", &[Part::Names(&added)])?;
         let pairs = Vec::new(self.alloc);
@@ -315,17 +290,16 @@ impl Telling<'_> {
         let mut joint = begin;
         for pair in found {
             let [one, other] = order.quoted(*pair);
-            self.add(joint)?;
-            self.say(
-                "`%` to `below` if % may flow to %",
-                &[order.listed(*pair), one, other],
-            )?;
+            let parts = [
+                Part::Text(joint.as_bytes()),
+                order.listed(*pair),
+                one,
+                other,
+            ];
+            self.say("%`%` to `below` if % may flow to %", &parts)?;
             joint = "; or add ";
         }
-        if found.is_empty() {
-            return Ok(());
-        }
-        self.add(".\n")
+        self.add(if found.is_empty() { "" } else { ".\n" })
     }
 
     /// Adds which class above two others is missing if `is_up`, otherwise which class below them,

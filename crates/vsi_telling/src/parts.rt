@@ -42,16 +42,12 @@ fn is_quoted(bytes: &[u8], word: &[u8]) -> bool {
 
 /// The place of a word between quotes, after so many other times.
 pub fn quoted_place(bytes: &[u8], word: &[u8], others: usize) -> Option<Span> {
-    let mut left = others;
-    for at in 0..bytes.len() {
-        if matches!(bytes[at], b'"' | b'\'') && is_quoted(&bytes[at + 1..], word) {
-            if left == 0 {
-                return Some(span_at(at + 1, word.len()));
-            }
-            left -= 1;
-        }
-    }
-    None
+    let is_here = |at: &usize| match bytes.get(*at..) {
+        Some([b'"' | b'\'', rest @ ..]) => is_quoted(rest, word),
+        _ => false,
+    };
+    let quote = (0..bytes.len()).filter(is_here).nth(others)?;
+    Some(span_at(quote.saturating_add(1), word.len()))
 }
 
 /// The place of a word at the beginning of a line, after these blanks and so many other times.
@@ -121,13 +117,8 @@ pub fn array_in<'t>(table: &'t Table, key: &str) -> &'t [Value] {
 
 /// The names in an array of a TOML document.
 pub fn texts_in<'t>(alloc: Global, values: &'t [Value]) -> Result<Vec<&'t [u8]>, AllocError> {
-    let mut names = Vec::new(alloc);
-    for value in values {
-        if let Some(name) = value.as_str() {
-            names.push(name.as_bytes())?;
-        }
-    }
-    Ok(names)
+    let names = values.iter().filter_map(|value| value.as_str());
+    names.map(|name| name.as_bytes()).collect(alloc)
 }
 
 /// The first names of the classes of a table, as many as a lattice may have.

@@ -5,7 +5,7 @@ ghost use Rattle.vsi_telling.specs.declared.place.ColourMode.TheVariants.{Plain}
 ghost use Rattle.vsi_telling.specs.Safe as safe_spec;
 
 use std::alloc::{AllocError, Global};
-use vsi_syntax::{line_column, put_number};
+use vsi_syntax::{line_column, put_line_column, put_number};
 
 /// How a text is shown.
 #[derive(Clone, Copy, Debug, PartialEq, Eq)]
@@ -94,10 +94,8 @@ const BEFORE: usize = 34;
 
 /// Whether the bytes of a line end before this position.
 fn ends_line(source: &[u8], at: usize) -> bool {
-    match source.get(at..) {
-        Some([b'\n', ..]) | Some([b'\r', b'\n', ..]) | Some([]) | None => true,
-        Some(_) => false,
-    }
+    let rest = source.get(at..).unwrap_or(b"");
+    matches!(rest, [] | [b'\n', ..] | [b'\r', b'\n', ..])
 }
 
 /// Where the part of its line that is shown begins and ends, for a position of a text.
@@ -107,10 +105,8 @@ fn window_of(source: &[u8], start: usize) -> (usize, usize) {
     let left = WIDTH.saturating_sub(length).max(BEFORE);
     let least = start.saturating_sub(left);
     let before = source.get(least..start).unwrap_or(b"");
-    let from = match before.iter().rposition(|byte| *byte == b'\n') {
-        Some(at) => least.saturating_add(at).saturating_add(1),
-        None => least,
-    };
+    let last = before.iter().rposition(|byte| *byte == b'\n');
+    let from = least.saturating_add(last.map_or(0, |at| at.saturating_add(1)));
     let end = start.saturating_add(length);
     (from, end.min(from.saturating_add(WIDTH)).max(start))
 }
@@ -126,11 +122,8 @@ fn lines_of(
     let (from, end) = window_of(source, start);
     let stop = stop.max(start).min(end);
     let (line, column) = line_column(source, start);
-    let mut lines = Vec::new(alloc);
-    for number in [line, column] {
-        lines.push(b':')?;
-        put_number(&mut lines, number)?;
-    }
+    let mut lines = Vec::from_slice(alloc, b":")?;
+    put_line_column(&mut lines, line, column)?;
     lines.extend_from_slice(b"\n  ")?;
     let begin = lines.len();
     put_number(&mut lines, line)?;
@@ -146,23 +139,12 @@ fn lines_of(
     put_safe(&mut lines, source.get(start..stop).unwrap_or(b""))?;
     let carets = lines.len().saturating_sub(begin).max(1);
     put_safe(&mut lines, source.get(stop..end).unwrap_or(b""))?;
-    lines.extend_from_slice(if ends_line(source, end) {
-        b"\n"
-    } else {
-        b"..\n"
-    })?;
-    put_repeated(&mut lines, b' ', margin)?;
+    let is_cut = !ends_line(source, end);
+    lines.extend_from_slice(if is_cut { b"..\n" } else { b"\n" })?;
+    lines.resize(lines.len().saturating_add(margin), b' ')?;
     lines.extend_from_slice(b" | ")?;
-    put_repeated(&mut lines, b' ', before)?;
+    lines.resize(lines.len().saturating_add(before), b' ')?;
     Ok((lines, carets))
-}
-
-/// Appends a byte repeatedly.
-fn put_repeated(text: &mut Vec<u8>, byte: u8, count: usize) -> Result<(), AllocError> {
-    for _ in 0..count {
-        text.push(byte)?;
-    }
-    Ok(())
 }
 
 /// Appends a position of a text in a mode: `PATH:LINE:COLUMN`, the line after a margin with its
@@ -183,7 +165,7 @@ pub fn put_place_in(
     let alloc = *text.allocator();
     let (lines, count) = lines_of(alloc, source, start.min(source.len()), stop)?;
     let mut carets = Vec::new(alloc);
-    put_repeated(&mut carets, b'^', count)?;
+    carets.resize(count, b'^')?;
     put_safe(text, path)?;
     put_text(text, &lines)?;
     put_colour(text, mode, b"\x1b[1;31m")?;

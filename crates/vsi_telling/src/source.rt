@@ -1,7 +1,7 @@
 //! The explanation of a refused source text: bytes and words that are none of the language, names
 //! that are declared twice or not at all, and the faults after the first one.
 
-use crate::parts::{class_names, part_of};
+use crate::parts::{class_names, part_of, span_at};
 use crate::syntactic::{declaration, declared, file_hint, tokens_in};
 use crate::telling::{Part, Telling, put_nearest};
 use std::alloc::AllocError;
@@ -11,7 +11,7 @@ use vsi_hints::{listed_places, put_further};
 use vsi_lattice::{Classes, Lattice};
 use vsi_recovery::{Cause, Fault, further_faults};
 use vsi_scope::ScopeError;
-use vsi_syntax::{Kind, LexError, ParseError, Span, Token};
+use vsi_syntax::{Kind, LexError, ParseError, Span, Token, put_place};
 
 /// The largest number of bytes of a name.
 const LONGEST_NAME: usize = 32;
@@ -21,6 +21,10 @@ const MAX_READ: usize = 1_000_000;
 
 /// The usual names of the lowest class.
 const LOWEST: &[u8] = b"low lo public open bottom untrusted anyone everyone";
+
+/// The names of types of other languages.
+const TYPES: &[u8] =
+    b"int integer long short byte char string bool boolean num number float double";
 
 /// The usual names of the highest class.
 const HIGHEST: &[u8] = b"high hi secret private confidential top restricted sensitive";
@@ -34,10 +38,7 @@ fn is_among(names: &[u8], name: &[u8]) -> bool {
 /// Where a source text is refused.
 pub(crate) fn place_of(error: &CompileError) -> Option<Span> {
     match error {
-        CompileError::Lex(LexError::BadByte(at)) => Some(Span {
-            start: *at,
-            stop: at.saturating_add(1),
-        }),
+        CompileError::Lex(LexError::BadByte(at)) => Some(span_at(*at, 1)),
         CompileError::Lex(LexError::BadWord(span) | LexError::BadNumber(span))
         | CompileError::Parse(ParseError::Unexpected(span) | ParseError::TooDeep(span))
         | CompileError::Scope(
@@ -84,10 +85,8 @@ impl Telling<'_> {
             return Ok(());
         };
         let next = source.get(at.saturating_add(1)).copied();
-        self.say(
-            "% isn't a symbol of this language.\n",
-            &[Part::Quoted(&[byte])],
-        )?;
+        let sentence = "% isn't a symbol of this language.\n";
+        self.say(sentence, &[Part::Quoted(&[byte])])?;
         if self.add_any(file_hint(source))? || self.hint_at(at)? {
             return Ok(());
         }
@@ -122,10 +121,8 @@ impl Telling<'_> {
             LexError::BadByte(at) => self.put_byte(at),
             LexError::BadWord(span) => {
                 let word = part_of(self.bytes, span);
-                self.say(
-                    "% isn't a name, a keyword or a number.\n",
-                    &[Part::Quoted(word)],
-                )?;
+                let sentence = "% isn't a name, a keyword or a number.\n";
+                self.say(sentence, &[Part::Quoted(word)])?;
                 if self.hint_at(span.start)? {
                     return Ok(());
                 }
@@ -159,19 +156,19 @@ impl Telling<'_> {
             );
         }
         let classes = class_names(self.alloc, lattice)?;
-        let otherwise = "Hint: use one of them, or add this one to the lattice file.\n";
-        self.say(
-            "The lattice has no class %. Its classes are %.\n%",
-            &[
-                quoted,
-                Part::Names(&classes),
-                Part::Nearest(name, &classes, otherwise),
-            ],
-        )
+        let otherwise = if is_among(TYPES, name) {
+            "Hint: a class and no type comes after the `:`, since every variable holds a whole \
+            number.\n"
+        } else {
+            "Hint: use one of them, or add this one to the lattice file.\n"
+        };
+        let nearest = Part::Nearest(name, &classes, otherwise);
+        let sentence = "The lattice has no class %. Its classes are %.\n%";
+        self.say(sentence, &[quoted, Part::Names(&classes), nearest])
     }
 
     /// Adds the explanation of a name that isn't declared.
-    fn put_unbound(&mut self, span: Span) -> Result<(), AllocError> {
+    fn put_unbound(&mut self, lattice: &Lattice, span: Span) -> Result<(), AllocError> {
         let tokens = tokens_in(self.alloc, self.bytes)?;
         let name = part_of(self.bytes, span);
         self.say("% isn't declared here.\n", &[Part::Quoted(name)])?;
@@ -196,9 +193,9 @@ impl Telling<'_> {
             return Ok(());
         }
         self.say(
-            "Hint: declare it at the beginning of the text, with `var % : L;`, where L is a class \
-            of the lattice file.\n",
-            &[Part::Text(name)],
+            "Hint: declare it at the beginning of the text, with `var % : %;` or with another \
+            class of the lattice file.\n",
+            &[Part::Text(name), Part::Text(lattice.name(lattice.bottom()))],
         )
     }
 
@@ -217,7 +214,7 @@ impl Telling<'_> {
                 self.add(".\nHint: leave one out, or give it another name.\n")
             }
             ScopeError::UnknownClass(span) => self.put_class(lattice, part_of(self.bytes, span)),
-            ScopeError::Unbound(span) => self.put_unbound(span),
+            ScopeError::Unbound(span) => self.put_unbound(lattice, span),
             ScopeError::TooManyGlobals(_) => self.add(
                 "This is the 257th global, and a program has at most 256.\nHint: use `letvar` for \
                 values that aren't needed at the end of the run.\n",
@@ -245,19 +242,17 @@ impl Telling<'_> {
         let Some(diagnostic) = refusal_diagnostic(self.bytes, &error) else {
             return Ok(());
         };
+        self.add("Also at ")?;
+        put_place(&mut self.words, self.bytes, fault.span.start)?;
         self.say(
-            "Also at %: % ",
-            &[
-                Part::Place(self.bytes, fault.span.start),
-                Part::Number(diagnostic.code),
-            ],
-        )?;
-        self.say("%.\n", &[Part::Text(diagnostic.name)])
+            ": % %.\n",
+            &[Part::Number(diagnostic.code), Part::Text(diagnostic.name)],
+        )
     }
 
     /// Adds the faults of a refused text after its first one, but none on a line for which a hint
-    /// is listed, or next after such a place, no names that are listed, and no unexpected tokens on
-    /// the line of the first fault.
+    /// is listed, or next after such a place, no names that are listed, and no bytes, words or
+    /// tokens on the line of the first fault.
     fn put_faults(
         &mut self,
         lattice: &Lattice,
@@ -272,7 +267,7 @@ impl Telling<'_> {
                 Cause::Scope(ScopeError::Unbound(_) | ScopeError::UnknownClass(_)) => {
                     lists_names(error)
                 }
-                Cause::Tree => are_on_line(source, at, start),
+                Cause::Lex(_) | Cause::Tree => are_on_line(source, at, start),
                 _ => false,
             };
             // A fault is near a place on its line, or where only blanks are between them.
@@ -288,19 +283,29 @@ impl Telling<'_> {
         Ok(())
     }
 
+    /// Adds the explanation of one fault of a source text: the text has tokens, unless the fault is
+    /// that it has none.
+    pub fn put_refusal(
+        &mut self,
+        lattice: &Lattice,
+        error: &CompileError,
+    ) -> Result<(), AllocError> {
+        match error {
+            CompileError::Lex(inner) => self.put_lexical(*inner),
+            CompileError::Parse(inner) => self.put_tree(inner),
+            CompileError::Scope(inner) => self.put_scopes(lattice, *inner),
+            CompileError::Flow(_) => self.add("A flow breaks the policy.\n"),
+            CompileError::Memory => Err(AllocError),
+        }
+    }
+
     /// Adds the explanation of a refused source text.
     pub(crate) fn put_source(
         &mut self,
         lattice: &Lattice,
         error: &CompileError,
     ) -> Result<(), AllocError> {
-        match error {
-            CompileError::Lex(inner) => self.put_lexical(*inner)?,
-            CompileError::Parse(inner) => self.put_tree(inner)?,
-            CompileError::Scope(inner) => self.put_scopes(lattice, *inner)?,
-            CompileError::Flow(_) => self.add("A flow breaks the policy.\n")?,
-            CompileError::Memory => return Err(AllocError),
-        }
+        self.put_refusal(lattice, error)?;
         if file_hint(self.bytes).is_some() {
             return Ok(());
         }

@@ -72,14 +72,12 @@ impl<'p, 's> Subject<'p, 's> {
     pub(crate) fn say(&mut self, sentence: &str, parts: &[Part<'_>]) -> Result<(), AllocError> {
         let mut words = Vec::new(self.alloc);
         say(&mut words, sentence, parts)?;
-        self.pieces.push(Piece::Words(words))?;
-        Ok(())
+        Ok(self.pieces.push(Piece::Words(words))?)
     }
 
     /// Adds a place of the text, with its line and carets.
     pub(crate) fn show(&mut self, span: Span) -> Result<(), AllocError> {
-        self.pieces.push(Piece::Place(span))?;
-        Ok(())
+        Ok(self.pieces.push(Piece::Place(span))?)
     }
 
     /// The explanation as text.

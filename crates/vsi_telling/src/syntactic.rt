@@ -11,60 +11,43 @@ pub(crate) fn tokens_in<'a>(alloc: Global, source: &'a [u8]) -> Result<Vec<Token
     lex(alloc, source).or(Err(AllocError))
 }
 
-/// A token that declares a name: the one after a word of the kind.
-fn declared_by<'a>(tokens: &[Token<'a>], at: usize, kind: Kind) -> Option<Token<'a>> {
-    if tokens.get(at)?.kind != kind {
-        return None;
-    }
-    tokens.get(at.saturating_add(1)).copied()
-}
-
 /// The names after `var`, or those after `letvar`, in their order.
 pub(crate) fn declared<'a>(
     alloc: Global,
     tokens: &[Token<'a>],
     kind: Kind,
 ) -> Result<Vec<&'a [u8]>, AllocError> {
-    let mut names = Vec::new(alloc);
-    for at in 0..tokens.len() {
-        if let Some(token) = declared_by(tokens, at, kind) {
-            names.push(token.text)?;
-        }
-    }
-    Ok(names)
+    let pairs = tokens.iter().zip(tokens.iter().skip(1));
+    let declared = pairs.filter(|(word, _)| word.kind == kind);
+    declared.map(|(_, token)| token.text).collect(alloc)
 }
 
 /// The first token after `var`, or after `letvar`, that is this name.
 pub(crate) fn declaration<'a>(tokens: &[Token<'a>], kind: Kind, name: &[u8]) -> Option<Token<'a>> {
-    for at in 0..tokens.len() {
-        match declared_by(tokens, at, kind) {
-            Some(token) if token.text == name => return Some(token),
-            _ => {}
-        }
-    }
-    None
+    let mut pairs = tokens.iter().zip(tokens.iter().skip(1));
+    let (_, token) = pairs.find(|(word, token)| word.kind == kind && token.text == name)?;
+    Some(*token)
 }
 
-/// A place of tokens: that of the token with this number, or after the last one.
+/// A place of tokens, and those in front of it.
 #[derive(Clone, Copy)]
 pub(crate) struct TokenPlace<'a, 't> {
     pub(crate) tokens: &'t [Token<'a>],
-    at: usize,
+    pub(crate) before: &'t [Token<'a>],
 }
 
 impl<'a, 't> TokenPlace<'a, 't> {
     /// The place where a span begins.
     pub(crate) fn new(tokens: &'t [Token<'a>], span: Span) -> TokenPlace<'a, 't> {
-        let found = tokens
-            .iter()
-            .position(|token| token.span.start >= span.start);
-        let at = found.unwrap_or(tokens.len());
-        TokenPlace { tokens, at }
+        let is_at = |token: &Token<'_>| token.span.start >= span.start;
+        let at = tokens.iter().position(is_at).unwrap_or(tokens.len());
+        let before = tokens.get(..at).unwrap_or(tokens);
+        TokenPlace { tokens, before }
     }
 
     /// The token so many after the place, or before it.
     pub(crate) fn token(&self, offset: isize) -> Option<Token<'a>> {
-        let at = self.at.checked_add_signed(offset)?;
+        let at = self.before.len().checked_add_signed(offset)?;
         self.tokens.get(at).copied()
     }
 
@@ -82,33 +65,32 @@ impl<'a, 't> TokenPlace<'a, 't> {
         }
     }
 
-    /// The tokens in front of the place.
-    pub(crate) fn tokens_before(&self) -> &'t [Token<'a>] {
-        &self.tokens[..self.at.min(self.tokens.len())]
-    }
-
     /// Whether a command begins with the token in front, which is a name.
     pub(crate) fn is_behind_target(&self) -> bool {
-        let begins = match self.kind(-2) {
-            None | Some(Kind::Semicolon | Kind::Then | Kind::Else | Kind::Do) => true,
-            Some(Kind::In | Kind::OpenBrace) => true,
-            Some(_) => false,
-        };
+        let begins = matches!(
+            self.kind(-2).unwrap_or(Kind::Semicolon),
+            Kind::Semicolon | Kind::Then | Kind::Else | Kind::Do | Kind::In | Kind::OpenBrace
+        );
         begins && self.kind(-1) == Some(Kind::Name)
     }
 
-    /// Whether a bracket of this kind in front of the place isn't closed by one of the other kind.
-    pub(crate) fn has_open(&self, opening: Kind, closing: Kind) -> bool {
-        let mut open: usize = 0;
-        for token in self.tokens_before() {
-            if token.kind == opening {
-                open = open.saturating_add(1);
-            } else if token.kind == closing {
-                open = open.saturating_sub(1);
-            }
-        }
-        open > 0
+    /// Whether a bracket in front of the place isn't closed before it.
+    fn has_open(&self, opening: Kind, closing: Kind) -> bool {
+        has_open(self.before, opening, closing)
     }
+}
+
+/// Whether a bracket of this kind among the tokens isn't closed by one of the other kind.
+fn has_open(tokens: &[Token], opening: Kind, closing: Kind) -> bool {
+    let mut open: usize = 0;
+    for token in tokens {
+        if token.kind == opening {
+            open = open.saturating_add(1);
+        } else if token.kind == closing {
+            open = open.saturating_sub(1);
+        }
+    }
+    open > 0
 }
 
 /// The keywords.
@@ -124,19 +106,17 @@ fn begins_with(text: &[u8], word: &[u8]) -> bool {
 
 /// The hint if another sort of file is in the place of a source text.
 pub(crate) fn file_hint(text: &[u8]) -> Option<&'static str> {
-    if let [b'V', b'S', b'I', 0..=31, ..] = text {
-        return Some(
+    match text {
+        [b'V', b'S', b'I', 0..=31, ..] => Some(
             "Hint: this is an image, not a source text: run it with `vsi run IMAGE`, or give the \
             text that it was built from here.\n",
-        );
-    }
-    if begins_with(text, b"classes") || begins_with(text, b"below") {
-        return Some(
+        ),
+        _ if begins_with(text, b"classes") || begins_with(text, b"below") => Some(
             "Hint: this looks like a lattice file. The lattice file comes first, and the source \
             text after it: `vsi check LATTICE SOURCE`.\n",
-        );
+        ),
+        _ => None,
     }
-    None
 }
 
 /// Whether an `if` among the tokens, in the block that they end in, still wants its `else`.
@@ -179,6 +159,12 @@ fn separator_hint(place: &TokenPlace) -> Option<&'static str> {
         _ if is_declared && place.kind(-4) == Some(Kind::Var) => {
             "Hint: a `;` comes after each declaration.\n"
         }
+        (_, Some(Kind::Close)) if !place.has_open(Kind::Open, Kind::Close) => {
+            "Hint: this `)` closes no `(`: remove it, or put the `(` where it belongs.\n"
+        }
+        (_, Some(Kind::CloseBrace)) if !place.has_open(Kind::OpenBrace, Kind::CloseBrace) => {
+            "Hint: this `}` closes no `{`: remove it, or put the `{` where it belongs.\n"
+        }
         (_, Some(Kind::Var)) => "Hint: all declarations come before the first command.\n",
         (Some(Kind::Less), Some(Kind::Equal)) => {
             "Hint: there is no `<=`: `P <= Q` is written `1 - (Q < P)`.\n"
@@ -194,18 +180,32 @@ fn separator_hint(place: &TokenPlace) -> Option<&'static str> {
     Some(hint)
 }
 
+/// The hint for a command after another one without a `;`.
+fn command_hint(place: &TokenPlace) -> &'static str {
+    let (opening, closing) = (Kind::OpenBrace, Kind::CloseBrace);
+    if place.has_open(opening, closing) && has_open(place.tokens, opening, closing) {
+        "Hint: a `;` goes between two commands, or a `}` is missing here: a `{` before this place \
+        has none.\n"
+    } else {
+        "Hint: a `;` goes between two commands.\n"
+    }
+}
+
 /// The hint for a place after an operand. `lacks_else` says whether an `if` before it still wants
 /// its `else`, which is explained elsewhere.
 fn operand_hint(place: &TokenPlace, lacks_else: bool) -> Option<&'static str> {
     // The last of the words that begin or end a guard, an initial value or a command.
-    let kinds = place.tokens_before().iter().rev().map(|token| token.kind);
+    let kinds = place.before.iter().rev().map(|token| token.kind);
     let mut words = kinds.filter(|kind| match kind {
         Kind::If | Kind::While | Kind::Letvar | Kind::Then | Kind::Else | Kind::Do => true,
         Kind::In | Kind::Semicolon | Kind::OpenBrace | Kind::CloseBrace => true,
         _ => false,
     });
     let hint = match (words.next(), place.kind(0)) {
-        (_, Some(Kind::Assign)) => "Hint: `:=` assigns. Two numbers are compared with `=`.\n",
+        (_, Some(Kind::Assign)) => {
+            "Hint: an expression can't assign. Two numbers are compared with `=`, and a command \
+            assigns to one variable, as in `y := 1; x := y`.\n"
+        }
         _ if place.has_open(Kind::Open, Kind::Close) => {
             "Hint: a `(` before this place has no `)` yet.\n"
         }
@@ -220,7 +220,7 @@ fn operand_hint(place: &TokenPlace, lacks_else: bool) -> Option<&'static str> {
             "Hint: a `{` before this place has no `}` yet.\n"
         }
         (_, Some(Kind::Name | Kind::If | Kind::While | Kind::Letvar | Kind::OpenBrace)) => {
-            "Hint: a `;` goes between two commands.\n"
+            return Some(command_hint(place));
         }
         (_, Some(Kind::Number(_) | Kind::Open)) => {
             "Hint: an operator goes between two operands: `2 * x`, not `2 x`.\n"
@@ -235,14 +235,11 @@ impl Telling<'_> {
     /// global that is assigned last in front of the place, or the first global.
     fn put_idle(&mut self, place: &TokenPlace, sentence: &str) -> Result<(), AllocError> {
         let mut found: Option<&[u8]> = None;
-        for at in 0..place.tokens.len().min(place.at) {
-            let token = place.tokens[at];
-            let next = place.tokens.get(at.saturating_add(1)).copied();
-            match (token.kind, next) {
-                (Kind::Var, Some(name)) if found.is_none() && name.kind == Kind::Name => {
-                    found = Some(name.text);
-                }
-                (Kind::Name, Some(sign)) if sign.kind == Kind::Assign => {
+        let pairs = place.tokens.iter().zip(place.tokens.iter().skip(1));
+        for (token, next) in pairs.take(place.before.len()) {
+            match (token.kind, next.kind) {
+                (Kind::Var, Kind::Name) if found.is_none() => found = Some(next.text),
+                (Kind::Name, Kind::Assign) => {
                     let global = declaration(place.tokens, Kind::Var, token.text);
                     found = global.map(|name| name.text).or(found);
                 }
@@ -273,14 +270,18 @@ impl Telling<'_> {
         if self.put_empty(place)? || self.add_any(separator_hint(place))? {
             return Ok(());
         }
-        let wants_else = lacks_else(self.alloc, place.tokens_before())?;
+        let wants_else = lacks_else(self.alloc, place.before)?;
         // Whether an operand, or a command, may end with the token in front.
         let is_behind_operand = matches!(
             place.kind(-1),
             Some(Kind::Name | Kind::Number(_) | Kind::Close | Kind::CloseBrace)
         );
         if !is_behind_operand {
+            let has_open = place.has_open(Kind::OpenBrace, Kind::CloseBrace);
             return match (place.token(-1), place.kind(0)) {
+                (Some(last), None) if last.kind == Kind::Semicolon && has_open => self.add(
+                    "Hint: a `{` before this place has no `}` yet, and no `;` goes before a `}`.\n",
+                ),
                 (Some(last), Some(Kind::CloseBrace | Kind::Else) | None)
                     if last.kind == Kind::Semicolon => {
                     self.say(
@@ -334,7 +335,7 @@ impl Telling<'_> {
                 if place.is_behind_target() && self.put_keyword(place, -1)? {
                     return Ok(());
                 }
-                let list = expected_after(self.alloc, place.tokens_before())?.words(self.alloc)?;
+                let list = expected_after(self.alloc, place.before)?.words(self.alloc)?;
                 if !list.is_empty() {
                     self.say("Expected here: %.\n", &[Part::Text(&list)])?;
                 }

@@ -37,17 +37,18 @@ fn put_quoted(words: &mut Vec<u8>, word: &[u8]) -> Result<(), AllocError> {
     words.extend_from_slice(if word.len() > LONGEST { b"..`" } else { b"`" })
 }
 
-/// How far a word is from a near one: 0 where only capital and small letters differ.
-fn distance(alloc: Global, written: &[u8], meant: &[u8]) -> Result<Option<usize>, AllocError> {
+/// How far a word is from a near one: 0 where only capital and small letters differ, and `LONGEST`
+/// if it isn't near.
+fn distance(alloc: Global, written: &[u8], meant: &[u8]) -> Result<usize, AllocError> {
     let length = written.len().min(meant.len());
     if written == meant || written.len().max(meant.len()) > LONGEST {
-        return Ok(None);
+        return Ok(LONGEST);
     }
     if written.eq_ignore_ascii_case(meant) {
-        return Ok(Some(0));
+        return Ok(0);
     }
     let (Ok(written), Ok(meant)) = (from_utf8(written), from_utf8(meant)) else {
-        return Ok(None);
+        return Ok(LONGEST);
     };
     let most = match length {
         0..=1 => 0,
@@ -55,7 +56,7 @@ fn distance(alloc: Global, written: &[u8], meant: &[u8]) -> Result<Option<usize>
         _ => 2,
     };
     let far = osa_distance(alloc, written, meant)?;
-    Ok((far <= most).then_some(far))
+    Ok(if far <= most { far } else { LONGEST })
 }
 
 /// Adds which word was perhaps meant, of equally near ones the first, and returns whether one was.
@@ -67,9 +68,7 @@ pub fn put_nearest(
     let mut best = None;
     let mut least: usize = LONGEST;
     for word in choices {
-        let Some(far) = distance(*words.allocator(), written, word)? else {
-            continue;
-        };
+        let far = distance(*words.allocator(), written, word)?;
         if far < least {
             least = far;
             best = Some(*word);
@@ -200,14 +199,9 @@ fn columns_of(byte: u8) -> usize {
 
 /// How many columns the word at the beginning takes.
 fn word_columns(words: &[u8]) -> usize {
-    let mut columns: usize = 0;
-    for byte in words {
-        if *byte == b' ' || *byte == b'\n' {
-            return columns;
-        }
-        columns = columns.saturating_add(columns_of(*byte));
-    }
-    columns
+    let ends = |byte: &u8| *byte == b' ' || *byte == b'\n';
+    let word = words.split(ends).next().unwrap_or(words);
+    word.iter().fold(0, |columns, byte| columns.saturating_add(columns_of(*byte)))
 }
 
 /// The words with a line feed for a blank where a line would get too long.

@@ -132,8 +132,11 @@ class Client:
         self.write(json.dumps({"jsonrpc": "2.0", "id": self.number, "method": method, "params": parameters}).encode())
         return self.read()
 
-    def start(self, encoding=None):
-        offered = {"general": {"positionEncodings": ["utf-16", "utf-8"]}} if encoding == "utf-8" else {}
+    def start(self, encoding=None, **able):
+        """Starts the conversation of a client that shows related information and is able to do more."""
+        offered = {"textDocument": {"publishDiagnostics": {"relatedInformation": True}}, **able}
+        if encoding == "utf-8":
+            offered["general"] = {"positionEncodings": ["utf-16", "utf-8"]}
         answer = self.ask("initialize", {"processId": None, "rootUri": None, "capabilities": offered})
         self.encoding = answer["result"]["capabilities"]["positionEncoding"]
         expect("the encoding of positions", self.encoding, encoding or "utf-16")

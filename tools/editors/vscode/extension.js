@@ -150,6 +150,7 @@ function edited(changes) {
 
 function action(found) {
   const made = new vscode.CodeAction(found.title, vscode.CodeActionKind.QuickFix);
+  made.diagnostics = found.diagnostics.map(diagnostic);
   made.edit = edited(found.edit.changes);
   made.isPreferred = found.isPreferred;
   return made;
@@ -226,9 +227,10 @@ function providers(server) {
     },
     registerCodeActionsProvider: {
       provideCodeActions(document, part, context) {
-        const diagnostics = context.diagnostics.map((found) => ({ range: found.range, message: found.message, code: found.code }));
+        // The server knows the errors of a part by itself.
+        const wanted = { diagnostics: [], only: context.only ? [context.only.value] : undefined };
         return list('textDocument/codeAction',
-          { textDocument: { uri: document.uri.toString() }, range: part, context: { diagnostics } }, action);
+          { textDocument: { uri: document.uri.toString() }, range: part, context: wanted }, action);
       },
     },
     registerFoldingRangeProvider: {
@@ -277,7 +279,8 @@ function activate(context) {
   const server = new Server(command, words, folder, log,
     (told) => errors.set(vscode.Uri.parse(told.uri), told.diagnostics.map(diagnostic)));
   running = server;
-  const ready = server.ask('initialize', { processId: process.pid, rootUri: null, capabilities: {} })
+  const able = { textDocument: { publishDiagnostics: { relatedInformation: true } } };
+  const ready = server.ask('initialize', { processId: process.pid, rootUri: null, capabilities: able })
     .then(() => server.note('initialized', {}));
   context.subscriptions.push(log, errors, ...follow(server, ready));
   for (const [register, provider] of Object.entries(providers(server))) {

@@ -15,6 +15,12 @@ returns-in-Try-clause-told g c = rw c.in-Try.is
 pub returns-in-Check-clause-told : goal.returns-in-Check-clause-told
 returns-in-Check-clause-told g c = rw c.in-Check.is c.check.ensures.told
 
+pub returns-in-Survey-clause-told : goal.returns-in-Survey-clause-told
+returns-in-Survey-clause-told g c = rw c.in-Survey.is c.survey.ensures.told
+
+pub returns-in-Project-clause-told : goal.returns-in-Project-clause-told
+returns-in-Project-clause-told g c = rw c.in-Project.is c.project.ensures.told
+
 pub returns-in-Document-clause-told : goal.returns-in-Document-clause-told
 returns-in-Document-clause-told g c = rw c.in-Document.is c.document.ensures.told
 
@@ -84,12 +90,10 @@ returns-in-Draw-clause-told g c = rw c.in-Draw.is
     (good_told _ c.draw.result c.good-in-Draw.result c.good-in-Draw.ensures c.draw.ensures.told)
 
 pub returns-in-Policy-clause-told : goal.returns-in-Policy-clause-told
-returns-in-Policy-clause-told g c = rw c.in-Policy.is
-    (good_told _ c.policy.result c.good-in-Policy.result c.good-in-Policy.ensures c.policy.ensures.told)
+returns-in-Policy-clause-told g c = rw c.in-Policy.is c.policy.ensures.told
 
 pub returns-in-Visible-clause-told : goal.returns-in-Visible-clause-told
-returns-in-Visible-clause-told g c = rw c.in-Visible.is
-    (good_told _ c.visible.result c.good-in-Visible.result c.good-in-Visible.ensures c.visible.ensures.told)
+returns-in-Visible-clause-told g c = rw c.in-Visible.is c.visible.ensures.told
 
 pub returns-in-Format-clause-told : goal.returns-in-Format-clause-told
 returns-in-Format-clause-told g c = rw c.in-Format.is
@@ -113,6 +117,15 @@ returns-in-Try-clause-failed g c = rw c.in-Try.is
 
 pub returns-in-Check-clause-failed : goal.returns-in-Check-clause-failed
 returns-in-Check-clause-failed g c = rw c.in-Check.is c.check.ensures.failed
+
+pub returns-in-Survey-clause-failed : goal.returns-in-Survey-clause-failed
+returns-in-Survey-clause-failed g c = rw c.in-Survey.is c.survey.ensures.failed
+
+pub returns-in-New-clause-failed : goal.returns-in-New-clause-failed
+returns-in-New-clause-failed g c = rw c.in-New.is c.apart.ensures
+
+pub returns-in-Project-clause-failed : goal.returns-in-Project-clause-failed
+returns-in-Project-clause-failed g c = rw c.in-Project.is c.project.ensures.failed
 
 pub returns-in-Document-clause-failed : goal.returns-in-Document-clause-failed
 returns-in-Document-clause-failed g c = rw c.in-Document.is c.document.ensures.failed
@@ -183,12 +196,10 @@ returns-in-Draw-clause-failed g c = rw c.in-Draw.is
     (good_failed _ c.draw.result c.good-in-Draw.result c.good-in-Draw.ensures c.draw.ensures.failed)
 
 pub returns-in-Policy-clause-failed : goal.returns-in-Policy-clause-failed
-returns-in-Policy-clause-failed g c = rw c.in-Policy.is
-    (good_failed _ c.policy.result c.good-in-Policy.result c.good-in-Policy.ensures c.policy.ensures.failed)
+returns-in-Policy-clause-failed g c = rw c.in-Policy.is c.policy.ensures.failed
 
 pub returns-in-Visible-clause-failed : goal.returns-in-Visible-clause-failed
-returns-in-Visible-clause-failed g c = rw c.in-Visible.is
-    (good_failed _ c.visible.result c.good-in-Visible.result c.good-in-Visible.ensures c.visible.ensures.failed)
+returns-in-Visible-clause-failed g c = rw c.in-Visible.is c.visible.ensures.failed
 
 pub returns-in-Format-clause-failed : goal.returns-in-Format-clause-failed
 returns-in-Format-clause-failed g c = rw c.in-Format.is

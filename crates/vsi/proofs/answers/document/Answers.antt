@@ -1,3 +1,4 @@
+use Rattle.vsi_subject.proofs.Ended.{good_done, good_failed, good_told}
 use Rattle.vsi.proofs.answers.document.Goals as goal
 
 pub returns-in-Sarif-clause-told : goal.returns-in-Sarif-clause-told
@@ -59,3 +60,29 @@ returns-in-Compare-clause-noted g c = rw c.in-Compare.is c.compare.ensures.noted
 
 pub returns-in-Compare-clause-hushed : goal.returns-in-Compare-clause-hushed
 returns-in-Compare-clause-hushed g c = rw c.in-Compare.is c.compare.ensures.hushed
+
+pub returns-in-List-clause-told : goal.returns-in-List-clause-told
+returns-in-List-clause-told g c = rw c.in-List.is
+    (good_told _ c.list_line.result c.good.result c.good.ensures c.list_line.ensures.told)
+
+pub returns-in-List-clause-failed : goal.returns-in-List-clause-failed
+returns-in-List-clause-failed g c = rw c.in-List.is
+    (good_failed _ c.list_line.result c.good.result c.good.ensures c.list_line.ensures.failed)
+
+pub returns-in-Policy-clause-told : goal.returns-in-Policy-clause-told
+returns-in-Policy-clause-told g c = rw c.in-Policy.is c.policy.ensures.told
+
+pub returns-in-Policy-clause-failed : goal.returns-in-Policy-clause-failed
+returns-in-Policy-clause-failed g c = rw c.in-Policy.is c.policy.ensures.failed
+
+pub returns-in-Visible-clause-told : goal.returns-in-Visible-clause-told
+returns-in-Visible-clause-told g c = rw c.in-Visible.is c.visible.ensures.told
+
+pub returns-in-Visible-clause-failed : goal.returns-in-Visible-clause-failed
+returns-in-Visible-clause-failed g c = rw c.in-Visible.is c.visible.ensures.failed
+
+pub returns-in-Layout-clause-told : goal.returns-in-Layout-clause-told
+returns-in-Layout-clause-told g c = rw c.in-Layout.is c.layout_line.ensures.told
+
+pub returns-in-Layout-clause-failed : goal.returns-in-Layout-clause-failed
+returns-in-Layout-clause-failed g c = rw c.in-Layout.is c.layout_line.ensures.failed

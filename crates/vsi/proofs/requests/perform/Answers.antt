@@ -20,6 +20,9 @@ answered : (asked : Request) → ((c : Compilation) (has_walks : Bool) → asked
     ((s : Serving) → asked ≢ request.Lsp s) → work_of asked ≡ Replies
 answered (request.Try attempt) f r d l s = refl
 answered (request.Check asked) f r d l s = refl
+answered (request.Survey asked) f r d l s = refl
+answered (request.Project asked) f r d l s = refl
+answered (request.New folder) f r d l s = refl
 answered (request.Document asked) f r d l s = refl
 answered (request.Conform asked) f r d l s = refl
 answered (request.Classes c) f r d l s = refl

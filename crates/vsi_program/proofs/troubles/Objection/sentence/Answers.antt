@@ -12,3 +12,9 @@ returns-in-NotPrivate c = (4, omega arith, refl)
 
 pub returns-in-Kept : goal.returns-in-Kept
 returns-in-Kept c = (5, omega arith, refl)
+
+pub returns-in-NotEmpty : goal.returns-in-NotEmpty
+returns-in-NotEmpty c = (7, omega arith, refl)
+
+pub returns-in-Changed : goal.returns-in-Changed
+returns-in-Changed c = (6, omega arith, refl)

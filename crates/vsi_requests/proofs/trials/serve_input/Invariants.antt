@@ -1,0 +1,14 @@
+use Rattle.std.proofs.Common.{◌≤◌}
+use Rattle.vsi_subject.specs.Served.{Serves}
+use Rattle.vsi_drive.specs.Counted.{device_of, faults_of}
+use Rattle.vsi_requests.proofs.trials.serve_input.Given as goal
+
+-- Only messages have been written, and no read and no write has failed.
+abbrev pub invariant-loop-call : goal.invariant-loop-call
+invariant-loop-call g l =
+    record {
+      input : faults_of l.input ≤ faults_of l.initial.input;
+      output : faults_of l.output ≤ faults_of l.initial.output;
+      served :
+          Serves (g.W.Write.contents (device_of l.initial.output)) (g.W.Write.contents (device_of l.output));
+    }

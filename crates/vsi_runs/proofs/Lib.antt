@@ -1,6 +1,0 @@
-pub mod Served
-pub mod Undriven
-pub mod Steered
-pub mod Viewed
-pub mod Fed
-pub mod Stepped
